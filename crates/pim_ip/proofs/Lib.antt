@@ -1,0 +1,4 @@
+pub mod ChecksumLemmas
+pub mod ReadingLemmas
+pub mod ViewLemmas
+pub mod WritingLemmas

@@ -1,0 +1,9 @@
+pub mod Addr
+pub mod Checksum
+pub mod ControlHeader
+pub mod Fault
+pub mod Ipv4
+pub mod Prefixes
+pub mod Refusal
+pub mod Tests
+pub mod View

@@ -1,0 +1,100 @@
+ghost use Rattle.std.specs.Prelude.{◌≡◌, ◌-◌, ◌≤◌, Some};
+ghost use Rattle.byteorder.specs.Endian.{big_bytes, big_from};
+ghost use Rattle.pim_ip.specs.Addr.{dotted_text};
+ghost use Rattle.pim_ip.specs.Ipv4.{is_multicast, is_unicast};
+
+use std::fmt;
+
+/// An IPv4 address: its 32 bits, the first byte highest.
+#[derive(Clone, Copy, PartialEq, Eq, PartialOrd, Ord, Hash, Debug)]
+pub struct Addr {
+    pub bits: u32,
+}
+
+impl Addr {
+    /// The four bytes, as they stand in a packet.
+    pub fn octets(self) -> [u8; 4]
+        ensures { result ≡ big_bytes 4 self.bits }
+    {
+        self.bits.to_be_bytes()
+    }
+
+    /// Whether the address is in 224.0.0.0/4.
+    pub fn is_multicast(self) -> bool
+        ensures { result ≡ is_multicast self.bits }
+    {
+        self.bits >> 28 == 14
+    }
+
+    /// Whether a host can have the address: it is not 0.0.0.0, and below 224.0.0.0.
+    pub fn is_unicast(self) -> bool
+        ensures { result ≡ is_unicast self.bits }
+    {
+        self.bits > 0 && self.bits < 0xE000_0000
+    }
+}
+
+impl From<u32> for Addr {
+    ghost from_gives = { λ bits address. address.bits ≡ bits };
+
+    fn from(bits: u32) -> Addr {
+        Addr { bits }
+    }
+}
+
+impl From<[u8; 4]> for Addr {
+    ghost from_gives = { λ octets address. address.bits ≡ big_from 0 4 octets };
+
+    fn from(octets: [u8; 4]) -> Addr {
+        Addr {
+            bits: u32::from_be_bytes(octets),
+        }
+    }
+}
+
+impl fmt::Display for Addr {
+    ghost output = { λ address. Some (dotted_text address.bits) };
+
+    fn fmt<W: fmt::Write>(&self, f: &mut fmt::Formatter<W>) -> fmt::Result {
+        let [first, second, third, fourth] = self.octets();
+        write!(f, "{first}.{second}.{third}.{fourth}")
+    }
+}
+
+/// An address and a length in bits. Any length can be held, so that a list of routes with a
+/// length above 32 can be refused where it is used.
+#[derive(Clone, Copy, PartialEq, Eq, PartialOrd, Ord, Hash, Debug)]
+pub struct Prefix {
+    pub address: Addr,
+    pub length: u32,
+}
+
+impl Prefix {
+    ghost use Rattle.pim_ip.specs.Prefixes.{contains, is_host_clear};
+
+    /// How many bits lie past the prefix.
+    fn host_bits(self) -> u32
+        ensures value { result ≡ 32 - self.length }
+        ensures within { result ≤ 32 }
+    {
+        32u32.saturating_sub(self.length)
+    }
+
+    /// Whether the address has the prefix: the highest `length` bits are the same, all 32 where
+    /// `length` is above 32.
+    #[tactic(auto, unfolding(crate::specs::Prefixes::contains))]
+    pub fn contains(self, address: Addr) -> bool
+        ensures { result ≡ contains self address.bits }
+    {
+        let host_bits = self.host_bits();
+        u64::from(address.bits) >> host_bits == u64::from(self.address.bits) >> host_bits
+    }
+
+    /// Whether no bit past the prefix is set.
+    #[tactic(auto, unfolding(crate::specs::Prefixes::is_host_clear))]
+    pub fn is_host_clear(self) -> bool
+        ensures { result ≡ is_host_clear self }
+    {
+        u64::from(self.address.bits) % (1 << self.host_bits()) == 0
+    }
+}

@@ -1,0 +1,20 @@
+//! IPv4 for the router: addresses, prefixes, packets read and written, and the answers that
+//! every crate above gives when it refuses or fails.
+#![tactic(auto)]
+
+pub mod addr;
+pub mod checksum;
+pub mod fault;
+pub mod ipv4;
+pub mod refusal;
+pub mod write;
+
+pub use addr::{Addr, Prefix};
+pub use checksum::{set_checksum, sum16};
+pub use fault::Fault;
+pub use ipv4::{Ipv4View, PACKET_LIMIT, PROTOCOL_IGMP, PROTOCOL_PIM, read_ipv4, write_copy};
+pub use refusal::Refusal;
+pub use write::{ControlHeader, write_header, write_igmp_packet, write_pim_packet};
+
+#[cfg(test)]
+mod tests;

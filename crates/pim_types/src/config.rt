@@ -1,0 +1,91 @@
+use crate::series::Series;
+use pim_ip::{Addr, Prefix};
+
+/// An interface of a router, by its place in the configuration, counted from 0.
+#[derive(Clone, Copy, PartialEq, Eq, PartialOrd, Ord, Hash, Debug)]
+pub struct IfaceId {
+    pub number: u32,
+}
+
+/// What is configured of an interface.
+#[derive(Clone, Copy, PartialEq, Eq, Debug)]
+pub struct InterfaceConfig {
+    /// The router's address on the link.
+    pub address: Addr,
+    /// The length of the subnet's prefix, 1 to 31.
+    pub length: u32,
+    /// The DR priority that is announced.
+    pub priority: u32,
+    /// The propagation delay that is announced, in ms, at most 32767.
+    pub propagation_delay: u32,
+    /// The override interval that is announced, in ms, at most 65535.
+    pub override_interval: u32,
+}
+
+impl InterfaceConfig {
+    /// The announced DR priority where none is configured.
+    pub const DEFAULT_PRIORITY: u32 = 1;
+    /// The announced propagation delay where none is configured, in ms.
+    pub const DEFAULT_PROPAGATION_DELAY: u32 = 500;
+    /// The announced override interval where none is configured, in ms.
+    pub const DEFAULT_OVERRIDE_INTERVAL: u32 = 2500;
+}
+
+/// Whether the router leaves the shared tree for the shortest path tree: `SwitchToSptDesired(S,G)`
+/// of RFC 7761, section 4.2.1.
+#[derive(Clone, Copy, PartialEq, Eq, Debug)]
+pub enum SptSwitch {
+    Always,
+    Never,
+}
+
+/// A unicast route.
+#[derive(Clone, Copy, PartialEq, Eq, Debug)]
+pub struct Route {
+    pub prefix: Prefix,
+    pub next_hop: Addr,
+    pub iface: IfaceId,
+    /// The preference of the protocol that the route comes from, at most 0x7FFFFFFE; the lower is
+    /// better.
+    pub preference: u32,
+    pub metric: u32,
+}
+
+/// A range of groups and its RP.
+#[derive(Clone, Copy, PartialEq, Eq, Debug)]
+pub struct RpRange {
+    pub prefix: Prefix,
+    pub rp: Addr,
+}
+
+/// What a router is made with.
+#[derive(Debug, Drop)]
+pub struct Config {
+    /// The interfaces in the order of their numbers, 1 to 120.
+    pub interfaces: Series<InterfaceConfig>,
+    /// The limit on counted facts, 1 to 1,000,000.
+    pub limit: u32,
+    pub spt: SptSwitch,
+    /// The robustness variable of IGMP, 2 to 7.
+    pub robustness: u32,
+    /// The query interval, in seconds, 1 to 31744.
+    pub query_interval: u32,
+    /// The query response interval, in tenths of a second, 1 to 31744 and below the query interval.
+    pub query_response_interval: u32,
+    /// The last member query interval, in tenths of a second, 1 to 255.
+    pub last_member_query_interval: u32,
+    pub routes: Series<Route>,
+    pub rps: Series<RpRange>,
+}
+
+impl Config {
+    pub const DEFAULT_LIMIT: u32 = 65536;
+
+    pub const DEFAULT_ROBUSTNESS: u32 = 2;
+    /// In seconds.
+    pub const DEFAULT_QUERY_INTERVAL: u32 = 125;
+    /// In tenths of a second.
+    pub const DEFAULT_QUERY_RESPONSE_INTERVAL: u32 = 100;
+    /// In tenths of a second.
+    pub const DEFAULT_LAST_MEMBER_QUERY_INTERVAL: u32 = 10;
+}

@@ -1,0 +1,28 @@
+use crate::config::{IfaceId, Route, RpRange};
+use crate::series::Series;
+
+/// What happens to a router in one step.
+#[derive(Debug, Drop)]
+pub enum EventKind {
+    /// Time passes up to the moment: what is due by then fires.
+    Advance { moment: u64 },
+    /// An IPv4 packet received on a link.
+    Frame { iface: IfaceId, bytes: Series<u8> },
+    /// An IPv4 packet received for an address of the router.
+    Unicast { bytes: Series<u8> },
+    /// The interface goes up.
+    Up { iface: IfaceId },
+    /// The interface goes down.
+    Down { iface: IfaceId },
+    /// The unicast routes are replaced.
+    Routes { routes: Series<Route> },
+    /// The RP ranges are replaced.
+    Rps { rps: Series<RpRange> },
+}
+
+/// An event with the number from which its random delays are drawn.
+#[derive(Debug, Drop)]
+pub struct Event {
+    pub draw: u32,
+    pub kind: EventKind,
+}

@@ -1,0 +1,162 @@
+use crate::config::IfaceId;
+use pim_ip::Addr;
+
+/// The key of every fact and of every timer. What a fact doesn't have is 0, or `None`: a fact of the
+/// whole router has interface 0, one of an interface group 0.0.0.0; `source: None` is (*,G), and a
+/// neighbour's address stands in `source`. Keys compare by these fields in this order.
+#[derive(Clone, Copy, PartialEq, Eq, PartialOrd, Ord, Hash, Debug)]
+pub struct Key {
+    pub iface: IfaceId,
+    pub group: Addr,
+    pub source: Option<Addr>,
+    /// (S,G,rpt) in place of (S,G).
+    pub rpt: bool,
+}
+
+/// An interface that is up.
+#[derive(Clone, Copy, PartialEq, Eq, Debug)]
+pub struct InterfaceRow {
+    /// The generation ID that the router announces.
+    pub generation: u32,
+    /// When the next Hello leaves.
+    pub hello_end: u64,
+    /// A Hello goes before the next Join/Prune or Assert.
+    pub is_hello_owed: bool,
+}
+
+/// The LAN Prune Delay option of a Hello (RFC 7761, section 4.9.2).
+#[derive(Clone, Copy, PartialEq, Eq, Debug)]
+pub struct LanDelay {
+    /// The T bit: the neighbour can turn Join suppression off.
+    pub can_track: bool,
+    /// In ms, 15 bits.
+    pub propagation_delay: u16,
+    /// In ms.
+    pub override_interval: u16,
+}
+
+/// A neighbour, by its last Hello.
+#[derive(Clone, Copy, PartialEq, Eq, Debug)]
+pub struct NeighbourRow {
+    /// `None` never ends.
+    pub end: Option<u64>,
+    pub lan_delay: Option<LanDelay>,
+    pub priority: Option<u32>,
+    pub generation: Option<u32>,
+}
+
+/// Whether the router queries on an interface (RFC 3376, section 6.6.2).
+#[derive(Clone, Copy, PartialEq, Eq, Debug)]
+pub enum QuerierRole {
+    /// The next general query, and how many of the startup queries are still to leave with it.
+    Querier { next_query: u64, startup_left: u32 },
+    /// Another router queries, unless it is silent until then.
+    NonQuerier { end: u64 },
+}
+
+/// The querier's state on an interface that is up.
+#[derive(Clone, Copy, PartialEq, Eq, Debug)]
+pub struct QuerierRow {
+    pub role: QuerierRole,
+    /// The robustness variable in force.
+    pub robustness: u32,
+    /// The query interval in force, in seconds.
+    pub query_interval: u32,
+}
+
+/// A group record: in EXCLUDE mode exactly while its timer runs.
+#[derive(Clone, Copy, PartialEq, Eq, Debug)]
+pub struct GroupRecordRow {
+    pub end: Option<u64>,
+}
+
+/// A source of a group record; without an end it is excluded.
+#[derive(Clone, Copy, PartialEq, Eq, Debug)]
+pub struct SourceRecordRow {
+    pub end: Option<u64>,
+}
+
+/// Repeats of a group-specific query that are still to leave.
+#[derive(Clone, Copy, PartialEq, Eq, Debug)]
+pub struct GroupRepeatRow {
+    pub next: u64,
+    pub left: u32,
+}
+
+/// When the sources of a group with sendings left are queried again.
+#[derive(Clone, Copy, PartialEq, Eq, Debug)]
+pub struct SourceRepeatRow {
+    pub next: u64,
+}
+
+/// How often a source is still to be named in a group-and-source-specific query, at least once.
+#[derive(Clone, Copy, PartialEq, Eq, Debug)]
+pub struct SendingRow {
+    pub left: u32,
+}
+
+/// A downstream state (RFC 7761, sections 4.5.1 to 4.5.3). With a pending end it is Prune-Pending,
+/// without one it is Join, or Prune for (S,G,rpt).
+#[derive(Clone, Copy, PartialEq, Eq, Debug)]
+pub struct DownstreamRow {
+    /// `None` never ends.
+    pub expiry: Option<u64>,
+    pub pending: Option<u64>,
+}
+
+/// The metric of an Assert (RFC 7761, section 4.6.3).
+#[derive(Clone, Copy, PartialEq, Eq, Debug)]
+pub struct AssertMetric {
+    /// The R bit: forwarded on the shared tree.
+    pub rpt: bool,
+    pub preference: u32,
+    pub metric: u32,
+    pub address: Addr,
+}
+
+/// Who forwards on the link.
+#[derive(Clone, Copy, PartialEq, Eq, Debug)]
+pub enum AssertRole {
+    Winner,
+    Loser,
+}
+
+/// An assert that was decided: the winner's metric, the router's own where it is the winner.
+#[derive(Clone, Copy, PartialEq, Eq, Debug)]
+pub struct AssertRow {
+    pub role: AssertRole,
+    pub winner: AssertMetric,
+    pub end: u64,
+}
+
+/// When the next Join of an upstream state leaves.
+#[derive(Clone, Copy, PartialEq, Eq, Debug)]
+pub struct JoinTimerRow {
+    pub end: u64,
+}
+
+/// When a Join(S,G,rpt) leaves that overrides another router's Prune.
+#[derive(Clone, Copy, PartialEq, Eq, Debug)]
+pub struct OverrideTimerRow {
+    pub end: u64,
+}
+
+/// A source whose keepalive timer runs, or whose SPTbit is set.
+#[derive(Clone, Copy, PartialEq, Eq, Debug)]
+pub struct SourceRow {
+    pub keepalive: Option<u64>,
+    pub spt: bool,
+}
+
+/// A source that the router registers with the RP (RFC 7761, section 4.4.1).
+#[derive(Clone, Copy, PartialEq, Eq, Debug)]
+pub enum RegisterState {
+    Join,
+    JoinPending { end: u64 },
+    Prune { end: u64 },
+}
+
+#[derive(Clone, Copy, PartialEq, Eq, Debug)]
+pub struct RegisterRow {
+    pub state: RegisterState,
+}

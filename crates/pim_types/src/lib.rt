@@ -1,0 +1,23 @@
+//! The values of the router: its configuration, the events that it takes, what it answers and sends,
+//! the rows of its facts with their one key, and the rows of its printed tables. There is no
+//! behaviour here.
+//!
+//! Times are moments in milliseconds, unless another unit is named.
+#![tactic(auto)]
+
+pub mod config;
+pub mod event;
+pub mod fact;
+pub mod outcome;
+pub mod series;
+pub mod table;
+pub mod timer;
+
+pub use config::{Config, IfaceId, InterfaceConfig, Route, RpRange, SptSwitch};
+pub use event::{Event, EventKind};
+pub use fact::Key;
+pub use outcome::{Emission, Ignored, Outcome, Verdict};
+pub use pim_ip::{Addr, Fault, Prefix, Refusal};
+pub use series::Series;
+pub use table::{Row, Table};
+pub use timer::{Timer, TimerKind};

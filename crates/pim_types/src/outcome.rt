@@ -1,0 +1,56 @@
+use crate::config::IfaceId;
+use crate::series::Series;
+use pim_ip::{Addr, Refusal};
+
+/// Why an event had no effect, in the order in which the reasons are tested.
+#[derive(Clone, Copy, PartialEq, Eq, Debug)]
+pub enum Ignored {
+    /// The IP source of a frame is an address of the router.
+    Own,
+    /// The destination isn't the router's, or the message doesn't belong where it came.
+    NotForMe,
+    /// A PIM type that the router doesn't handle.
+    OtherType,
+    /// An Assert or a Register-Stop whose group mask isn't 32.
+    Mask,
+    /// A group of 224.0.0.0/24.
+    LinkLocal,
+    /// From an address without a live Hello.
+    NoNeighbour,
+    /// A Register-Stop that doesn't come from the RP.
+    NotRp,
+    /// The interface is up, or down, already.
+    Already,
+    /// The router doesn't have the rules for this event or message yet.
+    Unbuilt,
+}
+
+/// What became of an event that wasn't refused.
+#[derive(Clone, Copy, PartialEq, Eq, Debug)]
+pub enum Verdict {
+    Done,
+    Ignored(Ignored),
+}
+
+/// A packet that leaves: a whole IPv4 packet, on a link or to an address.
+#[derive(Debug, Drop)]
+pub enum Emission {
+    Link {
+        iface: IfaceId,
+        bytes: Series<u8>,
+    },
+    Unicast {
+        destination: Addr,
+        bytes: Series<u8>,
+    },
+}
+
+/// What a step answered and sent.
+#[derive(Debug, Drop)]
+pub struct Outcome {
+    pub answer: Result<Verdict, Refusal>,
+    /// The packets in their order: copies of a data packet last, but for one to the RP.
+    pub emissions: Series<Emission>,
+    /// How many of them are copies of a data packet on links.
+    pub copies: u32,
+}

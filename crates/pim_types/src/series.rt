@@ -1,0 +1,93 @@
+ghost use Rattle.std.specs.Prelude.{◌≡◌, ◌↔◌, [], ◌∷◌, ◌++◌, OnOk, OnErr, IsTrue, length};
+
+use std::alloc::{AllocError, Global};
+use std::marker::Model;
+
+/// Values in order, which a clause sees as their list.
+#[derive(Debug, Drop)]
+pub struct Series<T> {
+    items: Vec<T>,
+}
+
+impl<T> Model for Series<T> {
+    ghost use Rattle.std.specs.Prelude.{List};
+
+    ghost Value = { List T };
+
+    ghost view = { λ a. a.items.items };
+}
+
+impl<T: Drop> Series<T> {
+    /// The empty series; it takes no memory until something is put in.
+    pub fn new(alloc: Global) -> Self
+        ensures { result ≡ [] }
+    {
+        Series {
+            items: Vec::new(alloc),
+        }
+    }
+
+    /// The same values in the same order.
+    pub fn from_vec(items: Vec<T>) -> Self
+        ensures { result ≡ items.items }
+    {
+        Series { items }
+    }
+
+    /// The values, to be read.
+    pub fn as_slice(&self) -> &[T]
+        ensures { result.now ≡ self.now }
+    {
+        self.items.as_slice()
+    }
+
+    /// How many there are.
+    pub fn len(&self) -> usize
+        ensures { result ≡ length self.now }
+    {
+        self.items.len()
+    }
+
+    /// Whether there is none.
+    pub fn is_empty(&self) -> bool
+        ensures { IsTrue result ↔ (self.now ≡ []) }
+    {
+        self.items.is_empty()
+    }
+
+    /// Puts a value at the end. Where memory is refused the series stays as it was.
+    pub fn push(&mut self, item: T) -> Result<(), AllocError>
+        ensures ok { OnOk result (self.new ≡ self.old ++ item ∷ []) }
+        ensures err { OnErr result (self.new ≡ self.old) }
+    {
+        self.items.push(item)?;
+        Ok(())
+    }
+
+    /// The values, given up by the series.
+    pub fn into_vec(self) -> Vec<T>
+        ensures { result.items ≡ self }
+    {
+        let Series { items } = self;
+        items
+    }
+}
+
+#[cfg(test)]
+mod tests {
+    use super::*;
+    use std::test::Fail;
+
+    #[test]
+    fn keeps_what_is_put_in(rt: HostRuntime) -> Result<(), Fail> {
+        let mut series = Series::new(rt.alloc());
+        assert!(rt; series.is_empty());
+        series.push(7u8)?;
+        series.push(9u8)?;
+        assert_eq!(rt; series.len(), 2);
+        assert_eq!(rt; series.as_slice(), [7, 9].as_slice());
+        let again = Series::from_vec(series.into_vec());
+        assert_eq!(rt; again.as_slice(), [7, 9].as_slice());
+        Ok(())
+    }
+}
