@@ -1,0 +1,33 @@
+-- The reading of an IGMP message (RFC 3376, section 4): tests in their order, then the value.
+use Rattle.std.specs.Prelude.{ℕ, Bool, ◌||◌, ◌==◌, nat_le, not, if◌then◌else◌, List, length, slice_index, Result, Ok}
+use Rattle.pim_ip.specs.declared.refusal.Refusal.{Refusal}
+use Rattle.pim_ip.specs.declared.refusal.Refusal.TheVariants.{Short, BadChecksum, OldVersion, UnknownType}
+use Rattle.pim_ip.specs.Tests.{expect, ◌>>◌}
+use Rattle.pim_ip.specs.Checksum.{sum16}
+use Rattle.igmp_wire.specs.declared.view.IgmpView.{IgmpView}
+use Rattle.igmp_wire.specs.declared.view.IgmpView.TheVariants.{Query, Report}
+use Rattle.igmp_wire.specs.Queries.{query_test, query_of}
+use Rattle.igmp_wire.specs.Reports.{report_test, report_of}
+
+abbrev pub type_of : List ℕ → ℕ
+type_of b = slice_index b 0
+
+-- a report of version 1, a report or a leave of version 2
+abbrev pub is_old_type : ℕ → Bool
+is_old_type type = (type == 0x12) || (type == 0x16) || (type == 0x17)
+
+abbrev pub query_type : ℕ
+query_type = 0x11
+
+abbrev pub report_type : ℕ
+report_type = 0x22
+
+unfoldable pub igmp_reading : List ℕ → Result IgmpView Refusal
+igmp_reading b =
+    expect (nat_le 8 (length b)) Short
+    >> expect (sum16 b == 0) BadChecksum
+    >> expect (not (is_old_type (type_of b))) OldVersion
+    >> expect ((type_of b == query_type) || (type_of b == report_type)) UnknownType
+    >> (if type_of b == query_type
+    then query_test b >> Ok (Query (query_of b))
+    else report_test b >> Ok (Report (report_of b)))

@@ -1,0 +1,46 @@
+-- Membership Query (RFC 3376, section 4.1): type 0x11.
+use Rattle.std.specs.Prelude.{ℕ, zero, suc, ◌+◌, ◌*◌, ◌/◌, ◌%◌, ◌||◌, ◌==◌, nat_le, not, if◌then◌else◌, List, [], ◌∷◌, ◌++◌, length, slice_index, flat_map, Result}
+use Rattle.byteorder.specs.Endian.{big_from, big_bytes}
+use Rattle.pim_ip.specs.declared.refusal.Refusal.{Refusal}
+use Rattle.pim_ip.specs.declared.refusal.Refusal.TheVariants.{Short, BadLength, NotMulticast, OldVersion}
+use Rattle.pim_ip.specs.Tests.{expect, ◌>>◌}
+use Rattle.pim_ip.specs.Checksum.{with_checksum}
+use Rattle.pim_ip.specs.Ipv4.{is_multicast}
+use Rattle.igmp_wire.specs.Values.{Query}
+
+-- n addresses from place p on
+unfoldable pub addresses_at : List ℕ → ℕ → ℕ → List ℕ
+addresses_at b p zero = []
+addresses_at b p (suc n) = big_from p 4 b ∷ addresses_at b (p + 4) n
+
+abbrev pub group_of : List ℕ → ℕ
+group_of b = big_from 4 4 b
+
+abbrev pub source_count_of : List ℕ → ℕ
+source_count_of b = big_from 10 2 b
+
+-- 8 bytes are a query of an older version, 9 to 11 no query at all
+unfoldable pub query_test : List ℕ → Result (Unit {0}) Refusal
+query_test b =
+    expect (not (length b == 8)) OldVersion
+    >> expect (nat_le 12 (length b)) BadLength
+    >> expect ((group_of b == 0) || is_multicast (group_of b)) NotMulticast
+    >> expect (nat_le (12 + 4 * source_count_of b) (length b)) Short
+
+unfoldable pub query_of : List ℕ → Query
+query_of b = record {
+  max_response_code = slice_index b 1;
+  group = group_of b;
+  suppress = slice_index b 8 / 8 % 2 == 1;
+  robustness = slice_index b 8 % 8;
+  interval_code = slice_index b 9;
+  sources = addresses_at b 12 (source_count_of b);
+}
+
+-- a query as it is written, with its codes given
+unfoldable pub query_text : Query → List ℕ
+query_text q =
+    with_checksum (0x11 ∷ q.max_response_code ∷ [])
+    (big_bytes 4 q.group
+    ++ ((if q.suppress then 8 else 0) + q.robustness) ∷ q.interval_code ∷ big_bytes 2 (length q.sources)
+    ++ flat_map (big_bytes 4) q.sources)

@@ -1,0 +1,9 @@
+use crate::query::QueryView;
+use crate::report::ReportView;
+
+/// An IGMP message that was read.
+#[derive(Debug, Drop)]
+pub enum IgmpView<'a> {
+    Query(QueryView<'a>),
+    Report(ReportView<'a>),
+}

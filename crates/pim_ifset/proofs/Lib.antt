@@ -1,0 +1,3 @@
+pub mod Ascending
+pub mod Masks
+pub mod Sets

@@ -1,0 +1,57 @@
+-- The macros of the assert machines (RFC 7761, sections 4.6.1 to 4.6.3).
+use Rattle.std.specs.Prelude.{Bool, if◌then◌else◌, not, true, ℕ, ◌&&◌, ◌==◌, ◌||◌}
+use Rattle.pim_types.specs.declared.fact.AssertMetric.{AssertMetric}
+use Rattle.pim_model.specs.Desires.{join_desired, join_desired_star}
+use Rattle.pim_model.specs.Neighbours.{is_dr}
+use Rattle.pim_model.specs.Receivers.{local_receiver_include, local_receiver_star}
+use Rattle.pim_model.specs.Sets.{Set, assert_source, assert_star, is_winner, joins, joins_star, lost_assert_star, metric_of, pim_exclude, pim_include, pim_include_star, prunes, rpt_metric, spt_bit, spt_metric, unreachable_preference, ◌∖◌, ◌∪◌}
+use Rattle.pim_model.specs.State.{State}
+use Rattle.pim_model.specs.Unicast.{is_rpf_interface, is_rpf_interface_rp}
+
+-- the interfaces on which (S,G) is forwarded, but for receivers of that source alone
+unfoldable pub forwarding_set : State → ℕ → ℕ → Set
+forwarding_set s g src =
+    (joins_star s g ∖ prunes s g src) ∪ (pim_include_star s g ∖ pim_exclude s g src)
+    ∖ lost_assert_star s g ∪ joins s g src
+
+-- CouldAssert(S,G,I)
+unfoldable pub could_assert : State → ℕ → ℕ → ℕ → Bool
+could_assert s g src i =
+    spt_bit s g src && not (is_rpf_interface s src i) && (forwarding_set s g src ∪ pim_include s g src) i
+
+-- CouldAssert(*,G,I)
+unfoldable pub could_assert_star : State → ℕ → ℕ → Bool
+could_assert_star s g i = (joins_star s g ∪ pim_include_star s g) i && not (is_rpf_interface_rp s g i)
+
+-- AssertTrackingDesired(S,G,I)
+unfoldable pub is_tracking_desired : State → ℕ → ℕ → ℕ → Bool
+is_tracking_desired s g src i =
+    forwarding_set s g src i
+    || (local_receiver_include s g src i && (is_dr s i || is_winner (assert_source s g src i)))
+    || (is_rpf_interface s src i && join_desired s g src)
+    || (is_rpf_interface_rp s g i && join_desired_star s g && not (spt_bit s g src))
+
+-- AssertTrackingDesired(*,G,I)
+unfoldable pub is_tracking_desired_star : State → ℕ → ℕ → Bool
+is_tracking_desired_star s g i =
+    could_assert_star s g i
+    || (local_receiver_star s g i && (is_dr s i || is_winner (assert_star s g i)))
+    || (is_rpf_interface_rp s g i && join_desired_star s g)
+
+abbrev pub infinite_metric : ℕ
+infinite_metric = 0xFFFF_FFFF
+
+-- infinite_assert_metric
+abbrev pub infinite : AssertMetric
+infinite = metric_of true unreachable_preference infinite_metric 0
+
+unfoldable pub is_infinite : AssertMetric → Bool
+is_infinite m = m.rpt && (m.preference == unreachable_preference) && (m.metric == infinite_metric)
+
+-- my_assert_metric(*,G,I)
+unfoldable pub my_metric_star : State → ℕ → ℕ → AssertMetric
+my_metric_star s g i = if could_assert_star s g i then rpt_metric s g i else infinite
+
+-- my_assert_metric(S,G,I)
+unfoldable pub my_metric : State → ℕ → ℕ → ℕ → AssertMetric
+my_metric s g src i = if could_assert s g src i then spt_metric s src i else my_metric_star s g i

@@ -1,0 +1,60 @@
+-- What the router wants of its upstream neighbours (RFC 7761, sections 4.5.4 to 4.5.6), and who they
+-- are (section 4.1.6). No upstream state is stored: it follows from the facts.
+use Rattle.std.specs.Option.{option_or}
+use Rattle.std.specs.Prelude.{Bool, None, Option, Some, if◌then◌else◌, not, option_and_then, ℕ, ◌&&◌, ◌||◌}
+use Rattle.pim_types.specs.declared.fact.AssertRow.{AssertRow}
+use Rattle.pim_model.specs.Neighbours.{nbr}
+use Rattle.pim_model.specs.Sets.{assert_source, assert_star, immediate_olist, immediate_olist_star, inherited_olist, inherited_olist_rpt, is_empty, is_kept_alive, is_loser, spt_bit, tunnel}
+use Rattle.pim_model.specs.State.{State}
+use Rattle.pim_model.specs.Tables.{Hop, same_hop}
+use Rattle.pim_model.specs.Unicast.{route, rp_route, rpf_interface, rpf_interface_rp}
+
+-- JoinDesired(*,G), and RPTJoinDesired(G), which is the same without (*,*,RP)
+unfoldable pub join_desired_star : State → ℕ → Bool
+join_desired_star s g = not (is_empty s (immediate_olist_star s g))
+
+unfoldable pub is_immediate_empty : State → ℕ → ℕ → Bool
+is_immediate_empty s g src = is_empty s (immediate_olist s g src) && not (tunnel s g src)
+
+unfoldable pub is_inherited_empty : State → ℕ → ℕ → Bool
+is_inherited_empty s g src = is_empty s (inherited_olist s g src) && not (tunnel s g src)
+
+-- JoinDesired(S,G)
+unfoldable pub join_desired : State → ℕ → ℕ → Bool
+join_desired s g src =
+    not (is_immediate_empty s g src) || (is_kept_alive s g src && not (is_inherited_empty s g src))
+
+-- the winner that the router lost to on an interface
+abbrev pub winner_hop : Option ℕ → (ℕ → Option AssertRow) → Option Hop
+winner_hop None row = None
+winner_hop (Some i) row =
+    option_and_then (λ (r : AssertRow). if is_loser (Some r) then Some (i, r.winner.address.bits) else None) (row i)
+
+-- RPF'(*,G)
+unfoldable pub rpf_star : State → ℕ → Option Hop
+rpf_star s g = option_or (winner_hop (rpf_interface_rp s g) (assert_star s g)) (nbr s (rp_route s g))
+
+-- RPF'(S,G,rpt)
+unfoldable pub rpf_rpt : State → ℕ → ℕ → Option Hop
+rpf_rpt s g src = option_or (winner_hop (rpf_interface_rp s g) (assert_source s g src)) (rpf_star s g)
+
+-- RPF'(S,G)
+unfoldable pub rpf_source : State → ℕ → ℕ → Option Hop
+rpf_source s g src = option_or (winner_hop (rpf_interface s src) (assert_source s g src)) (nbr s (route s src))
+
+-- PruneDesired(S,G,rpt)
+unfoldable pub prune_desired : State → ℕ → ℕ → Bool
+prune_desired s g src =
+    join_desired_star s g
+    && (is_empty s (inherited_olist_rpt s g src)
+    || (spt_bit s g src && not (same_hop (rpf_star s g) (rpf_source s g src))))
+
+-- the upstream (S,G,rpt) states
+pub data TreeState : Type 0 where
+  NotJoined : TreeState
+  Pruned : TreeState
+  NotPruned : TreeState
+
+unfoldable pub tree_state : State → ℕ → ℕ → TreeState
+tree_state s g src =
+    if join_desired_star s g then (if prune_desired s g src then Pruned else NotPruned) else NotJoined

@@ -1,0 +1,81 @@
+-- A change with what follows from it, and timers that fire in their order.
+use Rattle.std.specs.Option.{option_map_or}
+use Rattle.std.specs.Prelude.{List, None, Some, [], if◌then◌else◌, length, ℕ, ◌++◌, ◌+◌, ◌-◌}
+use Rattle.pim_types.specs.declared.fact.GroupRepeatRow.{GroupRepeatRow}
+use Rattle.pim_types.specs.declared.fact.Key.{Key}
+use Rattle.pim_types.specs.declared.fact.QuerierRole.{QuerierRole}
+use Rattle.pim_types.specs.declared.fact.QuerierRow.{QuerierRow}
+use Rattle.pim_types.specs.declared.fact.RegisterRow.{RegisterRow}
+use Rattle.pim_types.specs.declared.fact.SourceRow.{SourceRow}
+use Rattle.pim_types.specs.declared.outcome.Emission.{Emission}
+use Rattle.pim_types.specs.declared.timer.TimerKind.{TimerKind}
+use Rattle.pim_model.specs.Asserts.{assert_due}
+use Rattle.pim_model.specs.Clearing.{clear}
+use Rattle.pim_model.specs.Downstream.{downstream_expired, prune_pending_due}
+use Rattle.pim_model.specs.Hellos.{hello_due, neighbour_due}
+use Rattle.pim_model.specs.Messages.{Message}
+use Rattle.pim_model.specs.Querier.{general_query_due, group_record_due, group_repeat_due, other_querier_gone, source_record_due, source_repeat_due}
+use Rattle.pim_model.specs.Registers.{register_due}
+use Rattle.pim_model.specs.Repeat.{until_none}
+use Rattle.pim_model.specs.State.{State}
+use Rattle.pim_model.specs.Tables.{Table, change_row, group_in, iface_in, row_at, source_in}
+use Rattle.pim_model.specs.Timers.{Ending, next_due, timers}
+use Rattle.pim_model.specs.Upstream.{join_timer_due, override_timer_due, upstream}
+use Rattle.pim_model.specs.Writing.{write_all}
+
+abbrev pub silent : State → State × List Message
+silent s = (s, [])
+
+module _ {R : Type 0} (rows : State → Table R) (fire : State → Key → R → State × List Message) where
+  -- the row at a key fires
+  unfoldable pub fire_row : State → Key → State × List Message
+  fire_row s k = option_map_or (fire s k) (row_at (rows s) k) (s, [])
+
+abbrev pub startup_left : QuerierRole → ℕ
+startup_left (QuerierRole.Querier next left) = left
+startup_left (QuerierRole.NonQuerier end) = 0
+
+-- a source's keepalive timer ends; its fact stays while SPTbit is set
+unfoldable pub keepalive_due : State → Key → SourceRow → State
+keepalive_due s k r =
+    record s { sources = change_row (λ (old : SourceRow). if r.spt then Some (record r { keepalive = None }) else None) k s.sources }
+
+-- the change of a timer's end, with its messages
+unfoldable pub fired : State → TimerKind → Key → State × List Message
+fired s TimerKind.Neighbour k = silent (neighbour_due s k)
+fired s TimerKind.PrunePending k = fire_row (λ t. t.downstream) prune_pending_due s k
+fired s TimerKind.DownstreamExpiry k = silent (downstream_expired s k)
+fired s TimerKind.GroupRecord k = silent (group_record_due s (iface_in k) (group_in k))
+fired s TimerKind.SourceRecord k = silent (source_record_due s (iface_in k) (group_in k) (source_in k))
+fired s TimerKind.Assert k = fire_row (λ t. t.asserts) assert_due s k
+fired s TimerKind.Keepalive k = fire_row (λ t. t.sources) (λ t q r. silent (keepalive_due t q r)) s k
+fired s TimerKind.Register k = fire_row (λ t. t.registers) (λ t q (r : RegisterRow). register_due t q r.state) s k
+fired s TimerKind.Override k = override_timer_due s k
+fired s TimerKind.Join k = join_timer_due s k
+fired s TimerKind.OtherQuerier k = other_querier_gone s (iface_in k)
+fired s TimerKind.GroupRepeat k =
+    fire_row (λ t. t.group_repeats) (λ t q (r : GroupRepeatRow). group_repeat_due t (iface_in q) (group_in q) r.left) s k
+fired s TimerKind.SourceRepeat k = source_repeat_due s (iface_in k) (group_in k)
+fired s TimerKind.GeneralQuery k =
+    fire_row (λ t. t.queriers) (λ t q (r : QuerierRow). general_query_due t (iface_in q) (startup_left r.role)) s k
+fired s TimerKind.Hello k = fire_row (λ t. t.interfaces) hello_due s k
+
+-- ---- a change, what must go after it, what is told upstream; then all becomes packets
+
+unfoldable pub settled : State → State × List Message → ℕ → State × List Emission
+settled o change w =
+    let after_clearing : State × List Message = clear o change.0 in
+    let told : State × List Message = upstream o after_clearing.0 w in
+    write_all told.0 (change.1 ++ after_clearing.1 ++ told.1)
+
+-- one firing, with the present equal to the end
+unfoldable pub fire_once : ℕ → State → Ending → State × List Emission
+fire_once w s e = settled s (fired (record s { present = e.end }) e.timer.kind e.timer.key) w
+
+-- all that is due by the moment of an end
+unfoldable pub fire_instant : ℕ → State → Ending → State × List Emission
+fire_instant w s e = until_none (next_due e.end) (fire_once w) (length (timers s) + 1) s
+
+-- again and again the least timer that is due at the moment, until none is
+unfoldable pub fire_all : ℕ → ℕ → State → State × List Emission
+fire_all w moment s = until_none (next_due moment) (fire_instant w) (moment + 2 - s.present) s

@@ -1,0 +1,108 @@
+-- Data packets (RFC 7761, section 4.2), and Registers at the RP (section 4.4.2).
+use Rattle.std.specs.Prelude.{Bool, List, [], false, if◌then◌else◌, is_some, not, true, ℕ, ◌&&◌, ◌==◌, ◌||◌, ◌∷◌}
+use Rattle.pim_ip.specs.Ipv4.{Packet}
+use Rattle.pim_types.specs.declared.fact.Key.{Key}
+use Rattle.pim_model.specs.Asserts.{data_seen, with_spt_bit}
+use Rattle.pim_model.specs.Desires.{is_inherited_empty, join_desired, rpf_source, rpf_star}
+use Rattle.pim_model.specs.Messages.{Message}
+use Rattle.pim_model.specs.Registers.{is_spt_wanted, settle_register, with_keepalive}
+use Rattle.pim_model.specs.Sets.{Set, assert_source, inherited_olist, inherited_olist_rpt, is_empty, is_loser, pim_exclude, pim_include, pim_include_star, spt_bit, tunnel, ◌∖◌, ◌∪◌}
+use Rattle.pim_model.specs.State.{State}
+use Rattle.pim_model.specs.Tables.{same_hop, same_option, source_key, star_key}
+use Rattle.pim_model.specs.Unicast.{is_connected, is_rp, is_rpf_interface, is_rpf_interface_rp, rpf_interface, rpf_interface_rp}
+
+-- the list of outgoing interfaces of a packet, with the tunnel, and the messages on the way
+pub record Forwarded : Type 0 where
+  pub state : State
+  pub messages : List Message
+  pub list : Set
+  pub to_tunnel : Bool
+
+abbrev pub no_interface : Set
+no_interface i = false
+
+abbrev pub when : Bool → (State → State) → State → State
+when true change s = change s
+when false change s = s
+
+-- the source is connected here: its keepalive timer starts, and it is registered at once
+unfoldable pub source_here : State → ℕ → ℕ → ℕ → State
+source_here s g src iif =
+    if is_connected s src && is_rpf_interface s src iif
+    then settle_register (with_keepalive s g src) (source_key 0 g src) else s
+
+-- joined, and forwarded from here
+unfoldable pub source_joined : State → ℕ → ℕ → ℕ → State
+source_joined s g src iif =
+    when (is_rpf_interface s src iif && join_desired s g src && not (is_inherited_empty s g src))
+    (λ t. with_keepalive t g src) s
+
+-- Update_SPTbit(S,G,iif) (RFC 7761, section 4.2.2)
+unfoldable pub is_spt_reached : State → ℕ → ℕ → ℕ → Bool
+is_spt_reached s g src iif =
+    is_rpf_interface s src iif && join_desired s g src
+    && (is_connected s src
+    || not (same_option (rpf_interface s src) (rpf_interface_rp s g))
+    || is_empty s (inherited_olist_rpt s g src)
+    || (is_some (rpf_source s g src) && same_hop (rpf_source s g src) (rpf_star s g))
+    || is_loser (assert_source s g src iif))
+
+unfoldable pub spt_updated : State → ℕ → ℕ → ℕ → State
+spt_updated s g src iif = when (is_spt_reached s g src iif) (λ t. with_spt_bit t g src) s
+
+-- receivers on the router's own links want the source
+unfoldable pub has_local_receivers : State → ℕ → ℕ → Bool
+has_local_receivers s g src =
+    not (is_empty s ((pim_include_star s g ∖ pim_exclude s g src) ∪ pim_include s g src))
+
+-- off the shortest path tree the source is watched, so that the router can move to it
+unfoldable pub watched : State → ℕ → ℕ → State
+watched s g src = when (has_local_receivers s g src && is_spt_wanted s) (λ t. with_keepalive t g src) s
+
+-- a packet that came on another interface than its tree's is an event of an assert
+unfoldable pub stray : State → ℕ → ℕ → ℕ → Forwarded
+stray s g src iif =
+    let k : Key = (if spt_bit s g src then source_key iif g src else star_key iif g) in
+    let list : Set = (if spt_bit s g src then inherited_olist s g src else inherited_olist_rpt s g src) in
+    let asserted : State × List Message = (if list iif then data_seen s k else (s, [])) in
+    record { state = asserted.0; messages = asserted.1; list = no_interface; to_tunnel = false }
+
+-- on the shortest path tree, on the shared tree, or on neither
+unfoldable pub list_chosen : State → ℕ → ℕ → ℕ → Forwarded
+list_chosen s g src iif =
+    if is_rpf_interface s src iif && spt_bit s g src
+    then record { state = s; messages = []; list = inherited_olist s g src; to_tunnel = tunnel s g src }
+    else (if is_rpf_interface_rp s g iif && not (spt_bit s g src)
+    then record { state = watched s g src; messages = []; list = inherited_olist_rpt s g src; to_tunnel = false }
+    else stray s g src iif)
+
+-- a data packet: never back to where it came from
+unfoldable pub forwarded : State → ℕ → ℕ → ℕ → Forwarded
+forwarded s g src iif =
+    let here : State = source_here s g src iif in
+    let joined : State = source_joined here g src iif in
+    let f : Forwarded = list_chosen (spt_updated joined g src iif) g src iif in
+    record f { list = λ i. f.list i && not (i == iif) }
+
+-- ---- a Register at one of the router's own addresses
+
+-- the Register-Stop goes back from the address that the Register came to
+abbrev pub register_stop_to : Packet → ℕ → ℕ → List Message
+register_stop_to p g src = Message.RegisterStop p.destination p.source g src ∷ []
+
+-- at the RP: packet_arrives_on_rp_tunnel
+unfoldable pub register_at_rp : State → Packet → ℕ → ℕ → Bool → Forwarded
+register_at_rp s p g src is_null =
+    let on_tree : Bool = spt_bit s g src in
+    let is_stopped : Bool = on_tree || (is_spt_wanted s && is_inherited_empty s g src) in
+    record {
+      state = when (on_tree || is_spt_wanted s) (λ t. with_keepalive t g src) s;
+      messages = (if is_stopped then register_stop_to p g src else []);
+      list = (if on_tree || is_null then no_interface else inherited_olist_rpt s g src);
+      to_tunnel = false;
+    }
+
+unfoldable pub register_received : State → Packet → ℕ → ℕ → Bool → Forwarded
+register_received s p g src is_null =
+    if is_rp s g p.destination then register_at_rp s p g src is_null
+    else record { state = s; messages = register_stop_to p g src; list = no_interface; to_tunnel = false }

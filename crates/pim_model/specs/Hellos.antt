@@ -1,0 +1,99 @@
+-- Hellos (RFC 7761, sections 4.3.1 and 4.3.4).
+use Rattle.std.specs.Prelude.{Bool, List, None, Option, Some, [], false, filter, if◌then◌else◌, map, min, not, option_and_then, true, unwrap_or, ℕ, ◌&&◌, ◌+◌, ◌==◌, ◌||◌, ◌∷◌}
+use Rattle.pim_types.specs.declared.fact.AssertRow.{AssertRow}
+use Rattle.pim_types.specs.declared.fact.InterfaceRow.{InterfaceRow}
+use Rattle.pim_types.specs.declared.fact.JoinTimerRow.{JoinTimerRow}
+use Rattle.pim_types.specs.declared.fact.Key.{Key}
+use Rattle.pim_types.specs.declared.fact.NeighbourRow.{NeighbourRow}
+use Rattle.pim_wire.specs.declared.hello.Hello.{Hello as HelloValue}
+use Rattle.pim_model.specs.Desires.{rpf_source, rpf_star}
+use Rattle.pim_model.specs.Downstream.{holdtime_end}
+use Rattle.pim_model.specs.Messages.{Message}
+use Rattle.pim_model.specs.Neighbours.{is_neighbour, t_override}
+use Rattle.pim_model.specs.Sets.{is_loser}
+use Rattle.pim_model.specs.State.{State}
+use Rattle.pim_model.specs.Tables.{Hop, change_row, delay_in, drop_at, group_in, iface_in, is_on, is_star, neighbour_key, row_at, same_hop, set_row, source_in}
+
+-- the holdtime of a Hello without the option, in seconds: Default_Hello_Holdtime
+abbrev pub default_holdtime : ℕ
+default_holdtime = 105
+
+-- Hello_Period, and Triggered_Hello_Delay, in ms
+abbrev pub hello_period : ℕ
+hello_period = 30000
+
+abbrev pub triggered_hello_delay : ℕ
+triggered_hello_delay = 5000
+
+abbrev pub hello_holdtime_of : HelloValue → ℕ
+hello_holdtime_of h = unwrap_or h.holdtime default_holdtime
+
+abbrev pub neighbour_row : State → ℕ → ℕ → Option NeighbourRow
+neighbour_row s i address = row_at s.neighbours (neighbour_key i address)
+
+-- both generation IDs are known and differ
+abbrev pub is_other_generation : Option ℕ → Option ℕ → Bool
+is_other_generation (Some m) (Some n) = not (m == n)
+is_other_generation _ _ = false
+
+unfoldable pub is_generation_changed : State → ℕ → ℕ → HelloValue → Bool
+is_generation_changed s i address h =
+    is_other_generation (option_and_then (λ (r : NeighbourRow). r.generation) (neighbour_row s i address)) h.generation
+
+-- a Hello is owed, and the Hello timer is lowered
+unfoldable pub hello_triggered : State → ℕ → ℕ → State
+hello_triggered s i w =
+    let end : ℕ = s.present + delay_in 1 triggered_hello_delay w in
+    record s {
+      interfaces = map (λ (e : Key × InterfaceRow).
+          if is_on i e.0 then (e.0, record e.1 { hello_end = min (e.1).hello_end end; is_hello_owed = true }) else e) s.interfaces;
+    }
+
+-- the neighbour as the Hello says; without one where the holdtime is 0
+unfoldable pub neighbour_replaced : State → ℕ → ℕ → HelloValue → State
+neighbour_replaced s i address h =
+    let row : NeighbourRow = record {
+      end = holdtime_end s (hello_holdtime_of h);
+      lan_delay = h.lan_delay;
+      priority = h.priority;
+      generation = h.generation;
+    } in
+    record s {
+      neighbours = set_row s.neighbours (neighbour_key i address)
+          (if hello_holdtime_of h == 0 then None else Some row);
+    }
+
+-- the neighbour started anew: asserts lost to it end, and it is joined again soon
+abbrev pub is_lost_to : ℕ → ℕ → Key × AssertRow → Bool
+is_lost_to i address e = is_on i e.0 && is_loser (Some e.1) && ((e.1).winner.address.bits == address)
+
+abbrev pub upstream_of : State → Key → Option Hop
+upstream_of s k = if is_star k then rpf_star s (group_in k) else rpf_source s (group_in k) (source_in k)
+
+-- o is the state that the Hello finds
+unfoldable pub neighbour_restarted : State → ℕ → ℕ → ℕ → State → State
+neighbour_restarted o i address w s =
+    let end : ℕ = s.present + t_override s i w in
+    record s {
+      asserts = filter (λ e. not (is_lost_to i address e)) s.asserts;
+      join_timers = map (λ (e : Key × JoinTimerRow).
+          if same_hop (upstream_of o e.0) (Some (i, address)) then (e.0, record { end = min (e.1).end end }) else e) s.join_timers;
+    }
+
+unfoldable pub hello_received : State → ℕ → ℕ → HelloValue → ℕ → State
+hello_received s i address h w =
+    let changed : Bool = is_generation_changed s i address h in
+    let triggers : Bool = changed || not (is_neighbour s i address) in
+    let triggered : State = (if triggers then hello_triggered s i w else s) in
+    let replaced : State = neighbour_replaced triggered i address h in
+    if changed then neighbour_restarted s i address w replaced else replaced
+
+unfoldable pub neighbour_due : State → Key → State
+neighbour_due s k = record s { neighbours = drop_at s.neighbours k }
+
+-- the Hello timer's end
+unfoldable pub hello_due : State → Key → InterfaceRow → State × List Message
+hello_due s k r = (
+  record s { interfaces = change_row (λ (old : InterfaceRow). Some (record r { hello_end = s.present + hello_period })) k s.interfaces },
+  Message.Hello (iface_in k) ∷ [],
+)

@@ -1,0 +1,160 @@
+-- The limit on counted facts, and the configurations, routes and RP ranges that are accepted.
+use Rattle.std.specs.List.{list_all, list_any}
+use Rattle.std.specs.Prelude.{Bool, List, Result, [], filter, flat_map, fold, if◌then◌else◌, length, map, nat_le, nat_lt, not, true, ℕ, ◌&&◌, ◌*◌, ◌++◌, ◌+◌, ◌==◌, ◌||◌, ◌∷◌}
+use Rattle.pim_ip.specs.declared.addr.Prefix.{Prefix}
+use Rattle.pim_ip.specs.declared.refusal.Refusal.{Refusal}
+use Rattle.pim_ip.specs.Ipv4.{is_multicast, is_unicast}
+use Rattle.pim_ip.specs.Prefixes.{contains, is_host_clear}
+use Rattle.pim_ip.specs.Tests.{expect, ◌>>◌}
+use Rattle.pim_types.specs.declared.config.Config.{Config}
+use Rattle.pim_types.specs.declared.config.InterfaceConfig.{InterfaceConfig}
+use Rattle.pim_types.specs.declared.config.Route.{Route}
+use Rattle.pim_types.specs.declared.config.RpRange.{RpRange}
+use Rattle.pim_types.specs.declared.fact.Key.{Key}
+use Rattle.pim_wire.specs.Values.{JoinPrune}
+use Rattle.pim_wire.specs.declared.assert.Assert.{Assert as AssertMessage}
+use Rattle.pim_wire.specs.declared.join_prune.EntryKind.{EntryKind}
+use Rattle.igmp_wire.specs.Values.{Record}
+use Rattle.pim_model.specs.AssertMacros.{is_infinite}
+use Rattle.pim_model.specs.Asserts.{theirs_of}
+use Rattle.pim_model.specs.Downstream.{accepted_joins, accepted_prunes, is_kind, named_key}
+use Rattle.pim_model.specs.Neighbours.{is_neighbour, neighbour_count}
+use Rattle.pim_model.specs.Querier.{is_skipped}
+use Rattle.pim_model.specs.State.{State}
+use Rattle.pim_model.specs.Tables.{Table, has_row, same_key, source_key, star_key}
+use Rattle.pim_model.specs.Unicast.{subnet}
+
+-- the facts that count
+unfoldable pub counted : State → ℕ
+counted s =
+    length s.neighbours + length s.group_records + length s.source_records
+    + length s.downstream + length s.asserts + length s.sources
+
+abbrev pub names_one_of : List Key → Key → Bool
+names_one_of ks k = list_any (same_key k) ks
+
+unfoldable pub distinct : List Key → List Key
+distinct ks = fold (λ found k. if names_one_of found k then found else k ∷ found) [] ks
+
+-- how many of the named keys have no row yet
+unfoldable pub needed : {R : Type 0} → Table R → List Key → ℕ
+needed t ks = length (filter (λ k. not (has_row t k)) (distinct ks))
+
+-- so many more facts would pass the limit
+unfoldable pub is_full : State → ℕ → Bool
+is_full s more = not (more == 0) && nat_lt s.config.limit (counted s + more)
+
+-- the most neighbours of an interface
+abbrev pub most_neighbours : ℕ
+most_neighbours = 64
+
+unfoldable pub hello_is_full : State → ℕ → ℕ → ℕ → Bool
+hello_is_full s i address holdtime =
+    not (holdtime == 0) && not (is_neighbour s i address)
+    && (nat_le most_neighbours (neighbour_count s i) || is_full s 1)
+
+-- the keys that a Join/Prune to the router may make: its joins of (*,G) and (S,G), its prunes of (S,G,rpt)
+unfoldable pub join_prune_keys : State → ℕ → JoinPrune → List Key
+join_prune_keys s i m =
+    map (named_key i) (filter (λ n. not (is_kind (n.1).kind EntryKind.SourceRpt)) (accepted_joins s m))
+    ++ map (named_key i) (filter (λ n. is_kind (n.1).kind EntryKind.SourceRpt) (accepted_prunes m))
+
+unfoldable pub join_prune_is_full : State → ℕ → JoinPrune → Bool
+join_prune_is_full s i m =
+    not (m.holdtime == 0) && is_full s (needed s.downstream (join_prune_keys s i m))
+
+unfoldable pub report_is_full : State → ℕ → List Record → Bool
+report_is_full s i records =
+    let used : List Record = filter (λ r. not (is_skipped r)) records in
+    let groups : List Key = map (λ (r : Record). star_key i r.group) used in
+    let sources : List Key = flat_map (λ (r : Record). map (source_key i r.group) r.sources) used in
+    is_full s (needed s.group_records groups + needed s.source_records sources)
+
+unfoldable pub assert_is_full : State → ℕ → AssertMessage → Bool
+assert_is_full s i a =
+    let source_keys : List Key = (if a.source.bits == 0 then [] else source_key i a.group.bits a.source.bits ∷ []) in
+    let star_keys : List Key = (if a.rpt then star_key i a.group.bits ∷ [] else []) in
+    not (is_infinite (theirs_of a 0)) && is_full s (needed s.asserts (source_keys ++ star_keys))
+
+unfoldable pub source_is_full : State → ℕ → ℕ → Bool
+source_is_full s g src = is_full s (needed s.sources (source_key 0 g src ∷ []))
+
+-- ---- routes and RP ranges
+
+abbrev pub same_prefix : Prefix → Prefix → Bool
+same_prefix p q = (p.address.bits == q.address.bits) && (p.length == q.length)
+
+unfoldable pub are_distinct : List Prefix → Bool
+are_distinct [] = true
+are_distinct (p ∷ ps) = not (list_any (same_prefix p) ps) && are_distinct ps
+
+abbrev pub is_prefix : Prefix → Bool
+is_prefix p = nat_le p.length 32 && is_host_clear p
+
+-- a next hop is another router's address
+unfoldable pub is_route : Config → Route → Bool
+is_route c r =
+    is_prefix r.prefix
+    && nat_lt r.iface.number (length c.interfaces)
+    && is_unicast r.next_hop.bits
+    && not (list_any (λ (i : InterfaceConfig). i.address.bits == r.next_hop.bits) c.interfaces)
+    && nat_le r.preference 0x7FFF_FFFE
+
+abbrev pub most_routes : ℕ
+most_routes = 100000
+
+unfoldable pub are_routes : Config → List Route → Bool
+are_routes c routes =
+    nat_le (length routes) most_routes && list_all (is_route c) routes
+    && are_distinct (map (λ (r : Route). r.prefix) routes)
+
+unfoldable pub is_rp_range : RpRange → Bool
+is_rp_range r =
+    is_prefix r.prefix && is_multicast r.prefix.address.bits && nat_le 4 r.prefix.length && is_unicast r.rp.bits
+
+abbrev pub most_rps : ℕ
+most_rps = 256
+
+unfoldable pub are_rps : List RpRange → Bool
+are_rps rps =
+    nat_le (length rps) most_rps && list_all is_rp_range rps
+    && are_distinct (map (λ (r : RpRange). r.prefix) rps)
+
+-- ---- configurations
+
+abbrev pub most_ifaces : ℕ
+most_ifaces = 120
+
+-- two subnets overlap where the one that is shorter contains the other's address
+abbrev pub overlaps : InterfaceConfig → InterfaceConfig → Bool
+overlaps a b = contains (subnet a) b.address.bits || contains (subnet b) a.address.bits
+
+unfoldable pub are_apart : List InterfaceConfig → Bool
+are_apart [] = true
+are_apart (c ∷ cs) = not (list_any (overlaps c) cs) && are_apart cs
+
+abbrev pub is_between : ℕ → ℕ → ℕ → Bool
+is_between low high n = nat_le low n && nat_le n high
+
+-- RV, QI in seconds, QRI in tenths of a second and below QI, LMQI in tenths
+unfoldable pub is_querier_config : Config → Bool
+is_querier_config c =
+    is_between 2 7 c.robustness && is_between 1 31744 c.query_interval
+    && is_between 1 31744 c.query_response_interval
+    && nat_lt c.query_response_interval (10 * c.query_interval)
+    && is_between 1 255 c.last_member_query_interval
+
+abbrev pub is_delay_config : InterfaceConfig → Bool
+is_delay_config c = nat_le c.propagation_delay 32767 && nat_le c.override_interval 65535
+
+unfoldable pub config_test : Config → Result (Unit {0}) Refusal
+config_test c =
+    expect (is_between 1 most_ifaces (length c.interfaces)) Refusal.InterfaceCount
+    >> expect (list_all (λ (i : InterfaceConfig). is_unicast i.address.bits) c.interfaces) Refusal.InterfaceAddress
+    >> expect (list_all (λ (i : InterfaceConfig). is_between 1 31 i.length) c.interfaces) Refusal.InterfaceLength
+    >> expect (are_apart c.interfaces) Refusal.Overlap
+    >> expect (is_between 1 1000000 c.limit) Refusal.BadLimit
+    >> expect (is_querier_config c) Refusal.BadQuerier
+    >> expect (list_all is_delay_config c.interfaces) Refusal.BadDelay
+    >> expect (are_routes c c.routes) Refusal.ConfiguredRoutes
+    >> expect (are_rps c.rps) Refusal.ConfiguredRps

@@ -1,0 +1,203 @@
+-- One IGMPv3 group record (RFC 3376, section 6.4): tables of source-list and filter-mode changes as
+-- equations between sets, for each source by itself.
+use Rattle.std.specs.List.{list_any}
+use Rattle.std.specs.Option.{option_map_or}
+use Rattle.std.specs.Prelude.{Bool, List, None, Option, Some, [], false, filter, filter_map, find, fold, if◌then◌else◌, is_none, is_some, map, nat_lt, not, option_and_then, true, ℕ, ◌&&◌, ◌++◌, ◌==◌, ◌∷◌}
+use Rattle.pim_types.specs.declared.fact.GroupRecordRow.{GroupRecordRow}
+use Rattle.pim_types.specs.declared.fact.Key.{Key}
+use Rattle.pim_types.specs.declared.fact.SendingRow.{SendingRow}
+use Rattle.pim_types.specs.declared.fact.SourceRecordRow.{SourceRecordRow}
+use Rattle.igmp_wire.specs.declared.report.RecordType.{RecordType}
+use Rattle.pim_model.specs.Sets.{Set}
+use Rattle.pim_model.specs.State.{State}
+use Rattle.pim_model.specs.Tables.{Table, ascending, drop_at, drop_where, has_row, is_among, is_empty_list, is_of_group, is_on, put, row_at, source_in, source_key, star_key}
+
+-- a source of a record: with an end its timer runs, without one it is excluded
+abbrev pub Member : Type 0
+Member = ℕ × Option ℕ
+
+-- INCLUDE without a timer, EXCLUDE with the group timer's end; the sources ascending
+pub record GroupRecord : Type 0 where
+  pub timer : Option ℕ
+  pub members : List Member
+
+abbrev pub no_record : GroupRecord
+no_record = record { timer = None; members = [] }
+
+-- INCLUDE of no source is no record
+abbrev pub is_no_record : GroupRecord → Bool
+is_no_record r = is_none r.timer && is_empty_list r.members
+
+-- the queries that a record asks for: of the group, of sources of the group
+pub data Asked : Type 0 where
+  AskGroup : Asked
+  AskSources : List ℕ → Asked
+
+-- what becomes of a source
+pub data Fate : Type 0 where
+  -- it is in neither set
+  Gone : Fate
+  Excluded : Fate
+  Until : ℕ → Fate
+
+unfoldable pub fate_in : GroupRecord → ℕ → Fate
+fate_in r src = option_map_or (λ (m : Member). option_map_or Until m.1 Excluded) (find (λ m. m.0 == src) r.members) Gone
+
+abbrev pub member_of : ℕ → Fate → Option Member
+member_of src Gone = None
+member_of src Excluded = Some (src, None)
+member_of src (Until end) = Some (src, Some end)
+
+-- the sources of a record and those of a message
+abbrev pub sources_of_both : GroupRecord → List ℕ → List ℕ
+sources_of_both r named = ascending (map (λ (m : Member). m.0) r.members ++ named)
+
+-- the record in which each source fares as told
+unfoldable pub record_with : Option ℕ → (ℕ → Fate) → List ℕ → GroupRecord
+record_with timer fate sources =
+    record { timer = timer; members = filter_map (λ src. member_of src (fate src)) sources }
+
+abbrev pub is_running : Fate → Bool
+is_running (Until end) = true
+is_running _ = false
+
+abbrev pub is_excluded : Fate → Bool
+is_excluded Excluded = true
+is_excluded _ = false
+
+-- with the sources that pass, of an ascending list
+abbrev pub asks : (ℕ → Bool) → List ℕ → List Asked
+asks test sources = AskSources (filter test sources) ∷ []
+
+-- ---- INCLUDE (A) and a record with the sources B; a timer that is set ends at `full`
+
+-- IS_IN (B), ALLOW (B): INCLUDE (A + B), (B) = GMI. TO_IN (B): the same.
+abbrev pub include_more : ℕ → GroupRecord → Set → ℕ → Fate
+include_more full r named src = if named src then Until full else fate_in r src
+
+-- IS_EX (B), TO_EX (B): EXCLUDE (A * B, B - A), (B - A) = 0, delete (A - B)
+abbrev pub include_to_exclude : GroupRecord → Set → ℕ → Fate
+include_to_exclude r named src =
+    if named src then (if is_running (fate_in r src) then fate_in r src else Excluded) else Gone
+
+-- ---- EXCLUDE (X, Y) and a record with the sources A
+
+-- IS_IN (A), ALLOW (A), TO_IN (A): EXCLUDE (X + A, Y - A), (A) = GMI
+abbrev pub exclude_less : ℕ → GroupRecord → Set → ℕ → Fate
+exclude_less full r named src = if named src then Until full else fate_in r src
+
+-- (A - X - Y) = end, with the timers of X and the exclusion of Y kept
+abbrev pub kept_or_until : ℕ → Fate → Fate
+kept_or_until end Gone = Until end
+kept_or_until end fate = fate
+
+-- IS_EX (A), TO_EX (A): EXCLUDE (A - Y, Y * A), delete (X - A), delete (Y - A)
+abbrev pub exclude_again : ℕ → GroupRecord → Set → ℕ → Fate
+exclude_again end r named src = if named src then kept_or_until end (fate_in r src) else Gone
+
+-- BLOCK (A): EXCLUDE (X + (A - Y), Y), (A - X - Y) = group timer
+abbrev pub exclude_more : ℕ → GroupRecord → Set → ℕ → Fate
+exclude_more end r named src = if named src then kept_or_until end (fate_in r src) else fate_in r src
+
+-- A * B, A - B, A - Y, X - A
+abbrev pub in_both : GroupRecord → Set → Set
+in_both r named src = is_running (fate_in r src) && named src
+
+abbrev pub running_unnamed : GroupRecord → Set → Set
+running_unnamed r named src = is_running (fate_in r src) && not (named src)
+
+abbrev pub named_not_excluded : GroupRecord → Set → Set
+named_not_excluded r named src = named src && not (is_excluded (fate_in r src))
+
+-- the record after a message and the queries asked, from INCLUDE; `full` is GMI from now
+unfoldable pub from_include : ℕ → GroupRecord → RecordType → Set → List ℕ → GroupRecord × List Asked
+from_include full r RecordType.IsInclude named all = (record_with None (include_more full r named) all, [])
+from_include full r RecordType.Allow named all = (record_with None (include_more full r named) all, [])
+from_include full r RecordType.IsExclude named all = (record_with (Some full) (include_to_exclude r named) all, [])
+from_include full r RecordType.Block named all = (r, asks (in_both r named) all)
+from_include full r RecordType.ToExclude named all =
+    (record_with (Some full) (include_to_exclude r named) all, asks (in_both r named) all)
+from_include full r RecordType.ToInclude named all =
+    (record_with None (include_more full r named) all, asks (running_unnamed r named) all)
+
+-- the same from EXCLUDE, whose group timer ends at `end`
+unfoldable pub from_exclude : ℕ → ℕ → GroupRecord → RecordType → Set → List ℕ → GroupRecord × List Asked
+from_exclude full end r RecordType.IsInclude named all = (record_with (Some end) (exclude_less full r named) all, [])
+from_exclude full end r RecordType.Allow named all = (record_with (Some end) (exclude_less full r named) all, [])
+from_exclude full end r RecordType.IsExclude named all =
+    (record_with (Some full) (exclude_again full r named) all, [])
+from_exclude full end r RecordType.Block named all =
+    (record_with (Some end) (exclude_more end r named) all, asks (named_not_excluded r named) all)
+from_exclude full end r RecordType.ToExclude named all =
+    (record_with (Some full) (exclude_again end r named) all, asks (named_not_excluded r named) all)
+from_exclude full end r RecordType.ToInclude named all =
+    (record_with (Some end) (exclude_less full r named) all, asks (running_unnamed r named) all ++ AskGroup ∷ [])
+
+-- a record and a message's record of one type with its sources, in either mode
+unfoldable pub apply_record : ℕ → GroupRecord → RecordType → List ℕ → GroupRecord × List Asked
+apply_record full r type sources =
+    let all : List ℕ = sources_of_both r sources in
+    let named : Set = λ src. is_among src sources in
+    elim (r.timer) [
+      | None ↦ from_include full r type named all
+      | Some end ↦ from_exclude full end r type named all
+    ]
+
+-- the group timer's end in EXCLUDE: the sources whose end is later become the included ones
+unfoldable pub group_expired : ℕ → GroupRecord → GroupRecord
+group_expired now r = record {
+  timer = None;
+  members = filter (λ (m : Member). option_map_or (nat_lt now) m.1 false) r.members;
+}
+
+-- a source timer's end: included no more in INCLUDE, excluded from now on in EXCLUDE
+unfoldable pub source_expired : ℕ → GroupRecord → GroupRecord
+source_expired src r =
+    if is_some r.timer
+    then record r { members = map (λ (m : Member). if m.0 == src then (src, None) else m) r.members }
+    else record r { members = filter (λ (m : Member). not (m.0 == src)) r.members }
+
+-- ---- the record as rows of the state
+
+unfoldable pub members_of : Table SourceRecordRow → List Member
+members_of rows = map (λ (e : Key × SourceRecordRow). (source_in e.0, (e.1).end)) rows
+
+abbrev pub is_at_group : ℕ → ℕ → Key → Bool
+is_at_group i g k = is_on i k && is_of_group g k
+
+unfoldable pub record_of : State → ℕ → ℕ → GroupRecord
+record_of s i g = record {
+  timer = option_and_then (λ (r : GroupRecordRow). r.end) (row_at s.group_records (star_key i g));
+  members = members_of (filter (λ e. is_at_group i g e.0) s.source_records);
+}
+
+abbrev pub put_member : ℕ → ℕ → Table SourceRecordRow → Member → Table SourceRecordRow
+put_member i g t m = put t (source_key i g m.0) (record { end = m.1 })
+
+-- without the queries of sources and records that are gone
+unfoldable pub with_repeats_of_rows : State → ℕ → ℕ → State
+with_repeats_of_rows s i g =
+    let sendings : Table SendingRow = drop_where (λ k. is_at_group i g k && not (has_row s.source_records k)) s.sendings in
+    let has_sendings : Bool = list_any (λ (e : Key × SendingRow). is_at_group i g e.0) sendings in
+    let has_record : Bool = has_row s.group_records (star_key i g) in
+    record s {
+      group_repeats = (if has_record then s.group_repeats else drop_at s.group_repeats (star_key i g));
+      source_repeats = (if has_sendings then s.source_repeats else drop_at s.source_repeats (star_key i g));
+      sendings = sendings;
+    }
+
+-- the state in which the record has these members; the row of the group goes with the last of them in INCLUDE
+unfoldable pub with_members : State → ℕ → ℕ → GroupRecord → State
+with_members s i g r =
+    let others : Table SourceRecordRow = drop_where (is_at_group i g) s.source_records in
+    let written : State = record s {
+      group_records = (if is_no_record r then drop_at s.group_records (star_key i g) else s.group_records);
+      source_records = fold (put_member i g) others r.members;
+    } in
+    with_repeats_of_rows written i g
+
+-- the state in which the group has this record on the interface
+unfoldable pub with_record : State → ℕ → ℕ → GroupRecord → State
+with_record s i g r =
+    let timed : State = record s { group_records = put s.group_records (star_key i g) (record { end = r.timer }) } in
+    with_members timed i g r

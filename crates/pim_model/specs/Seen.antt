@@ -1,0 +1,107 @@
+-- A Join/Prune between other routers (RFC 7761, sections 4.5.4 to 4.5.6), judged by the desires and the
+-- upstream neighbours that it finds.
+use Rattle.std.specs.Option.{option_map_or}
+use Rattle.std.specs.Prelude.{Bool, List, None, Option, Some, false, filter, fold, if◌then◌else◌, map, max, min, not, ℕ, ◌&&◌, ◌*◌, ◌+◌}
+use Rattle.pim_types.specs.declared.fact.JoinTimerRow.{JoinTimerRow}
+use Rattle.pim_types.specs.declared.fact.Key.{Key}
+use Rattle.pim_types.specs.declared.fact.OverrideTimerRow.{OverrideTimerRow}
+use Rattle.pim_wire.specs.Values.{JoinPrune}
+use Rattle.pim_wire.specs.declared.join_prune.EntryKind.{EntryKind}
+use Rattle.pim_model.specs.Desires.{NotJoined, NotPruned, Pruned, rpf_rpt, rpf_source, rpf_star, tree_state}
+use Rattle.pim_model.specs.Downstream.{Named, accepted_joins, accepted_prunes, is_kind}
+use Rattle.pim_model.specs.Neighbours.{t_override, t_suppressed}
+use Rattle.pim_model.specs.State.{State}
+use Rattle.pim_model.specs.Tables.{Hop, drop_at, is_of_group, is_star, keys_in, put, row_at, rpt_key, same_hop, set_row, source_in, source_key, star_key}
+
+-- raised to an end that is later, and lowered to one that is earlier; no timer never ends
+abbrev pub raised_row : ℕ → Option JoinTimerRow → Option JoinTimerRow
+raised_row end None = None
+raised_row end (Some r) = Some (record { end = max r.end end })
+
+abbrev pub lowered_row : ℕ → Option JoinTimerRow → Option JoinTimerRow
+lowered_row end None = None
+lowered_row end (Some r) = Some (record { end = min r.end end })
+
+unfoldable pub raise_join_timer : State → Key → ℕ → State
+raise_join_timer s k end = record s { join_timers = set_row s.join_timers k (raised_row end (row_at s.join_timers k)) }
+
+unfoldable pub lower_join_timer : State → Key → ℕ → State
+lower_join_timer s k end = record s { join_timers = set_row s.join_timers k (lowered_row end (row_at s.join_timers k)) }
+
+unfoldable pub lower_override_timer : State → Key → ℕ → State
+lower_override_timer s k end =
+    let row : OverrideTimerRow = record { end = option_map_or (λ (r : OverrideTimerRow). min r.end end) (row_at s.override_timers k) end } in
+    record s { override_timers = put s.override_timers k row }
+
+unfoldable pub cancel_override_timer : State → Key → State
+cancel_override_timer s k = record s { override_timers = drop_at s.override_timers k }
+
+-- min(t_suppressed, holdtime) from now
+unfoldable pub suppressed_end : State → ℕ → ℕ → ℕ → ℕ
+suppressed_end s i w holdtime = s.present + max 1 (min (t_suppressed s i w) (1000 * holdtime))
+
+abbrev pub override_end : State → ℕ → ℕ → ℕ
+override_end s i w = s.present + t_override s i w
+
+-- (S,G,rpt) is in NotPruned and looks to this neighbour
+unfoldable pub is_unpruned_towards : State → Hop → ℕ → ℕ → Bool
+is_unpruned_towards o hop g src =
+    elim (tree_state o g src) [
+      | NotPruned ↦ same_hop (rpf_rpt o g src) (Some hop)
+      | Pruned ↦ false
+      | NotJoined ↦ false
+    ]
+
+-- what an entry of a Join does: o is the state that the message finds
+unfoldable pub join_seen : State → ℕ → ℕ → Hop → State → Named → State
+join_seen o holdtime w hop s n =
+    let g : ℕ = n.0 in
+    let address : ℕ = (n.1).address.bits in
+    let end : ℕ = suppressed_end o hop.0 w holdtime in
+    elim ((n.1).kind) [
+      | EntryKind.Star ↦ (if same_hop (rpf_star o g) (Some hop) then raise_join_timer s (star_key 0 g) end else s)
+      | EntryKind.Source ↦ (if same_hop (rpf_source o g address) (Some hop) then raise_join_timer s (source_key 0 g address) end else s)
+      | EntryKind.SourceRpt ↦ (if is_unpruned_towards o hop g address then cancel_override_timer s (rpt_key 0 g address) else s)
+    ]
+
+-- the sources of a group that are joined towards this neighbour
+unfoldable pub sources_joined_towards : State → Hop → ℕ → List ℕ
+sources_joined_towards o hop g =
+    filter (λ src. same_hop (rpf_source o g src) (Some hop))
+    (map source_in (filter (λ k. is_of_group g k && not (is_star k)) (keys_in o.join_timers)))
+
+abbrev pub lower_source_timer : State → ℕ → Hop → ℕ → ℕ → State → State
+lower_source_timer o w hop g src s =
+    if same_hop (rpf_source o g src) (Some hop) then lower_join_timer s (source_key 0 g src) (override_end o hop.0 w) else s
+
+abbrev pub lower_tree_timer : State → ℕ → Hop → ℕ → ℕ → State → State
+lower_tree_timer o w hop g src s =
+    if is_unpruned_towards o hop g src then lower_override_timer s (rpt_key 0 g src) (override_end o hop.0 w) else s
+
+abbrev pub lower_star_timer : State → ℕ → Hop → ℕ → State → State
+lower_star_timer o w hop g s =
+    if same_hop (rpf_star o g) (Some hop) then lower_join_timer s (star_key 0 g) (override_end o hop.0 w) else s
+
+-- what an entry of a Prune does
+unfoldable pub prune_seen : State → ℕ → Hop → State → Named → State
+prune_seen o w hop s n =
+    let g : ℕ = n.0 in
+    let address : ℕ = (n.1).address.bits in
+    elim ((n.1).kind) [
+      | EntryKind.Star ↦
+          fold (λ t src. lower_source_timer o w hop g src t) (lower_star_timer o w hop g s) (sources_joined_towards o hop g)
+      | EntryKind.Source ↦ lower_tree_timer o w hop g address (lower_source_timer o w hop g address s)
+      | EntryKind.SourceRpt ↦ lower_tree_timer o w hop g address (lower_source_timer o w hop g address s)
+    ]
+
+abbrev pub is_star_entry : Named → Bool
+is_star_entry n = is_kind (n.1).kind EntryKind.Star
+
+-- accepted Join(*,G) first, then the other joins, then the prunes
+unfoldable pub seen : State → ℕ → ℕ → JoinPrune → State
+seen s w i m =
+    let hop : Hop = (i, m.upstream) in
+    let joins : List Named = accepted_joins s m in
+    let after_stars : State = fold (join_seen s m.holdtime w hop) s (filter is_star_entry joins) in
+    let after_joins : State = fold (join_seen s m.holdtime w hop) after_stars (filter (λ n. not (is_star_entry n)) joins) in
+    fold (prune_seen s w hop) after_joins (accepted_prunes m)

@@ -1,0 +1,103 @@
+-- The state of the written machine: plain facts.
+use Rattle.std.specs.List.{list_any}
+use Rattle.std.specs.Option.{option_map_or}
+use Rattle.std.specs.Prelude.{Bool, List, Option, [], length, slice_get, ℕ, ◌==◌}
+use Rattle.pim_types.specs.declared.config.Config.{Config}
+use Rattle.pim_types.specs.declared.config.InterfaceConfig.{InterfaceConfig}
+use Rattle.pim_types.specs.declared.config.Route.{Route}
+use Rattle.pim_types.specs.declared.config.RpRange.{RpRange}
+use Rattle.pim_types.specs.declared.fact.AssertRow.{AssertRow}
+use Rattle.pim_types.specs.declared.fact.DownstreamRow.{DownstreamRow}
+use Rattle.pim_types.specs.declared.fact.GroupRecordRow.{GroupRecordRow}
+use Rattle.pim_types.specs.declared.fact.GroupRepeatRow.{GroupRepeatRow}
+use Rattle.pim_types.specs.declared.fact.InterfaceRow.{InterfaceRow}
+use Rattle.pim_types.specs.declared.fact.JoinTimerRow.{JoinTimerRow}
+use Rattle.pim_types.specs.declared.fact.NeighbourRow.{NeighbourRow}
+use Rattle.pim_types.specs.declared.fact.OverrideTimerRow.{OverrideTimerRow}
+use Rattle.pim_types.specs.declared.fact.QuerierRow.{QuerierRow}
+use Rattle.pim_types.specs.declared.fact.RegisterRow.{RegisterRow}
+use Rattle.pim_types.specs.declared.fact.SendingRow.{SendingRow}
+use Rattle.pim_types.specs.declared.fact.SourceRecordRow.{SourceRecordRow}
+use Rattle.pim_types.specs.declared.fact.SourceRepeatRow.{SourceRepeatRow}
+use Rattle.pim_types.specs.declared.fact.SourceRow.{SourceRow}
+use Rattle.pim_model.specs.Tables.{Table, below, has_row, iface_key}
+
+pub record State : Type 0 where
+  pub config : Config
+  pub present : ℕ
+  pub routes : List Route
+  pub ranges : List RpRange
+  -- by interface
+  pub interfaces : Table InterfaceRow
+  pub neighbours : Table NeighbourRow
+  pub queriers : Table QuerierRow
+  -- IGMP membership, by interface, group and source
+  pub group_records : Table GroupRecordRow
+  pub source_records : Table SourceRecordRow
+  pub group_repeats : Table GroupRepeatRow
+  pub source_repeats : Table SourceRepeatRow
+  pub sendings : Table SendingRow
+  -- PIM, by interface, group and source
+  pub downstream : Table DownstreamRow
+  pub asserts : Table AssertRow
+  -- of the whole router, by group and source
+  pub join_timers : Table JoinTimerRow
+  pub override_timers : Table OverrideTimerRow
+  pub sources : Table SourceRow
+  pub registers : Table RegisterRow
+
+-- moment 0, all interfaces down, the configured routes and RP ranges
+unfoldable pub opening : Config → State
+opening c = record {
+  config = c;
+  present = 0;
+  routes = c.routes;
+  ranges = c.rps;
+  interfaces = [];
+  neighbours = [];
+  queriers = [];
+  group_records = [];
+  source_records = [];
+  group_repeats = [];
+  source_repeats = [];
+  sendings = [];
+  downstream = [];
+  asserts = [];
+  join_timers = [];
+  override_timers = [];
+  sources = [];
+  registers = [];
+}
+
+-- the numbers of the configured interfaces, ascending
+abbrev pub iface_count : State → ℕ
+iface_count s = length s.config.interfaces
+
+abbrev pub ifaces : State → List ℕ
+ifaces s = below (iface_count s)
+
+unfoldable pub iface_config : State → ℕ → Option InterfaceConfig
+iface_config s i = slice_get s.config.interfaces i
+
+-- a value of an interface's configuration, 0 for a number that isn't configured
+abbrev pub configured : (InterfaceConfig → ℕ) → State → ℕ → ℕ
+configured field s i = option_map_or field (iface_config s i) 0
+
+abbrev pub my_address : State → ℕ → ℕ
+my_address s i = configured (λ c. c.address.bits) s i
+
+abbrev pub my_priority : State → ℕ → ℕ
+my_priority s i = configured (λ c. c.priority) s i
+
+abbrev pub my_propagation_delay : State → ℕ → ℕ
+my_propagation_delay s i = configured (λ c. c.propagation_delay) s i
+
+abbrev pub my_override_interval : State → ℕ → ℕ
+my_override_interval s i = configured (λ c. c.override_interval) s i
+
+abbrev pub is_up : State → ℕ → Bool
+is_up s i = has_row s.interfaces (iface_key i)
+
+-- an address of the router, its interface being up or not
+unfoldable pub is_own : State → ℕ → Bool
+is_own s address = list_any (λ c. c.address.bits == address) s.config.interfaces

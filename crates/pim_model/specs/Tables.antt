@@ -1,0 +1,158 @@
+-- Facts as rows of tables, each under its key, in the order of the keys. One key serves every fact and
+-- every timer.
+use Rattle.std.specs.BTreeMap.{insert_entry, is_at}
+use Rattle.std.specs.List.{list_any, range_with_len}
+use Rattle.std.specs.Map.{lookup}
+use Rattle.std.specs.Option.{option_cmp, option_map_or}
+use Rattle.std.specs.Ordering.{bool_cmp, is_eq, nat_cmp, ordering_then}
+use Rattle.std.specs.Prelude.{Bool, List, None, Option, Some, [], false, filter, filter_map, fold, if◌then◌else◌, is_none, is_some, map, max, nat_lt, not, option_map, true, ℕ, ◌%◌, ◌&&◌, ◌+◌, ◌-◌, ◌==◌, ◌∷◌}
+use Rattle.std.specs.declared.cmp.Ordering.{Ordering}
+use Rattle.pim_ip.specs.declared.addr.Addr.{Addr}
+use Rattle.pim_types.specs.declared.fact.Key.{Key}
+use Rattle.pim_wire.specs.Encoded.{addr}
+
+-- by interface, group, (*,G) before its sources, source, (S,G) before (S,G,rpt)
+unfoldable pub addr_cmp : Addr → Addr → Ordering
+addr_cmp a b = nat_cmp a.bits b.bits
+
+unfoldable pub key_cmp : Key → Key → Ordering
+key_cmp a b =
+    ordering_then (nat_cmp a.iface.number b.iface.number)
+    (ordering_then (addr_cmp a.group b.group)
+    (ordering_then (option_cmp addr_cmp a.source b.source) (bool_cmp a.rpt b.rpt)))
+
+abbrev pub key_of : ℕ → ℕ → Option ℕ → Bool → Key
+key_of i g source rpt =
+    record { iface = record { number = i }; group = addr g; source = option_map addr source; rpt = rpt }
+
+-- (*,G), (S,G) and (S,G,rpt) on an interface
+abbrev pub star_key : ℕ → ℕ → Key
+star_key i g = key_of i g None false
+
+abbrev pub source_key : ℕ → ℕ → ℕ → Key
+source_key i g src = key_of i g (Some src) false
+
+abbrev pub rpt_key : ℕ → ℕ → ℕ → Key
+rpt_key i g src = key_of i g (Some src) true
+
+-- an interface, and a neighbour on it
+abbrev pub iface_key : ℕ → Key
+iface_key i = key_of i 0 None false
+
+abbrev pub neighbour_key : ℕ → ℕ → Key
+neighbour_key i address = key_of i 0 (Some address) false
+
+abbrev pub iface_in : Key → ℕ
+iface_in k = k.iface.number
+
+abbrev pub group_in : Key → ℕ
+group_in k = k.group.bits
+
+-- the source, or 0 where there is none
+abbrev pub source_in : Key → ℕ
+source_in k = option_map_or (λ a. a.bits) k.source 0
+
+abbrev pub is_star : Key → Bool
+is_star k = is_none k.source
+
+-- the key is about this source of this group, on whichever interface
+unfoldable pub names_source : ℕ → ℕ → Key → Bool
+names_source g src k = (group_in k == g) && is_some k.source && (source_in k == src)
+
+abbrev pub is_on : ℕ → Key → Bool
+is_on i k = iface_in k == i
+
+abbrev pub is_of_group : ℕ → Key → Bool
+is_of_group g k = group_in k == g
+
+abbrev pub same_key : Key → Key → Bool
+same_key k q = is_eq (key_cmp k q)
+
+abbrev pub Table : Type 0 → Type 0
+Table R = List (Key × R)
+
+module _ {R : Type 0} where
+  -- the row at a key
+  unfoldable pub row_at : Table R → Key → Option R
+  row_at t k = lookup (is_at (key_cmp k)) t
+
+  unfoldable pub has_row : Table R → Key → Bool
+  has_row t k = is_some (row_at t k)
+
+  -- with this row at a key
+  unfoldable pub put : Table R → Key → R → Table R
+  put t k row = insert_entry key_cmp t k row
+
+  -- without the rows whose key passes
+  unfoldable pub drop_where : (Key → Bool) → Table R → Table R
+  drop_where test t = filter (λ e. not (test e.0)) t
+
+  unfoldable pub drop_at : Table R → Key → Table R
+  drop_at t k = drop_where (same_key k) t
+
+  -- the entry at a key with its row as the change leaves it, or without it
+  unfoldable pub changed_entry : (R → Option R) → Key → Key × R → Option (Key × R)
+  changed_entry change k e = if same_key k e.0 then option_map (λ row. (e.0, row)) (change e.1) else Some e
+
+  unfoldable pub change_row : (R → Option R) → Key → Table R → Table R
+  change_row change k t = filter_map (changed_entry change k) t
+
+  -- with this row at a key, or without one
+  unfoldable pub set_row : Table R → Key → Option R → Table R
+  set_row t k None = drop_at t k
+  set_row t k (Some row) = put t k row
+
+  unfoldable pub keys_in : Table R → List Key
+  keys_in t = map (λ e. e.0) t
+
+-- the whole numbers below n
+abbrev pub below : ℕ → List ℕ
+below n = range_with_len 0 n
+
+-- a number put into an ascending list without repeats
+unfoldable pub insert_number : ℕ → List ℕ → List ℕ
+insert_number n [] = n ∷ []
+insert_number n (m ∷ ms) =
+    let later : List ℕ = insert_number n ms in
+    if nat_lt n m then n ∷ m ∷ ms else (if n == m then m ∷ ms else m ∷ later)
+
+-- the numbers of a list, ascending and without repeats
+unfoldable pub ascending : List ℕ → List ℕ
+ascending ns = fold (λ sorted n. insert_number n sorted) [] ns
+
+unfoldable pub is_among : ℕ → List ℕ → Bool
+is_among n ns = list_any (λ m. m == n) ns
+
+abbrev pub same_bool : Bool → Bool → Bool
+same_bool true b = b
+same_bool false b = not b
+
+abbrev pub is_empty_list : {X : Type 0} → List X → Bool
+is_empty_list [] = true
+is_empty_list (x ∷ xs) = false
+
+-- equal options of numbers, and of pairs of an interface and an address
+abbrev pub same_option : Option ℕ → Option ℕ → Bool
+same_option None None = true
+same_option None (Some n) = false
+same_option (Some m) None = false
+same_option (Some m) (Some n) = m == n
+
+-- an interface and a neighbour on it
+abbrev pub Hop : Type 0
+Hop = ℕ × ℕ
+
+abbrev pub same_hop : Option Hop → Option Hop → Bool
+same_hop None None = true
+same_hop None (Some h) = false
+same_hop (Some h) None = false
+same_hop (Some h) (Some k) = (h.0 == k.0) && (h.1 == k.1)
+
+-- the later of two ends, where `None` never ends
+abbrev pub later_end : Option ℕ → Option ℕ → Option ℕ
+later_end (Some a) (Some b) = Some (max a b)
+later_end _ _ = None
+
+-- a delay in [low, high], drawn from w
+unfoldable pub delay_in : ℕ → ℕ → ℕ → ℕ
+delay_in low high w = low + w % (high - low + 1)

@@ -1,0 +1,101 @@
+-- What ends, and when: each end of a row is a timer, under the row's key.
+use Rattle.std.specs.Ordering.{is_lt, nat_cmp, ordering_then}
+use Rattle.std.specs.Prelude.{Bool, List, None, Option, Some, filter, filter_map, nat_le, option_map, ℕ, ◌++◌}
+use Rattle.std.specs.declared.cmp.Ordering.{Ordering}
+use Rattle.pim_types.specs.declared.fact.AssertRow.{AssertRow}
+use Rattle.pim_types.specs.declared.fact.DownstreamRow.{DownstreamRow}
+use Rattle.pim_types.specs.declared.fact.GroupRecordRow.{GroupRecordRow}
+use Rattle.pim_types.specs.declared.fact.GroupRepeatRow.{GroupRepeatRow}
+use Rattle.pim_types.specs.declared.fact.InterfaceRow.{InterfaceRow}
+use Rattle.pim_types.specs.declared.fact.JoinTimerRow.{JoinTimerRow}
+use Rattle.pim_types.specs.declared.fact.Key.{Key}
+use Rattle.pim_types.specs.declared.fact.NeighbourRow.{NeighbourRow}
+use Rattle.pim_types.specs.declared.fact.OverrideTimerRow.{OverrideTimerRow}
+use Rattle.pim_types.specs.declared.fact.QuerierRole.{QuerierRole}
+use Rattle.pim_types.specs.declared.fact.QuerierRow.{QuerierRow}
+use Rattle.pim_types.specs.declared.fact.RegisterRow.{RegisterRow}
+use Rattle.pim_types.specs.declared.fact.RegisterState.{RegisterState}
+use Rattle.pim_types.specs.declared.fact.SourceRecordRow.{SourceRecordRow}
+use Rattle.pim_types.specs.declared.fact.SourceRepeatRow.{SourceRepeatRow}
+use Rattle.pim_types.specs.declared.fact.SourceRow.{SourceRow}
+use Rattle.pim_types.specs.declared.timer.Timer.{Timer}
+use Rattle.pim_types.specs.declared.timer.TimerKind.{TimerKind}
+use Rattle.pim_model.specs.Clearing.{first_by}
+use Rattle.pim_model.specs.State.{State}
+use Rattle.pim_model.specs.Tables.{Table, key_cmp}
+
+abbrev pub rank : TimerKind → ℕ
+rank TimerKind.Neighbour = 1
+rank TimerKind.PrunePending = 2
+rank TimerKind.DownstreamExpiry = 3
+rank TimerKind.GroupRecord = 4
+rank TimerKind.SourceRecord = 5
+rank TimerKind.Assert = 6
+rank TimerKind.Keepalive = 7
+rank TimerKind.Register = 8
+rank TimerKind.Override = 9
+rank TimerKind.Join = 10
+rank TimerKind.OtherQuerier = 11
+rank TimerKind.GroupRepeat = 12
+rank TimerKind.SourceRepeat = 13
+rank TimerKind.GeneralQuery = 14
+rank TimerKind.Hello = 15
+
+pub record Ending : Type 0 where
+  pub end : ℕ
+  pub timer : Timer
+
+abbrev pub ending : TimerKind → Key → ℕ → Ending
+ending kind k end = record { end = end; timer = record { kind = kind; key = k } }
+
+module _ {R : Type 0} (kind : TimerKind) (end_of : R → Option ℕ) where
+  -- the ends of a table's rows
+  unfoldable pub endings : Table R → List Ending
+  endings rows = filter_map (λ (e : Key × R). option_map (ending kind e.0) (end_of e.1)) rows
+
+abbrev pub register_end : RegisterState → Option ℕ
+register_end RegisterState.Join = None
+register_end (RegisterState.JoinPending end) = Some end
+register_end (RegisterState.Prune end) = Some end
+
+abbrev pub next_query : QuerierRole → Option ℕ
+next_query (QuerierRole.Querier next left) = Some next
+next_query (QuerierRole.NonQuerier end) = None
+
+abbrev pub other_querier_end : QuerierRole → Option ℕ
+other_querier_end (QuerierRole.Querier next left) = None
+other_querier_end (QuerierRole.NonQuerier end) = Some end
+
+unfoldable pub timers : State → List Ending
+timers s =
+    endings TimerKind.Neighbour (λ (r : NeighbourRow). r.end) s.neighbours
+    ++ endings TimerKind.PrunePending (λ (r : DownstreamRow). r.pending) s.downstream
+    ++ endings TimerKind.DownstreamExpiry (λ (r : DownstreamRow). r.expiry) s.downstream
+    ++ endings TimerKind.GroupRecord (λ (r : GroupRecordRow). r.end) s.group_records
+    ++ endings TimerKind.SourceRecord (λ (r : SourceRecordRow). r.end) s.source_records
+    ++ endings TimerKind.Assert (λ (r : AssertRow). Some r.end) s.asserts
+    ++ endings TimerKind.Keepalive (λ (r : SourceRow). r.keepalive) s.sources
+    ++ endings TimerKind.Register (λ (r : RegisterRow). register_end r.state) s.registers
+    ++ endings TimerKind.Override (λ (r : OverrideTimerRow). Some r.end) s.override_timers
+    ++ endings TimerKind.Join (λ (r : JoinTimerRow). Some r.end) s.join_timers
+    ++ endings TimerKind.OtherQuerier (λ (r : QuerierRow). other_querier_end r.role) s.queriers
+    ++ endings TimerKind.GroupRepeat (λ (r : GroupRepeatRow). Some r.next) s.group_repeats
+    ++ endings TimerKind.SourceRepeat (λ (r : SourceRepeatRow). Some r.next) s.source_repeats
+    ++ endings TimerKind.GeneralQuery (λ (r : QuerierRow). next_query r.role) s.queriers
+    ++ endings TimerKind.Hello (λ (r : InterfaceRow). Some r.hello_end) s.interfaces
+
+-- by moment, rank and key
+unfoldable pub ending_cmp : Ending → Ending → Ordering
+ending_cmp a b =
+    ordering_then (nat_cmp a.end b.end)
+    (ordering_then (nat_cmp (rank a.timer.kind) (rank b.timer.kind)) (key_cmp a.timer.key b.timer.key))
+
+abbrev pub is_ending_first : Ending → Ending → Bool
+is_ending_first a b = is_lt (ending_cmp a b)
+
+-- the least timer, and the least that is due at a moment
+unfoldable pub next_ending : State → Option Ending
+next_ending s = first_by is_ending_first (timers s)
+
+unfoldable pub next_due : ℕ → State → Option Ending
+next_due moment s = first_by is_ending_first (filter (λ (e : Ending). nat_le e.end moment) (timers s))

@@ -1,0 +1,10 @@
+use Rattle.std.proofs.Common.{◌∙◌, refl}
+use Rattle.pim_wire.specs.Encoded.{pim_text}
+use Rattle.pim_wire.specs.Hellos.{hello_text}
+use Rattle.pim_wire.proofs.hello.hello_bytes.Goals as goal
+
+pub returns : goal.returns
+unfolding hello_text pim_text
+returns c =
+    c.set_checksum.ensures.set
+    ∙ rw (c.write_u32-2.ensures, c.copy_from_slice-4.ensures.after, c.write_u32.ensures, c.copy_from_slice-3.ensures.after, c.write_u16-3.ensures, c.write_u16-2.ensures, c.copy_from_slice-2.ensures.after, c.write_u16.ensures, c.copy_from_slice.ensures.after) refl

@@ -1,0 +1,14 @@
+use Rattle.std.proofs.Common.{◌≡◌}
+use Rattle.pim_wire.specs.JoinPrunes.{groups_at}
+use Rattle.pim_wire.specs.Groups.{HasGroups}
+use Rattle.pim_wire.proofs.join_prune.GroupsIterator.next.Given as goal
+
+-- the groups that were passed over were skipped
+abbrev pub invariant-loop-self : goal.invariant-loop-self
+invariant-loop-self l = record {
+  there : HasGroups l.self-inside.message.now l.self-inside.place l.self-inside.left;
+  rest : groups_at l.self-inside.message.now l.self-inside.place l.self-inside.left ≡ groups_at l.initial.self-inside.message.now l.initial.self-inside.place l.initial.self-inside.left;
+}
+
+abbrev pub decreases-loop-self : goal.decreases-loop-self
+decreases-loop-self l = l.self-inside.left

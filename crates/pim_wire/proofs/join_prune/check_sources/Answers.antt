@@ -1,0 +1,26 @@
+use Rattle.std.proofs.Common.{◌≡◌, ◌+◌, ◌*◌, ◌-◌, Err, sym, ◌∙◌, arith, rules}
+use Rattle.pim_wire.specs.JoinPrunes.{sources_test}
+use Rattle.pim_wire.proofs.Walks.{sources_none, sources_right, sources_wrong}
+use Rattle.pim_wire.proofs.join_prune.check_sources.Goals as goal
+
+pub returns-in_err-check_source-clause-value : goal.returns-in_err-check_source-clause-value
+returns-in_err-check_source-clause-value c =
+    let l = c.loop-index in
+    let e = c.in_err-check_source.field-0.0 in
+    let wrong = sources_wrong c.args.bytes.now (c.args.place + 8 * l.index) (c.args.count - l.index) e (omega arith) (sym c.in_err-check_source.ensures.value) in
+    let is : Err e ≡ sources_test c.args.bytes.now c.args.place c.args.count = sym wrong ∙ l.invariant.tests in
+    search (rules, is)
+
+pub loop-index-preserved : goal.loop-index-preserved
+loop-index-preserved c =
+    let l = c.loop-index in
+    record {
+      within = omega (arith, c.in_ok-check_source.ensures.there);
+      tests = sources_right c.args.bytes.now (c.args.place + 8 * l.index) (c.args.count - l.index) _ _ (omega arith) (sym c.in_ok-check_source.ensures.value) (omega arith) (omega arith) ∙ l.invariant.tests;
+    }
+
+pub returns-clause-value : goal.returns-clause-value
+returns-clause-value c =
+    let l = c.loop-index in
+    let none : c.args.count - l.index ≡ 0 = omega arith in
+    sym (sources_none c.args.bytes.now (c.args.place + 8 * l.index)) ∙ rw none at l.invariant.tests

@@ -1,0 +1,14 @@
+pub mod Asserts
+pub mod Bodies
+pub mod Encoded
+pub mod Groups
+pub mod HelloOptions
+pub mod Hellos
+pub mod JoinPruneTexts
+pub mod JoinPrunes
+pub mod RegisterContent
+pub mod RegisterParts
+pub mod ReadsBack
+pub mod Registers
+pub mod Messages
+pub mod Values
