@@ -632,7 +632,7 @@ querier_accepted c e =
     sixth_test (is_between 1 most_ifaces (length c.interfaces)) (list_all (λ (i : InterfaceConfig). is_unicast i.address.bits) c.interfaces)
     (list_all (λ (i : InterfaceConfig). is_between 1 31 i.length) c.interfaces) (are_apart c.interfaces) (is_between 1 1000000 c.limit)
     (is_querier_config c)
-    (expect (list_all is_delay_config c.interfaces) Refusal.BadDelay >> expect (are_routes c c.routes) Refusal.ConfiguredRoutes
+    (expect (list_all is_delay_config c.interfaces) Refusal.BadDelay >> expect (are_routes c.interfaces c.routes) Refusal.ConfiguredRoutes
     >> expect (are_rps c.rps) Refusal.ConfiguredRps) e
 
 second_test : (a b c d e : Bool) → (a && b && c && d && e) ≡ true → b ≡ true

@@ -17,15 +17,15 @@ use Rattle.pim_model.specs.Clearing.{Cleared, ClearAssert, ClearSptBit, cleared,
 use Rattle.pim_model.specs.Desires.{TreeState, NotJoined, NotPruned, Pruned}
 use Rattle.pim_model.specs.Firing.{settled}
 use Rattle.pim_model.specs.Messages.{Message}
-use Rattle.pim_model.specs.Neighbours.{t_override}
+use Rattle.pim_model.specs.Neighbours.{t_override, t_override_among}
 use Rattle.pim_model.specs.Querier.{each_in_turn}
 use Rattle.pim_model.specs.Registers.{could_register, settle_registers, settled_register}
 use Rattle.pim_model.specs.State.{State}
 use Rattle.pim_model.specs.Tables.{Table, row_at, put, drop_at, set_row, change_row, has_row, delay_in, group_in, source_in, is_on, star_key, source_key, rpt_key, keys_in}
 use Rattle.pim_model.specs.Timers.{register_end}
 use Rattle.pim_model.specs.Unicast.{rpf_interface, rpf_interface_rp}
-use Rattle.pim_model.specs.Upstream.{Told, TimerChange, Keep, Cancel, SetTo, LowerTo, changed_end, group_upstream, override_on, periodic_end, rpt_told, rpt_told_from, source_stays, source_told, source_upstream, star_stays, star_told, upstream, with_join_timer, with_override_timer}
-use Rattle.pim_model.specs.Writing.{hello_paid, with_owed_hello, write_all, written}
+use Rattle.pim_model.specs.Upstream.{Told, TimerChange, Keep, Cancel, SetTo, LowerTo, changed_end, group_upstream, override_on, periodic_end, rpt_told, rpt_told_from, source_stays, source_told, source_upstream, moved_join_timer, moved_override_timer, star_stays, star_told, upstream, with_join_timer, with_override_timer}
+use Rattle.pim_model.specs.Writing.{hello_paid, hellos_paid, with_owed_hello, write_all, written}
 use Rattle.pim_model.proofs.TableLaws.{row_is_there}
 use Rattle.pim_model.proofs.TurnLaws.{kept_to_the_end}
 use Rattle.pim_model.proofs.Ends.{Mark, Ends, Faulty, always, shows_row, TableKeeps, Keeps, kept, kept_then, drop_at_kept, put_kept, put_kept_if, same_kept, cond_kept, map_kept, changed_kept, asserts_kept, sources_kept, registers_kept, override_timers_kept, join_timers_kept, interfaces_kept}
@@ -111,7 +111,7 @@ module _ (m : ℕ) where
   paid_row false mark e f = f
 
   paid_kept : (s : State) (i : ℕ) → Keeps m s (hello_paid s i)
-  unfolding hello_paid
+  unfolding hello_paid hellos_paid
   paid_kept s i =
       interfaces_kept m s
       (map (λ (e : Key × InterfaceRow). cond (is_on i e.0) (let p : Key × InterfaceRow = (e.0, record (e.1) { is_hello_owed = false }) in p) e) s.interfaces)
@@ -183,23 +183,38 @@ module _ {R : Type 0} (end_of : R → ℕ) (make : ℕ → R) (of_end : (n : ℕ
       (lower_of_two (end_of r) end)
 
 module _ (m : ℕ) (s : State) (k : Key) (change : TimerChange) (fair : is_fair m change ≡ true) where
-  join_timer_kept : Keeps m s (with_join_timer s k change)
-  unfolding with_join_timer
-  join_timer_kept =
+  moved_join_timer_kept : Keeps m s (moved_join_timer s k change)
+  unfolding moved_join_timer
+  moved_join_timer_kept =
       join_timers_kept m s
       (set_row s.join_timers k (option_map (λ (e : ℕ). let r : JoinTimerRow = record { end = e } in r)
       (changed_end change (option_map (λ (r : JoinTimerRow). r.end) (row_at s.join_timers k)))))
       (change_kept (λ (r : JoinTimerRow). r.end) (λ (e : ℕ). let r : JoinTimerRow = record { end = e } in r) (λ n. refl) (λ r. refl) m
       s.join_timers k change (row_at s.join_timers k) refl fair)
 
-  override_timer_kept : Keeps m s (with_override_timer s k change)
-  unfolding with_override_timer
-  override_timer_kept =
+  moved_override_timer_kept : Keeps m s (moved_override_timer s k change)
+  unfolding moved_override_timer
+  moved_override_timer_kept =
       override_timers_kept m s
       (set_row s.override_timers k (option_map (λ (e : ℕ). let r : OverrideTimerRow = record { end = e } in r)
       (changed_end change (option_map (λ (r : OverrideTimerRow). r.end) (row_at s.override_timers k)))))
       (change_kept (λ (r : OverrideTimerRow). r.end) (λ (e : ℕ). let r : OverrideTimerRow = record { end = e } in r) (λ n. refl) (λ r. refl) m
       s.override_timers k change (row_at s.override_timers k) refl fair)
+
+module _ (m : ℕ) (s : State) (k : Key) where
+  join_timer_kept : (change : TimerChange) → is_fair m change ≡ true → Keeps m s (with_join_timer s k change)
+  unfolding with_join_timer
+  join_timer_kept Keep fair = kept m s
+  join_timer_kept Cancel fair = moved_join_timer_kept m s k Cancel fair
+  join_timer_kept (SetTo e) fair = moved_join_timer_kept m s k (SetTo e) fair
+  join_timer_kept (LowerTo e) fair = moved_join_timer_kept m s k (LowerTo e) fair
+
+  override_timer_kept : (change : TimerChange) → is_fair m change ≡ true → Keeps m s (with_override_timer s k change)
+  unfolding with_override_timer
+  override_timer_kept Keep fair = kept m s
+  override_timer_kept Cancel fair = moved_override_timer_kept m s k Cancel fair
+  override_timer_kept (SetTo e) fair = moved_override_timer_kept m s k (SetTo e) fair
+  override_timer_kept (LowerTo e) fair = moved_override_timer_kept m s k (LowerTo e) fair
 
 -- ---- what is told is fair
 
@@ -215,7 +230,7 @@ module _ (m : ℕ) (o a : State) (w : ℕ) (now : a.present ≡ m) where
   periodic_later = later_than m a.present 60000 now (omega arith)
 
   some_override : (iface : Option ℕ) → 1 ≤ option_map_or (λ i. t_override a i w) iface 1
-  unfolding t_override delay_in
+  unfolding t_override t_override_among delay_in
   some_override None = omega arith
   some_override (Some i) = omega arith
 

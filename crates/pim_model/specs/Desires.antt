@@ -3,10 +3,11 @@
 use Rattle.std.specs.Option.{option_or}
 use Rattle.std.specs.Prelude.{Bool, None, Option, Some, if◌then◌else◌, not, option_and_then, ℕ, ◌&&◌, ◌||◌}
 use Rattle.pim_types.specs.declared.fact.AssertRow.{AssertRow}
+use Rattle.pim_types.specs.declared.path.Hop.{Hop}
 use Rattle.pim_model.specs.Neighbours.{nbr}
 use Rattle.pim_model.specs.Sets.{assert_source, assert_star, immediate_olist, immediate_olist_star, inherited_olist, inherited_olist_rpt, is_empty, is_kept_alive, is_loser, spt_bit, tunnel}
 use Rattle.pim_model.specs.State.{State}
-use Rattle.pim_model.specs.Tables.{Hop, same_hop}
+use Rattle.pim_model.specs.Tables.{hop_at, same_hop}
 use Rattle.pim_model.specs.Unicast.{route, rp_route, rpf_interface, rpf_interface_rp}
 
 -- JoinDesired(*,G), and RPTJoinDesired(G), which is the same without (*,*,RP)
@@ -28,7 +29,7 @@ join_desired s g src =
 abbrev pub winner_hop : Option ℕ → (ℕ → Option AssertRow) → Option Hop
 winner_hop None row = None
 winner_hop (Some i) row =
-    option_and_then (λ (r : AssertRow). if is_loser (Some r) then Some (i, r.winner.address.bits) else None) (row i)
+    option_and_then (λ (r : AssertRow). if is_loser (Some r) then Some (hop_at i r.winner.address.bits) else None) (row i)
 
 -- RPF'(*,G)
 unfoldable pub rpf_star : State → ℕ → Option Hop

@@ -21,8 +21,11 @@ abbrev pub holdtime_forever : ℕ
 holdtime_forever = 0xFFFF
 
 -- the end of a holdtime in seconds from now
-unfoldable pub holdtime_end : State → ℕ → Option ℕ
-holdtime_end s holdtime = if holdtime == holdtime_forever then None else Some (s.present + 1000 * holdtime)
+unfoldable pub holdtime_end_from : ℕ → ℕ → Option ℕ
+holdtime_end_from present holdtime = if holdtime == holdtime_forever then None else Some (present + 1000 * holdtime)
+
+abbrev pub holdtime_end : State → ℕ → Option ℕ
+holdtime_end s holdtime = holdtime_end_from s.present holdtime
 
 abbrev pub is_kind : EntryKind → EntryKind → Bool
 is_kind EntryKind.Star EntryKind.Star = true

@@ -5,14 +5,15 @@ use Rattle.pim_types.specs.declared.fact.InterfaceRow.{InterfaceRow}
 use Rattle.pim_types.specs.declared.fact.JoinTimerRow.{JoinTimerRow}
 use Rattle.pim_types.specs.declared.fact.Key.{Key}
 use Rattle.pim_types.specs.declared.fact.NeighbourRow.{NeighbourRow}
+use Rattle.pim_types.specs.declared.path.Hop.{Hop}
 use Rattle.pim_wire.specs.declared.hello.Hello.{Hello as HelloValue}
 use Rattle.pim_model.specs.Desires.{rpf_source, rpf_star}
-use Rattle.pim_model.specs.Downstream.{holdtime_end}
+use Rattle.pim_model.specs.Downstream.{holdtime_end, holdtime_end_from}
 use Rattle.pim_model.specs.Messages.{Message}
 use Rattle.pim_model.specs.Neighbours.{is_neighbour, t_override}
 use Rattle.pim_model.specs.Sets.{is_loser}
 use Rattle.pim_model.specs.State.{State}
-use Rattle.pim_model.specs.Tables.{Hop, change_row, delay_in, drop_at, group_in, iface_in, is_on, is_star, neighbour_key, row_at, same_hop, set_row, source_in}
+use Rattle.pim_model.specs.Tables.{change_row, delay_in, drop_at, group_in, hop_at, iface_in, is_on, is_star, neighbour_key, row_at, same_hop, set_row, source_in, Table}
 
 -- the holdtime of a Hello without the option, in seconds: Default_Hello_Holdtime
 abbrev pub default_holdtime : ℕ
@@ -36,32 +37,38 @@ abbrev pub is_other_generation : Option ℕ → Option ℕ → Bool
 is_other_generation (Some m) (Some n) = not (m == n)
 is_other_generation _ _ = false
 
-unfoldable pub is_generation_changed : State → ℕ → ℕ → HelloValue → Bool
-is_generation_changed s i address h =
-    is_other_generation (option_and_then (λ (r : NeighbourRow). r.generation) (neighbour_row s i address)) h.generation
+unfoldable pub is_generation_changed_among : Table NeighbourRow → ℕ → ℕ → HelloValue → Bool
+is_generation_changed_among rows i address h =
+    is_other_generation
+    (option_and_then (λ (r : NeighbourRow). r.generation) (row_at rows (neighbour_key i address))) h.generation
 
--- a Hello is owed, and the Hello timer is lowered
+unfoldable pub is_generation_changed : State → ℕ → ℕ → HelloValue → Bool
+is_generation_changed s i address h = is_generation_changed_among s.neighbours i address h
+
+-- a Hello is owed, and the Hello timer is lowered to an end
+unfoldable pub hellos_triggered : ℕ → ℕ → Table InterfaceRow → Table InterfaceRow
+hellos_triggered i end rows =
+    map (λ (e : Key × InterfaceRow).
+    if is_on i e.0 then (e.0, record e.1 { hello_end = min (e.1).hello_end end; is_hello_owed = true }) else e) rows
+
 unfoldable pub hello_triggered : State → ℕ → ℕ → State
 hello_triggered s i w =
     let end : ℕ = s.present + delay_in 1 triggered_hello_delay w in
-    record s {
-      interfaces = map (λ (e : Key × InterfaceRow).
-          if is_on i e.0 then (e.0, record e.1 { hello_end = min (e.1).hello_end end; is_hello_owed = true }) else e) s.interfaces;
-    }
+    record s { interfaces = hellos_triggered i end s.interfaces }
 
 -- the neighbour as the Hello says; without one where the holdtime is 0
-unfoldable pub neighbour_replaced : State → ℕ → ℕ → HelloValue → State
-neighbour_replaced s i address h =
+unfoldable pub neighbours_replaced : ℕ → ℕ → ℕ → HelloValue → Table NeighbourRow → Table NeighbourRow
+neighbours_replaced present i address h rows =
     let row : NeighbourRow = record {
-      end = holdtime_end s (hello_holdtime_of h);
+      end = holdtime_end_from present (hello_holdtime_of h);
       lan_delay = h.lan_delay;
       priority = h.priority;
       generation = h.generation;
     } in
-    record s {
-      neighbours = set_row s.neighbours (neighbour_key i address)
-          (if hello_holdtime_of h == 0 then None else Some row);
-    }
+    set_row rows (neighbour_key i address) (if hello_holdtime_of h == 0 then None else Some row)
+
+unfoldable pub neighbour_replaced : State → ℕ → ℕ → HelloValue → State
+neighbour_replaced s i address h = record s { neighbours = neighbours_replaced s.present i address h s.neighbours }
 
 -- the neighbour started anew: asserts lost to it end, and it is joined again soon
 abbrev pub is_lost_to : ℕ → ℕ → Key × AssertRow → Bool
@@ -77,7 +84,7 @@ neighbour_restarted o i address w s =
     record s {
       asserts = filter (λ e. not (is_lost_to i address e)) s.asserts;
       join_timers = map (λ (e : Key × JoinTimerRow).
-          if same_hop (upstream_of o e.0) (Some (i, address)) then (e.0, record { end = min (e.1).end end }) else e) s.join_timers;
+          if same_hop (upstream_of o e.0) (Some (hop_at i address)) then (e.0, record { end = min (e.1).end end }) else e) s.join_timers;
     }
 
 unfoldable pub hello_received : State → ℕ → ℕ → HelloValue → ℕ → State

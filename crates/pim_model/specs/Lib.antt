@@ -23,6 +23,7 @@ pub mod Timers
 pub mod Firing
 pub mod Limits
 pub mod Step
+pub mod Built
 pub mod Printed
 pub mod Network
 pub mod Laws

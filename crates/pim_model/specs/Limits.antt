@@ -20,7 +20,7 @@ use Rattle.pim_model.specs.Asserts.{theirs_of}
 use Rattle.pim_model.specs.Downstream.{accepted_joins, accepted_prunes, is_kind, named_key}
 use Rattle.pim_model.specs.Neighbours.{is_neighbour, neighbour_count}
 use Rattle.pim_model.specs.Querier.{is_skipped}
-use Rattle.pim_model.specs.State.{State}
+use Rattle.pim_model.specs.State.{State, is_own_among}
 use Rattle.pim_model.specs.Tables.{Table, has_row, same_key, source_key, star_key}
 use Rattle.pim_model.specs.Unicast.{subnet}
 
@@ -92,20 +92,20 @@ abbrev pub is_prefix : Prefix → Bool
 is_prefix p = nat_le p.length 32 && is_host_clear p
 
 -- a next hop is another router's address
-unfoldable pub is_route : Config → Route → Bool
-is_route c r =
+unfoldable pub is_route : List InterfaceConfig → Route → Bool
+is_route configured r =
     is_prefix r.prefix
-    && nat_lt r.iface.number (length c.interfaces)
+    && nat_lt r.iface.number (length configured)
     && is_unicast r.next_hop.bits
-    && not (list_any (λ (i : InterfaceConfig). i.address.bits == r.next_hop.bits) c.interfaces)
+    && not (is_own_among configured r.next_hop.bits)
     && nat_le r.preference 0x7FFF_FFFE
 
 abbrev pub most_routes : ℕ
 most_routes = 100000
 
-unfoldable pub are_routes : Config → List Route → Bool
-are_routes c routes =
-    nat_le (length routes) most_routes && list_all (is_route c) routes
+unfoldable pub are_routes : List InterfaceConfig → List Route → Bool
+are_routes configured routes =
+    nat_le (length routes) most_routes && list_all (is_route configured) routes
     && are_distinct (map (λ (r : Route). r.prefix) routes)
 
 unfoldable pub is_rp_range : RpRange → Bool
@@ -156,5 +156,5 @@ config_test c =
     >> expect (is_between 1 1000000 c.limit) Refusal.BadLimit
     >> expect (is_querier_config c) Refusal.BadQuerier
     >> expect (list_all is_delay_config c.interfaces) Refusal.BadDelay
-    >> expect (are_routes c c.routes) Refusal.ConfiguredRoutes
+    >> expect (are_routes c.interfaces c.routes) Refusal.ConfiguredRoutes
     >> expect (are_rps c.rps) Refusal.ConfiguredRps

@@ -5,23 +5,29 @@ use Rattle.std.specs.Prelude.{Bool, None, Option, Some, false, filter, fold, if�
 use Rattle.pim_types.specs.declared.fact.Key.{Key}
 use Rattle.pim_types.specs.declared.fact.LanDelay.{LanDelay}
 use Rattle.pim_types.specs.declared.fact.NeighbourRow.{NeighbourRow}
+use Rattle.pim_types.specs.declared.path.Hop.{Hop}
+use Rattle.pim_types.specs.declared.path.Path.{Path}
 use Rattle.pim_model.specs.State.{State, my_address, my_override_interval, my_priority, my_propagation_delay}
-use Rattle.pim_model.specs.Tables.{Hop, Table, delay_in, has_row, is_on, neighbour_key, source_in}
-use Rattle.pim_model.specs.Unicast.{Path}
+use Rattle.pim_model.specs.Tables.{Table, delay_in, has_row, is_on, neighbour_key, source_in, rows_on}
 
 abbrev pub is_neighbour : State → ℕ → ℕ → Bool
 is_neighbour s i address = has_row s.neighbours (neighbour_key i address)
 
-unfoldable pub neighbours_on : State → ℕ → Table NeighbourRow
-neighbours_on s i = filter (λ e. is_on i e.0) s.neighbours
+abbrev pub neighbours_on : State → ℕ → Table NeighbourRow
+neighbours_on s i = rows_on i s.neighbours
 
 abbrev pub neighbour_count : State → ℕ → ℕ
 neighbour_count s i = length (neighbours_on s i)
 
 -- NBR(I, A) (RFC 7761, section 4.1.6), for the next hop of a route
+unfoldable pub nbr_among : Table NeighbourRow → Option Path → Option Hop
+nbr_among rows None = None
+nbr_among rows (Some p) =
+    if has_row rows (neighbour_key p.iface.number p.next_hop.bits)
+    then Some (record { iface = p.iface; address = p.next_hop }) else None
+
 unfoldable pub nbr : State → Option Path → Option Hop
-nbr s None = None
-nbr s (Some p) = if is_neighbour s p.iface p.next_hop then Some (p.iface, p.next_hop) else None
+nbr s path = nbr_among s.neighbours path
 
 -- DR(I) (RFC 7761, section 4.3.2): the highest priority, then the highest address; the address alone
 -- where a neighbour announced no priority. The router itself is one of those compared.
@@ -58,25 +64,38 @@ unfoldable pub effective_delay : (LanDelay → ℕ) → ℕ → ℕ → Table Ne
 effective_delay field default mine rows = if all_have_lan_delay rows then greatest_delay field mine rows else default
 
 -- Effective_Propagation_Delay(I), Effective_Override_Interval(I), J/P_Override_Interval(I), in ms
+unfoldable pub propagation_delay_among : ℕ → Table NeighbourRow → ℕ
+propagation_delay_among mine rows = effective_delay (λ d. d.propagation_delay) default_propagation_delay mine rows
+
+unfoldable pub override_interval_among : ℕ → Table NeighbourRow → ℕ
+override_interval_among mine rows = effective_delay (λ d. d.override_interval) default_override_interval mine rows
+
 unfoldable pub effective_propagation_delay : State → ℕ → ℕ
-effective_propagation_delay s i =
-    effective_delay (λ d. d.propagation_delay) default_propagation_delay (my_propagation_delay s i) (neighbours_on s i)
+effective_propagation_delay s i = propagation_delay_among (my_propagation_delay s i) (neighbours_on s i)
 
 unfoldable pub effective_override_interval : State → ℕ → ℕ
-effective_override_interval s i =
-    effective_delay (λ d. d.override_interval) default_override_interval (my_override_interval s i) (neighbours_on s i)
+effective_override_interval s i = override_interval_among (my_override_interval s i) (neighbours_on s i)
 
 unfoldable pub join_prune_override_interval : State → ℕ → ℕ
 join_prune_override_interval s i = effective_propagation_delay s i + effective_override_interval s i
 
 -- Suppression_Enabled(I): off where every neighbour announced the option with the T bit
+unfoldable pub is_suppression_among : Table NeighbourRow → Bool
+is_suppression_among rows =
+    not (list_all (λ e. option_map_or (λ (d : LanDelay). d.can_track) (e.1).lan_delay false) rows)
+
 unfoldable pub is_suppression_on : State → ℕ → Bool
-is_suppression_on s i =
-    not (list_all (λ e. option_map_or (λ (d : LanDelay). d.can_track) (e.1).lan_delay false) (neighbours_on s i))
+is_suppression_on s i = is_suppression_among (neighbours_on s i)
 
 -- t_override and t_suppressed (RFC 7761, section 4.11), in ms
+unfoldable pub t_override_among : ℕ → Table NeighbourRow → ℕ → ℕ
+t_override_among mine rows w = delay_in 1 (max 1 (override_interval_among mine rows)) w
+
 unfoldable pub t_override : State → ℕ → ℕ → ℕ
-t_override s i w = delay_in 1 (max 1 (effective_override_interval s i)) w
+t_override s i w = t_override_among (my_override_interval s i) (neighbours_on s i) w
+
+unfoldable pub t_suppressed_among : Table NeighbourRow → ℕ → ℕ
+t_suppressed_among rows w = if is_suppression_among rows then delay_in 66000 84000 w else 0
 
 unfoldable pub t_suppressed : State → ℕ → ℕ → ℕ
-t_suppressed s i w = if is_suppression_on s i then delay_in 66000 84000 w else 0
+t_suppressed s i w = t_suppressed_among (neighbours_on s i) w

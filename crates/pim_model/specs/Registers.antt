@@ -5,12 +5,13 @@ use Rattle.pim_types.specs.declared.config.SptSwitch.{SptSwitch}
 use Rattle.pim_types.specs.declared.fact.Key.{Key}
 use Rattle.pim_types.specs.declared.fact.RegisterRow.{RegisterRow}
 use Rattle.pim_types.specs.declared.fact.RegisterState.{RegisterState}
+use Rattle.pim_types.specs.declared.path.Path.{Path}
 use Rattle.pim_model.specs.Messages.{Message}
 use Rattle.pim_model.specs.Neighbours.{is_dr}
 use Rattle.pim_model.specs.Sets.{is_kept_alive, spt_bit}
 use Rattle.pim_model.specs.State.{State, is_own, my_address}
 use Rattle.pim_model.specs.Tables.{Table, change_row, delay_in, drop_at, group_in, has_row, keys_in, put, same_option, source_in, source_key}
-use Rattle.pim_model.specs.Unicast.{Path, route, rp_of, rpf_interface}
+use Rattle.pim_model.specs.Unicast.{route, rp_of, rpf_interface}
 
 -- Keepalive_Period, which also serves at the RP: max(210 s, 185 s), in ms
 abbrev pub keepalive_period : ℕ
@@ -33,7 +34,7 @@ unfoldable pub has_other_rp : State → ℕ → Bool
 has_other_rp s g = option_map_or (λ rp. not (is_own s rp)) (rp_of s g) false
 
 abbrev pub is_dr_of_path : State → Path → Bool
-is_dr_of_path s p = p.is_connected && is_dr s p.iface
+is_dr_of_path s p = p.is_connected && is_dr s p.iface.number
 
 -- CouldRegister(S,G): the source's DR, while the source sends
 unfoldable pub could_register : State → ℕ → ℕ → Bool

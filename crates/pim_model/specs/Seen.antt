@@ -5,13 +5,14 @@ use Rattle.std.specs.Prelude.{Bool, List, None, Option, Some, false, filter, fol
 use Rattle.pim_types.specs.declared.fact.JoinTimerRow.{JoinTimerRow}
 use Rattle.pim_types.specs.declared.fact.Key.{Key}
 use Rattle.pim_types.specs.declared.fact.OverrideTimerRow.{OverrideTimerRow}
+use Rattle.pim_types.specs.declared.path.Hop.{Hop}
 use Rattle.pim_wire.specs.Values.{JoinPrune}
 use Rattle.pim_wire.specs.declared.join_prune.EntryKind.{EntryKind}
 use Rattle.pim_model.specs.Desires.{NotJoined, NotPruned, Pruned, rpf_rpt, rpf_source, rpf_star, tree_state}
 use Rattle.pim_model.specs.Downstream.{Named, accepted_joins, accepted_prunes, is_kind}
 use Rattle.pim_model.specs.Neighbours.{t_override, t_suppressed}
 use Rattle.pim_model.specs.State.{State}
-use Rattle.pim_model.specs.Tables.{Hop, drop_at, is_of_group, is_star, keys_in, put, row_at, rpt_key, same_hop, set_row, source_in, source_key, star_key}
+use Rattle.pim_model.specs.Tables.{drop_at, hop_at, is_of_group, is_star, keys_in, put, row_at, rpt_key, same_hop, set_row, source_in, source_key, star_key}
 
 -- raised to an end that is later, and lowered to one that is earlier; no timer never ends
 abbrev pub raised_row : ℕ → Option JoinTimerRow → Option JoinTimerRow
@@ -57,7 +58,7 @@ unfoldable pub join_seen : State → ℕ → ℕ → Hop → State → Named →
 join_seen o holdtime w hop s n =
     let g : ℕ = n.0 in
     let address : ℕ = (n.1).address.bits in
-    let end : ℕ = suppressed_end o hop.0 w holdtime in
+    let end : ℕ = suppressed_end o hop.iface.number w holdtime in
     elim ((n.1).kind) [
       | EntryKind.Star ↦ (if same_hop (rpf_star o g) (Some hop) then raise_join_timer s (star_key 0 g) end else s)
       | EntryKind.Source ↦ (if same_hop (rpf_source o g address) (Some hop) then raise_join_timer s (source_key 0 g address) end else s)
@@ -72,15 +73,15 @@ sources_joined_towards o hop g =
 
 abbrev pub lower_source_timer : State → ℕ → Hop → ℕ → ℕ → State → State
 lower_source_timer o w hop g src s =
-    if same_hop (rpf_source o g src) (Some hop) then lower_join_timer s (source_key 0 g src) (override_end o hop.0 w) else s
+    if same_hop (rpf_source o g src) (Some hop) then lower_join_timer s (source_key 0 g src) (override_end o hop.iface.number w) else s
 
 abbrev pub lower_tree_timer : State → ℕ → Hop → ℕ → ℕ → State → State
 lower_tree_timer o w hop g src s =
-    if is_unpruned_towards o hop g src then lower_override_timer s (rpt_key 0 g src) (override_end o hop.0 w) else s
+    if is_unpruned_towards o hop g src then lower_override_timer s (rpt_key 0 g src) (override_end o hop.iface.number w) else s
 
 abbrev pub lower_star_timer : State → ℕ → Hop → ℕ → State → State
 lower_star_timer o w hop g s =
-    if same_hop (rpf_star o g) (Some hop) then lower_join_timer s (star_key 0 g) (override_end o hop.0 w) else s
+    if same_hop (rpf_star o g) (Some hop) then lower_join_timer s (star_key 0 g) (override_end o hop.iface.number w) else s
 
 -- what an entry of a Prune does
 unfoldable pub prune_seen : State → ℕ → Hop → State → Named → State
@@ -100,7 +101,7 @@ is_star_entry n = is_kind (n.1).kind EntryKind.Star
 -- accepted Join(*,G) first, then the other joins, then the prunes
 unfoldable pub seen : State → ℕ → ℕ → JoinPrune → State
 seen s w i m =
-    let hop : Hop = (i, m.upstream) in
+    let hop : Hop = hop_at i m.upstream in
     let joins : List Named = accepted_joins s m in
     let after_stars : State = fold (join_seen s m.holdtime w hop) s (filter is_star_entry joins) in
     let after_joins : State = fold (join_seen s m.holdtime w hop) after_stars (filter (λ n. not (is_star_entry n)) joins) in

@@ -9,12 +9,13 @@ use Rattle.pim_types.specs.declared.fact.DownstreamRow.{DownstreamRow}
 use Rattle.pim_types.specs.declared.fact.RegisterRow.{RegisterRow}
 use Rattle.pim_types.specs.declared.fact.RegisterState.{RegisterState}
 use Rattle.pim_types.specs.declared.fact.SourceRow.{SourceRow}
+use Rattle.pim_types.specs.declared.path.Path.{Path}
 use Rattle.pim_wire.specs.Encoded.{addr}
 use Rattle.pim_model.specs.Neighbours.{is_dr}
 use Rattle.pim_model.specs.Receivers.{local_receiver_exclude, local_receiver_include, local_receiver_star}
 use Rattle.pim_model.specs.State.{State, ifaces, is_own, my_address}
 use Rattle.pim_model.specs.Tables.{has_row, row_at, rpt_key, same_bool, source_key, star_key}
-use Rattle.pim_model.specs.Unicast.{Path, is_rpf_interface, is_rpf_interface_rp, route, rp_of, rp_route}
+use Rattle.pim_model.specs.Unicast.{is_rpf_interface, is_rpf_interface_rp, route, rp_of, rp_route}
 
 abbrev pub Set : Type 0
 Set = ℕ → Bool

@@ -99,5 +99,8 @@ abbrev pub is_up : State → ℕ → Bool
 is_up s i = has_row s.interfaces (iface_key i)
 
 -- an address of the router, its interface being up or not
-unfoldable pub is_own : State → ℕ → Bool
-is_own s address = list_any (λ c. c.address.bits == address) s.config.interfaces
+unfoldable pub is_own_among : List InterfaceConfig → ℕ → Bool
+is_own_among configured address = list_any (λ c. c.address.bits == address) configured
+
+abbrev pub is_own : State → ℕ → Bool
+is_own s address = is_own_among s.config.interfaces address

@@ -238,7 +238,7 @@ down_change s i =
 
 unfoldable pub routes_change : State → List Route → Result Change Stop
 routes_change s routes =
-    refuse_if (not (are_routes s.config routes)) Refusal.BadRoutes
+    refuse_if (not (are_routes s.config.interfaces routes)) Refusal.BadRoutes
     >> Ok (changed (record s { routes = routes }))
 
 unfoldable pub rps_replaced : State → List RpRange → State

@@ -9,6 +9,7 @@ use Rattle.std.specs.Prelude.{Bool, List, None, Option, Some, [], false, filter,
 use Rattle.std.specs.declared.cmp.Ordering.{Ordering}
 use Rattle.pim_ip.specs.declared.addr.Addr.{Addr}
 use Rattle.pim_types.specs.declared.fact.Key.{Key}
+use Rattle.pim_types.specs.declared.path.Hop.{Hop}
 use Rattle.pim_wire.specs.Encoded.{addr}
 
 -- by interface, group, (*,G) before its sources, source, (S,G) before (S,G,rpt)
@@ -102,6 +103,10 @@ module _ {R : Type 0} where
   set_row t k None = drop_at t k
   set_row t k (Some row) = put t k row
 
+  -- the rows of an interface
+  unfoldable pub rows_on : ℕ → Table R → Table R
+  rows_on i t = filter (λ e. is_on i e.0) t
+
   unfoldable pub keys_in : Table R → List Key
   keys_in t = map (λ e. e.0) t
 
@@ -139,14 +144,14 @@ same_option (Some m) None = false
 same_option (Some m) (Some n) = m == n
 
 -- an interface and a neighbour on it
-abbrev pub Hop : Type 0
-Hop = ℕ × ℕ
+abbrev pub hop_at : ℕ → ℕ → Hop
+hop_at i address = record { iface = record { number = i }; address = addr address }
 
 abbrev pub same_hop : Option Hop → Option Hop → Bool
 same_hop None None = true
 same_hop None (Some h) = false
 same_hop (Some h) None = false
-same_hop (Some h) (Some k) = (h.0 == k.0) && (h.1 == k.1)
+same_hop (Some h) (Some k) = (h.iface.number == k.iface.number) && (h.address.bits == k.address.bits)
 
 -- the later of two ends, where `None` never ends
 abbrev pub later_end : Option ℕ → Option ℕ → Option ℕ

@@ -1,68 +1,82 @@
 -- Unicast routes and static RPs.
 use Rattle.std.specs.Option.{option_map_or}
-use Rattle.std.specs.Prelude.{Bool, None, Option, Some, false, find, if◌then◌else◌, option_and_then, option_map, true, ℕ, ◌&&◌, ◌/◌, ◌==◌}
+use Rattle.std.specs.Prelude.{Bool, None, Option, Some, false, find, if◌then◌else◌, option_and_then, option_map, true, ℕ, ◌&&◌, ◌/◌, ◌==◌, List, length, slice_get}
 use Rattle.pim_ip.specs.declared.addr.Prefix.{Prefix}
 use Rattle.pim_ip.specs.Prefixes.{contains, longest_match}
 use Rattle.pim_types.specs.declared.config.InterfaceConfig.{InterfaceConfig}
 use Rattle.pim_types.specs.declared.config.Route.{Route}
 use Rattle.pim_types.specs.declared.config.RpRange.{RpRange}
-use Rattle.pim_model.specs.State.{State, iface_config, ifaces, is_own, is_up}
-use Rattle.pim_model.specs.Tables.{same_option}
-
--- a route to an address; preference and metric 0 where the address is on a link
-pub record Path : Type 0 where
-  pub iface : ℕ
-  pub next_hop : ℕ
-  pub preference : ℕ
-  pub metric : ℕ
-  pub is_connected : Bool
+use Rattle.pim_types.specs.declared.fact.InterfaceRow.{InterfaceRow}
+use Rattle.pim_types.specs.declared.path.Path.{Path}
+use Rattle.pim_wire.specs.Encoded.{addr}
+use Rattle.pim_model.specs.State.{State, iface_config, ifaces, is_own, is_up, is_own_among}
+use Rattle.pim_model.specs.Tables.{same_option, Table, has_row, below, iface_key}
 
 abbrev pub subnet : InterfaceConfig → Prefix
 subnet c = record { address = c.address; length = c.length }
 
+-- The rules read the configured interfaces, the rows of those that are up, the routes and the RP ranges; those
+-- of a state are its own.
+
 -- the address lies in the subnet of the interface, which is up
-unfoldable pub is_on_link : State → ℕ → ℕ → Bool
-is_on_link s address i = is_up s i && option_map_or (λ c. contains (subnet c) address) (iface_config s i) false
+unfoldable pub is_on_link_among : List InterfaceConfig → Table InterfaceRow → ℕ → ℕ → Bool
+is_on_link_among configured up address i =
+    has_row up (iface_key i) && option_map_or (λ c. contains (subnet c) address) (slice_get configured i) false
+
+-- the first interface whose link the address is on
+unfoldable pub link_among : List InterfaceConfig → Table InterfaceRow → ℕ → Option ℕ
+link_among configured up address = find (is_on_link_among configured up address) (below (length configured))
 
 abbrev pub link_path : ℕ → ℕ → Path
-link_path address i =
-    record { iface = i; next_hop = address; preference = 0; metric = 0; is_connected = true }
+link_path address i = record {
+  iface = record { number = i };
+  next_hop = addr address;
+  preference = 0;
+  metric = 0;
+  is_connected = true;
+}
 
 abbrev pub route_path : Route → Path
 route_path r = record {
-  iface = r.iface.number;
-  next_hop = r.next_hop.bits;
+  iface = r.iface;
+  next_hop = r.next_hop;
   preference = r.preference;
   metric = r.metric;
   is_connected = false;
 }
 
 -- none where the interface is down
-abbrev pub if_up : State → Path → Option Path
-if_up s p = if is_up s p.iface then Some p else None
+abbrev pub path_if_up : Table InterfaceRow → Path → Option Path
+path_if_up up p = if has_row up (iface_key p.iface.number) then Some p else None
 
 -- the longest route, none where its interface is down
-unfoldable pub routed : State → ℕ → Option Path
-routed s address =
-    option_and_then (λ r. if_up s (route_path r)) (longest_match (λ (r : Route). r.prefix) s.routes address)
+unfoldable pub routed_among : Table InterfaceRow → List Route → ℕ → Option Path
+routed_among up routes address =
+    option_and_then (λ r. path_if_up up (route_path r)) (longest_match (λ (r : Route). r.prefix) routes address)
 
 -- the route to an address: none to an own address, else over a link, else the longest route
-unfoldable pub route : State → ℕ → Option Path
-route s address =
-    let over_link : Option ℕ = find (is_on_link s address) (ifaces s) in
-    let over_route : Option Path = routed s address in
-    if is_own s address then None
+unfoldable pub route_among : List InterfaceConfig → Table InterfaceRow → List Route → ℕ → Option Path
+route_among configured up routes address =
+    let over_link : Option ℕ = link_among configured up address in
+    let over_route : Option Path = routed_among up routes address in
+    if is_own_among configured address then None
     else option_map_or (λ i. Some (link_path address i)) over_link over_route
+
+unfoldable pub route : State → ℕ → Option Path
+route s address = route_among s.config.interfaces s.interfaces s.routes address
 
 -- source-specific multicast (RFC 7761, section 4.8): 232.0.0.0/8
 abbrev pub is_ssm : ℕ → Bool
 is_ssm g = g / 0x100_0000 == 232
 
 -- RP(G) (RFC 7761, section 4.7), from static ranges; an SSM group has none
-unfoldable pub rp_of : State → ℕ → Option ℕ
-rp_of s g =
+unfoldable pub rp_among : List RpRange → ℕ → Option ℕ
+rp_among ranges g =
     if is_ssm g then None
-    else option_map (λ (r : RpRange). r.rp.bits) (longest_match (λ (r : RpRange). r.prefix) s.ranges g)
+    else option_map (λ (r : RpRange). r.rp.bits) (longest_match (λ (r : RpRange). r.prefix) ranges g)
+
+unfoldable pub rp_of : State → ℕ → Option ℕ
+rp_of s g = rp_among s.ranges g
 
 abbrev pub is_rp : State → ℕ → ℕ → Bool
 is_rp s g address = same_option (rp_of s g) (Some address)
@@ -73,10 +87,10 @@ rp_route s g = option_and_then (route s) (rp_of s g)
 
 -- RPF_interface(S) and RPF_interface(RP(G)) (RFC 7761, section 4.1.6)
 unfoldable pub rpf_interface : State → ℕ → Option ℕ
-rpf_interface s address = option_map (λ (p : Path). p.iface) (route s address)
+rpf_interface s address = option_map (λ (p : Path). p.iface.number) (route s address)
 
 unfoldable pub rpf_interface_rp : State → ℕ → Option ℕ
-rpf_interface_rp s g = option_map (λ (p : Path). p.iface) (rp_route s g)
+rpf_interface_rp s g = option_map (λ (p : Path). p.iface.number) (rp_route s g)
 
 abbrev pub is_rpf_interface : State → ℕ → ℕ → Bool
 is_rpf_interface s address i = same_option (rpf_interface s address) (Some i)

@@ -6,6 +6,7 @@ use Rattle.std.specs.Prelude.{Bool, List, None, Option, Some, [], filter, if◌t
 use Rattle.pim_types.specs.declared.fact.JoinTimerRow.{JoinTimerRow}
 use Rattle.pim_types.specs.declared.fact.Key.{Key}
 use Rattle.pim_types.specs.declared.fact.OverrideTimerRow.{OverrideTimerRow}
+use Rattle.pim_types.specs.declared.path.Hop.{Hop}
 use Rattle.pim_wire.specs.declared.join_prune.Entry.{Entry}
 use Rattle.pim_wire.specs.declared.join_prune.EntryKind.{EntryKind}
 use Rattle.pim_model.specs.Desires.{NotJoined, NotPruned, Pruned, TreeState, join_desired, join_desired_star, rpf_rpt, rpf_source, rpf_star, tree_state}
@@ -14,7 +15,7 @@ use Rattle.pim_model.specs.Neighbours.{is_neighbour, nbr, t_override}
 use Rattle.pim_model.specs.Querier.{each_in_turn}
 use Rattle.pim_model.specs.Sets.{inherited_olist_rpt, is_empty, joins, prunes, spt_bit}
 use Rattle.pim_model.specs.State.{State}
-use Rattle.pim_model.specs.Tables.{Hop, ascending, change_row, drop_at, group_in, is_of_group, is_star, keys_in, row_at, rpt_key, same_hop, same_option, set_row, source_in, source_key, star_key}
+use Rattle.pim_model.specs.Tables.{ascending, change_row, drop_at, group_in, is_of_group, is_star, keys_in, row_at, rpt_key, same_hop, same_option, set_row, source_in, source_key, star_key}
 use Rattle.pim_model.specs.Unicast.{route, rp_of, rp_route, rpf_interface, rpf_interface_rp}
 
 -- t_periodic, in ms
@@ -29,12 +30,12 @@ periodic_end s = s.present + join_period
 -- a Join/Prune to a neighbour, none to null
 unfoldable pub join_prune_to : Option Hop → ℕ → List Entry → List Entry → List Message
 join_prune_to None g joins prunes = []
-join_prune_to (Some hop) g joins prunes = Message.JoinPrune hop.0 hop.1 g joins prunes ∷ []
+join_prune_to (Some hop) g joins prunes = Message.JoinPrune hop.iface.number hop.address.bits g joins prunes ∷ []
 
 -- the hop, where it is still a neighbour
 unfoldable pub if_neighbour : State → Option Hop → Option Hop
 if_neighbour s None = None
-if_neighbour s (Some hop) = if is_neighbour s hop.0 hop.1 then Some hop else None
+if_neighbour s (Some hop) = if is_neighbour s hop.iface.number hop.address.bits then Some hop else None
 
 -- the keys of all facts of groups
 unfoldable pub fact_keys : State → List Key
@@ -186,15 +187,27 @@ changed_end (SetTo e) end = Some e
 changed_end (LowerTo e) None = Some e
 changed_end (LowerTo e) (Some old) = Some (min old e)
 
-unfoldable pub with_join_timer : State → Key → TimerChange → State
-with_join_timer s k change =
+unfoldable pub moved_join_timer : State → Key → TimerChange → State
+moved_join_timer s k change =
     let end : Option ℕ = changed_end change (option_map (λ (r : JoinTimerRow). r.end) (row_at s.join_timers k)) in
     record s { join_timers = set_row s.join_timers k (option_map (λ e. record { end = e }) end) }
 
-unfoldable pub with_override_timer : State → Key → TimerChange → State
-with_override_timer s k change =
+unfoldable pub with_join_timer : State → Key → TimerChange → State
+with_join_timer s k Keep = s
+with_join_timer s k Cancel = moved_join_timer s k Cancel
+with_join_timer s k (SetTo e) = moved_join_timer s k (SetTo e)
+with_join_timer s k (LowerTo e) = moved_join_timer s k (LowerTo e)
+
+unfoldable pub moved_override_timer : State → Key → TimerChange → State
+moved_override_timer s k change =
     let end : Option ℕ = changed_end change (option_map (λ (r : OverrideTimerRow). r.end) (row_at s.override_timers k)) in
     record s { override_timers = set_row s.override_timers k (option_map (λ e. record { end = e }) end) }
+
+unfoldable pub with_override_timer : State → Key → TimerChange → State
+with_override_timer s k Keep = s
+with_override_timer s k Cancel = moved_override_timer s k Cancel
+with_override_timer s k (SetTo e) = moved_override_timer s k (SetTo e)
+with_override_timer s k (LowerTo e) = moved_override_timer s k (LowerTo e)
 
 -- o is the opening and a the state after the change; the timers move in s
 unfoldable pub source_upstream : State → State → ℕ → ℕ → State → ℕ → State × List Message

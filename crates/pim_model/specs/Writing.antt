@@ -17,7 +17,7 @@ use Rattle.pim_model.specs.Querier.{each_in_turn}
 use Rattle.pim_model.specs.Registers.{registering_address}
 use Rattle.pim_model.specs.Sets.{Set, joins, members, prunes}
 use Rattle.pim_model.specs.State.{State, my_address, my_override_interval, my_priority, my_propagation_delay}
-use Rattle.pim_model.specs.Tables.{iface_key, is_on, row_at}
+use Rattle.pim_model.specs.Tables.{iface_key, is_on, row_at, Table}
 use Rattle.pim_model.specs.Unicast.{rp_of}
 use Rattle.pim_model.specs.Upstream.{upstream}
 
@@ -66,11 +66,12 @@ abbrev pub is_hello_owed : State → ℕ → Bool
 is_hello_owed s i = option_map_or (λ (r : InterfaceRow). r.is_hello_owed) (row_at s.interfaces (iface_key i)) false
 
 -- any Hello pays the debt
+unfoldable pub hellos_paid : ℕ → Table InterfaceRow → Table InterfaceRow
+hellos_paid i rows =
+    map (λ (e : Key × InterfaceRow). if is_on i e.0 then (e.0, record e.1 { is_hello_owed = false }) else e) rows
+
 unfoldable pub hello_paid : State → ℕ → State
-hello_paid s i = record s {
-  interfaces = map (λ (e : Key × InterfaceRow).
-      if is_on i e.0 then (e.0, record e.1 { is_hello_owed = false }) else e) s.interfaces;
-}
+hello_paid s i = record s { interfaces = hellos_paid i s.interfaces }
 
 -- a message with the Hello that is owed before it
 unfoldable pub with_owed_hello : State → ℕ → Emission → State × List Emission

@@ -1,5 +1,5 @@
 -- What is written reads back as its value.
-use Rattle.std.specs.Prelude.{◌≡◌, ℕ, ◌+◌, ◌^◌, ◌<◌, Bool, IsTrue, List, [], ◌∷◌, length, Some, false, Ok, All}
+use Rattle.std.specs.Prelude.{◌≡◌, ℕ, ◌^◌, ◌<◌, ◌≤◌, Bool, IsTrue, List, [], ◌∷◌, length, Some, false, Ok, All}
 use Rattle.pim_ip.specs.Ipv4.{Packet, ipv4_reading, is_unicast, is_multicast, first_multicast}
 use Rattle.pim_wire.specs.declared.view.PimView.TheVariants.{Hello, Register, RegisterStop, JoinPrune, Assert}
 use Rattle.pim_wire.specs.declared.join_prune.Entry.{Entry}
@@ -39,7 +39,7 @@ NullRegisterReads source group =
 -- round a packet from a host to a group that a link carries
 abbrev pub RegisterReads : List ℕ → Type 0
 RegisterReads inner =
-    (p : Packet) → ipv4_reading inner ≡ Ok p → length inner < frame_limit + 1
+    (p : Packet) → ipv4_reading inner ≡ Ok p → length inner ≤ frame_limit
     → IsTrue (is_unicast p.source) → IsTrue (is_multicast p.destination)
     → pim_reading (register_text inner) ≡ Ok (Register (Encapsulated p))
 
