@@ -8,7 +8,7 @@ use Rattle.std.proofs.lemmas.Bool.{cases_order}
 use lib.Count.{ones_step, ones-le}
 use Rattle.std.proofs.lemmas.Bool.Decides.{nat_tests}
 use Rattle.std.proofs.lemmas.Nat.Bits.{bit_at-trailing_zeros, bit_at_above, bit_at-lt}
-use Rattle.pim_ifset.proofs.Masks.{has_empty, has_without}
+use Rattle.pim_ifset.proofs.Masks.{and_true, has_empty, has_without, itself}
 use Rattle.pim_types.specs.declared.config.IfaceId.{IfaceId}
 use Rattle.pim_ifset.specs.Members.{Members, has, interfaces, iface_of, passing_below}
 
@@ -16,15 +16,8 @@ use Rattle.pim_ifset.specs.Members.{Members, has, interfaces, iface_of, passing_
 abbrev pub but : (ℕ → Bool) → ℕ → ℕ → Bool
 but p n q = p q && not (q == n)
 
-and_true : (b : Bool) → b ≡ (b && true)
-and_true true = refl
-and_true false = refl
-
 but_other : (p : ℕ → Bool) (n q : ℕ) → q ≢ n → p q ≡ but p n q
 but_other p n q other = let e : (q == n) ≡ false = grind (arith, nat_tests) in rw e (and_true (p q))
-
-itself : (n : ℕ) → (n == n) ≡ true
-itself n = grind (arith, nat_tests)
 
 -- past n the two tests keep the same
 past : (p : ℕ → Bool) (n a k : ℕ) → n < a → filter p (range_with_len a k) ≡ filter (but p n) (range_with_len a k)

@@ -17,7 +17,11 @@ min_test x y p q = grind (arith, nat_tests)
 not_test : (x : ℕ) → x < 2 → ((1 - x) == 1) ≡ not (x == 1)
 not_test x p = grind (arith, nat_tests)
 
-and_true : (b : Bool) → b ≡ (b && true)
+-- a number is equal to itself
+pub itself : (n : ℕ) → (n == n) ≡ true
+itself n = grind (arith, nat_tests)
+
+pub and_true : (b : Bool) → b ≡ (b && true)
 and_true true = refl
 and_true false = refl
 

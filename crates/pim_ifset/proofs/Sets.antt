@@ -5,7 +5,7 @@ use Rattle.std.proofs.Math.Nat.{pow-suc}
 use Rattle.std.proofs.lemmas.Nat.Bits.{bit_at-lt, bit_at_above, bit_at-zero, bit_at_cat_low, bit_at_cat_high, same_from_bits}
 use Rattle.std.proofs.lemmas.Bool.{cases_order}
 use Rattle.std.proofs.lemmas.Bool.Decides.{nat_tests}
-use Rattle.pim_ifset.proofs.Masks.{has_empty}
+use Rattle.pim_ifset.proofs.Masks.{has_empty, itself}
 use Rattle.pim_ifset.specs.Members.{Members, has, mask_of, set_of}
 
 same_digit : (x y : ℕ) → x < 2 → y < 2 → (x == 1) ≡ (y == 1) → x ≡ y
@@ -20,9 +20,6 @@ same_members s t same tunnel =
 
 not_same : (q n : ℕ) → q ≢ n → (q == n) ≡ false
 not_same q n other = grind (arith, nat_tests)
-
-itself : (n : ℕ) → (n == n) ≡ true
-itself n = grind (arith, nat_tests)
 
 -- one digit more above a number of n digits
 digit_low : (n m q : ℕ) → q < n → bit_at (m + 2 ^ n) q ≡ bit_at m q

@@ -1,0 +1,201 @@
+//! The interfaces of a router.
+ghost use Rattle.std.specs.Prelude.{◌≡◌, ◌<◌, ◌≤◌, [], length, slice_get, take, option_map, IfSome, IsTrue, OnOk, OnErr};
+ghost use Rattle.pim_model.specs.Hellos.{hellos_triggered};
+ghost use Rattle.pim_model.specs.State.{is_own_among};
+ghost use Rattle.pim_model.specs.Tables.{drop_where, has_row, iface_key, is_on, put, row_at};
+ghost use Rattle.pim_model.specs.Unicast.{is_on_link_among, link_among};
+ghost use Rattle.pim_model.specs.Writing.{hellos_paid};
+
+use crate::limits::{MOST_INTERFACES, subnet};
+use pim_facts::Facts;
+use pim_types::fact::InterfaceRow;
+use pim_types::{Addr, IfaceId, InterfaceConfig, Key};
+use std::alloc::{AllocError, Global};
+use std::marker::Model;
+
+/// The configured interfaces, and the rows of those that are up.
+#[derive(Debug, Drop)]
+pub struct Interfaces {
+    places: [InterfaceConfig; MOST_INTERFACES],
+    count: usize,
+    rows: Facts<InterfaceRow>,
+}
+
+impl Model for Interfaces {
+    ghost use Rattle.std.specs.Prelude.{take};
+    ghost use Rattle.pim_ifaces.specs.Interfaces.{InterfaceTable, IsHeld};
+
+    ghost Value = { InterfaceTable };
+
+    ghost view = { λ a. record { configured = take a.count a.places; rows = a.rows } };
+
+    ghost invariant = { λ a. IsHeld (take a.count a.places) a.count a.rows };
+}
+
+impl Interfaces {
+    /// These interfaces, all down.
+    pub fn new(alloc: Global, configured: &[InterfaceConfig]) -> Self
+        requires { length configured.now ≤ MOST_INTERFACES }
+        ensures { result ≡ record { configured = configured.now; rows = [] } }
+    {
+        Interfaces {
+            places: places_of(configured),
+            count: configured.len(),
+            rows: Facts::new(alloc),
+        }
+    }
+
+    /// How many interfaces are configured.
+    pub fn count(&self) -> u32
+        ensures count { result ≡ length self.now.configured }
+        ensures within { result ≤ MOST_INTERFACES }
+    {
+        self.count as u32
+    }
+
+    /// The configured interfaces, by their numbers.
+    pub fn configured(&self) -> &[InterfaceConfig]
+        ensures { result.now ≡ self.now.configured }
+    {
+        &self.places[..self.count]
+    }
+
+    /// What is configured of the interface. There is none past the last.
+    pub fn config(&self, iface: IfaceId) -> Option<InterfaceConfig>
+        ensures { result ≡ slice_get self.now.configured iface.number }
+    {
+        self.configured().get(iface.number as usize).copied()
+    }
+
+    /// Whether the interface is up.
+    pub fn is_up(&self, iface: IfaceId) -> bool
+        ensures up { result ≡ has_row self.now.rows (iface_key iface.number) }
+        ensures configured { IsTrue result → iface.number < length self.now.configured }
+    {
+        self.rows.contains(key_of(iface))
+    }
+
+    /// The row of the interface, if it is up.
+    pub fn row(&self, iface: IfaceId) -> Option<InterfaceRow>
+        ensures { result ≡ row_at self.now.rows (iface_key iface.number) }
+    {
+        self.rows.get(key_of(iface))
+    }
+
+    /// Whether the address is one of the router's, its interface being up or not.
+    #[tactic(auto, unfolding(pim_model::specs::State::is_own_among))]
+    pub fn is_own(&self, address: Addr) -> bool
+        ensures { result ≡ is_own_among self.now.configured address.bits }
+    {
+        for interface in self.configured() {
+            if interface.address == address {
+                return true;
+            }
+        }
+        false
+    }
+
+    /// The first interface that is up and whose subnet the address lies in.
+    #[tactic(auto, unfolding(pim_model::specs::Unicast::link_among))]
+    pub fn link_to(&self, address: Addr) -> Option<IfaceId>
+        ensures first { option_map (λ i. i.number) result ≡ link_among self.now.configured self.now.rows address.bits }
+        ensures configured { IfSome result (λ i. i.number < length self.now.configured) }
+    {
+        for number in 0..self.count() {
+            let iface = IfaceId { number };
+            if self.is_on_link(iface, address) {
+                return Some(iface);
+            }
+        }
+        None
+    }
+
+    // Whether the interface is up and the address lies in its subnet.
+    #[tactic(auto, unfolding(pim_model::specs::Unicast::is_on_link_among))]
+    fn is_on_link(&self, iface: IfaceId, address: Addr) -> bool
+        ensures { result ≡ is_on_link_among self.now.configured self.now.rows address.bits iface.number }
+    {
+        match self.config(iface) {
+            Some(interface) => self.is_up(iface) && subnet(interface).contains(address),
+            None => false,
+        }
+    }
+
+    /// Makes the interface up, with this row.
+    pub fn set_up(&mut self, iface: IfaceId, row: InterfaceRow) -> Result<(), AllocError>
+        requires { iface.number < length self.old.configured }
+        ensures ok { OnOk result (self.new ≡ record self.old { rows = put self.old.rows (iface_key iface.number) row }) }
+        ensures err { OnErr result (self.new ≡ self.old) }
+    {
+        self.rows.put(key_of(iface), row)
+    }
+
+    /// Makes the interface down: its row goes, if it has one.
+    pub fn set_down(&mut self, iface: IfaceId)
+        ensures { self.new ≡ record self.old { rows = drop_where (is_on iface.number) self.old.rows } }
+    {
+        self.rows.remove(key_of(iface));
+    }
+
+    /// Makes a Hello owed on the interface, if it is up, and lets its Hello timer end at this moment
+    /// at the latest, in ms.
+    pub fn owe_hello(&mut self, iface: IfaceId, end: u64)
+        ensures { self.new ≡ record self.old { rows = hellos_triggered iface.number end self.old.rows } }
+    {
+        let key = key_of(iface);
+        if let Some(row) = self.rows.get(key) {
+            let owing = InterfaceRow {
+                hello_end: row.hello_end.min(end),
+                is_hello_owed: true,
+                ..row
+            };
+            self.rows.change(key, owing);
+        }
+    }
+
+    /// Makes no Hello owed on the interface.
+    pub fn pay_hello(&mut self, iface: IfaceId)
+        ensures { self.new ≡ record self.old { rows = hellos_paid iface.number self.old.rows } }
+    {
+        let key = key_of(iface);
+        if let Some(row) = self.rows.get(key) {
+            let paid = InterfaceRow {
+                is_hello_owed: false,
+                ..row
+            };
+            self.rows.change(key, paid);
+        }
+    }
+}
+
+// What a place holds that no interface has.
+const UNUSED: InterfaceConfig = InterfaceConfig {
+    address: Addr { bits: 0 },
+    length: 0,
+    priority: 0,
+    propagation_delay: 0,
+    override_interval: 0,
+};
+
+// A place for each interface, of which the first are taken.
+fn places_of(configured: &[InterfaceConfig]) -> [InterfaceConfig; MOST_INTERFACES]
+    requires { length configured.now ≤ MOST_INTERFACES }
+    ensures { take (length configured.now) result ≡ configured.now }
+{
+    let mut places = [UNUSED; MOST_INTERFACES];
+    let taken = configured.len();
+    places[..taken].copy_from_slice(configured);
+    places
+}
+
+// The key of an interface's facts.
+fn key_of(iface: IfaceId) -> Key
+    ensures { result ≡ iface_key iface.number }
+{
+    Key {
+        iface,
+        group: Addr { bits: 0 },
+        source: None,
+        rpt: false,
+    }
+}

@@ -1,0 +1,10 @@
+//! The configured interfaces of a router, and the rows of those that are up.
+#![tactic(auto)]
+
+pub mod interfaces;
+pub mod limits;
+#[cfg(test)]
+mod tests;
+
+pub use interfaces::Interfaces;
+pub use limits::{MOST_INTERFACES, test_delays, test_interfaces};

@@ -1,0 +1,3 @@
+pub mod Lengths
+pub mod Delays
+pub mod Writing

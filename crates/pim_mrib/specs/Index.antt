@@ -1,0 +1,20 @@
+-- A list of values that stand under prefixes, and a trie of the same values.
+use Rattle.std.specs.Prelude.{◌≡◌, ℕ, Bool, List, map, option_map}
+use Rattle.std.specs.List.{list_any}
+use Rattle.pim_ip.specs.declared.addr.Prefix.{Prefix}
+use Rattle.pim_ip.specs.Prefixes.{longest_match}
+use Rattle.pim_trie.specs.Entries.{nodes_along}
+
+module _ {T : Type 0} (prefix_of : T → Prefix) where
+  -- the value under its prefix
+  abbrev pub entry_of : T → Prefix × T
+  entry_of value = (prefix_of value, value)
+
+  -- the trie answers as the list does
+  pub record IsIndexOf (values : List T) (entries : List (Prefix × T)) : Type 0 where
+    pub holds : (test : Prefix × T → Bool) → list_any test entries ≡ list_any test (map entry_of values)
+    pub finds : (address : ℕ) → longest_match (λ e. e.0) entries address ≡ option_map entry_of (longest_match prefix_of values address)
+
+  -- how many nodes of the trie a look-up of an address visits
+  unfoldable pub nodes_visited : List T → ℕ → ℕ
+  nodes_visited values address = nodes_along (map entry_of values) address 32

@@ -1,0 +1,25 @@
+-- The routes and the RP ranges as one value, and how many trie nodes a look-up visits.
+use Rattle.std.specs.Prelude.{ℕ, List, if◌then◌else◌, is_some, ◌||◌}
+use Rattle.pim_types.specs.declared.config.InterfaceConfig.{InterfaceConfig}
+use Rattle.pim_types.specs.declared.config.Route.{Route}
+use Rattle.pim_types.specs.declared.config.RpRange.{RpRange}
+use Rattle.pim_types.specs.declared.fact.InterfaceRow.{InterfaceRow}
+use Rattle.pim_model.specs.State.{is_own_among}
+use Rattle.pim_model.specs.Tables.{Table}
+use Rattle.pim_model.specs.Unicast.{is_ssm, link_among}
+use Rattle.pim_mrib.specs.Index.{nodes_visited}
+
+-- the unicast routes and the RP ranges, each in the order in which they were given
+pub record RouteTable : Type 0 where
+  pub routes : List Route
+  pub ranges : List RpRange
+
+-- none for an own address and for one on a link: no route is looked up
+unfoldable pub route_nodes : List InterfaceConfig → Table InterfaceRow → List Route → ℕ → ℕ
+route_nodes configured up routes address =
+    if is_own_among configured address || is_some (link_among configured up address) then 0
+    else nodes_visited (λ (r : Route). r.prefix) routes address
+
+-- none for a source-specific group
+unfoldable pub rp_nodes : List RpRange → ℕ → ℕ
+rp_nodes ranges group = if is_ssm group then 0 else nodes_visited (λ (r : RpRange). r.prefix) ranges group

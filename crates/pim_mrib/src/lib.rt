@@ -1,0 +1,10 @@
+//! The unicast routes and the RP ranges of a router, found by longest match.
+#![tactic(auto)]
+
+mod limits;
+pub mod mrib;
+mod prefix_list;
+#[cfg(test)]
+mod tests;
+
+pub use mrib::Mrib;

@@ -1,0 +1,186 @@
+//! The unicast routes and the RP ranges of a router.
+ghost use Rattle.std.specs.Prelude.{◌≡◌, ◌≤◌, [], Ok, Err, IfOk, IfErr, OnErr, if◌then◌else◌, option_map};
+ghost use Rattle.pim_ip.specs.declared.fault.Fault.{Fault};
+ghost use Rattle.pim_ip.specs.declared.refusal.Refusal.{Refusal};
+ghost use Rattle.pim_trie.specs.Meter.{raised};
+ghost use Rattle.pim_model.specs.Limits.{are_routes, are_rps};
+ghost use Rattle.pim_model.specs.Unicast.{is_ssm, link_path, route_among, route_path, rp_among};
+ghost use Rattle.pim_mrib.specs.Routes.{route_nodes, rp_nodes};
+
+use crate::limits::{each_is_route, each_is_rp_range};
+use crate::prefix_list::{PrefixList, Prefixed};
+use pim_ifaces::Interfaces;
+use pim_trie::Meter;
+use pim_types::{Addr, Fault, IfaceId, Path, Prefix, Refusal, Route, RpRange};
+use std::alloc::Global;
+use std::marker::Model;
+
+impl Prefixed for Route {
+    ghost prefix_of = { λ route. route.prefix };
+
+    fn prefix(&self) -> Prefix {
+        self.prefix
+    }
+}
+
+impl Prefixed for RpRange {
+    ghost prefix_of = { λ range. range.prefix };
+
+    fn prefix(&self) -> Prefix {
+        self.prefix
+    }
+}
+
+/// The unicast routes and the RP ranges of a router, each in the order in which they were given.
+#[derive(Debug, Drop)]
+pub struct Mrib {
+    routes: PrefixList<Route>,
+    ranges: PrefixList<RpRange>,
+}
+
+impl Model for Mrib {
+    ghost use Rattle.pim_mrib.specs.Routes.{RouteTable};
+
+    ghost Value = { RouteTable };
+
+    ghost view = { λ a. record { routes = a.routes; ranges = a.ranges } };
+}
+
+impl Mrib {
+    /// No routes and no ranges; it takes no memory.
+    pub fn new(alloc: Global) -> Self
+        ensures { result ≡ record { routes = []; ranges = [] } }
+    {
+        Mrib {
+            routes: PrefixList::new(alloc),
+            ranges: PrefixList::new(alloc),
+        }
+    }
+
+    /// The unicast routes.
+    pub fn routes(&self) -> &[Route]
+        ensures { result.now ≡ self.now.routes }
+    {
+        self.routes.as_slice()
+    }
+
+    /// The RP ranges.
+    pub fn ranges(&self) -> &[RpRange]
+        ensures { result.now ≡ self.now.ranges }
+    {
+        self.ranges.as_slice()
+    }
+
+    /// Puts these routes in the place of the others, or refuses them, and then nothing has
+    /// changed: there are at most 100,000, their prefixes are distinct with no host bit set, each is
+    /// over a configured interface to another router's address, with a preference of at most
+    /// 0x7FFFFFFE.
+    #[tactic(auto, using(crate::proofs::Accepted::accepted))]
+    pub fn replace(
+        &mut self,
+        interfaces: &Interfaces,
+        routes: &[Route],
+    ) -> Result<Result<(), Refusal>, Fault>
+        ensures answer { IfOk result (λ answer. answer ≡ (if are_routes interfaces.now.configured routes.now then Ok tt else Err Refusal.BadRoutes)) }
+        ensures new { IfOk result (λ _. self.new ≡ (if are_routes interfaces.now.configured routes.now then record self.old { routes = routes.now } else self.old)) }
+        ensures err { OnErr result (self.new ≡ self.old) }
+        ensures memory { IfErr result (λ fault. fault ≡ Fault.Memory) }
+    {
+        if !each_is_route(interfaces, routes) {
+            return Ok(Err(Refusal::BadRoutes));
+        }
+        if !self.routes.replace(routes)? {
+            return Ok(Err(Refusal::BadRoutes));
+        }
+        Ok(Ok(()))
+    }
+
+    /// Puts these RP ranges in the place of the others, or refuses them, and then nothing has
+    /// changed: there are at most 256, their prefixes are distinct, inside 224.0.0.0/4 with no host
+    /// bit set, and each RP is a unicast address.
+    #[tactic(auto, using(crate::proofs::Accepted::accepted))]
+    pub fn replace_rps(&mut self, ranges: &[RpRange]) -> Result<Result<(), Refusal>, Fault>
+        ensures answer { IfOk result (λ answer. answer ≡ (if are_rps ranges.now then Ok tt else Err Refusal.BadRps)) }
+        ensures new { IfOk result (λ _. self.new ≡ (if are_rps ranges.now then record self.old { ranges = ranges.now } else self.old)) }
+        ensures err { OnErr result (self.new ≡ self.old) }
+        ensures memory { IfErr result (λ fault. fault ≡ Fault.Memory) }
+    {
+        if !each_is_rp_range(ranges) {
+            return Ok(Err(Refusal::BadRps));
+        }
+        if !self.ranges.replace(ranges)? {
+            return Ok(Err(Refusal::BadRps));
+        }
+        Ok(Ok(()))
+    }
+
+    /// The route to the address: none to one of the router's own, over the first link that it lies
+    /// on, or else the route with the longest prefix, none where its interface is down. The meter
+    /// counts the trie nodes that were visited.
+    #[tactic(auto, using(crate::proofs::Routed::routed))]
+    pub fn route(&self, interfaces: &Interfaces, address: Addr, meter: &mut Meter) -> Option<Path>
+        ensures value { result ≡ route_among interfaces.now.configured interfaces.now.rows self.now.routes address.bits }
+        ensures visited { meter.new ≡ raised meter.old (route_nodes interfaces.now.configured interfaces.now.rows self.now.routes address.bits) }
+        ensures at_most { route_nodes interfaces.now.configured interfaces.now.rows self.now.routes address.bits ≤ 33 }
+    {
+        if interfaces.is_own(address) {
+            return None;
+        }
+        if let Some(iface) = interfaces.link_to(address) {
+            return Some(link_path(iface, address));
+        }
+        let route = self.routes.longest(address, meter)?;
+        if !interfaces.is_up(route.iface) {
+            return None;
+        }
+        Some(route_path(route))
+    }
+
+    /// The RP of the group (RFC 7761, section 4.7): that of the range with the longest prefix. A
+    /// source-specific group has none. The meter counts the trie nodes that were visited.
+    #[tactic(auto, using(crate::proofs::Routed::routed))]
+    pub fn rp(&self, group: Addr, meter: &mut Meter) -> Option<Addr>
+        ensures value { option_map (λ rp. rp.bits) result ≡ rp_among self.now.ranges group.bits }
+        ensures visited { meter.new ≡ raised meter.old (rp_nodes self.now.ranges group.bits) }
+        ensures at_most { rp_nodes self.now.ranges group.bits ≤ 33 }
+    {
+        if is_source_specific(group) {
+            return None;
+        }
+        let range = self.ranges.longest(group, meter)?;
+        Some(range.rp)
+    }
+}
+
+// The path to an address on a link.
+fn link_path(iface: IfaceId, address: Addr) -> Path
+    ensures { result ≡ link_path address.bits iface.number }
+{
+    Path {
+        iface,
+        next_hop: address,
+        preference: 0,
+        metric: 0,
+        is_connected: true,
+    }
+}
+
+// The path over a route.
+fn route_path(route: Route) -> Path
+    ensures { result ≡ route_path route }
+{
+    Path {
+        iface: route.iface,
+        next_hop: route.next_hop,
+        preference: route.preference,
+        metric: route.metric,
+        is_connected: false,
+    }
+}
+
+// Whether the group is source-specific: it lies in 232.0.0.0/8 (RFC 7761, section 4.8).
+fn is_source_specific(group: Addr) -> bool
+    ensures { result ≡ is_ssm group.bits }
+{
+    group.bits >> 24 == 232
+}

@@ -1,0 +1,13 @@
+//! What a router knows of its PIM neighbours (RFC 7761, section 4.3): who they are, whether it is
+//! the DR, and the delays of each link.
+#![tactic(auto)]
+
+mod delays;
+pub mod neighbours;
+pub mod neighbours_on;
+
+pub use neighbours::Neighbours;
+pub use neighbours_on::NeighboursOn;
+
+#[cfg(test)]
+mod tests;

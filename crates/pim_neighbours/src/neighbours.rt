@@ -1,0 +1,358 @@
+//! The table of neighbours, and what the router decides by it.
+ghost use Rattle.std.specs.Prelude.{◌≡◌, ◌↔◌, ◌+◌, ◌≤◌, ◌^◌, [], length, IsTrue, OnErr, OnOk};
+ghost use Rattle.std.specs.List.Sorted.{IsStrictlySortedBy};
+ghost use Rattle.pim_model.specs.Downstream.{holdtime_end_from};
+ghost use Rattle.pim_model.specs.Hellos.{is_generation_changed_among, neighbours_replaced};
+ghost use Rattle.pim_model.specs.Neighbours.{all_have_priority, is_better_dr, is_dr_among, is_suppression_among, nbr_among, override_interval_among, propagation_delay_among, t_override_among, t_suppressed_among};
+ghost use Rattle.pim_model.specs.Tables.{drop_at, drop_where, has_row, is_on, key_cmp, keys_in, neighbour_key, row_at, rows_on};
+
+use crate::delays::{Delays, delay_in};
+use crate::neighbours_on::NeighboursOn;
+use pim_facts::Facts;
+use pim_types::fact::NeighbourRow;
+use pim_types::{Addr, Hop, IfaceId, InterfaceConfig, Key, Path};
+use pim_wire::Hello;
+use std::alloc::{AllocError, Global};
+use std::collections::btree_map::Iter;
+use std::marker::Model;
+
+/// The holdtime of a Hello without the option, in seconds.
+const DEFAULT_HOLDTIME: u16 = 105;
+
+/// The holdtime that never ends.
+const HOLDTIME_FOREVER: u16 = 0xffff;
+
+/// The least `t_suppressed`, in ms: 1.1 times the period of Joins.
+const LEAST_SUPPRESSED: u32 = 66_000;
+
+/// The greatest `t_suppressed`, in ms: 1.4 times the period of Joins.
+const MOST_SUPPRESSED: u32 = 84_000;
+
+/// The PIM neighbours on all interfaces, each as its last Hello said.
+#[derive(Debug, Drop)]
+pub struct Neighbours {
+    rows: Facts<NeighbourRow>,
+}
+
+impl Model for Neighbours {
+    ghost use Rattle.pim_model.specs.Tables.{Table};
+    ghost use Rattle.pim_types.specs.declared.fact.NeighbourRow.{NeighbourRow};
+
+    ghost Value = { Table NeighbourRow };
+
+    ghost view = { λ n. n.rows };
+}
+
+// The key of the neighbour with the address on the interface.
+fn neighbour_key(iface: IfaceId, address: Addr) -> Key
+    ensures { result ≡ neighbour_key iface.number address.bits }
+{
+    Key {
+        iface,
+        group: Addr { bits: 0 },
+        source: Some(address),
+        rpt: false,
+    }
+}
+
+// The end of a holdtime in seconds from now; `None` never ends.
+#[tactic(auto, unfolding(pim_model::specs::Downstream::holdtime_end_from))]
+fn holdtime_end(present: u64, holdtime: u16) -> Option<u64>
+    requires { present ≤ 2 ^ 62 }
+    ensures { result ≡ holdtime_end_from present holdtime }
+{
+    if holdtime == HOLDTIME_FOREVER {
+        None
+    } else {
+        Some(present + 1000 * u64::from(holdtime))
+    }
+}
+
+// Whether the neighbour comes before the router in the election of the DR.
+#[tactic(auto, unfolding(pim_model::specs::Neighbours::is_better_dr))]
+fn is_better_dr(by_priority: bool, own: &InterfaceConfig, key: &Key, row: &NeighbourRow) -> bool
+    ensures { result
+        ≡ is_better_dr by_priority own.now.priority own.now.address.bits (key.now, row.now) }
+{
+    let priority = row.priority.unwrap_or(0);
+    if by_priority && priority != own.priority {
+        return own.priority < priority;
+    }
+    match key.source {
+        Some(address) => own.address.bits < address.bits,
+        None => false,
+    }
+}
+
+impl Neighbours {
+    ghost use Rattle.pim_neighbours.specs.Delays.{announced_among};
+
+    /// No neighbours; it takes no memory.
+    pub fn new(alloc: Global) -> Neighbours
+        ensures { result ≡ [] }
+    {
+        Neighbours {
+            rows: Facts::new(alloc),
+        }
+    }
+
+    /// How many neighbours there are on all interfaces.
+    pub fn len(&self) -> usize
+        ensures count { result ≡ length self.now }
+
+        // Of every table: the keys rise.
+        ensures ascending { IsStrictlySortedBy key_cmp (keys_in self.now) }
+    {
+        self.rows.len()
+    }
+
+    /// Whether there is no neighbour.
+    pub fn is_empty(&self) -> bool
+        ensures { IsTrue result ↔ (self.now ≡ []) }
+    {
+        self.rows.is_empty()
+    }
+
+    /// The neighbours, by interface and address.
+    pub fn iter(&self) -> Iter<'_, Key, NeighbourRow>
+        ensures { result ≡ self.now }
+    {
+        self.rows.iter()
+    }
+
+    /// The neighbours on the interface, by address.
+    pub fn iter_on(&self, iface: IfaceId) -> NeighboursOn<'_>
+        ensures { result ≡ rows_on iface.number self.now }
+    {
+        NeighboursOn::among(iface, self.rows.iter())
+    }
+
+    /// How many neighbours there are on the interface.
+    pub fn count_on(&self, iface: IfaceId) -> usize
+        ensures { result ≡ length (rows_on iface.number self.now) }
+    {
+        self.rows.count_on(iface)
+    }
+
+    /// What the neighbour with the address on the interface announced.
+    pub fn get(&self, iface: IfaceId, address: Addr) -> Option<NeighbourRow>
+        ensures { result ≡ row_at self.now (neighbour_key iface.number address.bits) }
+    {
+        self.rows.get(neighbour_key(iface, address))
+    }
+
+    /// Whether there is a neighbour with the address on the interface.
+    pub fn contains(&self, iface: IfaceId, address: Addr) -> bool
+        ensures { result ≡ has_row self.now (neighbour_key iface.number address.bits) }
+    {
+        self.rows.contains(neighbour_key(iface, address))
+    }
+
+    /// The neighbour that is the next hop of a route: `NBR` of RFC 7761, section 4.1.6. `None`
+    /// where there is no route, and where the next hop is no neighbour.
+    #[tactic(auto, unfolding(pim_model::specs::Neighbours::nbr_among))]
+    pub fn nbr(&self, path: Option<Path>) -> Option<Hop>
+        ensures { result ≡ nbr_among self.now path }
+    {
+        let path = path?;
+        if !self.contains(path.iface, path.next_hop) {
+            return None;
+        }
+        Some(Hop {
+            iface: path.iface,
+            address: path.next_hop,
+        })
+    }
+
+    // Whether each neighbour on the interface announced its DR priority.
+    #[tactic(auto, unfolding(pim_model::specs::Neighbours::all_have_priority))]
+    fn all_have_priority(&self, iface: IfaceId) -> bool
+        ensures { result ≡ all_have_priority (rows_on iface.number self.now) }
+    {
+        for (_, row) in self.iter_on(iface) {
+            if row.priority.is_none() {
+                return false;
+            }
+        }
+        true
+    }
+
+    /// Whether the router is the DR on the interface (`I_am_DR` of RFC 7761, section 4.3.2), by
+    /// its own address and priority there: the highest priority decides, then the highest address;
+    /// the address alone where a neighbour announced no priority.
+    #[tactic(auto, unfolding(pim_model::specs::Neighbours::is_dr_among))]
+    pub fn is_dr(&self, iface: IfaceId, own: &InterfaceConfig) -> bool
+        ensures { result
+            ≡ is_dr_among own.now.priority own.now.address.bits (rows_on iface.number self.now) }
+    {
+        let by_priority = self.all_have_priority(iface);
+        for (key, row) in self.iter_on(iface) {
+            if is_better_dr(by_priority, own, key, row) {
+                return false;
+            }
+        }
+        true
+    }
+
+    // The greatest delays that the neighbours on the interface and the router itself announced;
+    // `None` where a neighbour announced none.
+    #[tactic(auto, unfolding(crate::specs::Delays::announced_among, pim_model::specs::Neighbours::all_have_lan_delay, pim_model::specs::Neighbours::greatest_delay))]
+    fn announced_delays(&self, iface: IfaceId, own: &InterfaceConfig) -> Option<Delays>
+        ensures { let rows = rows_on iface.number self.now in
+            result ≡ announced_among own.now.propagation_delay own.now.override_interval rows }
+    {
+        let mut propagation_delay = own.propagation_delay;
+        let mut override_interval = own.override_interval;
+        for (_, row) in self.iter_on(iface) {
+            let announced = row.lan_delay?;
+            propagation_delay = propagation_delay.max(u32::from(announced.propagation_delay));
+            override_interval = override_interval.max(u32::from(announced.override_interval));
+        }
+        Some(Delays {
+            propagation_delay,
+            override_interval,
+        })
+    }
+
+    // The delays in force on the interface, where the router announces its own.
+    #[tactic(auto, unfolding(crate::specs::Delays::announced_among, pim_model::specs::Neighbours::propagation_delay_among, pim_model::specs::Neighbours::override_interval_among, pim_model::specs::Neighbours::effective_delay))]
+    fn delays(&self, iface: IfaceId, own: &InterfaceConfig) -> Delays
+        ensures propagation_delay { result.propagation_delay
+            ≡ propagation_delay_among own.now.propagation_delay (rows_on iface.number self.now) }
+        ensures override_interval { result.override_interval
+            ≡ override_interval_among own.now.override_interval (rows_on iface.number self.now) }
+    {
+        match self.announced_delays(iface, own) {
+            Some(delays) => delays,
+            None => Delays::DEFAULT,
+        }
+    }
+
+    /// `Effective_Propagation_Delay` of the interface (RFC 7761, section 4.3.3), in ms: the
+    /// greatest that was announced, the router's own among them, or the default of 500 where a
+    /// neighbour announced none.
+    pub fn propagation_delay(&self, iface: IfaceId, own: &InterfaceConfig) -> u32
+        ensures { result
+            ≡ propagation_delay_among own.now.propagation_delay (rows_on iface.number self.now) }
+    {
+        self.delays(iface, own).propagation_delay
+    }
+
+    /// `Effective_Override_Interval` of the interface (RFC 7761, section 4.3.3), in ms: the
+    /// greatest that was announced, the router's own among them, or the default of 2500 where a
+    /// neighbour announced none.
+    pub fn override_interval(&self, iface: IfaceId, own: &InterfaceConfig) -> u32
+        ensures { result
+            ≡ override_interval_among own.now.override_interval (rows_on iface.number self.now) }
+    {
+        self.delays(iface, own).override_interval
+    }
+
+    /// `J/P_Override_Interval` of the interface (RFC 7761, section 4.3.3), in ms: the sum of its
+    /// two delays.
+    pub fn join_prune_override_interval(&self, iface: IfaceId, own: &InterfaceConfig) -> u64
+        ensures { let rows = rows_on iface.number self.now in
+            result ≡ propagation_delay_among own.now.propagation_delay rows
+            + override_interval_among own.now.override_interval rows }
+    {
+        let delays = self.delays(iface, own);
+        u64::from(delays.propagation_delay) + u64::from(delays.override_interval)
+    }
+
+    /// `Suppression_Enabled` of the interface (RFC 7761, section 4.3.3): whether a neighbour did
+    /// not announce that it can do without Join suppression. It is off where there is no
+    /// neighbour.
+    #[tactic(auto, unfolding(pim_model::specs::Neighbours::is_suppression_among))]
+    pub fn is_suppression_on(&self, iface: IfaceId) -> bool
+        ensures { result ≡ is_suppression_among (rows_on iface.number self.now) }
+    {
+        for (_, row) in self.iter_on(iface) {
+            if !row.lan_delay.is_some_and(|announced| announced.can_track) {
+                return true;
+            }
+        }
+        false
+    }
+
+    /// `t_override` of the interface (RFC 7761, section 4.11), in ms: from 1 to its override
+    /// interval, by the number that was drawn.
+    #[tactic(auto, unfolding(pim_model::specs::Neighbours::t_override_among))]
+    pub fn override_delay(&self, iface: IfaceId, own: &InterfaceConfig, draw: u32) -> u64
+        ensures { result
+            ≡ t_override_among own.now.override_interval (rows_on iface.number self.now) draw }
+    {
+        delay_in(1, self.override_interval(iface, own).max(1), draw)
+    }
+
+    /// `t_suppressed` of the interface (RFC 7761, section 4.11), in ms: from 66,000 to 84,000, by
+    /// the number that was drawn, or 0 where Join suppression is off.
+    #[tactic(auto, unfolding(pim_model::specs::Neighbours::t_suppressed_among))]
+    pub fn suppressed_delay(&self, iface: IfaceId, draw: u32) -> u64
+        ensures { result ≡ t_suppressed_among (rows_on iface.number self.now) draw }
+    {
+        if !self.is_suppression_on(iface) {
+            return 0;
+        }
+        delay_in(LEAST_SUPPRESSED, MOST_SUPPRESSED, draw)
+    }
+
+    /// Whether the Hello shows that the neighbour started anew (RFC 7761, section 4.3.1): its
+    /// generation ID and the one before are both known, and differ.
+    #[tactic(auto, unfolding(pim_model::specs::Hellos::is_generation_changed_among))]
+    pub fn is_generation_changed(&self, iface: IfaceId, address: Addr, hello: &Hello) -> bool
+        ensures { result
+            ≡ is_generation_changed_among self.now iface.number address.bits hello.now }
+    {
+        let Some(row) = self.get(iface, address) else {
+            return false;
+        };
+        match (row.generation, hello.generation) {
+            (Some(before), Some(after)) => before != after,
+            _ => false,
+        }
+    }
+
+    /// Makes the neighbour what its Hello says, which came at the present moment, in ms. Without a
+    /// holdtime it lasts 105 s; one with holdtime 0 goes at once. An `Err` changes nothing.
+    #[tactic(auto, unfolding(pim_model::specs::Hellos::neighbours_replaced, pim_model::specs::Tables::set_row))]
+    pub fn hello(
+        &mut self,
+        iface: IfaceId,
+        address: Addr,
+        hello: &Hello,
+        present: u64,
+    ) -> Result<(), AllocError>
+        requires { present ≤ 2 ^ 62 }
+        ensures ok { OnOk result (self.new
+            ≡ neighbours_replaced present iface.number address.bits hello.now self.old) }
+        ensures err { OnErr result (self.new ≡ self.old) }
+    {
+        let key = neighbour_key(iface, address);
+        let holdtime = hello.holdtime.unwrap_or(DEFAULT_HOLDTIME);
+        if holdtime == 0 {
+            self.rows.remove(key);
+            return Ok(());
+        }
+        let row = NeighbourRow {
+            end: holdtime_end(present, holdtime),
+            lan_delay: hello.lan_delay,
+            priority: hello.priority,
+            generation: hello.generation,
+        };
+        self.rows.put(key, row)
+    }
+
+    /// Takes the neighbour with the address on the interface away.
+    pub fn remove(&mut self, iface: IfaceId, address: Addr)
+        ensures { self.new ≡ drop_at self.old (neighbour_key iface.number address.bits) }
+    {
+        self.rows.remove(neighbour_key(iface, address));
+    }
+
+    /// Takes the neighbours on the interface away.
+    pub fn drop_on(&mut self, iface: IfaceId)
+        ensures { self.new ≡ drop_where (is_on iface.number) self.old }
+    {
+        self.rows.drop_on(iface);
+    }
+}

@@ -1,0 +1,13 @@
+pub mod Ascending
+pub mod Changed
+pub mod Kept
+pub mod Least
+pub mod Levels
+pub mod Links
+pub mod Marked
+pub mod Moving
+pub mod Placed
+pub mod Ranks
+pub mod Relinked
+pub mod Total
+pub mod Walk

@@ -1,0 +1,9 @@
+pub mod Ends
+pub mod Held
+pub mod Kept
+pub mod Levels
+pub mod Links
+pub mod Marks
+pub mod Next
+pub mod Order
+pub mod Schedule

@@ -1,0 +1,18 @@
+ghost use Rattle.std.specs.Prelude.{◌≡◌, ℕ, Option};
+ghost use Rattle.pim_types.specs.declared.timer.Timer.{Timer as TimerValue};
+ghost use Rattle.pim_timers.specs.Order.{timer_cmp};
+ghost use Rattle.pim_timers.specs.Next.{IsNext};
+
+use pim_types::Timer;
+
+/// At most one timer is next.
+#[tactic(auto, using(crate::proofs::Least::next_is_one))]
+pub fn one_timer_is_next()
+    ensures { (end_of : TimerValue → Option ℕ) (first second : Option (ℕ × TimerValue)) → IsNext end_of first → IsNext end_of second → first ≡ second }
+{}
+
+/// Timers compare by the ranks of their kinds, and those of one kind by their keys.
+#[tactic(auto, using(crate::proofs::Ranks::timer_order))]
+pub fn timers_compare_by_rank_and_key()
+    ensures { (first second : TimerValue) → ⟦<Timer as Ord>⟧.cmp first second ≡ timer_cmp first second }
+{}

@@ -1,0 +1,12 @@
+pub mod Ascent
+pub mod Bits
+pub mod Counts
+pub mod Longest
+pub mod Prefixes
+pub mod Rebuilt
+pub mod Steps
+pub mod Trees
+pub mod Tries
+pub mod Unders
+pub mod Walks
+pub mod Ways

@@ -1,0 +1,90 @@
+//! One node of a trie.
+ghost use Rattle.std.specs.Prelude.{◌≡◌, ◌+◌, ◌-◌, ◌^◌, ◌<◌, ◌≤◌, None, option_map};
+ghost use Rattle.pim_trie.specs.Entries.{entry_seen};
+ghost use Rattle.pim_trie.specs.Tree.{bit_at, prefix_of};
+ghost use Rattle.pim_trie.specs.Nodes.{way_to};
+
+use pim_ip::{Addr, Prefix};
+
+// A node stands for its prefix: it holds the value of that prefix, if there is one, and links the
+// nodes for the two prefixes that have one bit more.
+#[derive(Debug, Drop)]
+pub(crate) struct Node<V> {
+    pub(crate) prefix: Prefix,
+    pub(crate) value: Option<V>,
+    // Where the next bit is 0.
+    pub(crate) left: Option<usize>,
+    // Where the next bit is 1.
+    pub(crate) right: Option<usize>,
+}
+
+// Whether the bit after the first `depth` is 1.
+pub(crate) fn next_bit(address: Addr, depth: u32) -> bool
+    requires { depth < 32 }
+    ensures { result ≡ bit_at address.bits (31 - depth) }
+{
+    (address.bits >> (31 - depth)) % 2 == 1
+}
+
+// The prefix of the first `depth` bits.
+#[tactic(auto, unfolding(crate::specs::Tree::prefix_of, crate::specs::Nodes::way_to))]
+pub(crate) fn first_bits(prefix: Prefix, depth: u32) -> Prefix
+    requires { depth ≤ 32 }
+    ensures { result ≡ prefix_of (way_to prefix depth) }
+{
+    let rest = u64::from(prefix.address.bits) % (1 << (32 - depth));
+    Prefix {
+        address: Addr {
+            bits: prefix.address.bits - rest as u32,
+        },
+        length: depth,
+    }
+}
+
+impl<V> Node<V> {
+    ghost use Rattle.pim_trie.specs.Nodes.{link_of, with_link, is_idle, entry_of};
+
+    // A node with no value and no children.
+    pub(crate) fn new(prefix: Prefix) -> Self
+        ensures { result ≡ record { prefix = prefix; value = None; left = None; right = None } }
+    {
+        Node {
+            prefix,
+            value: None,
+            left: None,
+            right: None,
+        }
+    }
+
+    // The prefix and its value.
+    pub(crate) fn entry(&self) -> Option<(Prefix, &V)>
+        ensures { option_map entry_seen result ≡ entry_of self.now }
+    {
+        self.value.as_ref().map(|value| (self.prefix, value))
+    }
+
+    // The link to the side of a bit.
+    pub(crate) fn child(&self, bit: bool) -> Option<usize>
+        ensures { result ≡ link_of bit self.now }
+    {
+        if bit { self.right } else { self.left }
+    }
+
+    // Sets the link to the side of a bit.
+    pub(crate) fn set_child(&mut self, bit: bool, link: Option<usize>)
+        ensures { self.new ≡ with_link bit self.old link }
+    {
+        if bit {
+            self.right = link;
+        } else {
+            self.left = link;
+        }
+    }
+
+    // Whether the node holds no value and leads nowhere.
+    pub(crate) fn is_idle(&self) -> bool
+        ensures { result ≡ is_idle self.now }
+    {
+        self.value.is_none() && self.left.is_none() && self.right.is_none()
+    }
+}
