@@ -1,0 +1,4 @@
+pub mod Applying
+pub mod Members
+pub mod Merging
+pub mod Orders

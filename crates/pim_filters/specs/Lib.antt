@@ -1,0 +1,6 @@
+pub mod Asking
+pub mod Cases
+pub mod Changes
+pub mod Lowering
+pub mod Members
+pub mod Rules

@@ -1,0 +1,45 @@
+-- The members of a group record: what a contract sees of one, and their order.
+use Rattle.std.specs.List.{list_any}
+use Rattle.std.specs.List.Sorted.{IsStrictlySortedBy}
+use Rattle.std.specs.Ordering.{nat_cmp}
+use Rattle.std.specs.Prelude.{Bool, List, None, Option, Some, if◌then◌else◌, map, ℕ, ◌==◌}
+use Rattle.pim_filters.specs.declared.member.Fate.{Fate}
+use Rattle.pim_filters.specs.declared.member.Fate.TheVariants.{Gone, Excluded, Until}
+use Rattle.pim_filters.specs.declared.member.Member.{Member}
+use Rattle.pim_ip.specs.declared.addr.Addr.{Addr}
+use Rattle.pim_model.specs.Querier.{lowered}
+use Rattle.pim_model.specs.Records as records
+
+abbrev pub entry_of : Member → records.Member
+entry_of m = (m.source.bits, m.end)
+
+abbrev pub entries_of : List Member → List records.Member
+entries_of ms = map entry_of ms
+
+abbrev pub fate_of : Fate → records.Fate
+fate_of Gone = records.Gone
+fate_of Excluded = records.Excluded
+fate_of (Until end) = records.Until end
+
+-- what an end says of a member
+abbrev pub fate_at : Option ℕ → Fate
+fate_at None = Excluded
+fate_at (Some end) = Until end
+
+abbrev pub bits_of : List Addr → List ℕ
+bits_of addresses = map (λ (a : Addr). a.bits) addresses
+
+-- the sources ascend, and each is there once
+abbrev pub IsAscending : List records.Member → Type 0
+IsAscending ms = IsStrictlySortedBy nat_cmp (map (λ (m : records.Member). m.0) ms)
+
+abbrev pub is_named : ℕ → List Addr → Bool
+is_named src addresses = list_any (λ (a : Addr). a.bits == src) addresses
+
+-- the member, excluded where it is of this source
+abbrev pub without_end : ℕ → Member → Member
+without_end src m = if m.source.bits == src then record m { end = None } else m
+
+-- the member, with its end lowered to a moment where its source is named
+abbrev pub with_end_lowered : List Addr → ℕ → Member → Member
+with_end_lowered sources end m = if is_named m.source.bits sources then record m { end = lowered end m.end } else m

@@ -1,0 +1,115 @@
+ghost use Rattle.std.specs.Option.{option_map_or};
+ghost use Rattle.std.specs.Prelude.{◌≡◌, None, false, nat_lt};
+ghost use Rattle.pim_filters.specs.Members.{fate_at, fate_of, is_named, with_end_lowered, without_end};
+ghost use Rattle.pim_filters.specs.Rules.{kept_or};
+ghost use Rattle.pim_model.specs.Querier.{lowered};
+ghost use Rattle.pim_model.specs.Records.{is_running};
+
+use pim_ip::Addr;
+use smallvec::SmallVec;
+
+/// Members in one place: a host seldom names more than four sources, which need no allocation.
+pub(crate) type Members = SmallVec<Member, 4>;
+
+/// A source of a group record: until its end, in milliseconds, its packets are asked for; with no
+/// end they are refused.
+#[derive(Clone, Copy, PartialEq, Eq, Debug)]
+pub struct Member {
+    pub source: Addr,
+    pub end: Option<u64>,
+}
+
+impl Default for Member {
+    ghost is_default = { λ m. (m.source.bits ≡ 0) × (m.end ≡ None) };
+
+    fn default() -> Member {
+        Member {
+            source: Addr { bits: 0 },
+            end: None,
+        }
+    }
+}
+
+/// What a group record says of a source.
+#[derive(Clone, Copy, PartialEq, Eq, Debug)]
+pub enum Fate {
+    /// The record doesn't have the source.
+    Gone,
+    /// The source has no timer: its packets are refused.
+    Excluded,
+    /// The source's timer runs until this moment, in milliseconds.
+    Until(u64),
+}
+
+impl Fate {
+    /// The fate, or another in place of `Gone`.
+    pub(crate) fn or(self, fresh: Fate) -> Fate
+        ensures { fate_of result ≡ kept_or (fate_of fresh) (fate_of self) }
+    {
+        match self {
+            Fate::Gone => fresh,
+            Fate::Excluded | Fate::Until(_) => self,
+        }
+    }
+
+    /// Whether the source's timer runs.
+    pub fn is_running(self) -> bool
+        ensures { result ≡ is_running (fate_of self) }
+    {
+        matches!(self, Fate::Until(_))
+    }
+}
+
+impl Member {
+    /// What the record says of the source.
+    pub fn fate(self) -> Fate
+        ensures { result ≡ fate_at self.end }
+    {
+        match self.end {
+            Some(end) => Fate::Until(end),
+            None => Fate::Excluded,
+        }
+    }
+
+    /// The member, with no end where it is of this source.
+    pub(crate) fn without_end(self, source: Addr) -> Member
+        ensures { result ≡ without_end source.bits self }
+    {
+        if self.source == source {
+            return Member { end: None, ..self };
+        }
+        self
+    }
+
+    /// The member, with its end lowered to the moment where its source is named.
+    pub(crate) fn with_end_lowered(self, sources: &[Addr], moment: u64) -> Member
+        ensures { result ≡ with_end_lowered sources.now moment self }
+    {
+        if is_named(self.source, sources) {
+            let end = lowered_end(self.end, moment);
+            return Member { end, ..self };
+        }
+        self
+    }
+
+    /// Whether the timer runs past the moment.
+    pub(crate) fn runs_past(self, moment: u64) -> bool
+        ensures { result ≡ option_map_or (nat_lt moment) self.end false }
+    {
+        self.end.is_some_and(|end| moment < end)
+    }
+}
+
+/// The end, lowered to a moment where it runs.
+pub(crate) fn lowered_end(end: Option<u64>, moment: u64) -> Option<u64>
+    ensures { result ≡ lowered moment end }
+{
+    end.map(|end| end.min(moment))
+}
+
+/// Whether the source is named.
+fn is_named(source: Addr, sources: &[Addr]) -> bool
+    ensures { result ≡ is_named source.bits sources.now }
+{
+    sources.iter().any(|named| named.bits == source.bits)
+}
