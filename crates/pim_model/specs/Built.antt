@@ -1,5 +1,5 @@
--- What the router does so far. An event beyond it is ignored as Unbuilt, the last reason to ignore one: after
--- every refusal and every other reason but Full, which is asked after all of them.
+-- The events that the first router takes. An event beyond them is ignored as Unbuilt, the last reason to ignore
+-- one: after every refusal and every other reason but Full, which is asked after all of them.
 use Rattle.std.specs.List.{list_all}
 use Rattle.std.specs.Prelude.{Bool, Err, List, Ok, Result, Some, [], false, if◌then◌else◌, true, ℕ, ◌&&◌, ◌==◌, ◌∷◌}
 use Rattle.pim_ip.specs.declared.refusal.Refusal.{Refusal}
@@ -49,11 +49,11 @@ is_unicast_packet_built p =
 
 unfoldable pub is_built : State → EventKind → Bool
 is_built s (EventKind.Up i) = true
-is_built s (EventKind.Routes routes) = true
-is_built s (EventKind.Rps rps) = true
 is_built s (EventKind.Frame i bytes) = is_read_as (is_packet_built s i.number) (ipv4_reading bytes)
 is_built s (EventKind.Unicast bytes) = is_read_as is_unicast_packet_built (ipv4_reading bytes)
 is_built s (EventKind.Down i) = false
+is_built s (EventKind.Routes routes) = false
+is_built s (EventKind.Rps rps) = false
 is_built s (EventKind.Advance moment) = false
 
 -- the answers that come after the reasons to ignore an event
