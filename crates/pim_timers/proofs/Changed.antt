@@ -13,7 +13,7 @@ use Rattle.pim_timers.specs.Kept.{IsIndexed, IsWheel, ends_of}
 use Rattle.pim_timers.specs.Levels.{StandsIn}
 use Rattle.pim_timers.proofs.Total.{timer_cmp_total, timer_exact}
 use Rattle.pim_timers.proofs.Ascending.{contents_none, get_removed, get_inserted, same_itself, same_or_not}
-use Rattle.pim_timers.proofs.Links.{same_key, eq_same, eq_other}
+use Rattle.pim_timers.proofs.Keys.{same_key, eq_same, eq_other}
 use Rattle.pim_timers.proofs.Kept.{one_entry, no_entry, one_number, no_number, kept, get_kept, end_at}
 
 -- one key has something else

@@ -5,7 +5,7 @@ use Rattle.std.proofs.lemmas.List.{get_or-set_same, get_or-set_other}
 use Rattle.std.proofs.lemmas.Nat.Bits.{bit_at_set_same, bit_at_set_other, bit_at_clear_same, bit_at_clear_other, bit_at-trailing_zeros, bit_at-zero}
 use Rattle.std.proofs.lemmas.Bool.{cases_order}
 use Rattle.pim_timers.specs.Marks.{is_marked, IsFirstMarked}
-use Rattle.pim_timers.proofs.Links.{same_key, eq_same, eq_other}
+use Rattle.pim_timers.proofs.Keys.{same_key, eq_same, eq_other}
 
 -- a bit as a test
 abbrev bit : ℕ → ℕ → Bool

@@ -9,7 +9,7 @@ use Rattle.pim_timers.specs.Held.{Held, entry_at, IsLeastIn}
 use Rattle.pim_timers.specs.Kept.{IsIndexed, IsWheel}
 use Rattle.pim_timers.specs.Levels.{StandsIn, at_level}
 use Rattle.pim_timers.proofs.Least.{earlier}
-use Rattle.pim_timers.proofs.Links.{same_key}
+use Rattle.pim_timers.proofs.Keys.{same_key}
 use Rattle.pim_timers.proofs.Levels.{slot_order, stands_on, same_in_slot, stands_lower}
 use Rattle.pim_timers.proofs.Kept.{kept, one_entry, no_entry}
 use Rattle.pim_timers.proofs.Changed.{Changed, changed_here, changed_else, changed_twice, indexed_moved, kept_moved}

@@ -35,7 +35,7 @@ unfolding due_cmp
 due_cmp_total = then_total (on_total (λ (d : ℕ × Timer). d.0) nat_cmp_total) (on_total (λ (d : ℕ × Timer). d.1) timer_cmp_total)
 
 -- a comparison by two parts ties where both tie
-both_tied : (a b : Ordering) → ordering_then a b ≡ Equal → (a ≡ Equal) × (b ≡ Equal)
+pub both_tied : (a b : Ordering) → ordering_then a b ≡ Equal → (a ≡ Equal) × (b ≡ Equal)
 both_tied Less b e = cc
 both_tied Equal b e = (refl, e)
 both_tied Greater b e = cc

@@ -1,8 +1,8 @@
 pub mod Ends
+pub mod Heaps
 pub mod Held
 pub mod Kept
 pub mod Levels
-pub mod Links
 pub mod Marks
 pub mod Next
 pub mod Order

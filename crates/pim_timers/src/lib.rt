@@ -2,6 +2,7 @@
 //! of their kinds, and those of one kind in the order of their keys.
 #![tactic(auto)]
 
+mod heaps;
 pub mod law;
 mod marks;
 mod order;

@@ -1,11 +1,10 @@
-ghost use Rattle.std.specs.Prelude.{◌≡◌, ◌≢◌, ◌+◌, ◌<◌, ◌≤◌, ◌==◌, ℕ, [], Some, None, IsSome, IfSome, IfNone, IfOk, OnOk, length, slice_index_or, slice_set, vec_len, is_some, option_map, if◌then◌else◌};
+ghost use Rattle.std.specs.Prelude.{◌≡◌, ◌≢◌, ◌+◌, ◌<◌, ◌≤◌, ◌==◌, ℕ, List, [], ◌∷◌, Option, Some, None, IsSome, IfSome, IfNone, IfOk, OnOk, length, slice_index_or, slice_set, vec_len, is_some, option_map, if◌then◌else◌};
 ghost use Rattle.pim_timers.specs.Marks.{is_marked};
-ghost use Rattle.pim_timers.specs.Next.{lesser};
-ghost use Rattle.pim_timers.specs.Links.{points_to, with_previous, with_next};
-ghost use Rattle.slab.specs.Slab.{get, slab_len};
+ghost use Rattle.pim_timers.specs.Heaps.{AreKept, IsNew, IsSameRoom, entry_of};
+ghost use Rattle.slab.specs.Slab.{get};
 
+use crate::heaps::{leaf_below, precedes, sink, stands_right, take_child};
 use crate::marks::{WORDS, first_marked, mark, unmark};
-use crate::order::comes_before;
 use pim_types::Timer;
 use slab::Slab;
 use std::alloc::{AllocError, Global};
@@ -22,34 +21,35 @@ pub struct Entry {
     pub slot: usize,
 }
 
-/// An entry in the list of its slot.
+/// An entry in the heap of its slot.
 #[derive(Clone, Copy, PartialEq, Eq, Debug)]
 pub struct Node {
     pub entry: Entry,
-    pub previous: Option<usize>,
-    pub next: Option<usize>,
+    pub parent: Option<usize>,
+    pub left: Option<usize>,
+    pub right: Option<usize>,
 }
 
-/// Entries under keys, those of each slot in a list that leads through them.
+/// Entries under keys, those of each slot in a heap.
 #[derive(Debug, Drop)]
 pub struct Slots {
     heads: Vec<Option<usize>>,
-    /// A bit for each slot that has a first node.
+    /// A bit for each slot that has a root.
     occupied: [u64; WORDS],
     nodes: Slab<Node>,
 }
 
 impl Model for Slots {
-    ghost use Rattle.std.specs.Prelude.{◌-◌};
+    ghost use Rattle.std.specs.Prelude.{◌-◌, []};
     ghost use Rattle.slab.specs.Slab.{slab_len};
     ghost use Rattle.pim_timers.specs.Held.{Held, entries_of};
-    ghost use Rattle.pim_timers.specs.Links.{AreKept};
+    ghost use Rattle.pim_timers.specs.Heaps.{AreKept, node_in};
 
     ghost Value = { Held };
 
     ghost view = { λ a. record { entries = entries_of a.nodes.slots; vacant = a.nodes.vacant_key; room = a.nodes.capacity - slab_len a.nodes } };
 
-    ghost invariant = { λ a. AreKept a.heads.items a.occupied a.nodes.slots };
+    ghost invariant = { λ a. AreKept [] a.heads.items a.occupied (node_in a.nodes.slots) };
 }
 
 impl Slots {
@@ -77,7 +77,7 @@ impl Slots {
         self.nodes.reserve(more)
     }
 
-    /// Puts the entry in, in front in its slot.
+    /// Puts the entry in.
     pub fn insert(&mut self, entry: Entry) -> usize
         requires room { 0 < self.old.room }
         requires slot { entry.slot < SLOTS }
@@ -86,14 +86,18 @@ impl Slots {
         ensures entries { (k : ℕ) → entry_at self.new k ≡ (if k == result then Some entry else entry_at self.old k) }
         ensures room { self.old.room ≡ self.new.room + 1 }
     {
-        let next = head_of(self.heads.as_slice(), entry.slot);
         let key = self.nodes.insert_reserved(Node {
             entry,
-            previous: None,
-            next,
+            parent: None,
+            left: None,
+            right: None,
         });
-        set_previous(&mut self.nodes, next, Some(key));
-        set_head(&mut self.heads, &mut self.occupied, entry.slot, Some(key));
+        absorb(
+            &mut self.heads,
+            &mut self.occupied,
+            &mut self.nodes,
+            Some(key),
+        );
         key
     }
 
@@ -105,17 +109,12 @@ impl Slots {
         ensures vacant { self.new.vacant ≡ key }
         ensures room { self.new.room ≡ self.old.room + 1 }
     {
+        cut(&mut self.heads, &mut self.occupied, &mut self.nodes, key);
+        let left = take_child(&mut self.nodes, key, false);
+        let right = take_child(&mut self.nodes, key, true);
         let node = self.nodes.remove(key);
-        set_next(&mut self.nodes, node.previous, node.next);
-        set_previous(&mut self.nodes, node.next, node.previous);
-        if node.previous.is_none() {
-            set_head(
-                &mut self.heads,
-                &mut self.occupied,
-                node.entry.slot,
-                node.next,
-            );
-        }
+        absorb(&mut self.heads, &mut self.occupied, &mut self.nodes, right);
+        absorb(&mut self.heads, &mut self.occupied, &mut self.nodes, left);
         node.entry
     }
 
@@ -135,38 +134,23 @@ impl Slots {
         ensures some { IfSome result (IsLeastIn self.now slot) }
         ensures none { IfNone result ((k : ℕ) (e : EntryValue) → entry_at self.now k ≡ Some e → e.slot ≢ slot) }
     {
-        let mut least = None;
-        let mut cursor = head_of(self.heads.as_slice(), slot);
-        while let Some(key) = cursor {
-            let node = self.nodes[key];
-            least = Some(lesser(least, (node.entry.moment, node.entry.timer)));
-            cursor = node.next;
-        }
-        least
+        let key = head_of(self.heads.as_slice(), slot)?;
+        let entry = self.nodes[key].entry;
+        Some((entry.moment, entry.timer))
     }
 
-    /// An entry of the slot.
+    /// An entry of the slot, one that is quickly taken out.
     pub fn first_in(&self, slot: usize) -> Option<usize>
         requires { slot < SLOTS }
         ensures some { IfSome result (λ key. (e : EntryValue) × (entry_at self.now key ≡ Some e) × (e.slot ≡ slot)) }
         ensures none { IfNone result ((k : ℕ) (e : EntryValue) → entry_at self.now k ≡ Some e → e.slot ≢ slot) }
     {
-        head_of(self.heads.as_slice(), slot)
+        let root = head_of(self.heads.as_slice(), slot)?;
+        Some(leaf_below(&self.nodes, root))
     }
 }
 
-/// The lesser of an end, if there is one, and another.
-#[tactic(auto, unfolding(crate::specs::Next::lesser))]
-fn lesser(least: Option<(u64, Timer)>, due: (u64, Timer)) -> (u64, Timer)
-    ensures { result ≡ lesser least due }
-{
-    match least {
-        Some(least) if !comes_before(due, least) => least,
-        _ => due,
-    }
-}
-
-/// The first node of the slot.
+/// The root of the slot.
 fn head_of(heads: &[Option<usize>], slot: usize) -> Option<usize>
     requires { slot < length heads.now }
     ensures { result ≡ slice_index_or heads.now slot None }
@@ -174,7 +158,7 @@ fn head_of(heads: &[Option<usize>], slot: usize) -> Option<usize>
     heads[slot]
 }
 
-/// Gives the slot another first node, or none.
+/// Gives the slot another root, or none.
 fn set_head(
     heads: &mut Vec<Option<usize>>,
     occupied: &mut [u64; WORDS],
@@ -194,30 +178,58 @@ fn set_head(
     }
 }
 
-/// Gives the node, if there is one, another one before it.
-fn set_previous(nodes: &mut Slab<Node>, key: Option<usize>, previous: Option<usize>)
-    ensures nodes { (k : ℕ) → get nodes.new k ≡ (if points_to k key then option_map (with_previous previous) (get nodes.old k) else get nodes.old k) }
-    ensures vacant { nodes.new.vacant_key ≡ nodes.old.vacant_key }
-    ensures capacity { nodes.new.capacity ≡ nodes.old.capacity }
-    ensures len { slab_len nodes.new ≡ slab_len nodes.old }
+/// The numbers that say where a node with the key sinks: its bits are as good as drawn.
+fn coin_of(key: usize) -> u64 {
+    (key as u64)
+        .wrapping_mul(0x9e37_79b9_7f4a_7c15)
+        .rotate_left(32)
+}
+
+/// Makes a loose root, if there is one, part of the heap of its slot.
+fn absorb(
+    heads: &mut Vec<Option<usize>>,
+    occupied: &mut [u64; WORDS],
+    nodes: &mut Slab<Node>,
+    loose: Option<usize>,
+)
+    requires kept { (others : List (Option ℕ)) × AreKept (loose ∷ others) heads.old.items occupied.old (get nodes.old) }
+    ensures kept { (others : List (Option ℕ)) → AreKept (loose ∷ others) heads.old.items occupied.old (get nodes.old) → IsNew loose others → AreKept others heads.new.items occupied.new (get nodes.new) }
+    ensures entries { (k : ℕ) → entry_of (get nodes.new k) ≡ entry_of (get nodes.old k) }
+    ensures room { IsSameRoom nodes.old nodes.new }
 {
-    if let Some(key) = key {
-        if let Some(node) = nodes.get_mut(key) {
-            node.previous = previous;
+    let Some(key) = loose else {
+        return;
+    };
+    let slot = nodes[key].entry.slot;
+    match head_of(heads.as_slice(), slot) {
+        None => set_head(heads, occupied, slot, Some(key)),
+        Some(root) if precedes(nodes, root, key) => sink(nodes, root, key, coin_of(key)),
+        Some(root) => {
+            sink(nodes, key, root, coin_of(key));
+            set_head(heads, occupied, slot, Some(key));
         }
     }
 }
 
-/// Gives the node, if there is one, another one after it.
-fn set_next(nodes: &mut Slab<Node>, key: Option<usize>, next: Option<usize>)
-    ensures nodes { (k : ℕ) → get nodes.new k ≡ (if points_to k key then option_map (with_next next) (get nodes.old k) else get nodes.old k) }
-    ensures vacant { nodes.new.vacant_key ≡ nodes.old.vacant_key }
-    ensures capacity { nodes.new.capacity ≡ nodes.old.capacity }
-    ensures len { slab_len nodes.new ≡ slab_len nodes.old }
+/// Makes the node, with what is below it, a loose root.
+fn cut(
+    heads: &mut Vec<Option<usize>>,
+    occupied: &mut [u64; WORDS],
+    nodes: &mut Slab<Node>,
+    key: usize,
+)
+    requires kept { AreKept [] heads.old.items occupied.old (get nodes.old) }
+    requires there { IsSome (get nodes.old key) }
+    ensures kept { AreKept (Some key ∷ []) heads.new.items occupied.new (get nodes.new) }
+    ensures entries { (k : ℕ) → entry_of (get nodes.new k) ≡ entry_of (get nodes.old k) }
+    ensures room { IsSameRoom nodes.old nodes.new }
 {
-    if let Some(key) = key {
-        if let Some(node) = nodes.get_mut(key) {
-            node.next = next;
+    let node = nodes[key];
+    match node.parent {
+        None => set_head(heads, occupied, node.entry.slot, None),
+        Some(parent) => {
+            let right = stands_right(nodes, parent, key);
+            let _ = take_child(nodes, parent, right);
         }
     }
 }

@@ -1,9 +1,6 @@
 use Rattle.std.proofs.Common.{ap, sym}
-use Rattle.pim_timers.proofs.Walk.{first_within, first_there, first_least, first_none}
+use Rattle.pim_timers.proofs.Rooted.{first_there, first_least, first_none}
 use Rattle.pim_timers.proofs.slots.Slots.first_slot.Goals as goal
-
-pub returns-clause-within : goal.returns-clause-within
-returns-clause-within c = first_within c.self.inside.heads.items c.self.inside.occupied c.self.inside.nodes.slots c.args.self.now c.self.invariant (sym (ap (λ s. s.entries) c.self.view_is)) c.first_marked.result c.first_marked.ensures.some
 
 pub returns-clause-there : goal.returns-clause-there
 returns-clause-there c = first_there c.self.inside.heads.items c.self.inside.occupied c.self.inside.nodes.slots c.args.self.now c.self.invariant (sym (ap (λ s. s.entries) c.self.view_is)) c.first_marked.result c.first_marked.ensures.some

@@ -1,32 +1,21 @@
-use Rattle.std.proofs.Common.{◌<◌, ◌∙◌, ap, sym, subst, Some, None}
-use Rattle.pim_timers.specs.Links.{head_in}
-use Rattle.pim_timers.proofs.Walk.{Walked, Walked_start, Walked_node, Walked_more, Walked_fewer, Walked_some, Walked_all, steps_left}
+use Rattle.std.proofs.Common.{◌≡◌, ◌∙◌, ap, sym, Some, None}
+use Rattle.slab.specs.Slab.{get}
+use Rattle.pim_timers.specs.Heaps.{head_in}
+use Rattle.pim_timers.proofs.Rooted.{none_in_slot, root_is_least, is_there}
 use Rattle.pim_timers.proofs.slots.Slots.least_in.Goals as goal
 
-pub loop-cursor-init : goal.loop-cursor-init
-loop-cursor-init c = subst (λ o. Walked c.self.inside.nodes.slots c.args.slot o None) (sym (c.head_of-cursor.ensures ∙ ap (λ l. head_in l c.args.slot) c.as_slice.ensures.value)) (Walked_start c.self.inside.heads.items c.self.inside.nodes.slots c.self.invariant.lists c.args.slot)
+pub returns-in_err-key-clause-none : goal.returns-in_err-key-clause-none
+returns-in_err-key-clause-none c =
+    let at : head_in c.self.inside.heads.items c.args.slot ≡ None = sym (c.in_err-key.ensures ∙ ap (λ l. head_in l c.args.slot) c.as_slice.ensures.value) in
+    let none = none_in_slot c.self.inside.heads.items c.self.inside.occupied c.self.inside.nodes.slots c.args.self.now c.self.invariant (sym (ap (λ s. s.entries) c.self.view_is)) c.args.slot None at in
+    rw c.from_residual.ensures none
 
-pub index-node-requires : goal.index-node-requires
-index-node-requires c =
-    let w = subst (λ o. Walked c.self.inside.nodes.slots c.args.slot o c.loop-cursor.least) c.in-Some.is c.loop-cursor.invariant in
-    let n = Walked_node c.self.inside.nodes.slots c.args.slot c.in-Some.key c.loop-cursor.least w in
-    rw n.1
-
-pub loop-cursor-smaller : goal.loop-cursor-smaller
-loop-cursor-smaller c =
-    let w = subst (λ o. Walked c.self.inside.nodes.slots c.args.slot o c.loop-cursor.least) c.in-Some.is c.loop-cursor.invariant in
-    subst (λ o. steps_left c.self.inside.nodes.slots c.index-node.result.now.next < steps_left c.self.inside.nodes.slots o) (sym c.in-Some.is) (Walked_fewer c.self.inside.nodes.slots c.args.slot c.in-Some.key c.index-node.result.now c.loop-cursor.least w c.index-node.ensures)
-
-pub loop-cursor-preserved : goal.loop-cursor-preserved
-loop-cursor-preserved c =
-    let w = subst (λ o. Walked c.self.inside.nodes.slots c.args.slot o c.loop-cursor.least) c.in-Some.is c.loop-cursor.invariant in
-    subst (λ d. Walked c.self.inside.nodes.slots c.args.slot c.index-node.result.now.next (Some d)) (sym c.lesser.ensures) (Walked_more c.self.inside.nodes.slots c.args.slot c.in-Some.key c.index-node.result.now c.loop-cursor.least w c.index-node.ensures)
-
-ended : (c : goal.In_default) → Walked c.self.inside.nodes.slots c.args.slot None c.loop-cursor.least
-ended c = subst (λ o. Walked c.self.inside.nodes.slots c.args.slot o c.loop-cursor.least) c.in_default.is c.loop-cursor.invariant
+pub index-requires : goal.index-requires
+index-requires c =
+    let at : head_in c.self.inside.heads.items c.args.slot ≡ Some c.in_ok-key.key = sym (c.in_ok-key.ensures ∙ ap (λ l. head_in l c.args.slot) c.as_slice.ensures.value) in
+    is_there (get c.self.inside.nodes c.in_ok-key.key) c.args.slot (c.self.invariant.hung.head_root c.args.slot c.in_ok-key.key at).1
 
 pub returns-clause-some : goal.returns-clause-some
-returns-clause-some c = Walked_some c.self.inside.nodes.slots c.args.slot c.loop-cursor.least c.args.self.now (sym (ap (λ s. s.entries) c.self.view_is)) (ended c)
-
-pub returns-clause-none : goal.returns-clause-none
-returns-clause-none c = Walked_all c.self.inside.nodes.slots c.args.slot c.loop-cursor.least c.args.self.now (sym (ap (λ s. s.entries) c.self.view_is)) (ended c)
+returns-clause-some c =
+    let at : head_in c.self.inside.heads.items c.args.slot ≡ Some c.in_ok-key.key = sym (c.in_ok-key.ensures ∙ ap (λ l. head_in l c.args.slot) c.as_slice.ensures.value) in
+    root_is_least c.self.inside.heads.items c.self.inside.occupied c.self.inside.nodes.slots c.args.self.now c.self.invariant (sym (ap (λ s. s.entries) c.self.view_is)) c.args.slot c.in_ok-key.key c.index.result.now at c.index.ensures
