@@ -1,13 +1,14 @@
 -- In a table whose keys rise, a key stands once.
-use Rattle.std.proofs.Common.{◌≡◌, sym, Bool, true, false, [], ◌∷◌, Option, Some, None, refl, ap, ◌∙◌, cond, not, map}
+use Rattle.std.proofs.Common.{◌≡◌, sym, Bool, true, false, [], ◌∷◌, Option, Some, None, refl, ap, ◌∙◌, cond, not, map, option_map}
 use Rattle.std.specs.declared.cmp.Ordering.TheVariants.{Less}
-use Rattle.std.specs.List.{filter_map, AllByRecursion}
+use Rattle.std.specs.List.{cons_option, filter_map, AllByRecursion}
+use Rattle.std.specs.Option.{IfSome}
 use Rattle.std.specs.List.Sorted.{IsStrictlySortedBy}
 use Rattle.std.specs.Map.{lookup, remove_entry, set_value}
 use Rattle.std.specs.BTreeMap.{is_at}
 use Rattle.std.specs.Prelude.{filter, if◌then◌else◌}
 use Rattle.pim_types.specs.declared.fact.Key.{Key}
-use Rattle.pim_model.specs.Tables.{Table, key_cmp, same_key, drop_at, drop_where, change_row, changed_entry}
+use Rattle.pim_model.specs.Tables.{Table, key_cmp, same_key, drop_at, drop_where, change_row, changed_entry, row_at}
 use Rattle.pim_model.proofs.KeyLaws.{equal_keys}
 
 module _ {R : Type 0} (k : Key) where
@@ -39,36 +40,21 @@ module _ {R : Type 0} (k : Key) where
   unfolding drop_at drop_where without
   removed_is_dropped t s = removed t s
 
-module _ {R : Type 0} (k : Key) (row : R) where
-  replaced : Table R → Table R
-  replaced t = filter_map (changed_entry (λ _. Some row) k) t
+module _ {R : Type 0} (k : Key) (change : R → Option R) where
+  changed : Table R → Table R
+  changed t = filter_map (changed_entry change k) t
 
-  same_without : (t : Table R) → AllByRecursion (λ y. key_cmp k y ≡ Less) (map (λ e. e.0) t) → replaced t ≡ t
-  unfolding replaced changed_entry
-  same_without [] above = refl
-  same_without (y ∷ t) above = rw above.0 (ap (λ s. y ∷ s) (same_without t above.1))
+  first_changed : (e : Key × R) (t : Table R) (b : Bool) → same_key k e.0 ≡ b
+      → changed (e ∷ t) ≡ (if b then cons_option (option_map (λ row. (e.0, row)) (change e.1)) (changed t) else e ∷ changed t)
+  unfolding changed changed_entry
+  first_changed e t true h = rw h refl
+  first_changed e t false h = rw h refl
 
-  set_first : (e : Key × R) (t : Table R) (b : Bool) → same_key k e.0 ≡ b
-      → AllByRecursion (λ y. key_cmp e.0 y ≡ Less) (map (λ e. e.0) t) → set_value (is_at (key_cmp k)) t row ≡ replaced t
-      → cond b ((e.0, row) ∷ t) (e ∷ set_value (is_at (key_cmp k)) t row) ≡ (if b then (e.0, row) ∷ replaced t else e ∷ replaced t)
-  set_first e t true h above rest = ap (λ u. (e.0, row) ∷ u) (sym (same_without t (moved_above {R = R} k e.0 h t above)))
-  set_first e t false h above rest = ap (λ u. e ∷ u) rest
-
-  changed_first : (e : Key × R) (t : Table R) (b : Bool) → same_key k e.0 ≡ b
-      → replaced (e ∷ t) ≡ (if b then (e.0, row) ∷ replaced t else e ∷ replaced t)
-  unfolding replaced changed_entry
-  changed_first e t true h = rw h refl
-  changed_first e t false h = rw h refl
-
-  set : (t : Table R) → IsStrictlySortedBy key_cmp (map (λ e. e.0) t) → set_value (is_at (key_cmp k)) t row ≡ replaced t
-  unfolding IsStrictlySortedBy replaced
-  set [] s = refl
-  set (e ∷ t) s = set_first e t (same_key k e.0) refl s.0 (set t s.1) ∙ sym (changed_first e t (same_key k e.0) refl)
-
-  pub written_is_changed : (t : Table R) → IsStrictlySortedBy key_cmp (map (λ e. e.0) t)
-      → set_value (is_at (key_cmp k)) t row ≡ change_row (λ _. Some row) k t
-  unfolding change_row replaced
-  written_is_changed t s = set t s
+  -- a key that isn't there changes nothing
+  below_all : (t : Table R) → AllByRecursion (λ y. key_cmp k y ≡ Less) (map (λ e. e.0) t) → changed t ≡ t
+  unfolding changed changed_entry
+  below_all [] above = refl
+  below_all (y ∷ t) above = rw above.0 (ap (λ s. y ∷ s) (below_all t above.1))
 
   rest_absent : (b : Bool) (r : R) (o : Option R) → cond b (Some r) o ≡ None → o ≡ None
   rest_absent true r o e = cc
@@ -78,13 +64,40 @@ module _ {R : Type 0} (k : Key) (row : R) where
   head_differs true r o e = cc
   head_differs false r o e = refl
 
-  unchanged : (t : Table R) → lookup (is_at (key_cmp k)) t ≡ None → replaced t ≡ t
-  unfolding replaced
+  unchanged : (t : Table R) → lookup (is_at (key_cmp k)) t ≡ None → changed t ≡ t
+  unfolding changed
   unchanged [] e = refl
   unchanged (x ∷ t) e =
-      changed_first x t false (head_differs (same_key k x.0) x.1 (lookup (is_at (key_cmp k)) t) e)
+      first_changed x t false (head_differs (same_key k x.0) x.1 (lookup (is_at (key_cmp k)) t) e)
       ∙ ap (λ u. x ∷ u) (unchanged t (rest_absent (same_key k x.0) x.1 (lookup (is_at (key_cmp k)) t) e))
 
-  pub absent_is_unchanged : (t : Table R) → lookup (is_at (key_cmp k)) t ≡ None → t ≡ change_row (λ _. Some row) k t
-  unfolding change_row replaced
+  pub absent_is_unchanged : (t : Table R) → lookup (is_at (key_cmp k)) t ≡ None → t ≡ change_row change k t
+  unfolding change_row changed
   absent_is_unchanged t e = sym (unchanged t e)
+
+  -- the row that a change makes of the one that is there
+  module _ (row : R) where
+    set_first : (e : Key × R) (t : Table R) (b : Bool) → same_key k e.0 ≡ b
+        → AllByRecursion (λ y. key_cmp e.0 y ≡ Less) (map (λ e. e.0) t)
+        → IfSome (cond b (Some e.1) (lookup (is_at (key_cmp k)) t)) (λ before. change before ≡ Some row)
+        → (IfSome (lookup (is_at (key_cmp k)) t) (λ before. change before ≡ Some row) → set_value (is_at (key_cmp k)) t row ≡ changed t)
+        → cond b ((e.0, row) ∷ t) (e ∷ set_value (is_at (key_cmp k)) t row)
+        ≡ (if b then cons_option (option_map (λ row. (e.0, row)) (change e.1)) (changed t) else e ∷ changed t)
+    set_first e t true h above is rest =
+        rw is (ap (λ u. (e.0, row) ∷ u) (sym (below_all t (moved_above {R = R} k e.0 h t above))))
+    set_first e t false h above is rest = ap (λ u. e ∷ u) (rest is)
+
+    set : (t : Table R) → IsStrictlySortedBy key_cmp (map (λ e. e.0) t)
+        → IfSome (lookup (is_at (key_cmp k)) t) (λ before. change before ≡ Some row) → set_value (is_at (key_cmp k)) t row ≡ changed t
+    unfolding IsStrictlySortedBy changed
+    set [] s is = refl
+    set (e ∷ t) s is = set_first e t (same_key k e.0) refl s.0 is (set t s.1) ∙ sym (first_changed e t (same_key k e.0) refl)
+
+    pub written_is_changed : (t : Table R) → IsStrictlySortedBy key_cmp (map (λ e. e.0) t)
+        → IfSome (row_at t k) (λ before. change before ≡ Some row) → set_value (is_at (key_cmp k)) t row ≡ change_row change k t
+    unfolding change_row changed row_at
+    written_is_changed t s is = set t s is
+
+pub always : {R : Type 0} (o : Option R) (row : R) → IfSome o (λ _. Some row ≡ Some row)
+always None row = tt
+always (Some r) row = refl

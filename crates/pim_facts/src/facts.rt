@@ -1,4 +1,4 @@
-ghost use Rattle.std.specs.Prelude.{◌≡◌, ◌↔◌, [], length, IsTrue, OnOk, OnErr, Some};
+ghost use Rattle.std.specs.Prelude.{◌≡◌, ◌↔◌, [], length, IsTrue, IfSome, OnOk, OnErr, Option, Some};
 ghost use Rattle.std.specs.List.Sorted.{IsStrictlySortedBy};
 ghost use Rattle.pim_model.specs.Tables.{key_cmp, keys_in, row_at, has_row, put, drop_at, drop_where, set_row, change_row, is_on, rows_on};
 
@@ -107,7 +107,9 @@ impl<R: Copy> Facts<R> {
 
     /// Changes the fact under the key, where there is one, to this one.
     pub fn change(&mut self, key: Key, row: R)
-        ensures { self.new ≡ change_row (λ _. Some row) key self.old }
+        ensures to { self.new ≡ change_row (λ _. Some row) key self.old }
+        ensures by { (change : R → Option R) → IfSome (row_at self.old key) (λ before. change before ≡ Some row)
+            → self.new ≡ change_row change key self.old }
     {
         if let Some(place) = self.rows.get_mut(&key) {
             *place = row;

@@ -201,7 +201,7 @@ impl Outbox {
         ensures sent { (s : State) → interfaces_of s ≡ interfaces.old → OnOk result
             (emissions.new.items ≡ emissions.old.items ++ (write_all s self.now).1) }
         ensures paid { (s : State) → interfaces_of s ≡ interfaces.old → OnOk result
-            (interfaces.new ≡ record interfaces.old { rows = (write_all s self.now).0.interfaces }) }
+            ((write_all s self.now).0 ≡ record s { interfaces = interfaces.new.rows }) }
 
         // What was there before stays, also where memory is refused.
         ensures kept { take (length emissions.old.items) emissions.new.items ≡ emissions.old.items }

@@ -18,11 +18,12 @@ impl Delays {
     };
 }
 
-/// The delay from `least` to `most` that the number draws.
+/// The delay from `least` to `most` that the number draws, both in ms.
 #[tactic(auto, unfolding(pim_model::specs::Tables::delay_in))]
-pub(crate) fn delay_in(least: u32, most: u32, draw: u32) -> u64
+pub fn delay_in(least: u32, most: u32, draw: u32) -> u64
     requires { least ≤ most }
-    ensures { result ≡ delay_in least most draw }
+    ensures value { result ≡ delay_in least most draw }
+    ensures within { result ≤ most }
 {
     let choices = u64::from(most - least) + 1;
     u64::from(least) + u64::from(draw) % choices

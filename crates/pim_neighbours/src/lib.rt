@@ -2,10 +2,11 @@
 //! the DR, and the delays of each link.
 #![tactic(auto)]
 
-mod delays;
+pub mod delays;
 pub mod neighbours;
 pub mod neighbours_on;
 
+pub use delays::delay_in;
 pub use neighbours::Neighbours;
 pub use neighbours_on::NeighboursOn;
 

@@ -1,5 +1,5 @@
 //! The table of neighbours, and what the router decides by it.
-ghost use Rattle.std.specs.Prelude.{◌≡◌, ◌↔◌, ◌+◌, ◌≤◌, ◌^◌, [], length, IsTrue, OnErr, OnOk};
+ghost use Rattle.std.specs.Prelude.{◌≡◌, ◌↔◌, ◌+◌, ◌<◌, ◌≤◌, ◌^◌, [], length, IsTrue, OnErr, OnOk};
 ghost use Rattle.std.specs.List.Sorted.{IsStrictlySortedBy};
 ghost use Rattle.pim_model.specs.Downstream.{holdtime_end_from};
 ghost use Rattle.pim_model.specs.Hellos.{is_generation_changed_among, neighbours_replaced};
@@ -278,8 +278,9 @@ impl Neighbours {
     /// interval, by the number that was drawn.
     #[tactic(auto, unfolding(pim_model::specs::Neighbours::t_override_among))]
     pub fn override_delay(&self, iface: IfaceId, own: &InterfaceConfig, draw: u32) -> u64
-        ensures { result
+        ensures delay { result
             ≡ t_override_among own.now.override_interval (rows_on iface.number self.now) draw }
+        ensures within { result < 2 ^ 32 }
     {
         delay_in(1, self.override_interval(iface, own).max(1), draw)
     }

@@ -12,7 +12,7 @@ changed c =
     let found : row_at c.self.inside.rows (iface_key c.args.iface.number) ≡ Some c.in-Some.row =
     sym (rw c.key_of-key.ensures at c.get.ensures) ∙ c.in-Some.is in
     paid_there _ _ c.args.iface.number c.self.inside.rows c.in-Some.row c.change.new.self c.self.invariant found
-    (rw c.key_of-key.ensures at c.change.ensures)
+    (rw c.key_of-key.ensures at c.change.ensures.to)
 
 pub invariant_of-self : goal.invariant_of-self
 invariant_of-self c = (changed c).held
