@@ -1,0 +1,88 @@
+//! A Hello that came from a neighbour, or from one that is new.
+ghost use Rattle.std.specs.Prelude.{◌≡◌, ◌<◌, ◌+◌, OnOk};
+ghost use Rattle.pim_model.specs.Hellos.{hello_received, hello_triggered, neighbour_replaced, neighbour_restarted, triggered_hello_delay};
+ghost use Rattle.pim_model.specs.State.{iface_count};
+ghost use Rattle.pim_model.specs.Tables.{delay_in};
+
+use crate::restarted::{lower_timers, timers_towards};
+use pim_neighbours::delay_in;
+use pim_trie::Meter;
+use pim_types::{Addr, Hop, IfaceId};
+use pim_wire::Hello;
+use pim_world::World;
+use std::alloc::{AllocError, Global};
+
+// Triggered_Hello_Delay (RFC 7761, section 4.11), in ms.
+const TRIGGERED_HELLO_DELAY: u32 = 5000;
+
+/// Takes a Hello that came on an interface from an address, with a draw (RFC 7761, section 4.3.1): one
+/// from a new neighbour, or from one that started anew, makes a Hello owed; then the neighbour stands
+/// as the Hello says. Where it started anew, the Join timers towards it are lowered. With holdtime 0
+/// the neighbour goes. Where memory is refused, the Hello may be taken in part. The look-ups raise the
+/// meter.
+#[tactic(auto, unfolding(pim_model::specs::Hellos::hello_received))]
+pub fn received(
+    alloc: Global,
+    world: &mut World,
+    iface: IfaceId,
+    from: Addr,
+    hello: &Hello,
+    draw: u32,
+    meter: &mut Meter,
+) -> Result<(), AllocError>
+    requires { iface.number < iface_count world.old }
+    ensures { OnOk result (world.new ≡ hello_received world.old iface.number from.bits hello.now draw) }
+{
+    if world.is_generation_changed(iface, from, hello) {
+        return restart(alloc, world, iface, from, hello, draw, meter);
+    }
+    if !world.is_neighbour(iface, from) {
+        trigger(world, iface, draw);
+    }
+    world.replace_neighbour(iface, from, hello)
+}
+
+// A Hello is owed, and the Hello timer is lowered to the triggered delay.
+#[tactic(auto, unfolding(pim_model::specs::Hellos::hello_triggered))]
+fn trigger(world: &mut World, iface: IfaceId, draw: u32)
+    ensures { world.new ≡ hello_triggered world.old iface.number draw }
+{
+    let end = triggered_end(world, draw);
+    world.owe_hello(iface, end);
+}
+
+/// When a Hello leaves at the latest that something triggers now, in ms: after a delay up to
+/// Triggered_Hello_Delay, which the number draws.
+pub fn triggered_end(world: &World, draw: u32) -> u64
+    ensures { result ≡ world.now.present + delay_in 1 triggered_hello_delay draw }
+{
+    world.present() + delay_in(1, TRIGGERED_HELLO_DELAY, draw)
+}
+
+// Takes a Hello of a neighbour that started anew.
+#[tactic(auto, unfolding(pim_model::specs::Hellos::neighbour_restarted))]
+fn restart(
+    alloc: Global,
+    world: &mut World,
+    iface: IfaceId,
+    from: Addr,
+    hello: &Hello,
+    draw: u32,
+    meter: &mut Meter,
+) -> Result<(), AllocError>
+    requires { iface.number < iface_count world.old }
+    ensures { OnOk result (world.new ≡ neighbour_restarted world.old iface.number from.bits draw
+        (neighbour_replaced (hello_triggered world.old iface.number draw) iface.number from.bits hello.now)) }
+{
+    let neighbour = Hop {
+        iface,
+        address: from,
+    };
+    // which timers they are is judged by what was known of the neighbour, their end by what is known now
+    let towards = timers_towards(alloc, world, neighbour, meter)?;
+    trigger(world, iface, draw);
+    world.replace_neighbour(iface, from, hello)?;
+    let end = world.present() + world.override_delay(iface, draw);
+    lower_timers(world, &towards, end);
+    Ok(())
+}

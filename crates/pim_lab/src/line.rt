@@ -1,0 +1,59 @@
+//! The lines that are printed.
+use pim_types::{Addr, Refusal, Verdict};
+use std::fmt;
+
+/// What became of a move.
+#[derive(Clone, Copy)]
+pub(crate) struct MoveLine<'a> {
+    /// The moves are counted from 1.
+    pub(crate) number: usize,
+    pub(crate) router: &'a str,
+    pub(crate) answer: Result<Verdict, Refusal>,
+}
+
+impl fmt::Display for MoveLine<'_> {
+    fn fmt<W: fmt::Write>(&self, f: &mut fmt::Formatter<W>) -> fmt::Result {
+        let number = self.number;
+        let router = self.router;
+        match self.answer {
+            Ok(Verdict::Done) => write!(f, "move {number} {router} done"),
+            Ok(Verdict::Ignored(reason)) => write!(f, "move {number} {router} ignored {reason:?}"),
+            Err(refusal) => {
+                let refused = refusal.number();
+                write!(f, "move {number} {router} refused {refused}")
+            }
+        }
+    }
+}
+
+/// Where a packet went.
+#[derive(Clone, Copy)]
+pub(crate) enum Way<'a> {
+    /// On the link of this name.
+    Link(&'a str),
+    /// To this address.
+    Address(Addr),
+}
+
+/// A packet that left.
+#[derive(Clone, Copy)]
+pub(crate) struct PacketLine<'a> {
+    /// The packets are counted from 1 over all routers.
+    pub(crate) number: u64,
+    pub(crate) way: Way<'a>,
+    pub(crate) bytes: &'a [u8],
+}
+
+impl fmt::Display for PacketLine<'_> {
+    fn fmt<W: fmt::Write>(&self, f: &mut fmt::Formatter<W>) -> fmt::Result {
+        let number = self.number;
+        match self.way {
+            Way::Link(link) => write!(f, "frame {number} {link} ")?,
+            Way::Address(address) => write!(f, "unicast {number} {address} ")?,
+        }
+        for byte in self.bytes {
+            write!(f, "{byte:02x}")?;
+        }
+        Ok(())
+    }
+}

@@ -1,0 +1,81 @@
+//! The routers of a scenario.
+use crate::line::{MoveLine, PacketLine, Way};
+use crate::trouble::Trouble;
+use pim_router::Router;
+use pim_scenario::{Link, RouterText};
+use pim_types::{Emission, IfaceId, Refusal, Series, Verdict};
+use std::alloc::Global;
+
+/// A router that works.
+#[derive(Drop)]
+pub(crate) struct Station {
+    name: String,
+    links: Series<Link>,
+    pub(crate) router: Router,
+}
+
+impl Station {
+    // A router as the scenario says.
+    fn open(alloc: Global, text: RouterText) -> Result<Station, Trouble> {
+        let RouterText {
+            name,
+            config,
+            links,
+        } = text;
+        let router = Router::new(alloc, config)??;
+        Ok(Station {
+            name,
+            links,
+            router,
+        })
+    }
+
+    /// All routers of a scenario. The first one that is refused is told.
+    pub(crate) fn open_all(
+        alloc: Global,
+        texts: Series<RouterText>,
+    ) -> Result<Vec<Station>, Trouble> {
+        let mut stations = Vec::new(alloc);
+        for text in texts.into_vec() {
+            stations.push(Station::open(alloc, text)?)?;
+        }
+        Ok(stations)
+    }
+
+    /// What became of a move.
+    pub(crate) fn move_line(
+        &self,
+        number: usize,
+        answer: Result<Verdict, Refusal>,
+    ) -> MoveLine<'_> {
+        MoveLine {
+            number,
+            router: self.name.as_str(),
+            answer,
+        }
+    }
+
+    /// A packet of the router, with its number.
+    pub(crate) fn packet_line<'a>(&'a self, number: u64, emission: &'a Emission) -> PacketLine<'a> {
+        match emission {
+            Emission::Link { iface, bytes } => PacketLine {
+                number,
+                way: Way::Link(self.link(*iface)),
+                bytes: bytes.as_slice(),
+            },
+            Emission::Unicast { destination, bytes } => PacketLine {
+                number,
+                way: Way::Address(*destination),
+                bytes: bytes.as_slice(),
+            },
+        }
+    }
+
+    // The name of an interface's link. Each interface of a scenario has one.
+    fn link(&self, iface: IfaceId) -> &str {
+        match self.links.as_slice().get(iface.number as usize) {
+            Some(link) => link.name.as_str(),
+            None => "",
+        }
+    }
+}

@@ -1,0 +1,4 @@
+mod Concluding
+mod Runs
+mod Settling
+mod Steps

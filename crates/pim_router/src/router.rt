@@ -1,0 +1,150 @@
+//! The router.
+ghost use Rattle.std.specs.Prelude.{◌≡◌, ◌++◌, ◌↔◌, Err, IfErr, IfOk, IfSome, IsOkUnless, None, Ok, OnErr, OnOk, Some, length, take};
+ghost use Rattle.pim_ip.specs.declared.fault.Fault.{Fault};
+ghost use Rattle.pim_model.specs.Built.{built_run, built_state_after, built_step};
+ghost use Rattle.pim_model.specs.Limits.{config_test};
+ghost use Rattle.pim_model.specs.State.{opening};
+ghost use Rattle.pim_model.specs.Step.{outcome_of};
+
+use crate::answer::Answer;
+use crate::event::take_in;
+use pim_trie::Meter;
+use pim_types::{Config, Emission, Event, Fault, Outcome, Refusal, Series, Verdict};
+use pim_world::World;
+use std::alloc::Global;
+use std::marker::Model;
+
+/// A router: its state, or nothing more once memory was refused to it.
+#[derive(Drop)]
+pub struct Router {
+    alloc: Global,
+    failed: bool,
+    world: World,
+    // The trie nodes visited so far.
+    meter: Meter,
+}
+
+impl Model for Router {
+    ghost use Rattle.std.specs.Prelude.{None, Option, Some, if◌then◌else◌};
+    ghost use Rattle.pim_model.specs.State.{State};
+
+    ghost Value = { Option State };
+
+    ghost view = { λ r. if r.failed then None else Some r.world };
+}
+
+impl Router {
+    /// A router with this configuration at moment 0, all its interfaces down. Its configuration is refused by
+    /// the first test that fails: of the interfaces, the limit, the querier's values, the delays, the
+    /// routes and the RP ranges.
+    pub fn new(alloc: Global, config: Config) -> Result<Result<Router, Refusal>, Fault>
+        ensures accepted { IfOk result (λ made. IfOk made (λ router. (config_test config ≡ Ok tt) × (router ≡ Some (opening config)))) }
+        ensures refused { IfOk result (λ made. IfErr made (λ refusal. config_test config ≡ Err refusal)) }
+        ensures memory { IfErr result (λ fault. fault ≡ Fault.Memory) }
+    {
+        match World::new(alloc, config)? {
+            Ok(world) => Ok(Ok(Router {
+                alloc,
+                failed: false,
+                world,
+                meter: Meter::new(),
+            })),
+            Err(refusal) => Ok(Err(refusal)),
+        }
+    }
+
+    /// Takes one event: it is done, ignored or refused. The packets that leave stand at the end of the
+    /// emissions, in their order. After a fault the emissions are as they were, and the router answers
+    /// `Failed` from then on.
+    pub fn step(
+        &mut self,
+        event: &Event,
+        emissions: &mut Vec<Emission>,
+    ) -> Result<Result<Verdict, Refusal>, Fault>
+        ensures answer { IfSome self.old (λ s. IfOk result (λ answer. answer ≡ (built_step s event.now).answer)) }
+        ensures state { IfSome self.old (λ s. OnOk result (self.new ≡ Some (built_step s event.now).state)) }
+        ensures sent { IfSome self.old (λ s. OnOk result (emissions.new.items ≡ emissions.old.items ++ (built_step s event.now).emissions)) }
+        ensures failing { OnErr result (self.new ≡ None) }
+        ensures silent { OnErr result (emissions.new.items ≡ emissions.old.items) }
+        ensures failed { (result ≡ Err Fault.Failed) ↔ (self.old ≡ None) }
+        ensures fault { IfSome self.old (λ s. IsOkUnless result Fault.Memory) }
+    {
+        if self.failed {
+            return Err(Fault::Failed);
+        }
+        let before = emissions.len();
+        self.failed = true;
+        match take_in(
+            self.alloc,
+            &mut self.world,
+            event,
+            emissions,
+            &mut self.meter,
+        ) {
+            Ok(answer) => {
+                self.failed = false;
+                Ok(answer)
+            }
+            Err(fault) => {
+                emissions.truncate(before);
+                Err(fault)
+            }
+        }
+    }
+
+    /// Takes events one after the other, and tells the outcome of each. After a fault the router answers
+    /// `Failed` from then on.
+    pub fn run(&mut self, events: &[Event]) -> Result<Vec<Outcome>, Fault>
+        ensures outcomes { IfSome self.old (λ s. IfOk result (λ outcomes. outcomes.items ≡ built_run s events.now)) }
+        ensures state { IfSome self.old (λ s. OnOk result (self.new ≡ Some (built_state_after s events.now))) }
+        ensures failing { OnErr result (self.new ≡ None) }
+        ensures failed { (result ≡ Err Fault.Failed) ↔ (self.old ≡ None) }
+        ensures fault { IfSome self.old (λ s. IsOkUnless result Fault.Memory) }
+    {
+        if self.failed {
+            return Err(Fault::Failed);
+        }
+        self.failed = true;
+        let outcomes = run_world(self.alloc, &mut self.world, events, &mut self.meter)?;
+        self.failed = false;
+        Ok(outcomes)
+    }
+}
+
+// Takes events one after the other.
+fn run_world(
+    alloc: Global,
+    world: &mut World,
+    events: &[Event],
+    meter: &mut Meter,
+) -> Result<Vec<Outcome>, Fault>
+    ensures outcomes { IfOk result (λ outcomes. outcomes.items ≡ built_run world.old events.now) }
+    ensures state { OnOk result (world.new ≡ built_state_after world.old events.now) }
+    ensures fault { IsOkUnless result Fault.Memory }
+{
+    let mut outcomes = Vec::new(alloc);
+    for event in events {
+        outcomes.push(outcome_of(alloc, world, event, meter)?)?;
+    }
+    Ok(outcomes)
+}
+
+// The outcome of an event. No packet of data is copied yet.
+fn outcome_of(
+    alloc: Global,
+    world: &mut World,
+    event: &Event,
+    meter: &mut Meter,
+) -> Result<Outcome, Fault>
+    ensures outcome { IfOk result (λ outcome. outcome ≡ outcome_of (built_step world.old event.now)) }
+    ensures state { OnOk result (world.new ≡ (built_step world.old event.now).state) }
+    ensures fault { IsOkUnless result Fault.Memory }
+{
+    let mut emissions = Vec::new(alloc);
+    let answer: Answer = take_in(alloc, world, event, &mut emissions, meter)?;
+    Ok(Outcome {
+        answer,
+        emissions: Series::from_vec(emissions),
+        copies: 0,
+    })
+}

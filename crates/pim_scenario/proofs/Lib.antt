@@ -1,0 +1,10 @@
+pub mod CommandLineLemmas
+pub mod FieldLemmas
+pub mod HexLemmas
+pub mod InterfaceLemmas
+pub mod LinkLemmas
+pub mod MoveLemmas
+pub mod NameLemmas
+pub mod ReadLemmas
+pub mod RouteLemmas
+pub mod WordLemmas

@@ -1,0 +1,77 @@
+-- Moves go by the names of the routers alone.
+use Rattle.std.proofs.Common.{◌≡◌, ℕ, Bool, List, [], ◌∷◌, map, codes, Option, Some, None, sym, ap, refl, ◌∙◌}
+use Rattle.std.specs.List.{AllZip, position}
+use Rattle.std.specs.Prelude.{string_bytes, option_and_then}
+use Rattle.std.specs.Str.{bytes_eq}
+use Rattle.toml.specs.Data.{Data, Members, as_table}
+use Rattle.pim_types.specs.declared.event.EventKind.{EventKind}
+use Rattle.pim_scenario.specs.declared.scenario.Move.{Move}
+use Rattle.pim_scenario.specs.declared.scenario.Move.TheVariants.{Event}
+use Rattle.pim_scenario.specs.declared.scenario.RouterText.{RouterText}
+use Rattle.pim_scenario.specs.declared.scenario.Scenario.{Scenario}
+use Rattle.pim_scenario.specs.Fields.{text_at, list_or_empty}
+use Rattle.pim_scenario.specs.Scenario.{AreRouters, IsKind, IsMove, IsRouter, IsScenario, IsTable, place_of}
+use Rattle.pim_scenario.proofs.LinkLemmas.{position-map}
+use Rattle.pim_scenario.proofs.ReadLemmas.{the_same, zip_weaker}
+
+pub kind_of : (routers : List RouterText) (ms : Members) (m : Move) → IsMove routers ms m → (k : EventKind) × IsKind ms k
+kind_of routers ms (Event router e) is = (e.kind, is.2)
+
+-- a table names one router
+pub one_name : (d : Data) (r s : RouterText) → IsTable IsRouter d r → IsTable IsRouter d s
+    → string_bytes r.name ≡ string_bytes s.name
+one_name d r s a b =
+    let tables : a.0 ≡ b.0 = the_same (as_table d) a.0 b.0 (sym a.1) b.1 in
+    let left : text_at (codes "name") b.0 ≡ Some (string_bytes r.name) = rw (← tables) a.2.name in
+    the_same (text_at (codes "name") b.0) (string_bytes r.name) (string_bytes s.name) (sym left) b.2.name
+
+names_same : (ds : List Data) (rs ss : List RouterText) → AllZip (IsTable IsRouter) ds rs → AllZip (IsTable IsRouter) ds ss
+    → map (λ (r : RouterText). string_bytes r.name) rs ≡ map (λ (r : RouterText). string_bytes r.name) ss
+names_same [] [] [] a b = refl
+names_same [] [] (s ∷ ss) a b = absurd b
+names_same [] (r ∷ rs) ss a b = absurd a
+names_same (d ∷ ds) [] ss a b = absurd a
+names_same (d ∷ ds) (r ∷ rs) [] a b = absurd b
+names_same (d ∷ ds) (r ∷ rs) (s ∷ ss) a b =
+    let one : string_bytes r.name ≡ string_bytes s.name = one_name d r s a.0 b.0 in
+    let more = names_same ds rs ss a.1 b.1 in
+    rw (one, more) refl
+
+places_same : (rs ss : List RouterText)
+    → map (λ (r : RouterText). string_bytes r.name) rs ≡ map (λ (r : RouterText). string_bytes r.name) ss
+    → (name : List ℕ) → place_of rs name ≡ place_of ss name
+places_same rs ss same name =
+    let named : List ℕ → Bool = λ n. bytes_eq n name in
+    position-map named (λ (r : RouterText). string_bytes r.name) rs ∙ ap (position named) same
+    ∙ sym (position-map named (λ (r : RouterText). string_bytes r.name) ss)
+
+placed : (rs ss : List RouterText) → ((name : List ℕ) → place_of rs name ≡ place_of ss name)
+    → (o : Option (List ℕ)) → option_and_then (place_of rs) o ≡ option_and_then (place_of ss) o
+placed rs ss same None = refl
+placed rs ss same (Some name) = same name
+
+moved : (rs ss : List RouterText) → ((name : List ℕ) → place_of rs name ≡ place_of ss name)
+    → (ms : Members) (m : Move) → IsMove ss ms m → IsMove rs ms m
+moved rs ss same ms (Event router e) is = (placed rs ss same (text_at (codes "router") ms) ∙ is.0, is.1, is.2)
+
+moved_table : (rs ss : List RouterText) → ((name : List ℕ) → place_of rs name ≡ place_of ss name)
+    → (d : Data) (m : Move) → IsTable (IsMove ss) d m → IsTable (IsMove rs) d m
+moved_table rs ss same d m is = (is.0, is.1, moved rs ss same is.0 m is.2)
+
+-- the moves of routers that the same tables describe
+pub moves_for : (ds es : List Data) (rs ss : List RouterText) (ms : List Move)
+    → AllZip (IsTable IsRouter) ds rs → AllZip (IsTable IsRouter) ds ss
+    → AllZip (IsTable (IsMove ss)) es ms → AllZip (IsTable (IsMove rs)) es ms
+moves_for ds es rs ss ms a b all =
+    zip_weaker (IsTable (IsMove ss)) (IsTable (IsMove rs)) es ms
+    (moved_table rs ss (places_same rs ss (names_same ds rs ss a b))) all
+
+pub moves_of : (ms : Members) (ds es : List Data) (rs : List RouterText)
+    → Some ds ≡ list_or_empty (codes "router") ms → Some es ≡ list_or_empty (codes "move") ms → AreRouters ds rs
+    → (s : Scenario) → IsScenario ms s → (moves : List Move) × AllZip (IsTable (IsMove rs)) es moves
+moves_of ms ds es rs at_router at_move read s is =
+    let routers : AreRouters ds s.routers =
+    rw (the_same (list_or_empty (codes "router") ms) ds is.routers.0 at_router is.routers.1) is.routers.2 in
+    let moves : AllZip (IsTable (IsMove s.routers)) es s.moves =
+    rw (the_same (list_or_empty (codes "move") ms) es is.moves.0 at_move is.moves.1) is.moves.2 in
+    (s.moves, moves_for ds es rs s.routers s.moves read.tables routers.tables moves)

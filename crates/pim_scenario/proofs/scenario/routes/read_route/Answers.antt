@@ -1,0 +1,19 @@
+-- A word that writes no number.
+use Rattle.pim_scenario.proofs.ReadLemmas.{wrong}
+use Rattle.pim_scenario.proofs.RouteLemmas.{five_words}
+use Rattle.pim_scenario.proofs.scenario.routes.read_route.Goals as goal
+
+pub returns-in_err-read_number : goal.returns-in_err-read_number
+returns-in_err-read_number c =
+    wrong _ _ c.from_residual-in_err-read_number.ensures.1
+    (λ r say. c.in_err-read_number.ensures _ (five_words _ c.args.words.now r say).iface_text)
+
+pub returns-in_err-read_number-2 : goal.returns-in_err-read_number-2
+returns-in_err-read_number-2 c =
+    wrong _ _ c.from_residual-in_err-read_number-2.ensures.1
+    (λ r say. c.in_err-read_number-2.ensures _ (five_words _ c.args.words.now r say).preference_text)
+
+pub returns-in_err-read_number-3 : goal.returns-in_err-read_number-3
+returns-in_err-read_number-3 c =
+    wrong _ _ c.from_residual-in_err-read_number-3.ensures.1
+    (λ r say. c.in_err-read_number-3.ensures _ (five_words _ c.args.words.now r say).metric_text)

@@ -1,0 +1,110 @@
+-- What the words of the command line mean, by clap's rules for a simple command.
+use Rattle.std.specs.Prelude.{◌≡◌, ◌≢◌, Bool, true, false, List, [], ◌∷◌, codes, Option, Some, None, option_map, option_and_then, if◌then◌else◌}
+use Rattle.std.specs.Option.{option_map_or}
+use Rattle.std.specs.Str.{bytes_eq}
+use Rattle.clap.specs.Words.{App, Row, Rule, Text, Kinds, IsAmong, first_of, new_app, new_rule, with_rule, with_subcommand, fault_of, subcommand_of}
+use Rattle.clap.specs.declared.builder.action.ArgAction.TheVariants.{SetTrue}
+use Rattle.clap.specs.declared.error.kind.ErrorKind.TheVariants.{DisplayHelp}
+use Rattle.pim_scenario.specs.declared.command_line.Answer.{Answer}
+use Rattle.pim_scenario.specs.declared.command_line.Answer.TheVariants.{Accepted, Refused, Help}
+use Rattle.pim_scenario.specs.declared.command_line.Command.{Command}
+use Rattle.pim_scenario.specs.declared.command_line.Command.TheVariants.{Run, Check}
+use Rattle.pim_scenario.specs.declared.command_line.Words.{Words}
+use Rattle.pim_scenario.specs.declared.command_line.WireKind.{WireKind}
+use Rattle.pim_scenario.specs.declared.command_line.WireKind.TheVariants.{Memory, Udp}
+
+-- ---- the commands, as clap sees them
+
+abbrev pub file_rule : Rule
+file_rule = record (new_rule (codes "FILE")) { required = true }
+
+abbrev pub wire_rule : Rule
+wire_rule = record (new_rule (codes "wire")) {
+  long = Some (codes "wire");
+  value_names = 1;
+  defaults = codes "memory" ∷ [];
+}
+
+abbrev pub tables_rule : Rule
+tables_rule = record (new_rule (codes "tables")) {
+  long = Some (codes "tables");
+  action = Some SetTrue;
+}
+
+abbrev pub run_app : App
+run_app = with_rule (with_rule (with_rule (new_app (codes "run")) file_rule) wire_rule) tables_rule
+
+abbrev pub check_app : App
+check_app = with_rule (new_app (codes "check")) file_rule
+
+abbrev pub top_app : App
+top_app =
+    let a = new_app (codes "pimlab") in
+    record a { top = record a.top { subcommand_required = true } }
+
+-- `pimlab run FILE [--wire memory|udp] [--tables]` and `pimlab check FILE`
+abbrev pub pimlab_app : App
+pimlab_app = with_subcommand (with_subcommand top_app run_app.top) check_app.top
+
+-- ---- what the words mean
+
+pub record Meaning : Type 0 where
+  pub command : Command
+  pub file : Text
+  pub wire : WireKind
+  pub tables : Bool
+
+abbrev pub command_named : Text → Option Command
+command_named name =
+    if bytes_eq name (codes "run") then Some Run
+    else (if bytes_eq name (codes "check") then Some Check else None)
+
+-- the wire of that name; memory where none is named
+abbrev pub wire_named : Option Text → Option WireKind
+wire_named None = Some Memory
+wire_named (Some name) =
+    if bytes_eq name (codes "memory") then Some Memory
+    else (if bytes_eq name (codes "udp") then Some Udp else None)
+
+-- what the rows of a subcommand say
+abbrev pub meant_in : Text → List Row → Option Meaning
+meant_in name rows =
+    option_and_then (λ command.
+    option_and_then (λ wire.
+    option_map (λ file. record {
+      command = command;
+      file = file;
+      wire = wire;
+      tables = option_map_or (λ t. bytes_eq t (codes "true")) (first_of (codes "tables") rows) false;
+    }) (first_of (codes "FILE") rows))
+    (wire_named (first_of (codes "wire") rows)))
+    (command_named name)
+
+abbrev pub meant_by : Option (Text × List Row) → Option Meaning
+meant_by None = None
+meant_by (Some entered) = meant_in entered.0 entered.1
+
+-- what a command line means: nothing where clap finds a mistake in it
+abbrev pub meaning_unless : Kinds → Option Meaning → Option Meaning
+meaning_unless [] meaning = meaning
+meaning_unless (k ∷ ks) meaning = None
+
+unfoldable pub meaning_of : List Text → Option Meaning
+meaning_of words =
+    meaning_unless (fault_of pimlab_app words) (meant_by (subcommand_of pimlab_app words))
+
+-- what the words say
+abbrev pub meaning_in : Words → Meaning
+meaning_in w = record { command = w.command; file = w.file.now; wire = w.wire; tables = w.tables }
+
+-- the words of an answer
+abbrev pub words_in : Answer → Option Meaning
+words_in (Accepted w) = Some (meaning_in w)
+words_in Refused = None
+words_in (Help text) = None
+
+-- the answers that there may be, by the kinds of mistake that clap finds
+abbrev pub CanAnswer : Answer → Kinds → Type 0
+CanAnswer (Accepted w) kinds = kinds ≡ []
+CanAnswer Refused kinds = kinds ≢ DisplayHelp ∷ []
+CanAnswer (Help text) kinds = IsAmong DisplayHelp kinds

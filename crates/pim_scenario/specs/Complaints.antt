@@ -1,0 +1,35 @@
+-- What the user is told where something went wrong.
+use Rattle.std.specs.Prelude.{ℕ, List, ◌++◌, codes, decimal}
+use Rattle.pim_ip.specs.Refusal.{refusal_number}
+use Rattle.pim_ip.specs.declared.fault.Fault.{Fault}
+use Rattle.pim_ip.specs.declared.fault.Fault.TheVariants.{Memory, Failed, Wire}
+use Rattle.pim_scenario.specs.declared.complaint.Complaint.{Complaint}
+use Rattle.pim_scenario.specs.declared.complaint.Complaint.TheVariants as complaint
+
+abbrev pub fault_status : Fault → ℕ
+fault_status Memory = 4
+fault_status Failed = 4
+fault_status Wire = 3
+
+-- the status with which the program ends
+abbrev pub status_of : Complaint → ℕ
+status_of complaint.CommandLine = 2
+status_of (complaint.File name) = 2
+status_of (complaint.Scenario refusal) = 2
+status_of (complaint.Fault fault) = fault_status fault
+
+abbrev pub fault_text : Fault → List ℕ
+fault_text Memory = codes "pimlab: no memory"
+fault_text Failed = codes "pimlab: no memory"
+fault_text Wire = codes "pimlab: wire fault"
+
+abbrev pub text_of : Complaint → List ℕ
+text_of complaint.CommandLine = codes "pimlab: command line refused"
+text_of (complaint.File name) = codes "pimlab: cannot read " ++ name.now
+text_of (complaint.Scenario refusal) =
+    codes "pimlab: scenario refused: " ++ decimal (refusal_number refusal)
+text_of (complaint.Fault fault) = fault_text fault
+
+-- the line, with its end
+abbrev pub line_of : Complaint → List ℕ
+line_of c = text_of c ++ codes "\n"

@@ -1,0 +1,57 @@
+-- The values at the keys of a table of a scenario.
+use Rattle.std.specs.Prelude.{ℕ, ℤ, pos, negsuc, ◌^◌, Bool, List, [], ◌∷◌, Option, Some, None, option_map, option_and_then, if◌then◌else◌, nat_lt}
+use Rattle.std.specs.List.{list_all, list_any}
+use Rattle.std.specs.Str.{bytes_eq}
+use Rattle.toml.specs.Data.{Data, Items, no_items, item, Members, no_members, member, get_member, as_str, as_integer, as_array}
+
+-- a number from 0 and below 2^32
+abbrev pub number_of_integer : ℤ → Option ℕ
+number_of_integer (pos n) = if nat_lt n (2 ^ 32) then Some n else None
+number_of_integer (negsuc n) = None
+
+abbrev pub number_of : Data → Option ℕ
+number_of d = option_and_then number_of_integer (as_integer d)
+
+-- what a list holds
+abbrev pub values_of : Items → List Data
+values_of no_items = []
+values_of (item d ds) = d ∷ values_of ds
+
+abbrev pub list_of : Data → Option (List Data)
+list_of d = option_map values_of (as_array d)
+
+-- what stands at a key that has to be there
+abbrev pub text_at : List ℕ → Members → Option (List ℕ)
+text_at key ms = option_and_then as_str (get_member key ms)
+
+abbrev pub number_at : List ℕ → Members → Option ℕ
+number_at key ms = option_and_then number_of (get_member key ms)
+
+abbrev pub list_at : List ℕ → Members → Option (List Data)
+list_at key ms = option_and_then list_of (get_member key ms)
+
+-- what stands at a key that may be missing
+abbrev pub given_or : {X : Type 0} → (Data → Option X) → X → Option Data → Option X
+given_or read default None = Some default
+given_or read default (Some d) = read d
+
+abbrev pub number_or : ℕ → List ℕ → Members → Option ℕ
+number_or default key ms = given_or number_of default (get_member key ms)
+
+abbrev pub list_or_empty : List ℕ → Members → Option (List Data)
+list_or_empty key ms = given_or list_of [] (get_member key ms)
+
+abbrev pub optional_text : List ℕ → Members → Option (Option (List ℕ))
+optional_text key ms = given_or (λ d. option_map (λ t. Some t) (as_str d)) None (get_member key ms)
+
+-- the keys, in their order
+abbrev pub keys_of : Members → List (List ℕ)
+keys_of no_members = []
+keys_of (member key d ms) = key ∷ keys_of ms
+
+abbrev pub is_known : List (List ℕ) → List ℕ → Bool
+is_known known key = list_any (λ k. bytes_eq k key) known
+
+-- no other keys than these
+abbrev pub has_only : List (List ℕ) → Members → Bool
+has_only known ms = list_all (is_known known) (keys_of ms)

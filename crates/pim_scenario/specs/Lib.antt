@@ -1,0 +1,7 @@
+pub mod CommandLine
+pub mod Complaints
+pub mod Fields
+pub mod Links
+pub mod Scenario
+pub mod Texts
+pub mod Words

@@ -1,0 +1,190 @@
+-- What a document has to say for a scenario to be read from it.
+use Rattle.std.specs.Prelude.{◌≡◌, ◌≢◌, ◌≤◌, ◌++◌, ◌⊎◌, ℕ, true, List, [], ◌∷◌, codes, length, Option, Some, None, option_and_then, if◌then◌else◌, string_bytes, position}
+use Rattle.std.specs.List.{All, AllPairs, AllZip, fold}
+use Rattle.std.specs.Option.{is_some}
+use Rattle.std.specs.Str.{bytes_eq}
+use Rattle.toml.specs.Parse.{parse_document}
+use Rattle.toml.specs.Data.{Data, Members, as_str, as_table}
+use Rattle.pim_types.specs.declared.config.Config.{Config}
+use Rattle.pim_types.specs.declared.config.InterfaceConfig.{InterfaceConfig}
+use Rattle.pim_types.specs.declared.config.Route.{Route}
+use Rattle.pim_types.specs.declared.config.RpRange.{RpRange}
+use Rattle.pim_types.specs.declared.config.SptSwitch.{SptSwitch}
+use Rattle.pim_types.specs.declared.config.SptSwitch.TheVariants.{Always, Never}
+use Rattle.pim_types.specs.declared.event.EventKind.{EventKind}
+use Rattle.pim_types.specs.declared.event.EventKind.TheVariants as event
+use Rattle.pim_scenario.specs.declared.scenario.Link.{Link}
+use Rattle.pim_scenario.specs.declared.scenario.RouterText.{RouterText}
+use Rattle.pim_scenario.specs.declared.scenario.Move.{Move}
+use Rattle.pim_scenario.specs.declared.scenario.Move.TheVariants.{Event}
+use Rattle.pim_scenario.specs.declared.scenario.Scenario.{Scenario}
+use Rattle.pim_scenario.specs.Fields.{has_only, text_at, optional_text, number_at, number_or, list_at, list_or_empty}
+use Rattle.pim_scenario.specs.Texts.{IsNumberText, IsAddressText, IsPrefixText, hex_of}
+use Rattle.pim_scenario.specs.Words.{AreWords}
+
+-- ---- routes and RP ranges
+
+-- `prefix nexthop iface preference metric`
+pub record IsRouteOf (prefix next_hop iface preference metric : List ℕ) (r : Route) : Type 0 where
+  pub prefix_text : IsPrefixText prefix r.prefix
+  pub next_hop_text : IsAddressText next_hop r.next_hop
+  pub iface_text : IsNumberText iface r.iface.number
+  pub preference_text : IsNumberText preference r.preference
+  pub metric_text : IsNumberText metric r.metric
+
+abbrev pub AreRouteWords : List (List ℕ) → Route → Type 0
+AreRouteWords (prefix ∷ next_hop ∷ iface ∷ preference ∷ metric ∷ []) r =
+    IsRouteOf prefix next_hop iface preference metric r
+AreRouteWords _ r = ⊥
+
+-- `prefix rp`
+abbrev pub AreRpWords : List (List ℕ) → RpRange → Type 0
+AreRpWords (prefix ∷ rp ∷ []) r = IsPrefixText prefix r.prefix × IsAddressText rp r.rp
+AreRpWords _ r = ⊥
+
+-- the value is a text, and its words are read so
+pub record IsText {X : Type 0} (Say : List (List ℕ) → X → Type 0) (d : Data) (x : X) : Type 0 where
+  pub text : List ℕ
+  pub words : List (List ℕ)
+  pub is_text : as_str d ≡ Some text
+  pub are_words : AreWords text words
+  pub say : Say words x
+
+-- the value is a table, and is read so
+abbrev pub IsTable : {X : Type 0} → (Members → X → Type 0) → Data → X → Type 0
+IsTable Says d x = (ms : Members) × (as_table d ≡ Some ms) × Says ms x
+
+-- a list was read value by value
+abbrev pub AreRead : {X : Type 0} → (Data → X → Type 0) → Option (List Data) → List X → Type 0
+AreRead Says values xs = (ds : List Data) × (values ≡ Some ds) × AllZip Says ds xs
+
+-- ---- routers
+
+abbrev pub interface_keys : List (List ℕ)
+interface_keys = codes "link" ∷ codes "address" ∷ codes "priority" ∷ codes "propagation" ∷ codes "override" ∷ []
+
+pub record IsInterface (ms : Members) (i : InterfaceConfig) : Type 0 where
+  pub keys : has_only interface_keys ms ≡ true
+  pub subnet_text : List ℕ
+  pub subnet_at : text_at (codes "address") ms ≡ Some subnet_text
+  pub subnet : IsPrefixText subnet_text (record { address = i.address; length = i.length })
+  pub priority : number_or 1 (codes "priority") ms ≡ Some i.priority
+  pub propagation_delay : number_or 500 (codes "propagation") ms ≡ Some i.propagation_delay
+  pub override_interval : number_or 2500 (codes "override") ms ≡ Some i.override_interval
+
+abbrev pub IsLink : Members → Link → Type 0
+IsLink ms l = text_at (codes "link") ms ≡ Some (string_bytes l.name)
+
+abbrev pub spt_switch_named : Option (List ℕ) → Option SptSwitch
+spt_switch_named None = Some Always
+spt_switch_named (Some name) =
+    if bytes_eq name (codes "always") then Some Always
+    else (if bytes_eq name (codes "never") then Some Never else None)
+
+abbrev pub spt_switch_at : Members → Option SptSwitch
+spt_switch_at ms = option_and_then spt_switch_named (optional_text (codes "spt") ms)
+
+pub record IsConfig (ms : Members) (c : Config) : Type 0 where
+  pub limit : number_or 65536 (codes "limit") ms ≡ Some c.limit
+  pub spt : spt_switch_at ms ≡ Some c.spt
+  pub robustness : number_or 2 (codes "rv") ms ≡ Some c.robustness
+  pub query_interval : number_or 125 (codes "qi") ms ≡ Some c.query_interval
+  pub query_response_interval : number_or 100 (codes "qri") ms ≡ Some c.query_response_interval
+  pub last_member_query_interval : number_or 10 (codes "lmqi") ms ≡ Some c.last_member_query_interval
+  pub routes : AreRead (IsText AreRouteWords) (list_or_empty (codes "routes") ms) c.routes
+  pub rps : AreRead (IsText AreRpWords) (list_or_empty (codes "rps") ms) c.rps
+
+abbrev pub router_keys : List (List ℕ)
+router_keys =
+    codes "name" ∷ codes "iface" ∷ codes "limit" ∷ codes "spt" ∷ codes "rv" ∷ codes "qi" ∷ codes "qri"
+    ∷ codes "lmqi" ∷ codes "routes" ∷ codes "rps" ∷ []
+
+pub record IsRouter (ms : Members) (r : RouterText) : Type 0 where
+  pub keys : has_only router_keys ms ≡ true
+  pub name : text_at (codes "name") ms ≡ Some (string_bytes r.name)
+  pub interfaces : AreRead (IsTable IsInterface) (list_at (codes "iface") ms) r.config.interfaces
+  pub links : AreRead (IsTable IsLink) (list_at (codes "iface") ms) r.links
+  pub config : IsConfig ms r.config
+
+-- the place of a name
+abbrev pub place_in : List (List ℕ) → List ℕ → Option ℕ
+place_in names name = position (λ n. bytes_eq n name) names
+
+-- the names, and this one at the end where it is new
+abbrev pub with_name : List (List ℕ) → List ℕ → List (List ℕ)
+with_name names name = if is_some (place_in names name) then names else names ++ name ∷ []
+
+-- the names, and those of the links that are new, in their order
+abbrev pub names_after : List (List ℕ) → List Link → List (List ℕ)
+names_after names links = fold (λ ns l. with_name ns (string_bytes l.name)) names links
+
+-- the names of all links, each once, in the order in which they are first named
+abbrev pub link_names : List RouterText → List (List ℕ)
+link_names routers = fold (λ ns r. names_after ns r.links) [] routers
+
+-- the link goes by the place of its name
+abbrev pub IsNumbered : List (List ℕ) → Link → Type 0
+IsNumbered names l = place_in names (string_bytes l.name) ≡ Some l.number
+
+abbrev pub HasNumbered : List (List ℕ) → RouterText → Type 0
+HasNumbered names r = All (IsNumbered names) r.links
+
+-- the links go by the places of their names among all
+abbrev pub HaveNumberedLinks : List RouterText → Type 0
+HaveNumberedLinks routers = All (HasNumbered (link_names routers)) routers
+
+-- no two routers have one name
+abbrev pub HaveOwnNames : List RouterText → Type 0
+HaveOwnNames routers = AllPairs (λ a b. string_bytes a.name ≢ string_bytes b.name) routers
+
+-- the values are at most 64 routers, each with a name of its own, and the links of all are numbered
+pub record AreRouters (ds : List Data) (routers : List RouterText) : Type 0 where
+  pub tables : AllZip (IsTable IsRouter) ds routers
+  pub count : length routers ≤ 64
+  pub names : HaveOwnNames routers
+  pub links : HaveNumberedLinks routers
+
+-- ---- moves
+
+-- the place of the router of that name
+abbrev pub place_of : List RouterText → List ℕ → Option ℕ
+place_of routers name = position (λ r. bytes_eq (string_bytes r.name) name) routers
+
+abbrev pub up_keys : List (List ℕ)
+up_keys = codes "do" ∷ codes "router" ∷ codes "draw" ∷ codes "iface" ∷ []
+
+abbrev pub frame_keys : List (List ℕ)
+frame_keys = codes "do" ∷ codes "router" ∷ codes "draw" ∷ codes "iface" ∷ codes "hex" ∷ []
+
+abbrev pub IsUp : Members → EventKind → Type 0
+IsUp ms (event.Up iface) =
+    (has_only up_keys ms ≡ true) × (number_at (codes "iface") ms ≡ Some iface.number)
+IsUp ms _ = ⊥
+
+abbrev pub IsFrame : Members → EventKind → Type 0
+IsFrame ms (event.Frame iface bytes) =
+    (has_only frame_keys ms ≡ true) × (number_at (codes "iface") ms ≡ Some iface.number)
+    × (option_and_then hex_of (text_at (codes "hex") ms) ≡ Some bytes)
+IsFrame ms _ = ⊥
+
+-- what happens to the router, by the name at `do`
+abbrev pub IsKind : Members → EventKind → Type 0
+IsKind ms kind =
+    ((text_at (codes "do") ms ≡ Some (codes "up")) × IsUp ms kind)
+    ⊎ ((text_at (codes "do") ms ≡ Some (codes "frame")) × IsFrame ms kind)
+
+abbrev pub IsMove : List RouterText → Members → Move → Type 0
+IsMove routers ms (Event router e) =
+    (option_and_then (place_of routers) (text_at (codes "router") ms) ≡ Some router)
+    × (number_or 0 (codes "draw") ms ≡ Some e.draw) × IsKind ms e.kind
+
+-- ---- the scenario
+
+pub record IsScenario (ms : Members) (s : Scenario) : Type 0 where
+  pub keys : has_only (codes "router" ∷ codes "move" ∷ []) ms ≡ true
+  pub routers : (ds : List Data) × (list_or_empty (codes "router") ms ≡ Some ds) × AreRouters ds s.routers
+  pub moves : AreRead (IsTable (IsMove s.routers)) (list_or_empty (codes "move") ms) s.moves
+
+-- the text is a document that says what the scenario is
+abbrev pub IsReadFrom : List ℕ → Scenario → Type 0
+IsReadFrom text s = (ms : Members) × (parse_document text ≡ Some ms) × IsScenario ms s

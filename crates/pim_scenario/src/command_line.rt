@@ -1,0 +1,196 @@
+//! The command line: `pimlab run FILE [--wire memory|udp] [--tables]` and `pimlab check FILE`.
+ghost use Rattle.std.specs.Prelude.{◌≡◌, ◌≢◌, [], map, option_map, None, IfOk, IfErr, false};
+ghost use Rattle.clap.specs.Words.{app_of, fault_of, rule_of, subcommand_rows_of, HasKind, Kinds};
+ghost use Rattle.clap.specs.Words.{first_of, found_of, rows_of};
+ghost use Rattle.clap.specs.declared.builder.command.Command.TheViews.{out-Command};
+ghost use Rattle.pim_scenario.specs.CommandLine.{pimlab_app, run_app, check_app, file_rule, wire_rule, tables_rule};
+ghost use Rattle.pim_scenario.specs.CommandLine.{words_in, meaning_in, meaning_of, meant_by, meant_in, CanAnswer};
+ghost use Rattle.pim_scenario.specs.CommandLine.{command_named, wire_named};
+
+use clap::error::ErrorKind;
+use clap::{Arg, ArgAction, ArgMatches};
+use pim_types::Fault;
+use std::alloc::{AllocError, Global};
+
+/// What is to be done with the scenario.
+#[derive(Clone, Copy, PartialEq, Eq, Debug)]
+pub enum Command {
+    /// Its moves are done, and what they bring is printed.
+    Run,
+    /// It is read, and its routers are made.
+    Check,
+}
+
+/// What carries the frames between the routers.
+#[derive(Clone, Copy, PartialEq, Eq, Debug)]
+pub enum WireKind {
+    Memory,
+    /// Sockets on the loopback address.
+    Udp,
+}
+
+/// The words of a command line that was accepted.
+#[derive(Clone, Copy, PartialEq, Eq, Debug)]
+pub struct Words<'a> {
+    pub command: Command,
+    /// The scenario's file; `-` is standard input.
+    pub file: &'a str,
+    pub wire: WireKind,
+    /// The tables of all routers are printed at the end.
+    pub tables: bool,
+}
+
+/// What a command line comes to.
+#[derive(Debug, Drop)]
+pub enum Answer<'a> {
+    Accepted(Words<'a>),
+    /// It has a mistake.
+    Refused,
+    /// It asks for help: the text to print.
+    Help(String),
+}
+
+/// Reads the words of a command line, of which the first is the program's name: they mean what clap's
+/// rules for a simple command make of them. The only fault is want of memory.
+pub fn read_words<'a>(alloc: Global, words: &'a [&'a str]) -> Result<Answer<'a>, Fault>
+    ensures accepted { IfOk result (λ a. words_in a ≡ meaning_of (map (λ w. w.now) words.entry.now)) }
+    ensures kinds { IfOk result (λ a. CanAnswer a
+        (fault_of pimlab_app (map (λ w. w.now) words.entry.now))) }
+    ensures memory { IfErr result (λ e. e ≡ Fault.Memory) }
+{
+    let command = pimlab_command(alloc)?;
+    match command.try_get_matches_from(words) {
+        Ok(matches) => Ok(accepted(&matches)),
+        Err(error) => unaccepted(alloc, &error),
+    }
+}
+
+/// The whole command line.
+fn pimlab_command<'a>(alloc: Global) -> Result<clap::Command<'a>, AllocError>
+    ensures { IfOk result (λ c. app_of c ≡ pimlab_app) }
+{
+    clap::Command::new(alloc, "pimlab")
+        .about("Runs the multicast routers of a scenario")
+        .subcommand_required(true)
+        .subcommand(run_command(alloc)?)?
+        .subcommand(check_command(alloc)?)
+}
+
+fn run_command<'a>(alloc: Global) -> Result<clap::Command<'a>, AllocError>
+    ensures app { IfOk result (λ c. app_of c ≡ run_app) }
+    ensures local { IfOk result (λ c. (out-Command c).has_globals ≡ false) }
+{
+    clap::Command::new(alloc, "run")
+        .about("Does the moves of a scenario and prints what they bring")
+        .arg(file_argument(alloc))?
+        .arg(wire_argument(alloc))?
+        .arg(tables_argument(alloc))
+}
+
+fn check_command<'a>(alloc: Global) -> Result<clap::Command<'a>, AllocError>
+    ensures app { IfOk result (λ c. app_of c ≡ check_app) }
+    ensures local { IfOk result (λ c. (out-Command c).has_globals ≡ false) }
+{
+    clap::Command::new(alloc, "check")
+        .about("Reads a scenario and makes its routers")
+        .arg(file_argument(alloc))
+}
+
+fn file_argument<'a>(alloc: Global) -> Arg<'a>
+    ensures rule { rule_of result ≡ file_rule }
+    ensures local { result.global ≡ false }
+{
+    Arg::new(alloc, "FILE")
+        .required(true)
+        .help("The scenario; - is standard input")
+}
+
+fn wire_argument<'a>(alloc: Global) -> Arg<'a>
+    ensures rule { rule_of result ≡ wire_rule }
+    ensures local { result.global ≡ false }
+{
+    Arg::new(alloc, "wire")
+        .long("wire")
+        .value_name("memory|udp")
+        .default_value("memory")
+        .help("What carries the frames")
+}
+
+fn tables_argument<'a>(alloc: Global) -> Arg<'a>
+    ensures rule { rule_of result ≡ tables_rule }
+    ensures local { result.global ≡ false }
+{
+    Arg::new(alloc, "tables")
+        .long("tables")
+        .action(ArgAction::SetTrue)
+        .help("Prints the tables of all routers at the end")
+}
+
+/// What the matches say. An option's value that clap doesn't judge is refused here.
+fn accepted<'a>(matches: &ArgMatches<'a>) -> Answer<'a>
+    ensures meant { words_in result ≡ meant_by (subcommand_rows_of matches.now) }
+    ensures no_help { CanAnswer result [] }
+{
+    match matches.subcommand() {
+        Some((name, inner)) => match words_of(name, inner) {
+            Some(words) => Answer::Accepted(words),
+            None => Answer::Refused,
+        },
+        None => Answer::Refused,
+    }
+}
+
+fn words_of<'a>(name: &str, matches: &ArgMatches<'a>) -> Option<Words<'a>>
+    ensures { option_map meaning_in result ≡ meant_in name.now (rows_of (found_of matches.now)) }
+{
+    let command = command_named(name)?;
+    let wire = wire_named(value_of(matches, "wire"))?;
+    let file = value_of(matches, "FILE")?;
+    let tables = value_of(matches, "tables") == Some("true");
+    Some(Words {
+        command,
+        file,
+        wire,
+        tables,
+    })
+}
+
+/// The first value of an argument.
+fn value_of<'a>(matches: &ArgMatches<'a>, id: &str) -> Option<&'a str>
+    ensures { option_map (λ v. v.now) result ≡ first_of id.now (rows_of (found_of matches.now)) }
+{
+    matches.get_str(id)
+}
+
+fn command_named(name: &str) -> Option<Command>
+    ensures { result ≡ command_named name.now }
+{
+    match name {
+        "run" => Some(Command::Run),
+        "check" => Some(Command::Check),
+        _ => None,
+    }
+}
+
+/// The wire that was asked for; memory where the command has no such option.
+fn wire_named(name: Option<&str>) -> Option<WireKind>
+    ensures { result ≡ wire_named (option_map (λ n. n.now) name.entry) }
+{
+    match name {
+        None | Some("memory") => Some(WireKind::Memory),
+        Some("udp") => Some(WireKind::Udp),
+        Some(_) => None,
+    }
+}
+
+fn unaccepted<'a>(alloc: Global, error: &clap::Error) -> Result<Answer<'a>, Fault>
+    ensures ok { IfOk result (λ a. words_in a ≡ None) }
+    ensures kinds { IfOk result (λ a. (kinds : Kinds) → HasKind kinds error.now → (kinds ≢ []) × CanAnswer a kinds) }
+    ensures memory { IfErr result (λ e. e ≡ Fault.Memory) }
+{
+    match error.kind() {
+        ErrorKind::OutOfMemory => Err(Fault::Memory),
+        ErrorKind::DisplayHelp => Ok(Answer::Help(format!(in alloc; "{error}")?)),
+        _ => Ok(Answer::Refused),
+    }
+}

@@ -1,0 +1,83 @@
+//! What the user is told where something went wrong: one line on standard error, and the status.
+ghost use Rattle.std.specs.Prelude.{◌≡◌, Some, OnOk};
+ghost use Rattle.std.specs.Io.KnownBytes.{Appends};
+ghost use Rattle.pim_scenario.specs.Complaints.{line_of, status_of, fault_status};
+
+use pim_types::{Fault, Refusal};
+use std::io::Write;
+use std::{fmt, io};
+
+/// What went wrong.
+#[derive(Clone, Copy, PartialEq, Eq, Debug)]
+pub enum Complaint<'a> {
+    /// The command line has a mistake.
+    CommandLine,
+    /// The file of this name can't be read, or is no text.
+    File(&'a str),
+    /// The scenario is refused.
+    Scenario(Refusal),
+    Fault(Fault),
+}
+
+impl Complaint<'_> {
+    /// The status with which the program ends: 2 where its input is refused, 3 after a fault of the
+    /// wire, 4 for want of memory.
+    pub fn status(self) -> u8
+        ensures { result ≡ status_of self.entry }
+    {
+        match self {
+            Complaint::Fault(Fault::Wire) => 3,
+            Complaint::Fault(Fault::Memory | Fault::Failed) => 4,
+            Complaint::CommandLine | Complaint::File(_) | Complaint::Scenario(_) => 2,
+        }
+    }
+
+    /// Writes the line. Where writing fails a part of it may have been written.
+    pub fn write_line<W: Write>(self, err: &mut W) -> io::Result<()>
+        ensures { OnOk result (Appends (W.contents err.old) (W.contents err.new) (line_of self.entry)) }
+    {
+        err.writeln(self)
+    }
+
+    /// Writes the line, if it can be written, and gives the status.
+    pub fn tell<W: Write>(self, err: &mut W) -> u8
+        ensures { result ≡ status_of self.entry }
+    {
+        // The status says what went wrong first, whether or not the line could be written.
+        let _ = self.write_line(err);
+        self.status()
+    }
+}
+
+impl fmt::Display for Complaint<'_> {
+    ghost use Rattle.pim_scenario.specs.Complaints.{text_of};
+
+    ghost output = { λ complaint. Some (text_of complaint) };
+
+    fn fmt<W: fmt::Write>(&self, f: &mut fmt::Formatter<W>) -> fmt::Result {
+        match self {
+            Complaint::CommandLine => write!(f, "pimlab: command line refused"),
+            Complaint::File(name) => write!(f, "pimlab: cannot read {name}"),
+            Complaint::Scenario(refusal) => {
+                let number = refusal.number();
+                write!(f, "pimlab: scenario refused: {number}")
+            }
+            Complaint::Fault(Fault::Wire) => write!(f, "pimlab: wire fault"),
+            Complaint::Fault(Fault::Memory | Fault::Failed) => write!(f, "pimlab: no memory"),
+        }
+    }
+}
+
+/// Tells that a scenario is refused, and gives the status.
+pub fn refused<W: Write>(err: &mut W, refusal: Refusal) -> u8
+    ensures { result ≡ 2 }
+{
+    Complaint::Scenario(refusal).tell(err)
+}
+
+/// Tells a fault, and gives the status: 3 for the wire, and 4 for memory.
+pub fn fault<W: Write>(err: &mut W, fault: Fault) -> u8
+    ensures { result ≡ fault_status fault }
+{
+    Complaint::Fault(fault).tell(err)
+}

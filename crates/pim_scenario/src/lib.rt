@@ -1,0 +1,16 @@
+//! The part of `pimlab` that needs no router: its command line, the scenario file as plain data, and
+//! the one line with the status by which it says what went wrong.
+#![tactic(auto)]
+
+pub mod command_line;
+pub mod complaint;
+pub mod file;
+pub mod scenario;
+
+pub use command_line::{Answer, Command, WireKind, Words, read_words};
+pub use complaint::{Complaint, fault, refused};
+pub use file::load;
+pub use scenario::{Link, Move, RouterText, Scenario, read_scenario};
+
+#[cfg(test)]
+mod tests;

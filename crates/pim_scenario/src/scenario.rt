@@ -1,0 +1,139 @@
+//! The scenario file as plain data: routers, and moves that happen to them.
+ghost use Rattle.std.specs.Prelude.{◌≡◌, None, Err, IfOk, IfErr};
+ghost use Rattle.toml.specs.Parse.{parse_document};
+ghost use Rattle.toml.specs.View.{table_view};
+ghost use Rattle.std.specs.Net.Grammar.{Parses};
+ghost use Rattle.pim_scenario.specs.Scenario.{IsReadFrom, IsScenario};
+ghost use Rattle.pim_scenario.specs.Texts.{ReadsExactly};
+
+mod address;
+mod field;
+mod hex;
+mod links;
+mod moves;
+mod router;
+mod routes;
+mod words;
+
+use pim_types::{Config, Event, Fault, Refusal, Series};
+use std::alloc::{AllocError, AllocFailed, Global};
+use thiserror::Error;
+use toml::Table;
+
+/// The link on which an interface is.
+#[derive(Debug, Drop)]
+pub struct Link {
+    /// The links are numbered from 0 in the order in which the scenario first names them.
+    pub number: usize,
+    pub name: String,
+}
+
+/// A router of a scenario.
+#[derive(Debug, Drop)]
+pub struct RouterText {
+    pub name: String,
+    /// As the scenario has it: nobody has judged its values yet.
+    pub config: Config,
+    /// The link of each interface.
+    pub links: Series<Link>,
+}
+
+/// What a scenario asks for. More kinds are to come.
+#[derive(Debug, Drop)]
+pub enum Move {
+    /// Something happens to a router, which goes by its place among the routers, from 0.
+    Event { router: usize, event: Event },
+}
+
+/// What a scenario file says.
+#[derive(Debug, Drop)]
+pub struct Scenario {
+    /// At most 64, each with a name of its own.
+    pub routers: Series<RouterText>,
+    pub moves: Series<Move>,
+}
+
+impl Scenario {
+    /// How many routers a scenario may have.
+    pub const ROUTER_LIMIT: usize = 64;
+}
+
+/// A value is not what its key wants.
+#[derive(Clone, Copy, PartialEq, Eq, Debug, Error)]
+#[error("the scenario is wrong")]
+struct Wrong;
+
+/// Why a scenario was not read.
+#[derive(Clone, Copy, PartialEq, Eq, Debug, Error)]
+enum Unread {
+    #[error("the scenario is wrong")]
+    Wrong,
+    #[error("no memory")]
+    NoMemory,
+}
+
+impl From<Wrong> for Unread {
+    ghost use Rattle.pim_scenario.specs.declared.scenario.Unread.{Unread};
+
+    ghost from_gives = { λ _ e. e ≡ Unread.Wrong };
+
+    fn from(_wrong: Wrong) -> Unread {
+        Unread::Wrong
+    }
+}
+
+impl From<AllocError> for Unread {
+    ghost use Rattle.pim_scenario.specs.declared.scenario.Unread.{Unread};
+
+    ghost from_gives = { λ _ e. e ≡ Unread.NoMemory };
+
+    fn from(_refused: AllocError) -> Unread {
+        Unread::NoMemory
+    }
+}
+
+impl<T: Drop> From<AllocFailed<T>> for Unread {
+    ghost use Rattle.pim_scenario.specs.declared.scenario.Unread.{Unread};
+
+    ghost from_gives = { λ _ e. e ≡ Unread.NoMemory };
+
+    fn from(_refused: AllocFailed<T>) -> Unread {
+        Unread::NoMemory
+    }
+}
+
+/// Reads a scenario. It is refused as `BadScenario` exactly where it is no TOML document, has an
+/// unknown key, lacks one, has a value of another type, text or range than its key wants, has more
+/// than 64 routers or two of one name, or moves a router that it hasn't. The values of a
+/// configuration are not judged here. The only fault is want of memory.
+pub fn read_scenario(alloc: Global, text: &str) -> Result<Result<Scenario, Refusal>, Fault>
+    ensures read { IfOk result (Parses IsReadFrom text.now) }
+    ensures other_text { parse_document text.now ≡ None
+        → IfOk result (λ r. r ≡ Err Refusal.BadScenario) }
+    ensures refused { IfOk result (λ r. IfErr r (λ e. e ≡ Refusal.BadScenario)) }
+    ensures memory { IfErr result (λ e. e ≡ Fault.Memory) }
+{
+    let table = match toml::table_from_str(alloc, text) {
+        Ok(table) => table,
+        Err(error) if error.is_memory() => return Err(Fault::Memory),
+        Err(_) => return Ok(Err(Refusal::BadScenario)),
+    };
+    match scenario_in(alloc, &table) {
+        Ok(scenario) => Ok(Ok(scenario)),
+        Err(Unread::Wrong) => Ok(Err(Refusal::BadScenario)),
+        Err(Unread::NoMemory) => Err(Fault::Memory),
+    }
+}
+
+fn scenario_in(alloc: Global, table: &Table) -> Result<Scenario, Unread>
+    ensures { ReadsExactly (IsScenario (table_view table.now)) result }
+{
+    field::only(table, &["router", "move"])?;
+    let routers = router::routers_in(alloc, field::list_or_empty(table, "router")?)?;
+    let moves = moves::moves_in(
+        alloc,
+        field::list_or_empty(table, "move")?,
+        routers.as_slice(),
+    )?;
+    Ok(Scenario { routers, moves })
+}

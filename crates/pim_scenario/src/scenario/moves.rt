@@ -1,0 +1,78 @@
+//! Moves: the tables of the list `move`.
+ghost use Rattle.std.specs.Prelude.{◌≡◌, codes, map, option_map};
+ghost use Rattle.std.specs.List.{AllZip};
+ghost use Rattle.std.specs.Result.{result_ok};
+ghost use Rattle.toml.specs.View.{view, table_view};
+ghost use Rattle.pim_scenario.specs.Fields.{number_at};
+ghost use Rattle.pim_scenario.specs.Scenario.{IsFrame, IsKind, IsMove, IsTable, IsUp};
+ghost use Rattle.pim_scenario.specs.Texts.{ReadsExactly};
+
+use super::{Move, RouterText, Unread, Wrong, field, hex, router};
+use pim_types::{Event, EventKind, IfaceId, Series};
+use std::alloc::Global;
+use toml::{Table, Value};
+
+/// The moves that tables describe, each of one of the routers.
+pub(super) fn moves_in(
+    alloc: Global,
+    values: &[Value],
+    routers: &[RouterText],
+) -> Result<Series<Move>, Unread>
+    ensures { ReadsExactly (AllZip (IsTable (IsMove routers.now)) (map view values.now)) result }
+{
+    let mut moves = Series::new(alloc);
+    for value in values {
+        moves.push(move_in(alloc, field::table_of(value)?, routers)?)?;
+    }
+    Ok(moves)
+}
+
+fn move_in(alloc: Global, table: &Table, routers: &[RouterText]) -> Result<Move, Unread>
+    ensures { ReadsExactly (IsMove routers.now (table_view table.now)) result }
+{
+    let kind = kind_in(alloc, table)?;
+    let router = router::place_of(routers, field::text(table, "router")?).ok_or(Wrong)?;
+    let draw = field::number_or(table, "draw", 0)?;
+    Ok(Move::Event {
+        router,
+        event: Event { draw, kind },
+    })
+}
+
+fn kind_in(alloc: Global, table: &Table) -> Result<EventKind, Unread>
+    ensures { ReadsExactly (IsKind (table_view table.now)) result }
+{
+    match field::text(table, "do")? {
+        "up" => up_in(table),
+        "frame" => frame_in(alloc, table),
+        _ => Err(Unread::Wrong),
+    }
+}
+
+fn up_in(table: &Table) -> Result<EventKind, Unread>
+    ensures { ReadsExactly (IsUp (table_view table.now)) result }
+{
+    field::only(table, &["do", "router", "draw", "iface"])?;
+    Ok(EventKind::Up {
+        iface: interface_in(table)?,
+    })
+}
+
+fn frame_in(alloc: Global, table: &Table) -> Result<EventKind, Unread>
+    ensures { ReadsExactly (IsFrame (table_view table.now)) result }
+{
+    field::only(table, &["do", "router", "draw", "iface", "hex"])?;
+    Ok(EventKind::Frame {
+        iface: interface_in(table)?,
+        bytes: hex::read_hex(alloc, field::text(table, "hex")?)?,
+    })
+}
+
+fn interface_in(table: &Table) -> Result<IfaceId, Wrong>
+    ensures { option_map (λ iface. iface.number) (result_ok result)
+        ≡ number_at (codes "iface") (table_view table.now) }
+{
+    Ok(IfaceId {
+        number: field::number(table, "iface")?,
+    })
+}

@@ -1,0 +1,66 @@
+//! Routes and RP ranges: the texts of the lists `routes` and `rps`.
+ghost use Rattle.std.specs.Prelude.{map};
+ghost use Rattle.std.specs.List.{AllZip};
+ghost use Rattle.toml.specs.View.{view};
+ghost use Rattle.pim_scenario.specs.Scenario.{AreRouteWords, AreRpWords, IsText};
+ghost use Rattle.pim_scenario.specs.Texts.{ReadsExactly};
+
+use super::{Unread, address, field, words};
+use pim_types::{IfaceId, Route, RpRange, Series};
+use std::alloc::Global;
+use toml::Value;
+
+/// The routes that texts write.
+pub(super) fn routes_in(alloc: Global, texts: &[Value]) -> Result<Series<Route>, Unread>
+    ensures { ReadsExactly (AllZip (IsText AreRouteWords) (map view texts.now)) result }
+{
+    let mut routes = Series::new(alloc);
+    for text in texts {
+        let words = words::split(alloc, field::text_of(text)?)?;
+        routes.push(read_route(words.as_slice())?)?;
+    }
+    Ok(routes)
+}
+
+/// The RP ranges that texts write.
+pub(super) fn rps_in(alloc: Global, texts: &[Value]) -> Result<Series<RpRange>, Unread>
+    ensures { ReadsExactly (AllZip (IsText AreRpWords) (map view texts.now)) result }
+{
+    let mut rps = Series::new(alloc);
+    for text in texts {
+        let words = words::split(alloc, field::text_of(text)?)?;
+        rps.push(read_rp(words.as_slice())?)?;
+    }
+    Ok(rps)
+}
+
+/// A route: `prefix nexthop iface preference metric`.
+fn read_route(words: &[&str]) -> Result<Route, Unread>
+    ensures { ReadsExactly (AreRouteWords (map (λ w. w.now) words.now)) result }
+{
+    let [prefix, next_hop, iface, preference, metric] = words else {
+        return Err(Unread::Wrong);
+    };
+    Ok(Route {
+        prefix: address::read_prefix(prefix)?,
+        next_hop: address::read_address(next_hop)?,
+        iface: IfaceId {
+            number: address::read_number(iface)?,
+        },
+        preference: address::read_number(preference)?,
+        metric: address::read_number(metric)?,
+    })
+}
+
+/// An RP range: `prefix rp`.
+fn read_rp(words: &[&str]) -> Result<RpRange, Unread>
+    ensures { ReadsExactly (AreRpWords (map (λ w. w.now) words.now)) result }
+{
+    let [prefix, rp] = words else {
+        return Err(Unread::Wrong);
+    };
+    Ok(RpRange {
+        prefix: address::read_prefix(prefix)?,
+        rp: address::read_address(rp)?,
+    })
+}

@@ -1,0 +1,4 @@
+pub mod Configurations
+pub mod Groups
+pub mod Plain
+pub mod Timers
