@@ -23,7 +23,7 @@ pub(crate) fn address_at(message: &[u8], place: usize) -> Addr
 }
 
 /// The sources of a query, in their order.
-#[derive(Debug, Drop)]
+#[derive(Drop)]
 pub struct Addresses<'a> {
     message: &'a [u8],
     place: usize,

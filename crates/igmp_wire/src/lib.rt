@@ -18,6 +18,3 @@ pub use records::{RecordView, Records, Sources};
 pub use report::{RecordType, ReportView};
 pub use view::IgmpView;
 pub use write::{GroupRecord, QueryHeader, write_query, write_report};
-
-#[cfg(test)]
-mod tests;

@@ -6,7 +6,7 @@ use std::marker::Model;
 const SOURCES_PLACE: usize = 12;
 
 /// A query that was read, lent from its bytes (RFC 3376, section 4.1).
-#[derive(Debug, Drop)]
+#[derive(Drop)]
 pub struct QueryView<'a> {
     message: &'a [u8],
 }

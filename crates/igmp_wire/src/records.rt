@@ -70,7 +70,7 @@ fn kept_record(message: &[u8], place: usize) -> Option<RecordView<'_>>
 }
 
 /// A group record of a report, lent from its bytes.
-#[derive(Debug, Drop)]
+#[derive(Drop)]
 pub struct RecordView<'a> {
     message: &'a [u8],
     place: usize,
@@ -119,7 +119,7 @@ impl<'a> RecordView<'a> {
 }
 
 /// The sources of a record in their order, but for those that no host can be.
-#[derive(Debug, Drop)]
+#[derive(Drop)]
 pub struct Sources<'a> {
     addresses: Addresses<'a>,
 }
@@ -164,7 +164,7 @@ impl<'a> Iterator for Sources<'a> {
 }
 
 /// The records of a report in their order, but for those that are skipped.
-#[derive(Debug, Drop)]
+#[derive(Drop)]
 pub struct Records<'a> {
     message: &'a [u8],
     place: usize,

@@ -7,7 +7,7 @@ use std::marker::Model;
 const RECORDS_PLACE: usize = 8;
 
 /// The type of a group record (RFC 3376, section 4.2.12).
-#[derive(Clone, Copy, PartialEq, Eq, Debug)]
+#[derive(Clone, Copy)]
 pub enum RecordType {
     /// MODE_IS_INCLUDE.
     IsInclude = 1,
@@ -52,7 +52,7 @@ impl RecordType {
 }
 
 /// A report that was read, lent from its bytes (RFC 3376, section 4.2).
-#[derive(Debug, Drop)]
+#[derive(Drop)]
 pub struct ReportView<'a> {
     message: &'a [u8],
 }

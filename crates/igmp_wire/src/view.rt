@@ -2,7 +2,7 @@ use crate::query::QueryView;
 use crate::report::ReportView;
 
 /// An IGMP message that was read.
-#[derive(Debug, Drop)]
+#[derive(Drop)]
 pub enum IgmpView<'a> {
     Query(QueryView<'a>),
     Report(ReportView<'a>),

@@ -12,7 +12,7 @@ use std::alloc::AllocError;
 const CHECKSUM_PLACE: usize = 2;
 
 /// What a query says besides its sources.
-#[derive(Clone, Copy, PartialEq, Eq, Hash, Debug)]
+#[derive(Clone, Copy)]
 pub struct QueryHeader {
     /// The code of the time in which hosts answer, in tenths of a second.
     pub max_response_code: u8,
@@ -57,7 +57,7 @@ impl QueryHeader {
 }
 
 /// A group record to be written.
-#[derive(Clone, Copy, PartialEq, Eq, Debug)]
+#[derive(Clone, Copy)]
 pub struct GroupRecord<'a> {
     pub record_type: RecordType,
     pub group: Addr,

@@ -9,6 +9,3 @@ pub mod row;
 pub use entry::{is_accepted, is_used};
 pub use join::to_me;
 pub use row::{holdtime_end, joined_row, later_end};
-
-#[cfg(test)]
-mod tests;

@@ -9,7 +9,7 @@ use std::collections::btree_map::Iter;
 use std::marker::Model;
 
 /// The facts of one kind.
-#[derive(Debug, Drop)]
+#[derive(Drop)]
 pub struct Facts<R> {
     rows: BTreeMap<Key, R, Global>,
 }
@@ -134,58 +134,5 @@ impl<R: Copy> Facts<R> {
         ensures { self.new ≡ drop_where (is_on iface.number) self.old }
     {
         self.rows.retain(|key, _| key.iface != iface);
-    }
-}
-
-#[cfg(test)]
-mod tests {
-    use super::*;
-    use pim_types::Addr;
-    use std::test::Fail;
-
-    fn key(number: u32, group: u32) -> Key {
-        Key {
-            iface: IfaceId { number },
-            group: Addr { bits: group },
-            source: None,
-            rpt: false,
-        }
-    }
-
-    #[test]
-    fn keeps_rows_by_rising_key(rt: HostRuntime) -> Result<(), Fail> {
-        let mut facts = Facts::new(rt.alloc());
-        assert!(rt; facts.is_empty());
-        facts.put(key(2, 5), 'c')?;
-        facts.put(key(1, 9), 'b')?;
-        facts.set(key(1, 5), Some('a'))?;
-        assert_eq!(rt; facts.len(), 3);
-        assert_eq!(rt; facts.count_on(IfaceId { number: 1 }), 2);
-        assert_eq!(rt; facts.get(key(1, 9)), Some('b'));
-        assert!(rt; !facts.contains(key(2, 9)));
-        let mut rows = facts.iter();
-        assert_eq!(rt; rows.next(), Some((&key(1, 5), &'a')));
-        assert_eq!(rt; rows.next(), Some((&key(1, 9), &'b')));
-        assert_eq!(rt; rows.next(), Some((&key(2, 5), &'c')));
-        assert_eq!(rt; rows.next(), None);
-        Ok(())
-    }
-
-    #[test]
-    fn changes_one_key(rt: HostRuntime) -> Result<(), Fail> {
-        let mut facts = Facts::new(rt.alloc());
-        facts.put(key(1, 5), 'a')?;
-        facts.put(key(1, 9), 'b')?;
-        facts.put(key(2, 5), 'c')?;
-        facts.change(key(1, 5), 'd');
-        facts.change(key(3, 5), 'e');
-        facts.remove(key(1, 9));
-        facts.set(key(2, 9), None)?;
-        assert_eq!(rt; facts.get(key(1, 5)), Some('d'));
-        assert_eq!(rt; facts.len(), 2);
-        facts.drop_on(IfaceId { number: 1 });
-        assert_eq!(rt; facts.len(), 1);
-        assert_eq!(rt; facts.get(key(2, 5)), Some('c'));
-        Ok(())
     }
 }

@@ -3,7 +3,7 @@ use std::marker::Model;
 
 /// The queries that a group record asks for: one of sources of the group, which may be none, and
 /// after it one of the group.
-#[derive(Default, Debug, Drop)]
+#[derive(Default, Drop)]
 pub struct Asking {
     sources: Option<Vec<Addr>>,
     group: bool,

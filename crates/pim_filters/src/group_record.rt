@@ -14,7 +14,7 @@ use std::marker::Model;
 
 /// What is known of one group on one interface (RFC 3376, section 6.2.1): INCLUDE of the sources
 /// whose timers run, or, while the group timer runs, EXCLUDE of the sources that have no timer.
-#[derive(Debug, Drop)]
+#[derive(Drop)]
 pub struct GroupRecord {
     timer: Option<u64>,
     members: Members,

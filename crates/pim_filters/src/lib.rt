@@ -12,6 +12,3 @@ mod rule;
 pub use asking::Asking;
 pub use group_record::GroupRecord;
 pub use member::{Fate, Member};
-
-#[cfg(test)]
-mod tests;

@@ -13,7 +13,7 @@ pub(crate) type Members = SmallVec<Member, 4>;
 
 /// A source of a group record: until its end, in milliseconds, its packets are asked for; with no
 /// end they are refused.
-#[derive(Clone, Copy, PartialEq, Eq, Debug)]
+#[derive(Clone, Copy)]
 pub struct Member {
     pub source: Addr,
     pub end: Option<u64>,
@@ -31,7 +31,7 @@ impl Default for Member {
 }
 
 /// What a group record says of a source.
-#[derive(Clone, Copy, PartialEq, Eq, Debug)]
+#[derive(Clone, Copy, PartialEq, Eq)]
 pub enum Fate {
     /// The record doesn't have the source.
     Gone,

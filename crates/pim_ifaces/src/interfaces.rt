@@ -14,7 +14,7 @@ use std::alloc::{AllocError, Global};
 use std::marker::Model;
 
 /// The configured interfaces, and the rows of those that are up.
-#[derive(Debug, Drop)]
+#[derive(Drop)]
 pub struct Interfaces {
     places: [InterfaceConfig; MOST_INTERFACES],
     count: usize,

@@ -3,8 +3,6 @@
 
 pub mod interfaces;
 pub mod limits;
-#[cfg(test)]
-mod tests;
 
 pub use interfaces::Interfaces;
 pub use limits::{MOST_INTERFACES, test_delays, test_interfaces};

@@ -2,7 +2,7 @@ use pim_types::IfaceId;
 use std::marker::Model;
 
 /// The interfaces of a set that are still to come, ascending.
-#[derive(Debug, Drop)]
+#[derive(Drop)]
 pub struct Iter {
     mask: u128,
 }

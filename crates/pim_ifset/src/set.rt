@@ -6,7 +6,7 @@ use pim_types::IfaceId;
 use std::marker::Model;
 
 /// A set of interfaces, by their numbers 0 to 119, and of the register tunnel.
-#[derive(Clone, Copy, PartialEq, Eq, Default, Debug)]
+#[derive(Clone, Copy, Default)]
 pub struct IfSet {
     mask: u128,
     tunnel: bool,

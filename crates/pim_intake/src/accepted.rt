@@ -4,7 +4,7 @@ use pim_types::Ignored;
 use pim_wire::{Hello, JoinPruneView};
 
 /// Why a packet changes nothing.
-#[derive(Clone, Copy, PartialEq, Eq, Debug)]
+#[derive(Clone, Copy)]
 pub enum Stop {
     Refuse(Refusal),
     Ignore(Ignored),

@@ -11,6 +11,3 @@ pub mod unicast;
 pub use accepted::{Accepted, Stop};
 pub use frame::judge_frame;
 pub use unicast::judge_unicast;
-
-#[cfg(test)]
-mod tests;

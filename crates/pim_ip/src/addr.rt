@@ -6,7 +6,7 @@ ghost use Rattle.pim_ip.specs.Ipv4.{is_multicast, is_unicast};
 use std::fmt;
 
 /// An IPv4 address: its 32 bits, the first byte highest.
-#[derive(Clone, Copy, PartialEq, Eq, PartialOrd, Ord, Hash, Debug)]
+#[derive(Clone, Copy, PartialEq, Eq, PartialOrd, Ord, Hash)]
 pub struct Addr {
     pub bits: u32,
 }
@@ -63,7 +63,7 @@ impl fmt::Display for Addr {
 
 /// An address and a length in bits. Any length can be held, so that a list of routes with a
 /// length above 32 can be refused where it is used.
-#[derive(Clone, Copy, PartialEq, Eq, PartialOrd, Ord, Hash, Debug)]
+#[derive(Clone, Copy)]
 pub struct Prefix {
     pub address: Addr,
     pub length: u32,

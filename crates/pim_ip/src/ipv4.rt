@@ -32,7 +32,7 @@ pub(crate) const CHECKSUM_PLACE: usize = 10;
 
 /// An IPv4 packet (RFC 791) that was read. It lends the header, with its options, and the payload
 /// from the bytes that were read, and takes no memory.
-#[derive(Debug, Drop)]
+#[derive(Drop)]
 pub struct Ipv4View<'a> {
     header: &'a [u8],
     payload: &'a [u8],

@@ -15,6 +15,3 @@ pub use fault::Fault;
 pub use ipv4::{Ipv4View, PACKET_LIMIT, PROTOCOL_IGMP, PROTOCOL_PIM, read_ipv4, write_copy};
 pub use refusal::Refusal;
 pub use write::{ControlHeader, write_header, write_igmp_packet, write_pim_packet};
-
-#[cfg(test)]
-mod tests;

@@ -4,7 +4,7 @@ use thiserror::Error;
 ///
 /// 1 to 9 are about the bytes of a packet, 20 to 26 about an event, 27 about a move between
 /// routers, 30 to 38 about a configuration and 39 about a scenario.
-#[derive(Clone, Copy, PartialEq, Eq, PartialOrd, Ord, Hash, Debug, Error)]
+#[derive(Clone, Copy, PartialEq, Eq, Debug, Error)]
 pub enum Refusal {
     #[error("a field is missing")]
     Short = 1,

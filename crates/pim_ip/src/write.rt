@@ -15,7 +15,7 @@ const ROUTER_ALERT: [u8; 4] = [0x94, 0x04, 0, 0];
 
 /// The fields of a control packet's header. Its type of service is 0xC0 (internetwork control), it
 /// has no identification, and it is no fragment.
-#[derive(Clone, Copy, PartialEq, Eq, Hash, Debug)]
+#[derive(Clone, Copy)]
 pub struct ControlHeader {
     /// Whether the Router Alert option follows the other fields.
     pub router_alert: bool,

@@ -4,7 +4,7 @@ use std::alloc::{AllocError, AllocFailed};
 use std::io::{self, Write};
 
 /// What ends a run before its last move.
-#[derive(Clone, Copy, PartialEq, Eq, Debug)]
+#[derive(Clone, Copy)]
 pub(crate) enum Trouble {
     Refused(Refusal),
     Fault(Fault),

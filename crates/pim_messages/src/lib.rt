@@ -7,6 +7,3 @@ pub mod outbox;
 mod packet;
 
 pub use outbox::{MOST_ENTRIES, MOST_SOURCES, Outbox};
-
-#[cfg(test)]
-mod tests;

@@ -4,7 +4,7 @@ use pim_types::{Addr, Hop, IfaceId, Series};
 use pim_wire::Entry;
 
 /// A Join/Prune to a neighbour for one group (RFC 7761, section 4.9.5).
-#[derive(Debug, Drop)]
+#[derive(Drop)]
 pub(crate) struct JoinPrune {
     pub(crate) upstream: Hop,
     pub(crate) group: Addr,
@@ -13,7 +13,7 @@ pub(crate) struct JoinPrune {
 }
 
 /// An Assert about a source, or without one about the group (RFC 7761, section 4.9.6).
-#[derive(Clone, Copy, Debug)]
+#[derive(Clone, Copy)]
 pub(crate) struct Assert {
     pub(crate) iface: IfaceId,
     pub(crate) group: Addr,
@@ -22,7 +22,7 @@ pub(crate) struct Assert {
 }
 
 /// A membership query (RFC 3376, section 4.1).
-#[derive(Debug, Drop)]
+#[derive(Drop)]
 pub(crate) struct Query {
     pub(crate) iface: IfaceId,
     pub(crate) header: QueryHeader,
@@ -31,7 +31,7 @@ pub(crate) struct Query {
 
 /// A Register-Stop (RFC 7761, section 4.9.4) or a Null-Register (section 4.9.3) between the RP and
 /// the DR of a source.
-#[derive(Clone, Copy, Debug)]
+#[derive(Clone, Copy)]
 pub(crate) struct RegisterMessage {
     pub(crate) from: Addr,
     pub(crate) to: Addr,
@@ -40,7 +40,7 @@ pub(crate) struct RegisterMessage {
 }
 
 /// A message that is to be sent.
-#[derive(Debug, Drop)]
+#[derive(Drop)]
 pub(crate) enum Message {
     /// A Hello on an interface (RFC 7761, section 4.9.2).
     Hello(IfaceId),

@@ -26,7 +26,7 @@ pub const MOST_ENTRIES: usize = 181;
 pub const MOST_SOURCES: usize = 366;
 
 /// Messages that are to be sent, in their order.
-#[derive(Debug, Drop)]
+#[derive(Drop)]
 pub struct Outbox {
     alloc: Global,
     messages: Vec<Message>,

@@ -4,7 +4,5 @@
 mod limits;
 pub mod mrib;
 mod prefix_list;
-#[cfg(test)]
-mod tests;
 
 pub use mrib::Mrib;

@@ -32,7 +32,7 @@ impl Prefixed for RpRange {
 }
 
 /// The unicast routes and the RP ranges of a router, each in the order in which they were given.
-#[derive(Debug, Drop)]
+#[derive(Drop)]
 pub struct Mrib {
     routes: PrefixList<Route>,
     ranges: PrefixList<RpRange>,

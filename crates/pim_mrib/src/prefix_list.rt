@@ -23,7 +23,7 @@ pub(crate) trait Prefixed: Copy {
 
 // Values under distinct prefixes in the order in which they were given, with a trie to find the
 // one with the longest prefix.
-#[derive(Debug, Drop)]
+#[derive(Drop)]
 pub(crate) struct PrefixList<T: Prefixed> {
     alloc: Global,
     values: Vec<T>,

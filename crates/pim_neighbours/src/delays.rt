@@ -4,7 +4,7 @@ ghost use Rattle.pim_model.specs.Tables.{delay_in};
 use pim_types::InterfaceConfig;
 
 /// The delays of a link (RFC 7761, section 4.3.3), in ms.
-#[derive(Clone, Copy, PartialEq, Eq, Debug)]
+#[derive(Clone, Copy)]
 pub(crate) struct Delays {
     pub(crate) propagation_delay: u32,
     pub(crate) override_interval: u32,

@@ -9,6 +9,3 @@ pub mod neighbours_on;
 pub use delays::delay_in;
 pub use neighbours::Neighbours;
 pub use neighbours_on::NeighboursOn;
-
-#[cfg(test)]
-mod tests;

@@ -29,7 +29,7 @@ const LEAST_SUPPRESSED: u32 = 66_000;
 const MOST_SUPPRESSED: u32 = 84_000;
 
 /// The PIM neighbours on all interfaces, each as its last Hello said.
-#[derive(Debug, Drop)]
+#[derive(Drop)]
 pub struct Neighbours {
     rows: Facts<NeighbourRow>,
 }

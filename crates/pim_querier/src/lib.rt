@@ -4,6 +4,3 @@
 pub mod startup;
 
 pub use startup::up;
-
-#[cfg(test)]
-mod tests;

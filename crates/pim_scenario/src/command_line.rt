@@ -13,7 +13,7 @@ use pim_types::Fault;
 use std::alloc::{AllocError, Global};
 
 /// What is to be done with the scenario.
-#[derive(Clone, Copy, PartialEq, Eq, Debug)]
+#[derive(Clone, Copy)]
 pub enum Command {
     /// Its moves are done, and what they bring is printed.
     Run,
@@ -22,7 +22,7 @@ pub enum Command {
 }
 
 /// What carries the frames between the routers.
-#[derive(Clone, Copy, PartialEq, Eq, Debug)]
+#[derive(Clone, Copy, PartialEq, Eq)]
 pub enum WireKind {
     Memory,
     /// Sockets on the loopback address.
@@ -30,7 +30,7 @@ pub enum WireKind {
 }
 
 /// The words of a command line that was accepted.
-#[derive(Clone, Copy, PartialEq, Eq, Debug)]
+#[derive(Clone, Copy)]
 pub struct Words<'a> {
     pub command: Command,
     /// The scenario's file; `-` is standard input.
@@ -41,7 +41,7 @@ pub struct Words<'a> {
 }
 
 /// What a command line comes to.
-#[derive(Debug, Drop)]
+#[derive(Drop)]
 pub enum Answer<'a> {
     Accepted(Words<'a>),
     /// It has a mistake.

@@ -8,7 +8,7 @@ use std::io::Write;
 use std::{fmt, io};
 
 /// What went wrong.
-#[derive(Clone, Copy, PartialEq, Eq, Debug)]
+#[derive(Clone, Copy)]
 pub enum Complaint<'a> {
     /// The command line has a mistake.
     CommandLine,

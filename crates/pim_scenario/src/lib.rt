@@ -11,6 +11,3 @@ pub use command_line::{Answer, Command, WireKind, Words, read_words};
 pub use complaint::{Complaint, fault, refused};
 pub use file::load;
 pub use scenario::{Link, Move, RouterText, Scenario, read_scenario};
-
-#[cfg(test)]
-mod tests;

@@ -21,7 +21,7 @@ use thiserror::Error;
 use toml::Table;
 
 /// The link on which an interface is.
-#[derive(Debug, Drop)]
+#[derive(Drop)]
 pub struct Link {
     /// The links are numbered from 0 in the order in which the scenario first names them.
     pub number: usize,
@@ -29,7 +29,7 @@ pub struct Link {
 }
 
 /// A router of a scenario.
-#[derive(Debug, Drop)]
+#[derive(Drop)]
 pub struct RouterText {
     pub name: String,
     /// As the scenario has it: nobody has judged its values yet.
@@ -39,14 +39,14 @@ pub struct RouterText {
 }
 
 /// What a scenario asks for. More kinds are to come.
-#[derive(Debug, Drop)]
+#[derive(Drop)]
 pub enum Move {
     /// Something happens to a router, which goes by its place among the routers, from 0.
     Event { router: usize, event: Event },
 }
 
 /// What a scenario file says.
-#[derive(Debug, Drop)]
+#[derive(Drop)]
 pub struct Scenario {
     /// At most 64, each with a name of its own.
     pub routers: Series<RouterText>,
@@ -59,12 +59,12 @@ impl Scenario {
 }
 
 /// A value is not what its key wants.
-#[derive(Clone, Copy, PartialEq, Eq, Debug, Error)]
+#[derive(Clone, Copy, Debug, Error)]
 #[error("the scenario is wrong")]
 struct Wrong;
 
 /// Why a scenario was not read.
-#[derive(Clone, Copy, PartialEq, Eq, Debug, Error)]
+#[derive(Clone, Copy, Debug, Error)]
 enum Unread {
     #[error("the scenario is wrong")]
     Wrong,

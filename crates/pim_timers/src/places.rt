@@ -7,7 +7,7 @@ use std::collections::HashMap;
 use std::marker::Model;
 
 /// Under which key each timer is kept.
-#[derive(Debug, Drop)]
+#[derive(Drop)]
 pub struct Places {
     keys: HashMap<Timer, usize>,
 }

@@ -14,7 +14,7 @@ use std::marker::Model;
 pub const SLOTS: usize = 704;
 
 /// A timer with the slot that it waits in.
-#[derive(Clone, Copy, PartialEq, Eq, Debug)]
+#[derive(Clone, Copy)]
 pub struct Entry {
     pub timer: Timer,
     pub moment: u64,
@@ -22,7 +22,7 @@ pub struct Entry {
 }
 
 /// An entry in the heap of its slot.
-#[derive(Clone, Copy, PartialEq, Eq, Debug)]
+#[derive(Clone, Copy)]
 pub struct Node {
     pub entry: Entry,
     pub parent: Option<usize>,
@@ -31,7 +31,7 @@ pub struct Node {
 }
 
 /// Entries under keys, those of each slot in a heap.
-#[derive(Debug, Drop)]
+#[derive(Drop)]
 pub struct Slots {
     heads: Vec<Option<usize>>,
     /// A bit for each slot that has a root.

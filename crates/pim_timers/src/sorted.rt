@@ -12,7 +12,7 @@ use std::alloc::{AllocError, Global};
 use std::marker::Model;
 
 /// Timers in a vector, the first to end in front.
-#[derive(Debug, Drop)]
+#[derive(Drop)]
 pub struct SortedTimers {
     ends: Vec<(u64, Timer)>,
 }

@@ -12,7 +12,7 @@ use std::marker::Model;
 /// Timers in a hierarchical wheel: 64 slots of each level, one level for each six bits of a moment.
 /// A timer waits in the slot of the highest digit in which its moment differs from the base. Where
 /// the wheel comes to a slot, its timers move on to slots of lower levels.
-#[derive(Debug, Drop)]
+#[derive(Drop)]
 pub struct Wheel {
     /// No timer waits in a slot before that of this moment.
     base: u64,

@@ -8,7 +8,7 @@ use pim_ip::{Addr, Prefix};
 
 // A node stands for its prefix: it holds the value of that prefix, if there is one, and links the
 // nodes for the two prefixes that have one bit more.
-#[derive(Debug, Drop)]
+#[derive(Drop)]
 pub(crate) struct Node<V> {
     pub(crate) prefix: Prefix,
     pub(crate) value: Option<V>,

@@ -18,7 +18,7 @@ use std::marker::Model;
 
 /// A map of prefixes: a trie of single bits with a node for each prefix on the way to an entry. A
 /// way has 33 nodes at most, and each leads to an entry.
-#[derive(Debug, Drop)]
+#[derive(Drop)]
 pub struct Trie<V> {
     nodes: Slab<Node<V>>,
     root: Option<usize>,

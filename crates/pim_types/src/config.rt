@@ -2,13 +2,13 @@ use crate::series::Series;
 use pim_ip::{Addr, Prefix};
 
 /// An interface of a router, by its place in the configuration, counted from 0.
-#[derive(Clone, Copy, PartialEq, Eq, PartialOrd, Ord, Hash, Debug)]
+#[derive(Clone, Copy, PartialEq, Eq, PartialOrd, Ord, Hash)]
 pub struct IfaceId {
     pub number: u32,
 }
 
 /// What is configured of an interface.
-#[derive(Clone, Copy, PartialEq, Eq, Debug)]
+#[derive(Clone, Copy)]
 pub struct InterfaceConfig {
     /// The router's address on the link.
     pub address: Addr,
@@ -33,14 +33,14 @@ impl InterfaceConfig {
 
 /// Whether the router leaves the shared tree for the shortest path tree: `SwitchToSptDesired(S,G)`
 /// of RFC 7761, section 4.2.1.
-#[derive(Clone, Copy, PartialEq, Eq, Debug)]
+#[derive(Clone, Copy)]
 pub enum SptSwitch {
     Always,
     Never,
 }
 
 /// A unicast route.
-#[derive(Clone, Copy, PartialEq, Eq, Debug)]
+#[derive(Clone, Copy)]
 pub struct Route {
     pub prefix: Prefix,
     pub next_hop: Addr,
@@ -52,14 +52,14 @@ pub struct Route {
 }
 
 /// A range of groups and its RP.
-#[derive(Clone, Copy, PartialEq, Eq, Debug)]
+#[derive(Clone, Copy)]
 pub struct RpRange {
     pub prefix: Prefix,
     pub rp: Addr,
 }
 
 /// What a router is made with.
-#[derive(Debug, Drop)]
+#[derive(Drop)]
 pub struct Config {
     /// The interfaces in the order of their numbers, 1 to 120.
     pub interfaces: Series<InterfaceConfig>,

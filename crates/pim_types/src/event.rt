@@ -2,7 +2,7 @@ use crate::config::{IfaceId, Route, RpRange};
 use crate::series::Series;
 
 /// What happens to a router in one step.
-#[derive(Debug, Drop)]
+#[derive(Drop)]
 pub enum EventKind {
     /// Time passes up to the moment: what is due by then fires.
     Advance { moment: u64 },
@@ -21,7 +21,7 @@ pub enum EventKind {
 }
 
 /// An event with the number from which its random delays are drawn.
-#[derive(Debug, Drop)]
+#[derive(Drop)]
 pub struct Event {
     pub draw: u32,
     pub kind: EventKind,

@@ -4,7 +4,7 @@ use pim_ip::Addr;
 /// The key of every fact and of every timer. What a fact doesn't have is 0, or `None`: a fact of the
 /// whole router has interface 0, one of an interface group 0.0.0.0; `source: None` is (*,G), and a
 /// neighbour's address stands in `source`. Keys compare by these fields in this order.
-#[derive(Clone, Copy, PartialEq, Eq, PartialOrd, Ord, Hash, Debug)]
+#[derive(Clone, Copy, PartialEq, Eq, PartialOrd, Ord, Hash)]
 pub struct Key {
     pub iface: IfaceId,
     pub group: Addr,
@@ -14,7 +14,7 @@ pub struct Key {
 }
 
 /// An interface that is up.
-#[derive(Clone, Copy, PartialEq, Eq, Debug)]
+#[derive(Clone, Copy)]
 pub struct InterfaceRow {
     /// The generation ID that the router announces.
     pub generation: u32,
@@ -25,7 +25,7 @@ pub struct InterfaceRow {
 }
 
 /// The LAN Prune Delay option of a Hello (RFC 7761, section 4.9.2).
-#[derive(Clone, Copy, PartialEq, Eq, Debug)]
+#[derive(Clone, Copy)]
 pub struct LanDelay {
     /// The T bit: the neighbour can turn Join suppression off.
     pub can_track: bool,
@@ -36,7 +36,7 @@ pub struct LanDelay {
 }
 
 /// A neighbour, by its last Hello.
-#[derive(Clone, Copy, PartialEq, Eq, Debug)]
+#[derive(Clone, Copy)]
 pub struct NeighbourRow {
     /// `None` never ends.
     pub end: Option<u64>,
@@ -46,7 +46,7 @@ pub struct NeighbourRow {
 }
 
 /// Whether the router queries on an interface (RFC 3376, section 6.6.2).
-#[derive(Clone, Copy, PartialEq, Eq, Debug)]
+#[derive(Clone, Copy)]
 pub enum QuerierRole {
     /// The next general query, and how many of the startup queries are still to leave with it.
     Querier { next_query: u64, startup_left: u32 },
@@ -55,7 +55,7 @@ pub enum QuerierRole {
 }
 
 /// The querier's state on an interface that is up.
-#[derive(Clone, Copy, PartialEq, Eq, Debug)]
+#[derive(Clone, Copy)]
 pub struct QuerierRow {
     pub role: QuerierRole,
     /// The robustness variable in force.
@@ -65,39 +65,39 @@ pub struct QuerierRow {
 }
 
 /// A group record: in EXCLUDE mode exactly while its timer runs.
-#[derive(Clone, Copy, PartialEq, Eq, Debug)]
+#[derive(Clone, Copy)]
 pub struct GroupRecordRow {
     pub end: Option<u64>,
 }
 
 /// A source of a group record; without an end it is excluded.
-#[derive(Clone, Copy, PartialEq, Eq, Debug)]
+#[derive(Clone, Copy)]
 pub struct SourceRecordRow {
     pub end: Option<u64>,
 }
 
 /// Repeats of a group-specific query that are still to leave.
-#[derive(Clone, Copy, PartialEq, Eq, Debug)]
+#[derive(Clone, Copy)]
 pub struct GroupRepeatRow {
     pub next: u64,
     pub left: u32,
 }
 
 /// When the sources of a group with sendings left are queried again.
-#[derive(Clone, Copy, PartialEq, Eq, Debug)]
+#[derive(Clone, Copy)]
 pub struct SourceRepeatRow {
     pub next: u64,
 }
 
 /// How often a source is still to be named in a group-and-source-specific query, at least once.
-#[derive(Clone, Copy, PartialEq, Eq, Debug)]
+#[derive(Clone, Copy)]
 pub struct SendingRow {
     pub left: u32,
 }
 
 /// A downstream state (RFC 7761, sections 4.5.1 to 4.5.3). With a pending end it is Prune-Pending,
 /// without one it is Join, or Prune for (S,G,rpt).
-#[derive(Clone, Copy, PartialEq, Eq, Debug)]
+#[derive(Clone, Copy)]
 pub struct DownstreamRow {
     /// `None` never ends.
     pub expiry: Option<u64>,
@@ -105,7 +105,7 @@ pub struct DownstreamRow {
 }
 
 /// The metric of an Assert (RFC 7761, section 4.6.3).
-#[derive(Clone, Copy, PartialEq, Eq, Debug)]
+#[derive(Clone, Copy)]
 pub struct AssertMetric {
     /// The R bit: forwarded on the shared tree.
     pub rpt: bool,
@@ -115,14 +115,14 @@ pub struct AssertMetric {
 }
 
 /// Who forwards on the link.
-#[derive(Clone, Copy, PartialEq, Eq, Debug)]
+#[derive(Clone, Copy)]
 pub enum AssertRole {
     Winner,
     Loser,
 }
 
 /// An assert that was decided: the winner's metric, the router's own where it is the winner.
-#[derive(Clone, Copy, PartialEq, Eq, Debug)]
+#[derive(Clone, Copy)]
 pub struct AssertRow {
     pub role: AssertRole,
     pub winner: AssertMetric,
@@ -130,33 +130,33 @@ pub struct AssertRow {
 }
 
 /// When the next Join of an upstream state leaves.
-#[derive(Clone, Copy, PartialEq, Eq, Debug)]
+#[derive(Clone, Copy)]
 pub struct JoinTimerRow {
     pub end: u64,
 }
 
 /// When a Join(S,G,rpt) leaves that overrides another router's Prune.
-#[derive(Clone, Copy, PartialEq, Eq, Debug)]
+#[derive(Clone, Copy)]
 pub struct OverrideTimerRow {
     pub end: u64,
 }
 
 /// A source whose keepalive timer runs, or whose SPTbit is set.
-#[derive(Clone, Copy, PartialEq, Eq, Debug)]
+#[derive(Clone, Copy)]
 pub struct SourceRow {
     pub keepalive: Option<u64>,
     pub spt: bool,
 }
 
 /// A source that the router registers with the RP (RFC 7761, section 4.4.1).
-#[derive(Clone, Copy, PartialEq, Eq, Debug)]
+#[derive(Clone, Copy)]
 pub enum RegisterState {
     Join,
     JoinPending { end: u64 },
     Prune { end: u64 },
 }
 
-#[derive(Clone, Copy, PartialEq, Eq, Debug)]
+#[derive(Clone, Copy)]
 pub struct RegisterRow {
     pub state: RegisterState,
 }

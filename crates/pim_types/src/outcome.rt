@@ -3,7 +3,7 @@ use crate::series::Series;
 use pim_ip::{Addr, Refusal};
 
 /// Why an event had no effect, in the order in which the reasons are tested.
-#[derive(Clone, Copy, PartialEq, Eq, Debug)]
+#[derive(Clone, Copy, Debug)]
 pub enum Ignored {
     /// The IP source of a frame is an address of the router.
     Own,
@@ -26,14 +26,14 @@ pub enum Ignored {
 }
 
 /// What became of an event that wasn't refused.
-#[derive(Clone, Copy, PartialEq, Eq, Debug)]
+#[derive(Clone, Copy)]
 pub enum Verdict {
     Done,
     Ignored(Ignored),
 }
 
 /// A packet that leaves: a whole IPv4 packet, on a link or to an address.
-#[derive(Debug, Drop)]
+#[derive(Drop)]
 pub enum Emission {
     Link {
         iface: IfaceId,
@@ -46,7 +46,7 @@ pub enum Emission {
 }
 
 /// What a step answered and sent.
-#[derive(Debug, Drop)]
+#[derive(Drop)]
 pub struct Outcome {
     pub answer: Result<Verdict, Refusal>,
     /// The packets in their order: copies of a data packet last, but for one to the RP.

@@ -3,7 +3,7 @@ use pim_ip::Addr;
 
 /// A unicast route to an address. On a link the next hop is the address itself, with preference and
 /// metric 0.
-#[derive(Clone, Copy, PartialEq, Eq, Debug)]
+#[derive(Clone, Copy)]
 pub struct Path {
     pub iface: IfaceId,
     pub next_hop: Addr,
@@ -14,7 +14,7 @@ pub struct Path {
 }
 
 /// A PIM router on a link: `RPF'` and `NBR` of RFC 7761, section 4.1.6.
-#[derive(Clone, Copy, PartialEq, Eq, Debug)]
+#[derive(Clone, Copy, PartialEq, Eq)]
 pub struct Hop {
     pub iface: IfaceId,
     pub address: Addr,

@@ -4,7 +4,7 @@ use std::alloc::{AllocError, Global};
 use std::marker::Model;
 
 /// Values in order, which a clause sees as their list.
-#[derive(Debug, Drop)]
+#[derive(Drop)]
 pub struct Series<T> {
     items: Vec<T>,
 }
@@ -70,24 +70,5 @@ impl<T: Drop> Series<T> {
     {
         let Series { items } = self;
         items
-    }
-}
-
-#[cfg(test)]
-mod tests {
-    use super::*;
-    use std::test::Fail;
-
-    #[test]
-    fn keeps_what_is_put_in(rt: HostRuntime) -> Result<(), Fail> {
-        let mut series = Series::new(rt.alloc());
-        assert!(rt; series.is_empty());
-        series.push(7u8)?;
-        series.push(9u8)?;
-        assert_eq!(rt; series.len(), 2);
-        assert_eq!(rt; series.as_slice(), [7, 9].as_slice());
-        let again = Series::from_vec(series.into_vec());
-        assert_eq!(rt; again.as_slice(), [7, 9].as_slice());
-        Ok(())
     }
 }

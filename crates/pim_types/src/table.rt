@@ -3,7 +3,7 @@ use crate::fact::{AssertRole, Key};
 use pim_ip::Addr;
 
 /// A table of facts as it is printed, by the letter of its lines.
-#[derive(Clone, Copy, PartialEq, Eq, PartialOrd, Ord, Debug)]
+#[derive(Clone, Copy)]
 pub enum Table {
     /// `N`: the neighbours.
     Neighbours,
@@ -24,7 +24,7 @@ pub enum Table {
 }
 
 /// A downstream state as it is printed.
-#[derive(Clone, Copy, PartialEq, Eq, Debug)]
+#[derive(Clone, Copy)]
 pub enum DownstreamState {
     Join,
     PrunePending,
@@ -32,7 +32,7 @@ pub enum DownstreamState {
 }
 
 /// A register state as it is printed.
-#[derive(Clone, Copy, PartialEq, Eq, Debug)]
+#[derive(Clone, Copy)]
 pub enum RegisterName {
     Join,
     JoinPending,
@@ -40,7 +40,7 @@ pub enum RegisterName {
 }
 
 /// A row of a printed table: the columns of its line. An end that is `None` is never, or absent.
-#[derive(Clone, Copy, PartialEq, Eq, Debug)]
+#[derive(Clone, Copy)]
 pub enum Row {
     Neighbour {
         iface: IfaceId,

@@ -1,7 +1,7 @@
 use crate::fact::Key;
 
 /// What ends. At one moment the kinds fire in this order.
-#[derive(Clone, Copy, PartialEq, Eq, PartialOrd, Ord, Hash, Debug)]
+#[derive(Clone, Copy, PartialEq, Eq, PartialOrd, Ord, Hash)]
 pub enum TimerKind {
     Neighbour = 1,
     PrunePending = 2,
@@ -21,7 +21,7 @@ pub enum TimerKind {
 }
 
 /// The timer of a fact. Timers compare by their kinds, and those of one kind by their keys.
-#[derive(Clone, Copy, PartialEq, Eq, PartialOrd, Ord, Hash, Debug)]
+#[derive(Clone, Copy, PartialEq, Eq, PartialOrd, Ord, Hash)]
 pub struct Timer {
     pub kind: TimerKind,
     pub key: Key,

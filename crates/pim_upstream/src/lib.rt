@@ -12,6 +12,3 @@ pub use opening::Opening;
 pub use reaction::Reaction;
 pub use star::Star;
 pub use turns::changed;
-
-#[cfg(test)]
-mod tests;

@@ -13,7 +13,7 @@ use std::collections::BTreeMap;
 use std::marker::Model;
 
 /// The upstream states of (*,G) for all groups with a fact, as they were at the opening.
-#[derive(Debug, Drop)]
+#[derive(Drop)]
 pub struct Opening {
     stars: BTreeMap<Addr, Star, Global>,
 }

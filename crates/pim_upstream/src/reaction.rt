@@ -11,7 +11,7 @@ use pim_types::{Addr, Hop};
 
 /// What follows where (*,G) was in one upstream state and is in another. "Due to an assert" doesn't
 /// come up, since no assert is kept yet.
-#[derive(Clone, Copy, PartialEq, Eq, Debug)]
+#[derive(Clone, Copy)]
 pub enum Reaction {
     /// Nothing.
     Keep,

@@ -6,7 +6,7 @@ use pim_types::{Addr, Hop};
 use pim_world::World;
 
 /// The upstream state of (*,G), as a state of the router evaluates it (RFC 7761, section 4.5.4).
-#[derive(Clone, Copy, PartialEq, Eq, Debug)]
+#[derive(Clone, Copy)]
 pub struct Star {
     /// JoinDesired(*,G).
     pub is_desired: bool,

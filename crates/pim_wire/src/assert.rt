@@ -12,7 +12,7 @@ use pim_ip::{Addr, Refusal, set_checksum};
 use std::alloc::AllocError;
 
 /// An Assert (RFC 7761, section 4.9.6). One with source 0.0.0.0 is about (*,G).
-#[derive(Clone, Copy, PartialEq, Eq, Debug)]
+#[derive(Clone, Copy)]
 pub struct Assert {
     pub group: Addr,
     /// The length of the group's mask; other lengths than 32 are read and not used.

@@ -22,7 +22,7 @@ const GENERATION: u16 = 20;
 const OPTION_HEADER: usize = 4;
 
 /// The options of a Hello that the router uses (RFC 7761, section 4.9.2).
-#[derive(Clone, Copy, PartialEq, Eq, Debug)]
+#[derive(Clone, Copy)]
 pub struct Hello {
     /// In seconds; 0xFFFF never ends.
     pub holdtime: Option<u16>,

@@ -16,7 +16,7 @@ use std::alloc::AllocError;
 use std::marker::Model;
 
 /// What an entry of a Join/Prune is about, by its W and R bits.
-#[derive(Clone, Copy, PartialEq, Eq, Debug)]
+#[derive(Clone, Copy)]
 pub enum EntryKind {
     /// (*,G): the address is the RP's.
     Star,
@@ -27,7 +27,7 @@ pub enum EntryKind {
 }
 
 /// A joined or pruned source of a Join/Prune (RFC 7761, section 4.9.5).
-#[derive(Clone, Copy, PartialEq, Eq, Debug)]
+#[derive(Clone, Copy)]
 pub struct Entry {
     pub kind: EntryKind,
     pub address: Addr,

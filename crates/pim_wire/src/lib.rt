@@ -17,6 +17,3 @@ pub use register::{
     RegisterStop, RegisterView, write_null_register, write_register, write_register_stop,
 };
 pub use view::{PimView, read_pim};
-
-#[cfg(test)]
-mod tests;

@@ -14,7 +14,7 @@ use std::alloc::AllocError;
 use std::marker::Model;
 
 /// A Register-Stop (RFC 7761, section 4.9.4). Source 0.0.0.0 means every source of the group.
-#[derive(Clone, Copy, PartialEq, Eq, Debug)]
+#[derive(Clone, Copy)]
 pub struct RegisterStop {
     pub group: Addr,
     /// The length of the group's mask; other lengths than 32 are read and not used.

@@ -13,7 +13,7 @@ const MOST_FACTS: u32 = 1_000_000;
 const LONGEST_INTERVAL: u32 = 31_744;
 
 /// A configuration without its lists.
-#[derive(Clone, Copy, PartialEq, Eq, Debug)]
+#[derive(Clone, Copy)]
 pub struct Settings {
     /// The limit on counted facts.
     pub limit: u32,

@@ -6,7 +6,7 @@ use super::Link;
 use std::alloc::{AllocError, Global};
 
 /// The names of links so far, in the order of their numbers.
-#[derive(Debug, Drop)]
+#[derive(Drop)]
 pub(super) struct LinkNames<'a> {
     names: Vec<&'a str>,
 }

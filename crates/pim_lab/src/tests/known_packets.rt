@@ -1,0 +1,230 @@
+// What is written, beside bytes that come from outside.
+use igmp_wire::{GroupRecord, QueryHeader, RecordType, write_query, write_report};
+use pim_ip::{Addr, read_ipv4, sum16, write_copy, write_igmp_packet, write_pim_packet};
+use pim_wire::{
+    Entry, EntryKind, write_assert, write_hello, write_join_prune, write_null_register,
+    write_register, write_register_stop,
+};
+use std::test::Fail;
+
+const GROUP: Addr = Addr { bits: 0xE101_0101 };
+
+const RP: Addr = Addr { bits: 0x0A09_0909 };
+
+const SOURCE: Addr = Addr { bits: 0x0A00_0305 };
+
+const SENDER: Addr = Addr { bits: 0x0A00_0205 };
+
+const UPSTREAM: Addr = Addr { bits: 0x0A00_0001 };
+
+const ALL_SYSTEMS: Addr = Addr { bits: 0xE000_0001 };
+
+const ALL_PIM_ROUTERS: Addr = Addr { bits: 0xE000_000D };
+
+const HELLO: [u8; 34] = [
+    0x20, 0x00, 0xD3, 0x9E, 0x00, 0x01, 0x00, 0x02, 0x00, 0x69, 0x00, 0x02, 0x00, 0x04, 0x01, 0xF4,
+    0x09, 0xC4, 0x00, 0x13, 0x00, 0x04, 0x00, 0x00, 0x00, 0x01, 0x00, 0x14, 0x00, 0x04, 0x00, 0x00,
+    0x00, 0x07,
+];
+
+const JOIN_AND_PRUNE: [u8; 42] = [
+    0x23, 0x00, 0xBF, 0xAF, 0x01, 0x00, 0x0A, 0x00, 0x00, 0x01, 0x00, 0x01, 0x00, 0xD2, 0x01, 0x00,
+    0x00, 0x20, 0xE1, 0x01, 0x01, 0x01, 0x00, 0x01, 0x00, 0x01, 0x01, 0x00, 0x07, 0x20, 0x0A, 0x09,
+    0x09, 0x09, 0x01, 0x00, 0x05, 0x20, 0x0A, 0x00, 0x03, 0x05,
+];
+
+const SOURCE_JOIN: [u8; 34] = [
+    0x23, 0x00, 0xDA, 0xE2, 0x01, 0x00, 0x0A, 0x00, 0x00, 0x01, 0x00, 0x01, 0x00, 0xD2, 0x01, 0x00,
+    0x00, 0x20, 0xE1, 0x01, 0x01, 0x01, 0x00, 0x01, 0x00, 0x00, 0x01, 0x00, 0x05, 0x20, 0x0A, 0x00,
+    0x03, 0x05,
+];
+
+// A UDP packet.
+const PACKET: [u8; 28] = [
+    0x45, 0x00, 0x00, 0x1C, 0x00, 0x00, 0x00, 0x00, 0x40, 0x11, 0x8C, 0xCA, 0x0A, 0x00, 0x02, 0x05,
+    0xE1, 0x01, 0x01, 0x01, 0x00, 0x01, 0x00, 0x02, 0x00, 0x03, 0x00, 0x04,
+];
+
+const REGISTER: [u8; 36] = [
+    0x21, 0x00, 0xDE, 0xFF, 0x00, 0x00, 0x00, 0x00, 0x45, 0x00, 0x00, 0x1C, 0x00, 0x00, 0x00, 0x00,
+    0x40, 0x11, 0x8C, 0xCA, 0x0A, 0x00, 0x02, 0x05, 0xE1, 0x01, 0x01, 0x01, 0x00, 0x01, 0x00, 0x02,
+    0x00, 0x03, 0x00, 0x04,
+];
+
+const NULL_REGISTER: [u8; 28] = [
+    0x21, 0x00, 0x9E, 0xFF, 0x40, 0x00, 0x00, 0x00, 0x45, 0x00, 0x00, 0x14, 0x00, 0x00, 0x00, 0x00,
+    0x01, 0x67, 0xCB, 0x7C, 0x0A, 0x00, 0x02, 0x05, 0xE1, 0x01, 0x01, 0x01,
+];
+
+const REGISTER_STOP: [u8; 18] = [
+    0x22, 0x00, 0xED, 0xD7, 0x01, 0x00, 0x00, 0x20, 0xE1, 0x01, 0x01, 0x01, 0x01, 0x00, 0x0A, 0x00,
+    0x02, 0x05,
+];
+
+const STAR_ASSERT: [u8; 26] = [
+    0x25, 0x00, 0x76, 0x5A, 0x01, 0x00, 0x00, 0x20, 0xE1, 0x01, 0x01, 0x01, 0x01, 0x00, 0x00, 0x00,
+    0x00, 0x00, 0x80, 0x00, 0x00, 0x6E, 0x00, 0x00, 0x00, 0x14,
+];
+
+const ASSERT: [u8; 26] = [
+    0x25, 0x00, 0xE9, 0x55, 0x01, 0x00, 0x00, 0x20, 0xE1, 0x01, 0x01, 0x01, 0x01, 0x00, 0x0A, 0x00,
+    0x03, 0x05, 0x00, 0x00, 0x00, 0x6E, 0x00, 0x00, 0x00, 0x14,
+];
+
+// For a source of a group.
+const OF_SOURCE: [u8; 16] = [
+    0x11, 0x0A, 0xFE, 0x6F, 0xE1, 0x01, 0x01, 0x01, 0x02, 0x7D, 0x00, 0x01, 0x0A, 0x00, 0x02, 0x05,
+];
+
+// The same group with S set, and no source.
+const SUPPRESSED: [u8; 12] = [
+    0x11, 0x0A, 0x02, 0x76, 0xE1, 0x01, 0x01, 0x01, 0x0A, 0x7D, 0x00, 0x00,
+];
+
+// Two records, the first with two sources.
+const TWO_RECORDS: [u8; 32] = [
+    0x22, 0x00, 0xF9, 0xE9, 0x00, 0x00, 0x00, 0x02, 0x05, 0x00, 0x00, 0x02, 0xE1, 0x01, 0x01, 0x01,
+    0x0A, 0x00, 0x02, 0x05, 0x0A, 0x00, 0x02, 0x06, 0x03, 0x00, 0x00, 0x00, 0xE1, 0x01, 0x01, 0x02,
+];
+
+#[test]
+fn prints_addresses(rt: HostRuntime) -> Result<(), Fail> {
+    let text = SENDER.to_string(rt.alloc())?;
+    assert_eq!(rt; text.as_str(), "10.0.2.5");
+    Ok(())
+}
+
+#[test]
+fn sums_words(rt: HostRuntime) {
+    // The example of RFC 1071, and the same with its last byte cut off.
+    let bytes = [0x00, 0x01, 0xF2, 0x03, 0xF4, 0xF5, 0xF6, 0xF7];
+    assert_eq!(rt; sum16(&bytes), 0x220D);
+    assert_eq!(rt; sum16(&bytes[..7]), 0x2304);
+}
+
+#[test]
+fn writes_packets(rt: HostRuntime) -> Result<(), Fail> {
+    let mut out = Vec::new(rt.alloc());
+    let source = Addr { bits: 0x0A00_0102 };
+    write_pim_packet(1, source, ALL_PIM_ROUTERS, &[0x20; 34], &mut out)?;
+    let want = [
+        0x45, 0xC0, 0x00, 0x36, 0x00, 0x00, 0x00, 0x00, 0x01, 0x67, 0xCD, 0x92, 0x0A, 0x00, 0x01,
+        0x02, 0xE0, 0x00, 0x00, 0x0D,
+    ];
+    assert_eq!(rt; out.len(), 54);
+    assert_eq!(rt; &out[..20], want.as_slice());
+    out.clear();
+    let source = Addr { bits: 0x0A00_0002 };
+    write_igmp_packet(source, ALL_SYSTEMS, &[0x11; 12], &mut out)?;
+    let want = [
+        0x46, 0xC0, 0x00, 0x24, 0x00, 0x00, 0x00, 0x00, 0x01, 0x02, 0x3A, 0x11, 0x0A, 0x00, 0x00,
+        0x02, 0xE0, 0x00, 0x00, 0x01, 0x94, 0x04, 0x00, 0x00,
+    ];
+    assert_eq!(rt; out.len(), 36);
+    assert_eq!(rt; &out[..24], want.as_slice());
+    Ok(())
+}
+
+#[test]
+fn copies_a_packet(rt: HostRuntime) -> Result<(), Fail> {
+    let packet = read_ipv4(&PACKET)?;
+    let mut copy = Vec::new(rt.alloc());
+    write_copy(&packet, &mut copy)?;
+    let mut want = PACKET;
+    want[8] = 0x3F;
+    want[10] = 0x8D;
+    assert_eq!(rt; copy.as_slice(), want.as_slice());
+    Ok(())
+}
+
+#[test]
+fn writes_hellos(rt: HostRuntime) -> Result<(), Fail> {
+    let mut out = Vec::new(rt.alloc());
+    write_hello(500, 2500, 1, 7, &mut out)?;
+    assert_eq!(rt; out.as_slice(), HELLO.as_slice());
+    Ok(())
+}
+
+#[test]
+fn writes_join_prunes(rt: HostRuntime) -> Result<(), Fail> {
+    let star = Entry {
+        kind: EntryKind::Star,
+        address: RP,
+    };
+    let source = Entry {
+        kind: EntryKind::SourceRpt,
+        address: SOURCE,
+    };
+    let mut out = Vec::new(rt.alloc());
+    write_join_prune(UPSTREAM, GROUP, &[star], &[source], &mut out)?;
+    assert_eq!(rt; out.as_slice(), JOIN_AND_PRUNE.as_slice());
+    out.clear();
+    write_join_prune(UPSTREAM, GROUP, &[source], &[], &mut out)?;
+    assert_eq!(rt; out.as_slice(), SOURCE_JOIN.as_slice());
+    Ok(())
+}
+
+#[test]
+fn writes_registers(rt: HostRuntime) -> Result<(), Fail> {
+    let mut out = Vec::new(rt.alloc());
+    write_register(&PACKET, &mut out)?;
+    assert_eq!(rt; out.as_slice(), REGISTER.as_slice());
+    out.clear();
+    write_null_register(SENDER, GROUP, &mut out)?;
+    assert_eq!(rt; out.as_slice(), NULL_REGISTER.as_slice());
+    out.clear();
+    write_register_stop(GROUP, SENDER, &mut out)?;
+    assert_eq!(rt; out.as_slice(), REGISTER_STOP.as_slice());
+    Ok(())
+}
+
+#[test]
+fn writes_asserts(rt: HostRuntime) -> Result<(), Fail> {
+    let mut out = Vec::new(rt.alloc());
+    write_assert(GROUP, Addr { bits: 0 }, true, 110, 20, &mut out)?;
+    assert_eq!(rt; out.as_slice(), STAR_ASSERT.as_slice());
+    out.clear();
+    write_assert(GROUP, SOURCE, false, 110, 20, &mut out)?;
+    assert_eq!(rt; out.as_slice(), ASSERT.as_slice());
+    Ok(())
+}
+
+#[test]
+fn writes_queries(rt: HostRuntime) -> Result<(), Fail> {
+    let suppressed = QueryHeader {
+        max_response_code: 10,
+        group: GROUP,
+        suppress: true,
+        robustness: 2,
+        interval_code: 125,
+    };
+    let asking = QueryHeader {
+        suppress: false,
+        ..suppressed
+    };
+    let mut out = Vec::new(rt.alloc());
+    write_query(&mut out, &suppressed, &[])?;
+    assert_eq!(rt; out.as_slice(), SUPPRESSED.as_slice());
+    out.clear();
+    write_query(&mut out, &asking, &[SENDER])?;
+    assert_eq!(rt; out.as_slice(), OF_SOURCE.as_slice());
+    Ok(())
+}
+
+#[test]
+fn writes_reports(rt: HostRuntime) -> Result<(), Fail> {
+    let allow = GroupRecord {
+        record_type: RecordType::Allow,
+        group: GROUP,
+        sources: &[SENDER, Addr { bits: 0x0A00_0206 }],
+    };
+    let leave = GroupRecord {
+        record_type: RecordType::ToInclude,
+        group: Addr { bits: 0xE101_0102 },
+        sources: &[],
+    };
+    let mut out = Vec::new(rt.alloc());
+    write_report(&mut out, &[allow, leave])?;
+    assert_eq!(rt; out.as_slice(), TWO_RECORDS.as_slice());
+    Ok(())
+}

@@ -1,0 +1,188 @@
+// Scenarios and what they print, as a user sees them.
+use crate::{check_text, play};
+use std::io::{self, Write};
+use std::test::Fail;
+
+const ONE_ROUTER: &str = r#"
+[[router]]
+name = "r"
+routes = ["10.9.9.0/24 10.0.0.1 0 110 20", "10.0.3.0/24 10.0.0.1 0 110 20"]
+rps = ["224.0.0.0/4 10.9.9.9"]
+[[router.iface]]
+link = "n"
+address = "10.0.0.2/24"
+[[router.iface]]
+link = "m"
+address = "10.0.1.1/24"
+[[router.iface]]
+link = "o"
+address = "10.0.2.1/24"
+"#;
+
+// The moves of one Join(*,G): two interfaces go up, a Hello comes on each, then the Join.
+const ONE_JOIN: &str = r#"
+[[move]]
+do = "up"
+router = "r"
+iface = 0
+draw = 7
+[[move]]
+do = "up"
+router = "r"
+iface = 1
+draw = 7
+[[move]]
+do = "frame"
+router = "r"
+iface = 0
+hex = "45C0001E000000000167CEAB0A000001E000000D2000DFFC00010002FFFF"
+[[move]]
+do = "frame"
+router = "r"
+iface = 1
+hex = "45C0001E000000000167CDAA0A000102E000000D2000DFFC00010002FFFF"
+[[move]]
+do = "frame"
+router = "r"
+iface = 1
+hex = "45C00036000000000167CD920A000102E000000D2300D1D501000A000101000100D201000020E101010100010000010007200A090909"
+"#;
+
+const ITS_LINES: &str = "\
+move 1 r done
+frame 1 n 46c000240000000001023a110a000002e0000001940400001164ec1e00000000027d0000
+move 2 r done
+frame 2 m 46c0002400000000010239120a000101e0000001940400001164ec1e00000000027d0000
+move 3 r done
+move 4 r done
+move 5 r done
+frame 3 n 45c00036000000000167ce920a000002e000000d2000d39e0001000200690002000401f409c400130004000000010014000400000007
+frame 4 n 45c00036000000000167ce920a000002e000000d2300d2d501000a000001000100d201000020e101010100010000010007200a090909
+";
+
+// The same Join again, and one that names another RP.
+const MORE_JOINS: &str = r#"
+[[move]]
+do = "frame"
+router = "r"
+iface = 1
+hex = "45C00036000000000167CD920A000102E000000D2300D1D501000A000101000100D201000020E101010100010000010007200A090909"
+[[move]]
+do = "frame"
+router = "r"
+iface = 1
+hex = "45C00036000000000167CD920A000102E000000D2300D1D601000A000101000100D201000020E101010100010000010007200A090908"
+"#;
+
+const THEIR_LINES: &str = "\
+move 6 r done
+move 7 r done
+";
+
+// A writer on which nothing can be written.
+#[derive(Drop)]
+struct Full;
+
+impl Write for Full {
+    fn write(&mut self, _bytes: &[u8]) -> io::Result<usize> {
+        Err(io::Error::from(io::ErrorKind::StorageFull))
+    }
+
+    fn flush(&mut self) -> io::Result<()> {
+        Ok(())
+    }
+}
+
+#[test]
+fn one_join_brings_one_join(rt: HostRuntime) -> Result<(), Fail> {
+    let text = format!(in rt.alloc(); "{ONE_ROUTER}{ONE_JOIN}{MORE_JOINS}")?;
+    let lines = format!(in rt.alloc(); "{ITS_LINES}{THEIR_LINES}")?;
+    let mut out = Vec::new(rt.alloc());
+    let mut err = Vec::new(rt.alloc());
+    let status = play(rt.alloc(), text.as_str(), &mut out, &mut err);
+    assert_eq!(rt; status, 0);
+    assert_eq!(rt; out.as_slice(), lines.as_bytes());
+    assert!(rt; err.is_empty());
+    Ok(())
+}
+
+#[test]
+fn prints_what_was_refused_and_ignored(rt: HostRuntime) -> Result<(), Fail> {
+    let moves = r#"
+[[move]]
+do = "up"
+router = "r"
+iface = 3
+[[move]]
+do = "frame"
+router = "r"
+iface = 0
+hex = "00"
+[[move]]
+do = "up"
+router = "r"
+iface = 0
+draw = 7
+[[move]]
+do = "up"
+router = "r"
+iface = 0
+"#;
+    let text = format!(in rt.alloc(); "{ONE_ROUTER}{moves}")?;
+    let lines = "\
+move 1 r refused 22
+move 2 r refused 23
+move 3 r done
+frame 1 n 46c000240000000001023a110a000002e0000001940400001164ec1e00000000027d0000
+move 4 r ignored Already
+";
+    let mut out = Vec::new(rt.alloc());
+    let mut err = Vec::new(rt.alloc());
+    let status = play(rt.alloc(), text.as_str(), &mut out, &mut err);
+    assert_eq!(rt; status, 0);
+    assert_eq!(rt; out.as_slice(), lines.as_bytes());
+    Ok(())
+}
+
+#[test]
+fn prints_nothing_of_a_scenario_that_is_refused(rt: HostRuntime) -> Result<(), Fail> {
+    let cases = [
+        (
+            "[[router]]\nname = \"r\"\n",
+            "pimlab: scenario refused: 39\n",
+        ),
+        ("not toml", "pimlab: scenario refused: 39\n"),
+        (
+            "[[router]]\nname = \"r\"\niface = []\n",
+            "pimlab: scenario refused: 30\n",
+        ),
+    ];
+    for (text, line) in cases {
+        let mut out = Vec::new(rt.alloc());
+        let mut err = Vec::new(rt.alloc());
+        assert_eq!(rt; play(rt.alloc(), text, &mut out, &mut err), 2);
+        assert!(rt; out.is_empty());
+        assert_eq!(rt; err.as_slice(), line.as_bytes());
+    }
+    Ok(())
+}
+
+#[test]
+fn checks_a_scenario(rt: HostRuntime) -> Result<(), Fail> {
+    let mut out = Vec::new(rt.alloc());
+    let mut err = Vec::new(rt.alloc());
+    assert_eq!(rt; check_text(rt.alloc(), ONE_ROUTER, &mut out, &mut err), 0);
+    assert_eq!(rt; out.as_slice(), "ok\n".as_bytes());
+    assert_eq!(rt; check_text(rt.alloc(), "router = 1", &mut out, &mut err), 2);
+    assert_eq!(rt; err.as_slice(), "pimlab: scenario refused: 39\n".as_bytes());
+    Ok(())
+}
+
+#[test]
+fn tells_of_lines_that_cannot_be_written(rt: HostRuntime) -> Result<(), Fail> {
+    let text = format!(in rt.alloc(); "{ONE_ROUTER}{ONE_JOIN}")?;
+    let mut err = Vec::new(rt.alloc());
+    assert_eq!(rt; play(rt.alloc(), text.as_str(), &mut Full, &mut err), 3);
+    assert_eq!(rt; err.as_slice(), "pimlab: wire fault\n".as_bytes());
+    Ok(())
+}
