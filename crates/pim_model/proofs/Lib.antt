@@ -1,3 +1,4 @@
+pub mod BuiltLaws
 pub mod ClearingLaws
 pub mod DueKept
 pub mod Ends

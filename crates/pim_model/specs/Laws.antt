@@ -1,6 +1,6 @@
 -- What holds of the definitions for every state.
 use Rattle.std.specs.List.{list_all}
-use Rattle.std.specs.Prelude.{Bool, Err, None, Ok, Some, [], nat_le, nat_lt, true, ℕ, ◌&&◌, ◌≡◌, ◌≤◌}
+use Rattle.std.specs.Prelude.{Bool, Err, List, None, Ok, Some, [], nat_le, nat_lt, true, ℕ, ◌&&◌, ◌∷◌, ◌≡◌, ◌≤◌}
 use Rattle.pim_ip.specs.declared.refusal.Refusal.{Refusal}
 use Rattle.pim_types.specs.declared.config.Config.{Config}
 use Rattle.pim_types.specs.declared.event.Event.{Event}
@@ -8,12 +8,13 @@ use Rattle.pim_types.specs.declared.fact.Key.{Key}
 use Rattle.pim_types.specs.declared.fact.QuerierRow.{QuerierRow}
 use Rattle.pim_types.specs.declared.outcome.Ignored.{Ignored}
 use Rattle.pim_types.specs.declared.outcome.Verdict.{Verdict}
+use Rattle.pim_model.specs.Built.{built_run, built_state_after, built_step, is_built}
 use Rattle.pim_model.specs.Clearing.{Cleared, clear_all, cleared, to_clear}
 use Rattle.pim_model.specs.Firing.{fire_all, fire_instant, fire_once}
 use Rattle.pim_model.specs.Limits.{config_test}
 use Rattle.pim_model.specs.Repeat.{and_then}
 use Rattle.pim_model.specs.State.{State, opening}
-use Rattle.pim_model.specs.Step.{Answered, advanced, step}
+use Rattle.pim_model.specs.Step.{Answered, advanced, run, state_after, step}
 use Rattle.pim_model.specs.Tables.{group_in, iface_in, iface_key, same_key, source_in, source_key, star_key}
 use Rattle.pim_model.specs.Timers.{Ending, next_due, timers}
 
@@ -149,3 +150,22 @@ AdvancedIsAhead = (w m : ℕ) (s : State) → IsReady s.present s → IsAhead m 
 -- with an accepted configuration it is one from which time can go on
 abbrev pub OpeningIsAhead : Type 0
 OpeningIsAhead = (c : Config) → config_test c ≡ Ok tt → IsAhead 0 (opening c)
+
+-- ---- what is built
+
+-- an event that is built is taken as the written machine takes it
+abbrev pub BuiltStepIsStep : Type 0
+BuiltStepIsStep = (s : State) (e : Event) → is_built s e.kind ≡ true → built_step s e ≡ step s e
+
+-- each event of a run is built in the state that it finds
+unfoldable pub are_built : State → List Event → Bool
+are_built s [] = true
+are_built s (e ∷ es) = is_built s e.kind && are_built (step s e).state es
+
+-- such a run is the written machine's, outcome for outcome
+abbrev pub BuiltRunIsRun : Type 0
+BuiltRunIsRun = (s : State) (events : List Event) → are_built s events ≡ true → built_run s events ≡ run s events
+
+abbrev pub BuiltStateIsState : Type 0
+BuiltStateIsState =
+    (s : State) (events : List Event) → are_built s events ≡ true → built_state_after s events ≡ state_after s events

@@ -24,6 +24,7 @@ pub mod Firing
 pub mod Limits
 pub mod Step
 pub mod Built
+pub mod Sure
 pub mod Printed
 pub mod Network
 pub mod Laws

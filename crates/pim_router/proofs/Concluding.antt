@@ -1,5 +1,5 @@
 -- A change with what follows from it, where no packet is copied.
-use Rattle.std.proofs.Common.{◌≡◌, ℕ, Bool, true, false, List, [], ◌∷◌, ◌++◌, Ok, Err, refl, ap, sym, ◌∙◌, append-nil, arith, ◌≤◌, ◌<◌}
+use Rattle.std.proofs.Common.{◌≡◌, ℕ, Bool, true, false, List, [], ◌++◌, Ok, Err, Result, IsTrue, refl, ap, subst, sym, ◌∙◌, append-nil, arith, ◌≤◌, ◌<◌}
 use Rattle.std.proofs.lemmas.Bool.Decides.{nat_tests}
 use Rattle.std.specs.Prelude.{nat_le}
 use Rattle.pim_ip.specs.declared.refusal.Refusal.{Refusal}
@@ -11,7 +11,9 @@ use Rattle.pim_intake.specs.declared.accepted.Accepted.{Accepted}
 use Rattle.pim_model.specs.Firing.{settled}
 use Rattle.pim_model.specs.Messages.{Message}
 use Rattle.pim_model.specs.State.{State, iface_count, is_up}
-use Rattle.pim_model.specs.Step.{Answered, Ignore, Refuse, changed, concluded, iface_up, told, up_change}
+use Rattle.pim_model.specs.Step.{Answered, Change, Ignore, Refuse, Stop, concluded, iface_up, told, up_change}
+use Rattle.pim_model.specs.Sure.{needs_no_memory}
+use Rattle.pim_router.proofs.Steps.{any_of_none}
 
 abbrev pub settled_answer : State × List Emission → Answered
 settled_answer sent = record { answer = Ok Verdict.Done; emissions = sent.1; copies = 0; state = sent.0 }
@@ -51,3 +53,15 @@ none_there n i m is le = grind (arith, nat_tests, is, le)
 
 pub one_there : (n i m : ℕ) → m ≡ n → i < m → nat_le n i ≡ false
 one_there n i m is lt = grind (arith, nat_tests, is, lt)
+
+-- what is done isn't sure, so that nothing is to be shown of it
+pub done_unsure : (s : State) (w : ℕ) (c : Change) (judged : Result Change Stop) (b : Bool) → judged ≡ Ok c
+    → IsTrue (needs_no_memory (concluded s w judged).answer) → IsTrue b
+unfolding concluded
+done_unsure s w c judged b is sure =
+    any_of_none b (subst (λ (r : Result Change Stop). IsTrue (needs_no_memory (concluded s w r).answer)) is sure)
+
+pub up_unsure : (s : State) (w i m : ℕ) (up b : Bool) → m ≡ iface_count s → i < m → up ≡ is_up s i → up ≡ false
+    → IsTrue (needs_no_memory (concluded s w (up_change s w i)).answer) → IsTrue b
+up_unsure s w i m up b count lt is down sure =
+    done_unsure s w (told (iface_up s w i)) (up_change s w i) b (up_taken s w i (one_there (iface_count s) i m count lt) (sym is ∙ down)) sure

@@ -1,5 +1,5 @@
 -- Steps that change nothing, and those of packets and interfaces.
-use Rattle.std.proofs.Common.{◌≡◌, ℕ, Bool, true, false, List, [], Ok, Err, Result, IsErr, refl, ap, sym, subst, ◌∙◌, not}
+use Rattle.std.proofs.Common.{◌≡◌, ℕ, Bool, true, false, List, Ok, Err, Result, IsTrue, refl, ap, subst, ◌∙◌, not}
 use Rattle.std.specs.Prelude.{if◌then◌else◌, nat_le, nat_lt}
 use Rattle.pim_ip.specs.declared.refusal.Refusal.{Refusal}
 use Rattle.pim_types.specs.declared.config.IfaceId.{IfaceId}
@@ -16,7 +16,8 @@ use Rattle.pim_intake.proofs.JudgingLaws.{frame_step, unicast_step}
 use Rattle.pim_model.specs.Built.{built_step, is_built, unless_unbuilt}
 use Rattle.pim_model.specs.Limits.{are_routes, are_rps}
 use Rattle.pim_model.specs.State.{State, iface_count, is_up}
-use Rattle.pim_model.specs.Step.{Answered, Change, Ignore, Refuse, Stop, advance, advanced, changed, concluded, down_change, iface_down, ignore_if, last_moment, refuse_if, routes_change, rps_change, rps_replaced, step, step_of, stopped, up_change, ◌>>◌}
+use Rattle.pim_model.specs.Step.{Answered, Change, Ignore, Refuse, Stop, advance, advanced, changed, concluded, down_change, iface_down, ignore_if, last_moment, refuse_if, routes_change, rps_change, step, step_of, stopped, up_change, ◌>>◌}
+use Rattle.pim_model.specs.Sure.{is_sure}
 use Rattle.pim_router.specs.Answers.{answer_of, down_judged, moment_test, still, unbuilt_after}
 
 abbrev pub of_kind : ℕ → EventKind → Event
@@ -99,3 +100,36 @@ module _ (s : State) (w : ℕ) where
       → built_step s (of_kind w (EventKind.Advance moment)) ≡ still s (unbuilt_after (moment_test s moment))
   unfolding built_step is_built step step_of advance
   moment_taken moment = moment_tests moment (nat_lt moment s.present) (nat_lt last_moment moment)
+
+-- ---- routes and RP ranges are tested in memory
+
+-- where nothing is sure, nothing is to be shown
+pub any_of_none : (b : Bool) → IsTrue false → IsTrue b
+any_of_none true none = refl
+any_of_none false none = none
+
+routes_tested : (routes : List Route) (held b : Bool)
+    → IsTrue (is_sure (EventKind.Routes routes) (unbuilt_after (if held then Ok tt else Err Refusal.BadRoutes))) → IsTrue b
+routes_tested routes true b sure = any_of_none b sure
+routes_tested routes false b sure = any_of_none b sure
+
+pub routes_unsure : (s : State) (e : Event) (routes : List Route) (b : Bool) → e.kind ≡ EventKind.Routes routes
+    → IsTrue (is_sure e.kind (built_step s e).answer) → IsTrue b
+routes_unsure s e routes b is sure =
+    let at_routes : IsTrue (is_sure (EventKind.Routes routes) (built_step s (of_kind e.draw (EventKind.Routes routes))).answer) =
+    subst (λ (e : Event). IsTrue (is_sure e.kind (built_step s e).answer)) (at_kind e (EventKind.Routes routes) is) sure in
+    routes_tested routes (are_routes s.config.interfaces routes) b
+    (subst (λ (a : Answered). IsTrue (is_sure (EventKind.Routes routes) a.answer)) (routes_taken s e.draw routes) at_routes)
+
+rps_tested : (rps : List RpRange) (held b : Bool)
+    → IsTrue (is_sure (EventKind.Rps rps) (unbuilt_after (if held then Ok tt else Err Refusal.BadRps))) → IsTrue b
+rps_tested rps true b sure = any_of_none b sure
+rps_tested rps false b sure = any_of_none b sure
+
+pub rps_unsure : (s : State) (e : Event) (rps : List RpRange) (b : Bool) → e.kind ≡ EventKind.Rps rps
+    → IsTrue (is_sure e.kind (built_step s e).answer) → IsTrue b
+rps_unsure s e rps b is sure =
+    let at_rps : IsTrue (is_sure (EventKind.Rps rps) (built_step s (of_kind e.draw (EventKind.Rps rps))).answer) =
+    subst (λ (e : Event). IsTrue (is_sure e.kind (built_step s e).answer)) (at_kind e (EventKind.Rps rps) is) sure in
+    rps_tested rps (are_rps rps) b
+    (subst (λ (a : Answered). IsTrue (is_sure (EventKind.Rps rps) a.answer)) (rps_taken s e.draw rps) at_rps)

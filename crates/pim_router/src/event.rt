@@ -1,7 +1,8 @@
 //! One event.
-ghost use Rattle.std.specs.Prelude.{◌≡◌, ◌++◌, IfOk, IsOkUnless, OnOk, length, take};
+ghost use Rattle.std.specs.Prelude.{◌≡◌, ◌++◌, IfOk, IsOk, IsOkUnless, IsTrue, OnOk, length, take};
 ghost use Rattle.pim_ip.specs.declared.fault.Fault.{Fault};
 ghost use Rattle.pim_model.specs.Built.{built_step};
+ghost use Rattle.pim_model.specs.Sure.{is_sure};
 ghost use Rattle.pim_router.specs.Answers.{moment_test};
 
 use crate::answer::{Answer, answer_of, unbuilt};
@@ -31,6 +32,7 @@ pub(crate) fn take_in(
     ensures copies { OnOk result ((built_step world.old event.now).copies ≡ 0) }
     ensures kept { take (length emissions.old.items) emissions.new.items ≡ emissions.old.items }
     ensures fault { IsOkUnless result Fault.Memory }
+    ensures sure { IsTrue (is_sure event.now.kind (built_step world.old event.now).answer) → IsOk result }
 {
     match &event.kind {
         EventKind::Advance { moment } => Ok(unbuilt(test_moment(world, *moment))),

@@ -1,10 +1,11 @@
 //! Packets that came on a link.
-ghost use Rattle.std.specs.Prelude.{◌≡◌, ◌++◌, ◌<◌, IfOk, IsOkUnless, Ok, OnOk, length, take};
+ghost use Rattle.std.specs.Prelude.{◌≡◌, ◌++◌, ◌<◌, IfOk, IsOk, IsOkUnless, IsTrue, Ok, OnOk, length, take};
 ghost use Rattle.pim_ip.specs.declared.fault.Fault.{Fault};
 ghost use Rattle.pim_intake.specs.Accepted.{IsOfStars, accepted_change};
 ghost use Rattle.pim_intake.specs.Judging.{frame_judged};
 ghost use Rattle.pim_model.specs.State.{iface_count};
 ghost use Rattle.pim_model.specs.Step.{concluded};
+ghost use Rattle.pim_model.specs.Sure.{needs_no_memory};
 
 use crate::answer::{Answer, answer_of};
 use crate::settle::settle;
@@ -34,6 +35,8 @@ pub(crate) fn receive(
     ensures copies { OnOk result ((concluded world.old draw (frame_judged world.old draw iface.number bytes.now)).copies ≡ 0) }
     ensures kept { take (length emissions.old.items) emissions.new.items ≡ emissions.old.items }
     ensures fault { IsOkUnless result Fault.Memory }
+    ensures sure { IsTrue (needs_no_memory (concluded world.old draw (frame_judged world.old draw iface.number bytes.now)).answer)
+        → IsOk result }
 {
     match judge_frame(world, iface, bytes, meter) {
         Ok(accepted) => accept(alloc, world, iface, &accepted, draw, emissions, meter),

@@ -1,8 +1,9 @@
 //! Interfaces that go up.
-ghost use Rattle.std.specs.Prelude.{◌≡◌, ◌++◌, ◌<◌, IfOk, IsOkUnless, OnOk, length, take};
+ghost use Rattle.std.specs.Prelude.{◌≡◌, ◌++◌, ◌<◌, IfOk, IsOk, IsOkUnless, IsTrue, OnOk, length, take};
 ghost use Rattle.pim_ip.specs.declared.fault.Fault.{Fault};
 ghost use Rattle.pim_model.specs.State.{iface_count};
 ghost use Rattle.pim_model.specs.Step.{concluded, iface_up, up_change};
+ghost use Rattle.pim_model.specs.Sure.{needs_no_memory};
 ghost use Rattle.pim_router.specs.Answers.{down_judged};
 
 use crate::answer::Answer;
@@ -32,6 +33,8 @@ pub(crate) fn go_up(
     ensures copies { OnOk result ((concluded world.old draw (up_change world.old draw iface.number)).copies ≡ 0) }
     ensures kept { take (length emissions.old.items) emissions.new.items ≡ emissions.old.items }
     ensures fault { IsOkUnless result Fault.Memory }
+    ensures sure { IsTrue (needs_no_memory (concluded world.old draw (up_change world.old draw iface.number)).answer)
+        → IsOk result }
 {
     if iface.number >= world.iface_count() {
         return Ok(Err(Refusal::NoInterface));

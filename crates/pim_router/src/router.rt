@@ -1,10 +1,11 @@
 //! The router.
-ghost use Rattle.std.specs.Prelude.{◌≡◌, ◌++◌, ◌↔◌, Err, IfErr, IfOk, IfSome, IsOkUnless, None, Ok, OnErr, OnOk, Some, length, take};
+ghost use Rattle.std.specs.Prelude.{◌≡◌, ◌++◌, ◌↔◌, [], Err, IfErr, IfOk, IfSome, IsOk, IsOkUnless, IsTrue, None, Ok, OnErr, OnOk, Some, length, take};
 ghost use Rattle.pim_ip.specs.declared.fault.Fault.{Fault};
 ghost use Rattle.pim_model.specs.Built.{built_run, built_state_after, built_step};
 ghost use Rattle.pim_model.specs.Limits.{config_test};
 ghost use Rattle.pim_model.specs.State.{opening};
 ghost use Rattle.pim_model.specs.Step.{outcome_of};
+ghost use Rattle.pim_model.specs.Sure.{is_sure};
 
 use crate::answer::Answer;
 use crate::event::take_in;
@@ -55,7 +56,9 @@ impl Router {
 
     /// Takes one event: it is done, ignored or refused. The packets that leave stand at the end of the
     /// emissions, in their order. After a fault the emissions are as they were, and the router answers
-    /// `Failed` from then on.
+    /// `Failed` from then on. No memory is taken, so there is no fault in a router that hasn't failed, where
+    /// the event is ignored, or refused for its bytes, its moment or its interface; but routes and RP ranges
+    /// are tested in memory, also those that are then ignored as Unbuilt.
     pub fn step(
         &mut self,
         event: &Event,
@@ -68,6 +71,8 @@ impl Router {
         ensures silent { OnErr result (emissions.new.items ≡ emissions.old.items) }
         ensures failed { (result ≡ Err Fault.Failed) ↔ (self.old ≡ None) }
         ensures fault { IfSome self.old (λ s. IsOkUnless result Fault.Memory) }
+        ensures sure { IfSome self.old (λ s. IsTrue (is_sure event.now.kind (built_step s event.now).answer)
+            → IsOk result) }
     {
         if self.failed {
             return Err(Fault::Failed);
@@ -93,13 +98,14 @@ impl Router {
     }
 
     /// Takes events one after the other, and tells the outcome of each. After a fault the router answers
-    /// `Failed` from then on.
+    /// `Failed` from then on. Where there are no events no memory is taken, so there is no fault.
     pub fn run(&mut self, events: &[Event]) -> Result<Vec<Outcome>, Fault>
         ensures outcomes { IfSome self.old (λ s. IfOk result (λ outcomes. outcomes.items ≡ built_run s events.now)) }
         ensures state { IfSome self.old (λ s. OnOk result (self.new ≡ Some (built_state_after s events.now))) }
         ensures failing { OnErr result (self.new ≡ None) }
         ensures failed { (result ≡ Err Fault.Failed) ↔ (self.old ≡ None) }
         ensures fault { IfSome self.old (λ s. IsOkUnless result Fault.Memory) }
+        ensures sure { IfSome self.old (λ s. events.now ≡ [] → IsOk result) }
     {
         if self.failed {
             return Err(Fault::Failed);
@@ -121,6 +127,7 @@ fn run_world(
     ensures outcomes { IfOk result (λ outcomes. outcomes.items ≡ built_run world.old events.now) }
     ensures state { OnOk result (world.new ≡ built_state_after world.old events.now) }
     ensures fault { IsOkUnless result Fault.Memory }
+    ensures sure { events.now ≡ [] → IsOk result }
 {
     let mut outcomes = Vec::new(alloc);
     for event in events {

@@ -1,10 +1,13 @@
 -- Worked runs of Joins and Prunes.
-use Rattle.std.specs.Prelude.{List, None, Option, Some, [], map, ℕ, ◌++◌, ◌≡◌, ◌∷◌}
+use Rattle.std.specs.Prelude.{List, None, Option, Some, [], map, true, ℕ, ◌++◌, ◌≡◌, ◌∷◌}
 use Rattle.pim_types.specs.declared.event.Event.{Event}
+use Rattle.pim_types.specs.declared.outcome.Outcome.{Outcome}
 use Rattle.pim_types.specs.declared.table.DownstreamState.{DownstreamState}
 use Rattle.pim_types.specs.declared.table.Row.{Row}
 use Rattle.pim_types.specs.declared.table.Table.{Table}
 use Rattle.pim_wire.specs.Encoded.{addr}
+use Rattle.pim_model.specs.Built.{built_run}
+use Rattle.pim_model.specs.Laws.{are_built}
 use Rattle.pim_model.specs.Printed.{rows}
 use Rattle.pim_model.specs.State.{State, opening}
 use Rattle.pim_model.specs.Step.{run, state_after}
@@ -26,11 +29,20 @@ NoEventsNoOutcomes = run (opening base) [] ≡ []
 
 -- Each interface that comes up queries. Then a Join(*,G) of the neighbour on 1 goes on to the neighbour on
 -- 0, after the Hello that is owed there.
-abbrev pub OneJoinBringsOneJoin : Type 0
-OneJoinBringsOneJoin =
-    run (opening base) (opening_events ++ frame 1 join_star ∷ [])
-    ≡ done (general_query_on_0 ∷ []) ∷ done (general_query_on_1 ∷ []) ∷ done (general_query_on_2 ∷ [])
+abbrev pub one_join : List Event
+one_join = opening_events ++ frame 1 join_star ∷ []
+
+abbrev pub outcomes_of_one_join : List Outcome
+outcomes_of_one_join =
+    done (general_query_on_0 ∷ []) ∷ done (general_query_on_1 ∷ []) ∷ done (general_query_on_2 ∷ [])
     ∷ done [] ∷ done [] ∷ done (hello_on_0 ∷ join_star_up ∷ []) ∷ []
+
+abbrev pub OneJoinBringsOneJoin : Type 0
+OneJoinBringsOneJoin = run (opening base) one_join ≡ outcomes_of_one_join
+
+-- All of these events are built, so the run restricted to what is built is the same.
+abbrev pub OneJoinIsBuilt : Type 0
+OneJoinIsBuilt = (are_built (opening base) one_join ≡ true) × (built_run (opening base) one_join ≡ outcomes_of_one_join)
 
 -- The same Join once more brings nothing.
 abbrev pub SecondJoinBringsNothing : Type 0

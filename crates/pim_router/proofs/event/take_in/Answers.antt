@@ -1,11 +1,12 @@
-use Rattle.std.proofs.Common.{◌≡◌, ◌++◌, IfOk, List, OnOk, Ok, ap, append-nil, subst, sym, ◌∙◌}
+use Rattle.std.proofs.Common.{◌≡◌, ◌++◌, IfOk, IsOk, IsTrue, OnOk, ap, append-nil, subst, sym, ◌∙◌}
+use Rattle.pim_types.specs.declared.event.Event.{Event}
 use Rattle.pim_types.specs.declared.event.EventKind.{EventKind}
-use Rattle.pim_types.specs.declared.outcome.Emission.{Emission}
 use Rattle.pim_intake.specs.Judging.{frame_judged}
 use Rattle.pim_model.specs.Built.{built_step}
 use Rattle.pim_model.specs.Step.{Answered, concluded}
+use Rattle.pim_model.specs.Sure.{is_sure}
 use Rattle.pim_router.specs.Answers.{still, unbuilt_after}
-use Rattle.pim_router.proofs.Steps.{at_kind, down_taken, frame_taken, moment_taken, rps_taken, routes_taken, unicast_taken, up_taken}
+use Rattle.pim_router.proofs.Steps.{at_kind, down_taken, frame_taken, moment_taken, of_kind, routes_taken, routes_unsure, rps_taken, rps_unsure, unicast_taken, up_taken}
 use Rattle.pim_router.proofs.event.take_in.Goals as goal
 
 advanced : (c : goal.After-unbuilt) → built_step c.args.world.now c.args.event.now ≡ still c.args.world.now (c.unbuilt.result)
@@ -133,3 +134,32 @@ returns-in_ok-test_rps-in-Rps-clause-sent c =
 
 pub returns-in_ok-test_rps-in-Rps-clause-copies : goal.returns-in_ok-test_rps-in-Rps-clause-copies
 returns-in_ok-test_rps-in-Rps-clause-copies c = ap (λ (a : Answered). a.copies) (reassigned c)
+
+pub returns-in-Up-clause-sure : goal.returns-in-Up-clause-sure
+returns-in-Up-clause-sure c =
+    let s = c.args.world.now in
+    let kind = EventKind.Up c.in-Up.iface in
+    let is : built_step s (of_kind c.args.event.now.draw kind) ≡ _ = up_taken s c.args.event.now.draw c.in-Up.iface in
+    subst (λ (e : Event). IsTrue (is_sure e.kind (built_step s e).answer) → IsOk c.go_up.result)
+    (sym (at_kind c.args.event.now kind c.in-Up.is))
+    (subst (λ (a : Answered). IsTrue (is_sure kind a.answer) → IsOk c.go_up.result) (sym is) c.go_up.ensures.sure)
+
+pub returns-in-Frame-clause-sure : goal.returns-in-Frame-clause-sure
+returns-in-Frame-clause-sure c =
+    let s = c.args.world.now in
+    let kind = EventKind.Frame c.in-Frame.iface c.in-Frame.bytes in
+    let w = c.args.event.now.draw in
+    let is : built_step s (of_kind w kind) ≡ _ =
+    frame_taken s w c.in-Frame.iface c.in-Frame.bytes
+    ∙ ap (λ bytes. concluded s w (frame_judged s w c.in-Frame.iface.number bytes)) (sym c.as_slice.ensures) in
+    subst (λ (e : Event). IsTrue (is_sure e.kind (built_step s e).answer) → IsOk c.receive.result)
+    (sym (at_kind c.args.event.now kind c.in-Frame.is))
+    (subst (λ (a : Answered). IsTrue (is_sure kind a.answer) → IsOk c.receive.result) (sym is) c.receive.ensures.sure)
+
+pub returns-in_err-test_routes-in-Routes-clause-sure : goal.returns-in_err-test_routes-in-Routes-clause-sure
+returns-in_err-test_routes-in-Routes-clause-sure c =
+    routes_unsure c.args.world.now c.args.event.now c.in-Routes.routes _ c.in-Routes.is
+
+pub returns-in_err-test_rps-in-Rps-clause-sure : goal.returns-in_err-test_rps-in-Rps-clause-sure
+returns-in_err-test_rps-in-Rps-clause-sure c =
+    rps_unsure c.args.world.now c.args.event.now c.in-Rps.rps _ c.in-Rps.is

@@ -1,9 +1,9 @@
-use Rattle.std.proofs.Common.{◌≡◌, ◌++◌, List, ap, append-nil, sym, ◌∙◌}
-use Rattle.pim_types.specs.declared.outcome.Emission.{Emission}
-use Rattle.pim_intake.specs.Accepted.{stop_of}
+use Rattle.std.proofs.Common.{◌≡◌, ◌++◌, ap, append-nil, is_ok, sym, ◌∙◌}
+use Rattle.pim_intake.specs.Accepted.{accepted_change, stop_of}
 use Rattle.pim_intake.specs.Judging.{frame_judged}
 use Rattle.pim_model.specs.Step.{Answered, concluded}
 use Rattle.pim_router.specs.Answers.{answer_of, still}
+use Rattle.pim_router.proofs.Concluding.{done_unsure}
 use Rattle.pim_router.proofs.Steps.{judged_still}
 use Rattle.pim_router.proofs.frame.receive.Goals as goal
 
@@ -24,3 +24,8 @@ returns-in-Err-clause-sent c =
 
 pub returns-in-Err-clause-copies : goal.returns-in-Err-clause-copies
 returns-in-Err-clause-copies c = ap (λ (a : Answered). a.copies) (stopped c)
+
+pub returns-in-Ok-clause-sure : goal.returns-in-Ok-clause-sure
+returns-in-Ok-clause-sure c =
+    done_unsure c.args.world.now c.args.draw (accepted_change c.args.world.now c.args.draw c.args.iface.number c.in-Ok.accepted)
+    (frame_judged c.args.world.now c.args.draw c.args.iface.number c.args.bytes.now) (is_ok c.accept.result) (c.in-Ok.ensures.ok c.args.draw)

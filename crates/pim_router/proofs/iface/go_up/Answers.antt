@@ -1,13 +1,12 @@
-use Rattle.std.proofs.Common.{◌≡◌, ◌++◌, [], List, Ok, ap, append-nil, sym, ◌∙◌}
+use Rattle.std.proofs.Common.{◌≡◌, ◌++◌, List, ap, append-nil, sym, ◌∙◌}
 use Rattle.pim_ip.specs.declared.refusal.Refusal.{Refusal}
-use Rattle.pim_types.specs.declared.outcome.Emission.{Emission}
 use Rattle.pim_types.specs.declared.outcome.Ignored.{Ignored}
 use Rattle.pim_model.specs.Firing.{settled}
 use Rattle.pim_model.specs.Messages.{Message}
 use Rattle.pim_model.specs.State.{State, iface_count}
-use Rattle.pim_model.specs.Step.{Answered, Change, Ignore, Refuse, Stop, concluded, iface_up, told, up_change}
+use Rattle.pim_model.specs.Step.{Answered, Ignore, Refuse, concluded, iface_up, up_change}
 use Rattle.pim_router.specs.Answers.{answer_of, still}
-use Rattle.pim_router.proofs.Concluding.{none_there, one_there, settled_answer, told_ends, up_ignored, up_refused, up_taken}
+use Rattle.pim_router.proofs.Concluding.{none_there, one_there, settled_answer, told_ends, up_ignored, up_refused, up_taken, up_unsure}
 use Rattle.pim_router.proofs.Steps.{judged_still}
 use Rattle.pim_router.proofs.iface.go_up.Goals as goal
 
@@ -81,3 +80,18 @@ returns-clause-sent c =
 
 pub returns-clause-copies : goal.returns-clause-copies
 returns-clause-copies c = ap (λ (a : Answered). a.copies) (taken c)
+
+pub returns-in_err-opening-clause-sure : goal.returns-in_err-opening-clause-sure
+returns-in_err-opening-clause-sure c =
+    up_unsure c.args.world.now c.args.draw c.args.iface.number c.iface_count.result c.is_up.result _
+    c.iface_count.ensures.count c.if-iface-iface_count.false c.is_up.ensures c.if-is_up.false
+
+pub returns-in_err-bring_up-clause-sure : goal.returns-in_err-bring_up-clause-sure
+returns-in_err-bring_up-clause-sure c =
+    up_unsure c.args.world.now c.args.draw c.args.iface.number c.iface_count.result c.is_up.result _
+    c.iface_count.ensures.count c.if-iface-iface_count.false c.is_up.ensures c.if-is_up.false
+
+pub returns-in_err-settle-clause-sure : goal.returns-in_err-settle-clause-sure
+returns-in_err-settle-clause-sure c =
+    up_unsure c.args.world.now c.args.draw c.args.iface.number c.iface_count.result c.is_up.result _
+    c.iface_count.ensures.count c.if-iface-iface_count.false c.is_up.ensures c.if-is_up.false
