@@ -61,9 +61,9 @@ fn tells_refusals_and_faults(rt: HostRuntime) -> Result<(), Fail> {
 }
 
 #[test]
-fn keeps_the_status_where_nothing_can_be_written(rt: HostRuntime) {
+fn a_line_that_cannot_be_written_is_a_fault_of_the_wire(rt: HostRuntime) {
     let mut err = Broken;
     assert!(rt; Complaint::CommandLine.write_line(&mut err).is_err());
-    assert_eq!(rt; refused(&mut err, Refusal::BadScenario), 2);
-    assert_eq!(rt; fault(&mut err, Fault::Memory), 4);
+    assert_eq!(rt; refused(&mut err, Refusal::BadScenario), 3);
+    assert_eq!(rt; fault(&mut err, Fault::Memory), 3);
 }
