@@ -1,1 +1,1 @@
-mod Unread
+mod Opening

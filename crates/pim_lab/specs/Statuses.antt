@@ -1,15 +1,45 @@
--- The status with which the program ends.
-use Rattle.std.specs.Prelude.{ℕ, ◌≡◌, ◌⊎◌}
+-- What comes of a scenario's text before its first move, and what the user is told of it.
+use Rattle.std.specs.Prelude.{Err, List, Ok, Result, map, ℕ, ⊤, ◌≡◌, ◌⊎◌}
 use Rattle.pim_ip.specs.declared.fault.Fault.{Fault}
 use Rattle.pim_ip.specs.declared.refusal.Refusal.{Refusal}
-use Rattle.pim_scenario.specs.Complaints.{fault_status}
+use Rattle.pim_types.specs.declared.config.Config.{Config}
+use Rattle.pim_model.specs.Network.{configs_test}
+use Rattle.pim_scenario.specs.Scenario.{IsReadFrom}
+use Rattle.pim_scenario.specs.declared.complaint.Complaint.{Complaint}
+use Rattle.pim_scenario.specs.declared.scenario.RouterText.{RouterText}
+use Rattle.pim_scenario.specs.declared.scenario.Scenario.{Scenario}
 use Rattle.pim_lab.specs.declared.trouble.Trouble.{Trouble}
 
--- 2 where its input is refused, 3 after a fault of the wire, 4 for want of memory
-abbrev pub trouble_status : Trouble → ℕ
-trouble_status (Trouble.Refused refusal) = 2
-trouble_status (Trouble.Fault fault) = fault_status fault
+-- the line with which a trouble is told
+abbrev pub complaint_of : Trouble → Complaint
+complaint_of (Trouble.Refused refusal) = Complaint.Scenario refusal
+complaint_of (Trouble.Fault fault) = Complaint.Fault fault
 
--- no scenario was read of a text
-abbrev pub IsUnread : Trouble → Type 0
-IsUnread trouble = (trouble ≡ Trouble.Refused Refusal.BadScenario) ⊎ (trouble ≡ Trouble.Fault Fault.Memory)
+-- the first refusal of the routers' configurations
+abbrev pub routers_test : List RouterText → Result (Unit {0}) Refusal
+routers_test routers = configs_test (map (λ (r : RouterText). r.config) routers)
+
+-- the text says a scenario, and its configurations pass all tests
+abbrev pub IsAccepted : List ℕ → Type 0
+IsAccepted text = (s : Scenario) × IsReadFrom text s × (routers_test s.routers ≡ Ok tt)
+
+-- the text says no scenario; or it says one, of whose configurations the first that fails is refused so
+abbrev pub IsRefused : List ℕ → Refusal → Type 0
+IsRefused text refusal =
+    ((refusal ≡ Refusal.BadScenario) × ((s : Scenario) → IsReadFrom text s → ⊥))
+    ⊎ ((s : Scenario) × IsReadFrom text s × (routers_test s.routers ≡ Err refusal))
+
+-- a test that failed, or want of memory
+abbrev pub IsTroubleOf : Result (Unit {0}) Refusal → Trouble → Type 0
+IsTroubleOf test (Trouble.Refused refusal) = test ≡ Err refusal
+IsTroubleOf test (Trouble.Fault fault) = fault ≡ Fault.Memory
+
+-- why a text comes to no move: it is refused, or memory is wanting
+abbrev pub Stops : List ℕ → Trouble → Type 0
+Stops text (Trouble.Refused refusal) = IsRefused text refusal
+Stops text (Trouble.Fault fault) = fault ≡ Fault.Memory
+
+-- no refusal
+abbrev pub IsFault : Trouble → Type 0
+IsFault (Trouble.Refused refusal) = ⊥
+IsFault (Trouble.Fault fault) = ⊤

@@ -1,12 +1,17 @@
 //! Scenarios played from their text.
-ghost use Rattle.std.specs.Prelude.{◌≡◌, ◌⊎◌, IsErrAnd, None};
-ghost use Rattle.toml.specs.Parse.{parse_document};
-ghost use Rattle.pim_lab.specs.Statuses.{IsUnread};
+ghost use Rattle.std.specs.Io.KnownBytes.{Appends};
+ghost use Rattle.std.specs.Prelude.{◌≡◌, ◌⊎◌, IfErr, IfOk, OnOk, codes};
+ghost use Rattle.pim_ip.specs.declared.fault.Fault.{Fault};
+ghost use Rattle.pim_ip.specs.declared.refusal.Refusal.{Refusal};
+ghost use Rattle.pim_lab.specs.Statuses.{IsAccepted, IsFault, IsRefused, Stops};
+ghost use Rattle.pim_scenario.specs.Complaints.{line_of};
+ghost use Rattle.pim_scenario.specs.Scenario.{IsReadFrom};
+ghost use Rattle.pim_scenario.specs.declared.complaint.Complaint.{Complaint};
 
 use crate::station::Station;
 use crate::trouble::Trouble;
-use pim_scenario::{Move, Scenario, read_scenario};
-use pim_types::{Event, Refusal};
+use pim_scenario::{Move, Scenario, fault, read_scenario};
+use pim_types::{Event, Fault, Series};
 use std::alloc::Global;
 use std::io::Write;
 
@@ -15,11 +20,18 @@ use std::io::Write;
 /// line can't be written, 4 for want of memory; what went wrong is told on `err`.
 pub fn play<O: Write, E: Write>(alloc: Global, text: &str, out: &mut O, err: &mut E) -> u8
     ensures status { (result ≡ 0) ⊎ (result ≡ 2) ⊎ (result ≡ 3) ⊎ (result ≡ 4) }
-    ensures refused { parse_document text.now ≡ None → (result ≡ 2) ⊎ (result ≡ 4) }
-    ensures silent { parse_document text.now ≡ None → out.new ≡ out.old }
+    ensures done { result ≡ 0 → IsAccepted text.now × (err.new ≡ err.old) }
+    ensures refused { result ≡ 2 → (r : Refusal) × IsRefused text.now r
+        × Appends (E.contents err.old) (E.contents err.new) (line_of (Complaint.Scenario r)) }
+    ensures memory { result ≡ 4 → Appends (E.contents err.old) (E.contents err.new) (line_of (Complaint.Fault Fault.Memory)) }
+    ensures silent { (IsAccepted text.now → ⊥) → out.new ≡ out.old }
 {
-    match read(alloc, text) {
-        Ok(scenario) => ended(run(alloc, scenario, out), err),
+    let Opened { stations, moves } = match open_scenario(alloc, text) {
+        Ok(opened) => opened,
+        Err(trouble) => return trouble.tell(err),
+    };
+    match run(alloc, stations, &moves, out) {
+        Ok(()) => 0,
         Err(trouble) => trouble.tell(err),
     }
 }
@@ -27,45 +39,60 @@ pub fn play<O: Write, E: Write>(alloc: Global, text: &str, out: &mut O, err: &mu
 /// Reads a scenario and makes its routers, and prints `ok`. The status is as that of [`play`].
 pub fn check_text<O: Write, E: Write>(alloc: Global, text: &str, out: &mut O, err: &mut E) -> u8
     ensures status { (result ≡ 0) ⊎ (result ≡ 2) ⊎ (result ≡ 3) ⊎ (result ≡ 4) }
-    ensures refused { parse_document text.now ≡ None → (result ≡ 2) ⊎ (result ≡ 4) }
-    ensures silent { parse_document text.now ≡ None → out.new ≡ out.old }
+    ensures done { result ≡ 0 → IsAccepted text.now × Appends (O.contents out.old) (O.contents out.new) (codes "ok\n") × (err.new ≡ err.old) }
+    ensures refused { result ≡ 2 → (r : Refusal) × IsRefused text.now r
+        × Appends (E.contents err.old) (E.contents err.new) (line_of (Complaint.Scenario r)) }
+    ensures memory { result ≡ 4 → Appends (E.contents err.old) (E.contents err.new) (line_of (Complaint.Fault Fault.Memory)) }
+    ensures silent { (IsAccepted text.now → ⊥) → out.new ≡ out.old }
 {
-    match read(alloc, text) {
-        Ok(scenario) => ended(check(alloc, scenario, out), err),
-        Err(trouble) => trouble.tell(err),
+    if let Err(trouble) = open_scenario(alloc, text) {
+        return trouble.tell(err);
+    }
+    match out.writeln("ok") {
+        Ok(()) => 0,
+        Err(_) => fault(err, Fault::Wire),
     }
 }
 
-// The status at the end.
-fn ended<E: Write>(run: Result<(), Trouble>, err: &mut E) -> u8
-    ensures { (result ≡ 0) ⊎ (result ≡ 2) ⊎ (result ≡ 3) ⊎ (result ≡ 4) }
+/// The routers and the moves of a scenario that is accepted.
+#[derive(Drop)]
+struct Opened {
+    stations: Vec<Station>,
+    moves: Series<Move>,
+}
+
+fn open_scenario(alloc: Global, text: &str) -> Result<Opened, Trouble>
+    ensures accepted { OnOk result (IsAccepted text.now) }
+    ensures trouble { IfErr result (λ t. Stops text.now t) }
 {
-    match run {
-        Ok(()) => 0,
-        Err(trouble) => trouble.tell(err),
-    }
+    let Scenario { routers, moves } = read(alloc, text)?;
+    let stations = Station::open_all(alloc, routers)?;
+    Ok(Opened { stations, moves })
 }
 
 fn read(alloc: Global, text: &str) -> Result<Scenario, Trouble>
-    ensures { parse_document text.now ≡ None → IsErrAnd result IsUnread }
+    ensures read { IfOk result (λ s. IsReadFrom text.now s) }
+    ensures trouble { IfErr result (λ t. Stops text.now t) }
 {
     Ok(read_scenario(alloc, text)??)
 }
 
-fn check<O: Write>(alloc: Global, scenario: Scenario, out: &mut O) -> Result<(), Trouble> {
-    Station::open_all(alloc, scenario.routers)?;
-    out.writeln("ok")?;
-    Ok(())
-}
-
-fn run<O: Write>(alloc: Global, scenario: Scenario, out: &mut O) -> Result<(), Trouble> {
-    let Scenario { routers, moves } = scenario;
-    let mut stations = Station::open_all(alloc, routers)?;
+// The moves, one after the other.
+fn run<O: Write>(
+    alloc: Global,
+    stations: Vec<Station>,
+    moves: &Series<Move>,
+    out: &mut O,
+) -> Result<(), Trouble>
+    ensures { IfErr result (λ t. IsFault t) }
+{
+    let mut stations = stations;
     let mut sent = 0;
     for (place, step) in moves.as_slice().iter().enumerate() {
         let Move::Event { router, event } = step;
+        // Each move of a scenario names one of its routers.
         let Some(station) = stations.get_mut(*router) else {
-            return Err(Trouble::Refused(Refusal::BadScenario));
+            return Err(Trouble::Fault(Fault::Failed));
         };
         sent = take(alloc, station, place + 1, event, sent, out)?;
     }
@@ -80,7 +107,9 @@ fn take<O: Write>(
     event: &Event,
     sent: u64,
     out: &mut O,
-) -> Result<u64, Trouble> {
+) -> Result<u64, Trouble>
+    ensures { IfErr result (λ t. IsFault t) }
+{
     let mut emissions = Vec::new(alloc);
     let answer = station.router.step(event, &mut emissions)?;
     out.writeln(station.move_line(number, answer))?;

@@ -1,4 +1,8 @@
 //! The routers of a scenario.
+ghost use Rattle.std.specs.Prelude.{◌≡◌, IfErr, Ok, OnOk};
+ghost use Rattle.pim_model.specs.Limits.{config_test};
+ghost use Rattle.pim_lab.specs.Statuses.{IsTroubleOf, routers_test};
+
 use crate::line::{MoveLine, PacketLine, Way};
 use crate::trouble::Trouble;
 use pim_router::Router;
@@ -16,7 +20,10 @@ pub(crate) struct Station {
 
 impl Station {
     // A router as the scenario says.
-    fn open(alloc: Global, text: RouterText) -> Result<Station, Trouble> {
+    fn open(alloc: Global, text: RouterText) -> Result<Station, Trouble>
+        ensures accepted { OnOk result (config_test text.config ≡ Ok tt) }
+        ensures trouble { IfErr result (λ t. IsTroubleOf (config_test text.config) t) }
+    {
         let RouterText {
             name,
             config,
@@ -34,7 +41,10 @@ impl Station {
     pub(crate) fn open_all(
         alloc: Global,
         texts: Series<RouterText>,
-    ) -> Result<Vec<Station>, Trouble> {
+    ) -> Result<Vec<Station>, Trouble>
+        ensures accepted { OnOk result (routers_test texts ≡ Ok tt) }
+        ensures trouble { IfErr result (λ t. IsTroubleOf (routers_test texts) t) }
+    {
         let mut stations = Vec::new(alloc);
         for text in texts.into_vec() {
             stations.push(Station::open(alloc, text)?)?;

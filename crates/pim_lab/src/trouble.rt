@@ -11,12 +11,12 @@ pub(crate) enum Trouble {
 }
 
 impl Trouble {
-    ghost use Rattle.std.specs.Prelude.{◌≡◌};
-    ghost use Rattle.pim_lab.specs.Statuses.{trouble_status};
+    ghost use Rattle.pim_lab.specs.Statuses.{complaint_of};
+    ghost use Rattle.pim_scenario.specs.Complaints.{IsTold};
 
     /// Tells it, and gives the status of the program.
     pub(crate) fn tell<E: Write>(self, err: &mut E) -> u8
-        ensures { result ≡ trouble_status self }
+        ensures { IsTold (complaint_of self) result (E.contents err.old) (E.contents err.new) }
     {
         match self {
             Trouble::Refused(refusal) => refused(err, refusal),

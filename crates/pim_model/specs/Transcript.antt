@@ -1,7 +1,7 @@
 -- What a network of routers answered and sent, and its facts at the end, as lines of numbers: the form in which
 -- tools/computed_run compares a scenario with its printed lines.
 use Rattle.std.specs.Option.{option_map_or}
-use Rattle.std.specs.Prelude.{Bool, Err, List, None, Ok, Option, Result, Some, [], false, flat_map, if◌then◌else◌, map, nat_lt, option_map, slice_get, true, unwrap_or, ℕ, ◌*◌, ◌++◌, ◌+◌, ◌-◌, ◌==◌, ◌∷◌}
+use Rattle.std.specs.Prelude.{Bool, Err, List, None, Ok, Option, Result, Some, [], false, filter, flat_map, if◌then◌else◌, length, map, nat_lt, option_map, slice_get, true, unwrap_or, ℕ, ◌*◌, ◌++◌, ◌+◌, ◌-◌, ◌==◌, ◌∷◌}
 use Rattle.pim_ip.specs.declared.refusal.Refusal.{Refusal}
 use Rattle.pim_ip.specs.Refusal.{refusal_number}
 use Rattle.pim_types.specs.declared.config.Config.{Config}
@@ -43,15 +43,25 @@ abbrev pub flag : Bool → ℕ
 flag true = 1
 flag false = 0
 
--- a packet with its link, or with its destination
-abbrev pub emission_line : List ℕ → Emission → List ℕ
-emission_line links (Emission.Link i bytes) = 1 ∷ optional (slice_get links i.number) ∷ bytes
-emission_line links (Emission.Unicast to bytes) = 2 ∷ to.bits ∷ bytes
+abbrev pub is_on_link : Emission → Bool
+is_on_link (Emission.Link i bytes) = true
+is_on_link (Emission.Unicast to bytes) = false
 
--- the answer with the number of copies, then a line for each packet
+-- a packet with its link, a copy on a link told apart, or with its destination
+abbrev pub emission_line : List ℕ → Bool → Emission → List ℕ
+emission_line links copy (Emission.Link i bytes) =
+    (if copy then 3 else 1) ∷ optional (slice_get links i.number) ∷ bytes
+emission_line links copy (Emission.Unicast to bytes) = 2 ∷ to.bits ∷ bytes
+
+-- a line for each packet; the copies are the last ones on links, so many
+unfoldable pub emission_lines : List ℕ → ℕ → List Emission → List (List ℕ)
+emission_lines links copies [] = []
+emission_lines links copies (e ∷ es) =
+    emission_line links (nat_lt (length (filter is_on_link es)) copies) e ∷ emission_lines links copies es
+
+-- the answer, then its packets
 unfoldable pub outcome_lines : List ℕ → Outcome → List (List ℕ)
-outcome_lines links o =
-    (0 ∷ answer_number o.answer ∷ o.copies ∷ []) ∷ map (emission_line links) o.emissions
+outcome_lines links o = (0 ∷ answer_number o.answer ∷ []) ∷ emission_lines links o.copies o.emissions
 
 abbrev pub key_numbers : Key → List ℕ
 key_numbers k = iface_in k ∷ group_in k ∷ optional (option_map (λ a. a.bits) k.source) ∷ flag k.rpt ∷ []

@@ -1,5 +1,6 @@
 -- What the user is told where something went wrong.
-use Rattle.std.specs.Prelude.{ℕ, List, ◌++◌, codes, decimal}
+use Rattle.std.specs.Io.KnownBytes.{Appends}
+use Rattle.std.specs.Prelude.{ℕ, List, Option, ◌++◌, ◌≡◌, ◌⊎◌, codes, decimal}
 use Rattle.pim_ip.specs.Refusal.{refusal_number}
 use Rattle.pim_ip.specs.declared.fault.Fault.{Fault}
 use Rattle.pim_ip.specs.declared.fault.Fault.TheVariants.{Memory, Failed, Wire}
@@ -33,3 +34,8 @@ text_of (complaint.Fault fault) = fault_text fault
 -- the line, with its end
 abbrev pub line_of : Complaint → List ℕ
 line_of c = text_of c ++ codes "\n"
+
+-- the writer's bytes grew by the complaint's line, and the status is the complaint's; or the line couldn't be
+-- written, as after a fault of the wire
+abbrev pub IsTold : Complaint → ℕ → Option (List ℕ) → Option (List ℕ) → Type 0
+IsTold c status old new = ((status ≡ status_of c) × Appends old new (line_of c)) ⊎ (status ≡ fault_status Wire)

@@ -1,7 +1,8 @@
 //! What the user is told where something went wrong: one line on standard error, and the status.
 ghost use Rattle.std.specs.Prelude.{◌≡◌, Some, OnOk};
 ghost use Rattle.std.specs.Io.KnownBytes.{Appends};
-ghost use Rattle.pim_scenario.specs.Complaints.{line_of, status_of, fault_status};
+ghost use Rattle.pim_scenario.specs.Complaints.{IsTold, line_of, status_of};
+ghost use Rattle.pim_scenario.specs.declared.complaint.Complaint.{Complaint};
 
 use pim_types::{Fault, Refusal};
 use std::io::Write;
@@ -39,13 +40,15 @@ impl Complaint<'_> {
         err.writeln(self)
     }
 
-    /// Writes the line, if it can be written, and gives the status.
+    /// Writes the line and gives the status. A line that can't be written is a fault of the wire, whatever
+    /// it was to tell.
     pub fn tell<W: Write>(self, err: &mut W) -> u8
-        ensures { result ≡ status_of self.entry }
+        ensures { IsTold self.entry result (W.contents err.old) (W.contents err.new) }
     {
-        // The status says what went wrong first, whether or not the line could be written.
-        let _ = self.write_line(err);
-        self.status()
+        match self.write_line(err) {
+            Ok(()) => self.status(),
+            Err(_) => Complaint::Fault(Fault::Wire).status(),
+        }
     }
 }
 
@@ -68,16 +71,17 @@ impl fmt::Display for Complaint<'_> {
     }
 }
 
-/// Tells that a scenario is refused, and gives the status.
+/// Tells that a scenario is refused, and gives the status: 2, or as [`Complaint::tell`] says.
 pub fn refused<W: Write>(err: &mut W, refusal: Refusal) -> u8
-    ensures { result ≡ 2 }
+    ensures { IsTold (Complaint.Scenario refusal) result (W.contents err.old) (W.contents err.new) }
 {
     Complaint::Scenario(refusal).tell(err)
 }
 
-/// Tells a fault, and gives the status: 3 for the wire, and 4 for memory.
+/// Tells a fault, and gives the status: 3 for the wire, and 4 for memory. As with [`Complaint::tell`], a line
+/// that can't be written is a fault of the wire.
 pub fn fault<W: Write>(err: &mut W, fault: Fault) -> u8
-    ensures { result ≡ fault_status fault }
+    ensures { IsTold (Complaint.Fault fault) result (W.contents err.old) (W.contents err.new) }
 {
     Complaint::Fault(fault).tell(err)
 }

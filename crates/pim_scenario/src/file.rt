@@ -1,5 +1,8 @@
 //! A scenario's text from its file.
-ghost use Rattle.std.specs.Prelude.{◌≡◌, ◌⊎◌, Err, IfOk, IfErr, IfSome, IsNone, OnOk, string_bytes, IsSomeAnd};
+ghost use Rattle.std.specs.Prelude.{◌≡◌, ◌⊎◌, IfOk, IfErr, IfSome, IsErrAnd, IsNone, IsSomeAnd, OnOk, string_bytes};
+ghost use Rattle.pim_ip.specs.declared.fault.Fault.{Fault};
+ghost use Rattle.pim_scenario.specs.Complaints.{IsTold};
+ghost use Rattle.pim_scenario.specs.declared.complaint.Complaint.{Complaint};
 
 use crate::complaint::Complaint;
 use pim_types::Fault;
@@ -8,7 +11,7 @@ use std::io::{ErrorKind, Read, Write};
 
 /// The whole text of a file. `reader` is none where the file couldn't be opened. Where it can't be
 /// read to its end, or isn't UTF-8, that is told by `name` on `err`; so is want of memory. Then the
-/// status is given, 2 or 4.
+/// status is given: 2 or 4, or 3 where the line can't be written.
 pub fn load<R: Read + Drop, W: Write>(
     alloc: Global,
     name: &str,
@@ -18,8 +21,9 @@ pub fn load<R: Read + Drop, W: Write>(
     ensures text { IfOk result (λ t. IsSomeAnd reader
         (λ r. IfSome (R.remaining r) (λ bytes. string_bytes t ≡ bytes))) }
     ensures quiet { OnOk result (err.new ≡ err.old) }
-    ensures unopened { IsNone reader → result ≡ Err 2 }
-    ensures status { IfErr result (λ s. (s ≡ 2) ⊎ (s ≡ 4)) }
+    ensures unopened { IsNone reader → IsErrAnd result (λ s. IsTold (Complaint.File name.entry) s (W.contents err.old) (W.contents err.new)) }
+    ensures told { IfErr result (λ s. IsTold (Complaint.File name.entry) s (W.contents err.old) (W.contents err.new)
+        ⊎ IsTold (Complaint.Fault Fault.Memory) s (W.contents err.old) (W.contents err.new)) }
 {
     let Some(mut reader) = reader else {
         return Err(Complaint::File(name).tell(err));

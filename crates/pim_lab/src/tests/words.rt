@@ -56,8 +56,8 @@ fn tells_of_a_read_that_fails(rt: HostRuntime) -> Result<(), Fail> {
 }
 
 #[test]
-fn keeps_the_status_where_nothing_can_be_written(rt: HostRuntime) {
-    assert_eq!(rt; refused(&mut Broken, Refusal::BadScenario), 2);
+fn a_line_that_cannot_be_written_is_a_fault_of_the_wire(rt: HostRuntime) {
+    assert_eq!(rt; refused(&mut Broken, Refusal::BadScenario), 3);
 }
 
 #[test]
