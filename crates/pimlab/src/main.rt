@@ -24,7 +24,9 @@ fn status(rt: &HostRuntime) -> io::Result<u8> {
         arguments.push(word)?;
     }
     let mut words = Vec::new(rt.alloc());
-    for argument in &arguments {
+    // Help names the program so, whatever it was called by.
+    words.push("pimlab")?;
+    for argument in arguments.as_slice().iter().skip(1) {
         words.push(argument.as_str())?;
     }
     let answer = match read_words(rt.alloc(), &words) {
