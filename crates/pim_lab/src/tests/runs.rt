@@ -1,5 +1,9 @@
 // Scenarios and what they print, as a user sees them.
 use crate::{check_text, play};
+use pim_router::Router;
+use pim_scenario::{Move, Scenario, read_scenario};
+use pim_types::{Event, EventKind, IfaceId, Refusal, Series};
+use std::alloc::Global;
 use std::io::{self, Write};
 use std::test::Fail;
 
@@ -201,5 +205,70 @@ fn an_ok_that_cannot_be_written_is_a_fault_of_the_wire(rt: HostRuntime) -> Resul
     let mut err = Vec::new(rt.alloc());
     assert_eq!(rt; check_text(rt.alloc(), ONE_ROUTER, &mut Full, &mut err), 3);
     assert_eq!(rt; err.as_slice(), "pimlab: wire fault\n".as_bytes());
+    Ok(())
+}
+
+// The router of a scenario that has one.
+fn router_of(alloc: Global, text: &str) -> Result<Router, Fail> {
+    let Scenario { routers, .. } = read_scenario(alloc, text)??;
+    let router = routers.into_vec().pop().ok_or(Refusal::BadScenario)?;
+    Ok(Router::new(alloc, router.config)??)
+}
+
+// What happens in a scenario.
+fn events_of(alloc: Global, text: &str) -> Result<Vec<Event>, Fail> {
+    let Scenario { moves, .. } = read_scenario(alloc, text)??;
+    let mut events = Vec::new(alloc);
+    for step in moves.into_vec() {
+        let Move::Event { event, .. } = step;
+        events.push(event)?;
+    }
+    Ok(events)
+}
+
+fn push(events: &mut Vec<Event>, kind: EventKind) -> Result<(), Fail> {
+    events.push(Event { draw: 7, kind })?;
+    Ok(())
+}
+
+// An event of each kind that a scenario's moves don't have yet.
+fn push_others(alloc: Global, events: &mut Vec<Event>) -> Result<(), Fail> {
+    let bytes = Series::new(alloc);
+    push(events, EventKind::Unicast { bytes })?;
+    let routes = Series::new(alloc);
+    push(events, EventKind::Routes { routes })?;
+    let rps = Series::new(alloc);
+    push(events, EventKind::Rps { rps })?;
+    push(events, EventKind::Advance { moment: 1000 })?;
+    let iface = IfaceId { number: 0 };
+    push(events, EventKind::Down { iface })
+}
+
+// Whether a run carries all events out.
+fn runs(router: &mut Router, events: &[Event]) -> bool {
+    router.run(events).is_ok()
+}
+
+// Whether steps do.
+fn steps(alloc: Global, router: &mut Router, events: &[Event]) -> bool {
+    let mut emissions = Vec::new(alloc);
+    for event in events {
+        if router.step(event, &mut emissions).is_err() {
+            return false;
+        }
+    }
+    true
+}
+
+// By their contracts a run may always answer that memory was refused, and so may a step of most events. Here
+// there is memory.
+#[test]
+fn takes_events_of_all_kinds_where_there_is_memory(rt: HostRuntime) -> Result<(), Fail> {
+    let text = format!(in rt.alloc(); "{ONE_ROUTER}{ONE_JOIN}")?;
+    let mut router = router_of(rt.alloc(), text.as_str())?;
+    let mut events = events_of(rt.alloc(), text.as_str())?;
+    assert!(rt; runs(&mut router, events.as_slice()));
+    push_others(rt.alloc(), &mut events)?;
+    assert!(rt; steps(rt.alloc(), &mut router, events.as_slice()));
     Ok(())
 }
