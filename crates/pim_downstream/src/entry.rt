@@ -41,8 +41,7 @@ fn is_rp(world: &World, group: Addr, address: Addr, meter: &mut Meter) -> bool
     }
 }
 
-/// Whether a join of the group is accepted: one of (*,G) has to name RP(G). The look-up of RP(G) raises
-/// the meter.
+/// Whether a join of the group is accepted: one of (*,G) has to name RP(G).
 #[tactic(auto, unfolding(pim_model::specs::Downstream::is_accepted))]
 pub fn is_accepted(world: &World, group: Addr, join: Entry, meter: &mut Meter) -> bool
     ensures { result ≡ is_accepted world.now (group.bits, join) }

@@ -70,8 +70,7 @@ fn join_group(
 /// Takes a Join/Prune to the router that came on an interface, as one message (RFC 7761, sections 4.5.1
 /// to 4.5.3). Messages with a prune, or with a join of (S,G) or (S,G,rpt), aren't built yet. Joins
 /// that don't count change nothing: of groups in 224.0.0.0/24 or in 232.0.0.0/8, and those that name
-/// another address than RP(G). Where memory is refused, some joins may be taken and others not. The
-/// look-ups of RPs raise the meter.
+/// another address than RP(G). Where memory is refused, some joins may be taken and others not.
 pub fn to_me(
     world: &mut World,
     iface: IfaceId,

@@ -18,8 +18,7 @@ const TRIGGERED_HELLO_DELAY: u32 = 5000;
 /// Takes a Hello that came on an interface from an address, with a draw (RFC 7761, section 4.3.1): one
 /// from a new neighbour, or from one that started anew, makes a Hello owed; then the neighbour stands
 /// as the Hello says. Where it started anew, the Join timers towards it are lowered. With holdtime 0
-/// the neighbour goes. Where memory is refused, the Hello may be taken in part. The look-ups raise the
-/// meter.
+/// the neighbour goes. Where memory is refused, the Hello may be taken in part.
 #[tactic(auto, unfolding(pim_model::specs::Hellos::hello_received))]
 pub fn received(
     alloc: Global,

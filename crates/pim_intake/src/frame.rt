@@ -108,7 +108,7 @@ fn judge_packet<'a>(
 }
 
 /// Judges a packet that came on an interface, before anything changes: the message that the router acts
-/// on, or the first test that fails. Look-ups of RPs raise the meter.
+/// on, or the first test that fails.
 #[tactic(auto, unfolding(crate::specs::Judging::frame_judged))]
 pub fn judge_frame<'a>(
     world: &World,

@@ -65,8 +65,7 @@ fn judge_packet(world: &World, packet: &Ipv4View<'_>, meter: &mut Meter) -> Stop
     Stop::Ignore(judge_pim_to_me(world, packet.source(), &message, meter))
 }
 
-/// Judges a packet to the router's own address: why it changes nothing. None is accepted yet. Look-ups of
-/// RPs raise the meter.
+/// Judges a packet to the router's own address: why it changes nothing. None is accepted yet.
 #[tactic(auto, unfolding(crate::specs::Judging::unicast_judged))]
 pub fn judge_unicast(world: &World, bytes: &[u8], meter: &mut Meter) -> Stop
     ensures { unicast_judged world.now bytes.now ≡ Err (stop_of result) }
