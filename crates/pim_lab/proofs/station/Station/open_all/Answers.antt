@@ -17,9 +17,12 @@ pub loop-text-preserved : goal.loop-text-preserved
 loop-text-preserved c =
     let left : into_iter_items c.loop-text.text-iterator ≡ c.in-Some.text ∷ into_iter_items c.next.new.self = search rules in
     let fewer : into_iter_len c.next.new.self + 1 ≡ into_iter_len c.loop-text.text-iterator = search rules in
-    let count : length (into_iter_items c.loop-text.text-iterator) ≡ suc (length (into_iter_items c.next.new.self)) = ap length left in
-    (passes _ _ c.in-Some.text (c.loop-text.invariant.0 ∙ ap routers_test left) c.in_ok-open.ensures.accepted,
-     omega (arith, c.loop-text.invariant.1, fewer, count), tt, tt)
+    let count : length (into_iter_items c.loop-text.text-iterator) ≡ suc (length (into_iter_items c.next.new.self)) = ap length left in (
+      passes _ _ c.in-Some.text (c.loop-text.invariant.0 ∙ ap routers_test left) c.in_ok-open.ensures.accepted,
+      omega (arith, c.loop-text.invariant.1, fewer, count),
+      tt,
+      tt,
+    )
 
 pub returns-clause-accepted : goal.returns-clause-accepted
 returns-clause-accepted c =
