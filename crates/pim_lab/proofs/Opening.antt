@@ -25,7 +25,8 @@ fails all rest r (Trouble.Refused refusal) same failed = same ∙ ap (λ x. x >>
 fails all rest r (Trouble.Fault fault) same failed = failed
 
 -- none is left
-pub passed : (all rest : List RouterText) → routers_test all ≡ routers_test rest → length rest ≡ 0 → routers_test all ≡ Ok tt
+pub passed : (all rest : List RouterText) → routers_test all ≡ routers_test rest → length rest ≡ 0
+    → routers_test all ≡ Ok tt
 unfolding configs_test
 passed all [] same none = same
 passed all (r ∷ rest) same none = absurd (omega (arith, none))

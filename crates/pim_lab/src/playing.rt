@@ -23,7 +23,8 @@ pub fn play<O: Write, E: Write>(alloc: Global, text: &str, out: &mut O, err: &mu
     ensures done { result ≡ 0 → IsAccepted text.now × (err.new ≡ err.old) }
     ensures refused { result ≡ 2 → (r : Refusal) × IsRefused text.now r
         × Appends (E.contents err.old) (E.contents err.new) (line_of (Complaint.Scenario r)) }
-    ensures memory { result ≡ 4 → Appends (E.contents err.old) (E.contents err.new) (line_of (Complaint.Fault Fault.Memory)) }
+    ensures memory { result ≡ 4
+        → Appends (E.contents err.old) (E.contents err.new) (line_of (Complaint.Fault Fault.Memory)) }
     ensures silent { (IsAccepted text.now → ⊥) → out.new ≡ out.old }
 {
     let Opened { stations, moves } = match open_scenario(alloc, text) {
@@ -39,10 +40,12 @@ pub fn play<O: Write, E: Write>(alloc: Global, text: &str, out: &mut O, err: &mu
 /// Reads a scenario and makes its routers, and prints `ok`. The status is as that of [`play`].
 pub fn check_text<O: Write, E: Write>(alloc: Global, text: &str, out: &mut O, err: &mut E) -> u8
     ensures status { (result ≡ 0) ⊎ (result ≡ 2) ⊎ (result ≡ 3) ⊎ (result ≡ 4) }
-    ensures done { result ≡ 0 → IsAccepted text.now × Appends (O.contents out.old) (O.contents out.new) (codes "ok\n") × (err.new ≡ err.old) }
+    ensures done { result ≡ 0 → IsAccepted text.now
+        × Appends (O.contents out.old) (O.contents out.new) (codes "ok\n") × (err.new ≡ err.old) }
     ensures refused { result ≡ 2 → (r : Refusal) × IsRefused text.now r
         × Appends (E.contents err.old) (E.contents err.new) (line_of (Complaint.Scenario r)) }
-    ensures memory { result ≡ 4 → Appends (E.contents err.old) (E.contents err.new) (line_of (Complaint.Fault Fault.Memory)) }
+    ensures memory { result ≡ 4
+        → Appends (E.contents err.old) (E.contents err.new) (line_of (Complaint.Fault Fault.Memory)) }
     ensures silent { (IsAccepted text.now → ⊥) → out.new ≡ out.old }
 {
     if let Err(trouble) = open_scenario(alloc, text) {

@@ -21,7 +21,8 @@ pub fn load<R: Read + Drop, W: Write>(
     ensures text { IfOk result (λ t. IsSomeAnd reader
         (λ r. IfSome (R.remaining r) (λ bytes. string_bytes t ≡ bytes))) }
     ensures quiet { OnOk result (err.new ≡ err.old) }
-    ensures unopened { IsNone reader → IsErrAnd result (λ s. IsTold (Complaint.File name.entry) s (W.contents err.old) (W.contents err.new)) }
+    ensures unopened { IsNone reader
+        → IsErrAnd result (λ s. IsTold (Complaint.File name.entry) s (W.contents err.old) (W.contents err.new)) }
     ensures told { IfErr result (λ s. IsTold (Complaint.File name.entry) s (W.contents err.old) (W.contents err.new)
         ⊎ IsTold (Complaint.Fault Fault.Memory) s (W.contents err.old) (W.contents err.new)) }
 {
