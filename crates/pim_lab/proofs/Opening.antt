@@ -1,5 +1,5 @@
 -- What a text comes to: it is read, and its routers are tested one after the other.
-use Rattle.std.proofs.Common.{◌≡◌, ◌∙◌, ap, refl, List, [], ◌∷◌, ℕ, length, Result, Ok, Err, arith}
+use Rattle.std.proofs.Common.{◌≡◌, ◌∙◌, ap, List, [], ◌∷◌, ℕ, length, Result, Ok, Err, arith}
 use Rattle.pim_ip.specs.Tests.{◌>>◌}
 use Rattle.pim_model.specs.Limits.{config_test}
 use Rattle.pim_model.specs.Network.{configs_test}

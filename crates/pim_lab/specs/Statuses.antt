@@ -2,7 +2,6 @@
 use Rattle.std.specs.Prelude.{Err, List, Ok, Result, map, ℕ, ⊤, ◌≡◌, ◌⊎◌}
 use Rattle.pim_ip.specs.declared.fault.Fault.{Fault}
 use Rattle.pim_ip.specs.declared.refusal.Refusal.{Refusal}
-use Rattle.pim_types.specs.declared.config.Config.{Config}
 use Rattle.pim_model.specs.Network.{configs_test}
 use Rattle.pim_scenario.specs.Scenario.{IsReadFrom}
 use Rattle.pim_scenario.specs.declared.complaint.Complaint.{Complaint}

@@ -1,5 +1,5 @@
 -- A text that is refused says no scenario.
-use Rattle.std.proofs.Common.{rules, ◌≡◌, ◌⊎◌, inl, Err}
+use Rattle.std.proofs.Common.{rules, ◌≡◌, inl, Err}
 use Rattle.pim_ip.specs.declared.refusal.Refusal.{Refusal}
 use Rattle.pim_lab.specs.declared.trouble.Trouble.{Trouble}
 use Rattle.pim_lab.proofs.Opening.{says_none}

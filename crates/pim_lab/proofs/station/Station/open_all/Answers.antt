@@ -1,5 +1,5 @@
 -- Each router in turn is tested.
-use Rattle.std.proofs.Common.{rules, arith, ◌≡◌, ◌∙◌, ap, sym, Ok, Err, ◌∷◌, ◌+◌, length, suc}
+use Rattle.std.proofs.Common.{rules, arith, ◌≡◌, ◌∙◌, ap, sym, Err, ◌∷◌, ◌+◌, length, suc}
 use Rattle.std.specs.Vec.Iter.{into_iter_items, into_iter_len}
 use Rattle.pim_model.specs.Limits.{config_test}
 use Rattle.pim_lab.specs.Statuses.{IsTroubleOf, routers_test}
