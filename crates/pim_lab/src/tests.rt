@@ -1,5 +1,4 @@
 mod components;
 mod known_packets;
-mod refused_packets;
 mod runs;
 mod words;

@@ -192,15 +192,6 @@ fn tells_of_lines_that_cannot_be_written(rt: HostRuntime) -> Result<(), Fail> {
 }
 
 #[test]
-fn a_refusal_that_cannot_be_told_is_a_fault_of_the_wire(rt: HostRuntime) -> Result<(), Fail> {
-    let mut out = Vec::new(rt.alloc());
-    assert_eq!(rt; play(rt.alloc(), "not toml", &mut out, &mut Full), 3);
-    assert_eq!(rt; check_text(rt.alloc(), "not toml", &mut out, &mut Full), 3);
-    assert!(rt; out.is_empty());
-    Ok(())
-}
-
-#[test]
 fn an_ok_that_cannot_be_written_is_a_fault_of_the_wire(rt: HostRuntime) -> Result<(), Fail> {
     let mut err = Vec::new(rt.alloc());
     assert_eq!(rt; check_text(rt.alloc(), ONE_ROUTER, &mut Full, &mut err), 3);

@@ -1,7 +1,6 @@
 // What `pimlab` says of its words and files, and when the system fails it.
-use crate::{Answer, load, read_words, refused};
-use pim_types::Refusal;
-use std::io::{self, Read, Write};
+use crate::{Answer, load, read_words};
+use std::io::{self, Read};
 use std::test::Fail;
 
 /// A reader that gives a few bytes and then fails.
@@ -22,20 +21,6 @@ impl Read for Failing {
     }
 }
 
-/// A writer that takes nothing.
-#[derive(Drop)]
-struct Broken;
-
-impl Write for Broken {
-    fn write(&mut self, _bytes: &[u8]) -> io::Result<usize> {
-        Err(io::Error::from(io::ErrorKind::BrokenPipe))
-    }
-
-    fn flush(&mut self) -> io::Result<()> {
-        Ok(())
-    }
-}
-
 #[test]
 fn tells_of_a_read_that_fails(rt: HostRuntime) -> Result<(), Fail> {
     for (left, kind, status, line) in [
@@ -53,11 +38,6 @@ fn tells_of_a_read_that_fails(rt: HostRuntime) -> Result<(), Fail> {
         assert_eq!(rt; err.as_slice(), line.as_bytes());
     }
     Ok(())
-}
-
-#[test]
-fn a_line_that_cannot_be_written_is_a_fault_of_the_wire(rt: HostRuntime) {
-    assert_eq!(rt; refused(&mut Broken, Refusal::BadScenario), 3);
 }
 
 #[test]
