@@ -1,5 +1,5 @@
-pub mod AllPass
-pub mod JoinStar
-pub mod JoinedRows
-pub mod RowLaws
-pub mod ToMe
+mod GroupKeys
+mod Loops
+pub mod PlainKept
+mod Rows
+mod RptRows

@@ -1,34 +1,22 @@
 //! Which entries of a Join/Prune count.
 ghost use Rattle.std.specs.Prelude.{◌≡◌};
-ghost use Rattle.pim_ip.specs.Ipv4.{is_link_local};
+ghost use Rattle.pim_ip.specs.Ipv4.{is_link_local, is_source_specific};
 ghost use Rattle.pim_model.specs.Downstream.{is_accepted, is_kind, is_used};
-ghost use Rattle.pim_model.specs.Unicast.{is_rp, is_ssm};
+ghost use Rattle.pim_model.specs.Unicast.{is_rp};
+ghost use Rattle.pim_downstream.specs.Naming.{is_counted};
 
+use pim_macros::World;
 use pim_trie::Meter;
 use pim_types::Addr;
 use pim_wire::{Entry, EntryKind};
-use pim_world::World;
-
-// Whether the group is in 224.0.0.0/24, whose packets never leave their link.
-fn is_link_local(group: Addr) -> bool
-    ensures { result ≡ is_link_local group.bits }
-{
-    group.bits >> 8 == 0xe0_0000
-}
-
-// Whether the group is source-specific: it lies in 232.0.0.0/8 (RFC 7761, section 4.8).
-fn is_source_specific(group: Addr) -> bool
-    ensures { result ≡ is_ssm group.bits }
-{
-    group.bits >> 24 == 232
-}
 
 /// Whether an entry of the group is used: groups of 224.0.0.0/24 are skipped, and of a source-specific
 /// group all entries but those of (S,G).
 pub fn is_used(group: Addr, entry: Entry) -> bool
     ensures { result ≡ is_used (group.bits, entry) }
 {
-    !is_link_local(group) && (!is_source_specific(group) || matches!(entry.kind, EntryKind::Source))
+    !group.is_link_local()
+        && (!group.is_source_specific() || matches!(entry.kind, EntryKind::Source))
 }
 
 // Whether the address is RP(G).
@@ -47,4 +35,11 @@ pub fn is_accepted(world: &World, group: Addr, join: Entry, meter: &mut Meter) -
     ensures { result ≡ is_accepted world.now (group.bits, join) }
 {
     !matches!(join.kind, EntryKind::Star) || is_rp(world, group, join.address, meter)
+}
+
+/// Whether a join of the group counts: it is used and accepted.
+pub fn is_counted(world: &World, group: Addr, join: Entry, meter: &mut Meter) -> bool
+    ensures { result ≡ is_counted world.now (group.bits, join) }
+{
+    is_used(group, join) && is_accepted(world, group, join, meter)
 }

@@ -1,11 +1,14 @@
-//! A Join/Prune to the router (RFC 7761, sections 4.5.1 to 4.5.3), so far for messages that join (*,G)
-//! alone.
+//! A Join/Prune to the router as one message (RFC 7761, sections 4.5.1 to 4.5.3): the keys that it names, whether the
+//! rows that it would make pass the limit on facts, and what it leaves of the downstream states.
 #![tactic(auto)]
 
 pub mod entry;
-pub mod join;
+pub mod full;
+pub mod message;
+pub mod named;
 pub mod row;
 
 pub use entry::{is_accepted, is_used};
-pub use join::to_me;
-pub use row::{holdtime_end, joined_row, later_end};
+pub use full::is_full;
+pub use message::to_me;
+pub use named::Named;

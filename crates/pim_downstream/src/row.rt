@@ -1,28 +1,14 @@
-//! A downstream state as a Join leaves it.
-ghost use Rattle.std.specs.Prelude.{◌≡◌, ◌^◌, ◌≤◌};
-ghost use Rattle.pim_model.specs.Downstream.{holdtime_end_from, joined_row};
+//! A downstream state as a message leaves it.
+ghost use Rattle.std.specs.Prelude.{◌≡◌};
+ghost use Rattle.pim_model.specs.Downstream.{joined_row, prune_pending_end, pruned_row, pruned_rpt_row, row_after};
 ghost use Rattle.pim_model.specs.Tables.{later_end};
 
+use crate::named::Named;
+use pim_macros::World;
+use pim_neighbours::holdtime_end;
+use pim_tables::is_named;
 use pim_types::fact::DownstreamRow;
-
-// The holdtime that never ends, in seconds.
-const FOREVER: u16 = 0xffff;
-
-// A second, in ms.
-const SECOND: u64 = 1000;
-
-/// The end of a holdtime that starts at the present moment. Moments are in ms, the holdtime is in
-/// seconds; 0xFFFF never ends.
-#[tactic(auto, unfolding(pim_model::specs::Downstream::holdtime_end_from))]
-pub fn holdtime_end(present: u64, holdtime: u16) -> Option<u64>
-    requires { present ≤ 2 ^ 62 }
-    ensures { result ≡ holdtime_end_from present holdtime }
-{
-    if holdtime == FOREVER {
-        return None;
-    }
-    Some(present + SECOND * u64::from(holdtime))
-}
+use pim_types::{IfaceId, Key};
 
 /// The later of two ends, in ms. `None` never ends.
 pub fn later_end(first: Option<u64>, second: Option<u64>) -> Option<u64>
@@ -34,9 +20,8 @@ pub fn later_end(first: Option<u64>, second: Option<u64>) -> Option<u64>
     }
 }
 
-/// The downstream state after a Join with this end and holdtime: one that is there takes the later
-/// end, and Prune-Pending is over; without one, a Join makes it, unless it ends at once. The end is in
-/// ms, and `None` never ends; the holdtime is in seconds.
+/// (*,G) or (S,G) after a Join with this end, in ms, and holdtime, in seconds: a row that is there takes the later end,
+/// and Prune-Pending is over; without one the Join makes it, unless it ends at once.
 pub fn joined_row(
     end: Option<u64>,
     holdtime: u16,
@@ -53,4 +38,80 @@ pub fn joined_row(
         expiry,
         pending: None,
     })
+}
+
+/// (*,G) or (S,G) after a Prune: a row in Join waits for an override until this end, in ms, or goes where there is
+/// none.
+pub fn pruned_row(pending: Option<u64>, row: Option<DownstreamRow>) -> Option<DownstreamRow>
+    ensures { result ≡ pruned_row pending row }
+{
+    let row = row?;
+    if row.pending.is_some() {
+        return Some(row);
+    }
+    match pending {
+        Some(_) => Some(DownstreamRow { pending, ..row }),
+        None => None,
+    }
+}
+
+/// (S,G,rpt) after a Prune: a row that is there takes the later end; without one the Prune makes it, unless it ends at
+/// once.
+pub fn pruned_rpt_row(
+    end: Option<u64>,
+    holdtime: u16,
+    pending: Option<u64>,
+    row: Option<DownstreamRow>,
+) -> Option<DownstreamRow>
+    ensures { result ≡ pruned_rpt_row end holdtime pending row }
+{
+    match row {
+        Some(row) => Some(DownstreamRow {
+            expiry: later_end(row.expiry, end),
+            ..row
+        }),
+        None if holdtime == 0 => None,
+        None => Some(DownstreamRow {
+            expiry: end,
+            pending,
+        }),
+    }
+}
+
+/// The row of a key after a message with these keys and a holdtime, in seconds.
+#[tactic(auto, unfolding(pim_model::specs::Downstream::row_after))]
+pub fn row_after(
+    world: &World,
+    iface: IfaceId,
+    holdtime: u16,
+    named: &Named,
+    key: Key,
+) -> Option<DownstreamRow>
+    ensures { result ≡ row_after world.now iface.number holdtime named.now.joined.items named.now.pruned.items key }
+{
+    let row = world.downstream_at(key);
+    let end = holdtime_end(world.present(), holdtime);
+    let pending = world.prune_pending_end(iface);
+    let is_joined = is_named(&named.joined, key);
+    let is_pruned = is_named(&named.pruned, key);
+    if key.rpt {
+        let left = if is_joined { None } else { row };
+        if is_pruned {
+            return pruned_rpt_row(end, holdtime, pending, left);
+        }
+        if is_named(&named.joined, Key::star(iface, key.group)) {
+            return None;
+        }
+        return left;
+    }
+    let joined = if is_joined {
+        joined_row(end, holdtime, row)
+    } else {
+        row
+    };
+    if is_pruned {
+        pruned_row(pending, joined)
+    } else {
+        joined
+    }
 }

@@ -1,21 +1,22 @@
 -- Join timers towards a neighbour, one after the other.
-use Rattle.std.proofs.Common.{◌≡◌, ℕ, Bool, true, false, List, [], ◌∷◌, ◌++◌, Some, refl, ap, sym, subst, ◌∙◌, filter, not, append-nil, append_assoc}
+use Rattle.std.proofs.Common.{◌≡◌, Bool, true, false, List, [], ◌∷◌, ◌++◌, Some, refl, ap, sym, subst, ◌∙◌, filter, not, append-nil, append_assoc}
+use Rattle.std.specs.Cmp.{first_so, second_so}
 use Rattle.std.specs.Prelude.{if◌then◌else◌}
 use Rattle.pim_types.specs.declared.fact.JoinTimerRow.{JoinTimerRow}
 use Rattle.pim_types.specs.declared.fact.Key.{Key}
 use Rattle.pim_types.specs.declared.path.Hop.{Hop}
 use Rattle.pim_model.specs.Desires.{rpf_star}
-use Rattle.pim_model.specs.Hellos.{upstream_of}
 use Rattle.pim_model.specs.State.{State}
-use Rattle.pim_model.specs.Tables.{Table, group_in, is_star, keys_in, same_hop}
-use Rattle.pim_model.proofs.TableLaws.{and_left, and_right}
-use Rattle.pim_world.specs.Plain.{are_stars, is_star_alone}
+use Rattle.pim_model.specs.Tables.{Table, keys_in, same_hop}
+use Rattle.pim_types.specs.Keys.{group_in, is_star}
+use Rattle.pim_macros.specs.Plain.{are_stars, is_star_alone}
 use Rattle.pim_hello.specs.Towards.{is_towards}
 
 module _ (s : State) (neighbour : Hop) where
   -- the upstream neighbour of (*,G) is RPF'(*,G)
-  star_upstream : (k : Key) → is_star_alone k ≡ true → is_towards s neighbour k ≡ same_hop (rpf_star s (group_in k)) (Some neighbour)
-  star_upstream k star = rw (and_left (is_star k) (not k.rpt) star) refl
+  star_upstream : (k : Key) → is_star_alone k ≡ true
+      → is_towards s neighbour k ≡ same_hop (rpf_star s (group_in k)) (Some neighbour)
+  star_upstream k star = rw (first_so (is_star k) (not k.rpt) star) refl
 
   chosen : (kept : List Key) (k : Key) (later whole : List Key) (b : Bool) → b ≡ true
       → kept ++ (if b then k ∷ later else later) ≡ whole → (kept ++ k ∷ []) ++ later ≡ whole
@@ -30,15 +31,17 @@ module _ (s : State) (neighbour : Hop) where
   abbrev Keeps : List Key → List Key → Table JoinTimerRow → Type 0
   Keeps whole kept left = (kept ++ filter (is_towards s neighbour) (keys_in left) ≡ whole) × (are_stars left ≡ true)
 
-  pub found : (whole kept more : List Key) (e : Key × JoinTimerRow) (xs t : Table JoinTimerRow) (b : Bool) → xs ≡ e ∷ t → more ≡ kept ++ e.0 ∷ []
+  pub found : (whole kept more : List Key) (e : Key × JoinTimerRow) (xs t : Table JoinTimerRow) (b : Bool) → xs ≡ e ∷ t
+      → more ≡ kept ++ e.0 ∷ []
       → b ≡ same_hop (rpf_star s (group_in e.0)) (Some neighbour) → b ≡ true → Keeps whole kept xs → Keeps whole more t
   unfolding keys_in
   found whole kept more e xs t b is pushed asked hit keeps =
       let k : Keeps whole kept (e ∷ t) = subst (λ (ys : Table JoinTimerRow). Keeps whole kept ys) is keeps in
-      let star : is_star_alone e.0 ≡ true = and_left (is_star_alone e.0) (are_stars t) k.1 in (
+      let star : is_star_alone e.0 ≡ true = first_so (is_star_alone e.0) (are_stars t) k.1 in (
         ap (λ (ks : List Key). ks ++ filter (is_towards s neighbour) (keys_in t)) pushed
-            ∙ chosen kept e.0 (filter (is_towards s neighbour) (keys_in t)) whole (is_towards s neighbour e.0) (star_upstream e.0 star ∙ sym asked ∙ hit) k.0,
-        and_right (is_star_alone e.0) (are_stars t) k.1,
+            ∙ chosen kept e.0 (filter (is_towards s neighbour) (keys_in t)) whole (is_towards s neighbour e.0)
+            (star_upstream e.0 star ∙ sym asked ∙ hit) k.0,
+        second_so (is_star_alone e.0) (are_stars t) k.1,
       )
 
   pub passed : (whole kept : List Key) (e : Key × JoinTimerRow) (xs t : Table JoinTimerRow) (b : Bool) → xs ≡ e ∷ t
@@ -46,9 +49,10 @@ module _ (s : State) (neighbour : Hop) where
   unfolding keys_in
   passed whole kept e xs t b is asked missed keeps =
       let k : Keeps whole kept (e ∷ t) = subst (λ (ys : Table JoinTimerRow). Keeps whole kept ys) is keeps in
-      let star : is_star_alone e.0 ≡ true = and_left (is_star_alone e.0) (are_stars t) k.1 in (
-        passed_by kept e.0 (filter (is_towards s neighbour) (keys_in t)) whole (is_towards s neighbour e.0) (star_upstream e.0 star ∙ sym asked ∙ missed) k.0,
-        and_right (is_star_alone e.0) (are_stars t) k.1,
+      let star : is_star_alone e.0 ≡ true = first_so (is_star_alone e.0) (are_stars t) k.1 in (
+        passed_by kept e.0 (filter (is_towards s neighbour) (keys_in t)) whole (is_towards s neighbour e.0)
+            (star_upstream e.0 star ∙ sym asked ∙ missed) k.0,
+        second_so (is_star_alone e.0) (are_stars t) k.1,
       )
 
   pub all_found : (whole kept : List Key) (xs : Table JoinTimerRow) → xs ≡ [] → Keeps whole kept xs → kept ≡ whole

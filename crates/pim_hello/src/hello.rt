@@ -1,16 +1,15 @@
 //! A Hello that came from a neighbour, or from one that is new.
 ghost use Rattle.std.specs.Prelude.{◌≡◌, ◌<◌, ◌+◌, OnOk};
 ghost use Rattle.pim_model.specs.Hellos.{hello_received, hello_triggered, neighbour_replaced, neighbour_restarted, triggered_hello_delay};
-ghost use Rattle.pim_model.specs.State.{iface_count};
+ghost use Rattle.pim_macros.specs.Plain.{IsPlain};
 ghost use Rattle.pim_model.specs.Tables.{delay_in};
 
 use crate::restarted::{lower_timers, timers_towards};
+use pim_macros::{Turn, World};
 use pim_neighbours::delay_in;
-use pim_trie::Meter;
 use pim_types::{Addr, Hop, IfaceId};
 use pim_wire::Hello;
-use pim_world::World;
-use std::alloc::{AllocError, Global};
+use std::alloc::AllocError;
 
 // Triggered_Hello_Delay (RFC 7761, section 4.11), in ms.
 const TRIGGERED_HELLO_DELAY: u32 = 5000;
@@ -21,22 +20,21 @@ const TRIGGERED_HELLO_DELAY: u32 = 5000;
 /// the neighbour goes. Where memory is refused, the Hello may be taken in part.
 #[tactic(auto, unfolding(pim_model::specs::Hellos::hello_received))]
 pub fn received(
-    alloc: Global,
     world: &mut World,
+    turn: &mut Turn,
     iface: IfaceId,
     from: Addr,
     hello: &Hello,
-    draw: u32,
-    meter: &mut Meter,
 ) -> Result<(), AllocError>
-    requires { iface.number < iface_count world.old }
-    ensures { OnOk result (world.new ≡ hello_received world.old iface.number from.bits hello.now draw) }
+    requires { IsPlain world.old }
+    ensures state { OnOk result (world.new ≡ hello_received world.old iface.number from.bits hello.now turn.old.draw) }
+    ensures silent { turn.new ≡ turn.old }
 {
     if world.is_generation_changed(iface, from, hello) {
-        return restart(alloc, world, iface, from, hello, draw, meter);
+        return restart(world, turn, iface, from, hello);
     }
     if !world.is_neighbour(iface, from) {
-        trigger(world, iface, draw);
+        trigger(world, iface, turn.draw);
     }
     world.replace_neighbour(iface, from, hello)
 }
@@ -61,27 +59,26 @@ pub fn triggered_end(world: &World, draw: u32) -> u64
 // Takes a Hello of a neighbour that started anew.
 #[tactic(auto, unfolding(pim_model::specs::Hellos::neighbour_restarted))]
 fn restart(
-    alloc: Global,
     world: &mut World,
+    turn: &mut Turn,
     iface: IfaceId,
     from: Addr,
     hello: &Hello,
-    draw: u32,
-    meter: &mut Meter,
 ) -> Result<(), AllocError>
-    requires { iface.number < iface_count world.old }
-    ensures { OnOk result (world.new ≡ neighbour_restarted world.old iface.number from.bits draw
-        (neighbour_replaced (hello_triggered world.old iface.number draw) iface.number from.bits hello.now)) }
+    requires { IsPlain world.old }
+    ensures state { OnOk result (world.new ≡ neighbour_restarted world.old iface.number from.bits turn.old.draw
+        (neighbour_replaced (hello_triggered world.old iface.number turn.old.draw) iface.number from.bits hello.now)) }
+    ensures silent { turn.new ≡ turn.old }
 {
     let neighbour = Hop {
         iface,
         address: from,
     };
     // which timers they are is judged by what was known of the neighbour, their end by what is known now
-    let towards = timers_towards(alloc, world, neighbour, meter)?;
-    trigger(world, iface, draw);
+    let towards = timers_towards(world, turn, neighbour)?;
+    trigger(world, iface, turn.draw);
     world.replace_neighbour(iface, from, hello)?;
-    let end = world.present() + world.override_delay(iface, draw);
+    let end = world.present() + world.override_delay(iface, turn.draw);
     lower_timers(world, &towards, end);
     Ok(())
 }

@@ -2,25 +2,26 @@
 ghost use Rattle.std.specs.Prelude.{◌≡◌, IfOk, Some, filter, fold};
 ghost use Rattle.pim_model.specs.Hellos.{upstream_of};
 ghost use Rattle.pim_model.specs.Tables.{change_row, keys_in, same_hop};
+ghost use Rattle.pim_macros.specs.Plain.{IsPlain};
 ghost use Rattle.pim_hello.specs.Towards.{all_lowered, is_towards};
 
-use pim_trie::Meter;
+use pim_macros::{Turn, World};
 use pim_types::{Hop, Key};
-use pim_world::World;
-use std::alloc::{AllocError, Global};
+use std::alloc::AllocError;
 
 /// The keys of the Join timers whose upstream neighbour it is.
 pub(crate) fn timers_towards(
-    alloc: Global,
     world: &World,
+    turn: &mut Turn,
     neighbour: Hop,
-    meter: &mut Meter,
 ) -> Result<Vec<Key>, AllocError>
-    ensures { IfOk result (λ keys. keys.items ≡ filter (is_towards world.now neighbour) (keys_in world.now.join_timers)) }
+    requires { IsPlain world.now }
+    ensures silent { turn.new ≡ turn.old }
+    ensures keys { IfOk result (λ keys. keys.items ≡ filter (is_towards world.now neighbour) (keys_in world.now.join_timers)) }
 {
-    let mut keys = Vec::new(alloc);
+    let mut keys = Vec::new(turn.alloc);
     for (key, _) in world.join_timers() {
-        if world.is_rpf_star(key.group, neighbour, meter) {
+        if world.is_rpf_star(key.group, neighbour, &mut turn.meter) {
             keys.push(*key)?;
         }
     }

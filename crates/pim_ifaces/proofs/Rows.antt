@@ -10,7 +10,8 @@ use Rattle.std.proofs.lemmas.Grind.{common_steps}
 use Rattle.pim_types.specs.declared.config.InterfaceConfig.{InterfaceConfig}
 use Rattle.pim_types.specs.declared.fact.InterfaceRow.{InterfaceRow}
 use Rattle.pim_types.specs.declared.fact.Key.{Key}
-use Rattle.pim_model.specs.Tables.{Table, addr_cmp, change_row, changed_entry, drop_at, drop_where, iface_in, iface_key, is_on, has_row, key_cmp, put, row_at, same_key}
+use Rattle.pim_model.specs.Tables.{Table, change_row, changed_entry, drop_at, drop_where, has_row, put, row_at}
+use Rattle.pim_types.specs.Keys.{addr_cmp, iface_in, iface_key, is_on, key_cmp, same_key}
 use Rattle.pim_model.specs.Hellos.{hellos_triggered}
 use Rattle.pim_model.specs.Writing.{hellos_paid}
 use Rattle.pim_ifaces.specs.Interfaces.{InterfacesRise, IsHeld}
@@ -35,13 +36,15 @@ iface_key_cmp i j = then-equal (nat_cmp i j)
 iface_cmp : (i : ℕ) (k : Key) → k ≡ iface_key (iface_in k) → key_cmp (iface_key i) k ≡ nat_cmp i (iface_in k)
 iface_cmp i k e = ap (key_cmp (iface_key i)) e ∙ iface_key_cmp i (iface_in k)
 
-pub InterfacesRise-lower : (low lower count : ℕ) (rows : Table InterfaceRow) → lower ≤ low → InterfacesRise low count rows → InterfacesRise lower count rows
+pub InterfacesRise-lower : (low lower count : ℕ) (rows : Table InterfaceRow) → lower ≤ low
+    → InterfacesRise low count rows → InterfacesRise lower count rows
 InterfacesRise-lower low lower count [] le h = tt
 InterfacesRise-lower low lower count (e ∷ es) le h = (h.0, omega arith, h.2, h.3)
 
 -- an interface that has a row is configured
 below_step : (i low count : ℕ) (e : Key × InterfaceRow) (es : Table InterfaceRow) (o : Ordering)
-    → nat_cmp i (iface_in e.0) ≡ o → iface_in e.0 < count → (is_some (lookup (is_at (key_cmp (iface_key i))) es) ≡ true → i < count)
+    → nat_cmp i (iface_in e.0) ≡ o → iface_in e.0 < count
+    → (is_some (lookup (is_at (key_cmp (iface_key i))) es) ≡ true → i < count)
     → is_some (cond (is_eq o) (Some e.1) (lookup (is_at (key_cmp (iface_key i))) es)) ≡ true → i < count
 below_step i low count e es Less was within later found = later found
 below_step i low count e es Equal was within later found = grind (arith, common_steps, was)
@@ -52,18 +55,21 @@ has_row_below : (i low count : ℕ) (rows : Table InterfaceRow) → InterfacesRi
 has_row_below i low count [] h found = cc
 has_row_below i low count (e ∷ es) h found =
     below_step i low count e es (nat_cmp i (iface_in e.0)) refl h.2 (has_row_below i (iface_in e.0 + 1) count es h.3)
-    (sym (ap (λ (o : Ordering). is_some (cond (is_eq o) (Some e.1) (lookup (is_at (key_cmp (iface_key i))) es))) (iface_cmp i e.0 h.0)) ∙ found)
+    (sym (ap (λ (o : Ordering). is_some (cond (is_eq o) (Some e.1) (lookup (is_at (key_cmp (iface_key i))) es)))
+    (iface_cmp i e.0 h.0)) ∙ found)
 
-pub up_is_configured : (configured : List InterfaceConfig) (count i : ℕ) (rows : Table InterfaceRow) → IsHeld configured count rows
+pub up_is_configured : (configured : List InterfaceConfig) (i : ℕ) (rows : Table InterfaceRow) → IsHeld configured rows
     → has_row rows (iface_key i) ≡ true → i < length configured
 unfolding has_row row_at
-up_is_configured configured count i rows h up = rw h.counted (has_row_below i 0 count rows h.rise up)
+up_is_configured configured i rows h up = has_row_below i 0 (length configured) rows h.rise up
 
 -- a row more
 put_step : (low count i : ℕ) (row : InterfaceRow) (e : Key × InterfaceRow) (es : Table InterfaceRow) (o : Ordering)
     → nat_cmp i (iface_in e.0) ≡ o → low ≤ i → i < count → InterfacesRise low count (e ∷ es)
-    → ((lower : ℕ) → lower ≤ i → InterfacesRise lower count es → InterfacesRise lower count (insert_entry key_cmp es (iface_key i) row))
-    → InterfacesRise low count (match_ordering o ((iface_key i, row) ∷ e ∷ es) ((e.0, row) ∷ es) (e ∷ insert_entry key_cmp es (iface_key i) row))
+    → ((lower : ℕ) → lower ≤ i → InterfacesRise lower count es
+    → InterfacesRise lower count (insert_entry key_cmp es (iface_key i) row))
+    → InterfacesRise low count
+    (match_ordering o ((iface_key i, row) ∷ e ∷ es) ((e.0, row) ∷ es) (e ∷ insert_entry key_cmp es (iface_key i) row))
 put_step low count i row e es Less was le within h later =
     let below : i < iface_in e.0 = grind (arith, common_steps, was) in
     (refl, le, within, (h.0, omega arith, h.2, h.3))
@@ -72,20 +78,27 @@ put_step low count i row e es Greater was le within h later =
     let above : iface_in e.0 < i = grind (arith, common_steps, was) in
     (h.0, h.1, h.2, later _ (omega arith) h.3)
 
-pub InterfacesRise-put : (low count i : ℕ) (row : InterfaceRow) (rows : Table InterfaceRow) → low ≤ i → i < count → InterfacesRise low count rows
+pub InterfacesRise-put : (low count i : ℕ) (row : InterfaceRow) (rows : Table InterfaceRow) → low ≤ i → i < count
+    → InterfacesRise low count rows
     → InterfacesRise low count (insert_entry key_cmp rows (iface_key i) row)
 InterfacesRise-put low count i row [] le within h = (refl, le, within, tt)
 InterfacesRise-put low count i row (e ∷ es) le within h =
     rw (iface_cmp i e.0 h.0)
-    (put_step low count i row e es (nat_cmp i (iface_in e.0)) refl le within h (λ lower under from. InterfacesRise-put lower count i row es under within from))
+    (put_step low count i row e es (nat_cmp i (iface_in e.0)) refl le within h
+    (λ lower under from. InterfacesRise-put lower count i row es under within from))
 
-pub held_after_put : (configured : List InterfaceConfig) (count i : ℕ) (row : InterfaceRow) (old new : Table InterfaceRow) (E : Type 0) (r : Result (Unit {0}) E)
-    → i < count → IsHeld configured count old → OnOk r (new ≡ put old (iface_key i) row) → OnErr r (new ≡ old)
-    → IsHeld configured count new
+pub held_after_put : (configured : List InterfaceConfig) (i : ℕ) (row : InterfaceRow) (old new : Table InterfaceRow)
+    (E : Type 0)
+    (r : Result (Unit {0}) E) → i < length configured → IsHeld configured old → OnOk r (new ≡ put old (iface_key i) row)
+    → OnErr r (new ≡ old) → IsHeld configured new
 unfolding put
-held_after_put configured count i row old new E (Ok done) within h ok err =
-    rw ok (record { counted = h.counted; within = h.within; rise = InterfacesRise-put 0 count i row old (omega arith) within h.rise })
-held_after_put configured count i row old new E (Err refused) within h ok err = rw err h
+held_after_put configured i row old new E (Ok done) within h ok err =
+    rw ok (record {
+      within = h.within;
+      rise = InterfacesRise-put 0 (length configured) i row old
+          (omega arith) within h.rise;
+    })
+held_after_put configured i row old new E (Err refused) within h ok err = rw err h
 
 -- ---- one row changed
 
@@ -100,11 +113,13 @@ module _ (f : InterfaceRow → InterfaceRow) (i : ℕ) where
   past_step e es true apart h = cc
   past_step e es false apart h = ap (λ (xs : Table InterfaceRow). e ∷ xs) h
 
-  mapped-past : (low count : ℕ) (rows : Table InterfaceRow) → i < low → InterfacesRise low count rows → map mapped_entry rows ≡ rows
+  mapped-past : (low count : ℕ) (rows : Table InterfaceRow) → i < low → InterfacesRise low count rows
+      → map mapped_entry rows ≡ rows
   unfolding mapped_entry
   mapped-past low count [] below h = refl
   mapped-past low count (e ∷ es) below h =
-      past_step e es (is_on i e.0) (grind (arith, common_steps, h.1)) (mapped-past (iface_in e.0 + 1) count es (omega (arith, h.1)) h.3)
+      past_step e es (is_on i e.0) (grind (arith, common_steps, h.1))
+      (mapped-past (iface_in e.0 + 1) count es (omega (arith, h.1)) h.3)
 
   -- the same of the row put in its place
   changed_past : (row : InterfaceRow) (e : Key × InterfaceRow) (b : Bool) → same_key (iface_key i) e.0 ≡ b → b ≡ false
@@ -113,10 +128,12 @@ module _ (f : InterfaceRow → InterfaceRow) (i : ℕ) where
   changed_past row e true is apart = cc
   changed_past row e false is apart = rw is refl
 
-  iface_apart : (e : Key × InterfaceRow) → e.0 ≡ iface_key (iface_in e.0) → (i ≡ iface_in e.0 → ⊥) → same_key (iface_key i) e.0 ≡ false
+  iface_apart : (e : Key × InterfaceRow) → e.0 ≡ iface_key (iface_in e.0) → (i ≡ iface_in e.0 → ⊥)
+      → same_key (iface_key i) e.0 ≡ false
   iface_apart e key apart = rw (iface_cmp i e.0 key) (grind (arith, common_steps, apart))
 
-  changed-past : (row : InterfaceRow) (low count : ℕ) (rows : Table InterfaceRow) → i < low → InterfacesRise low count rows
+  changed-past : (row : InterfaceRow) (low count : ℕ) (rows : Table InterfaceRow) → i < low
+      → InterfacesRise low count rows
       → change_row (λ old. Some row) (iface_key i) rows ≡ rows
   unfolding change_row
   changed-past row low count [] below h = refl
@@ -153,8 +170,10 @@ module _ (f : InterfaceRow → InterfaceRow) (i : ℕ) where
       rw (row_is, rest) refl
   found_step row e es changed mapped false past later found = ap (λ (xs : Table InterfaceRow). e ∷ xs) (later found)
 
-  pub changed_is_mapped : (row : InterfaceRow) (low count : ℕ) (rows : Table InterfaceRow) → InterfacesRise low count rows
-      → row_at rows (iface_key i) ≡ Some row → change_row (λ old. Some (f row)) (iface_key i) rows ≡ map mapped_entry rows
+  pub changed_is_mapped : (row : InterfaceRow) (low count : ℕ) (rows : Table InterfaceRow)
+      → InterfacesRise low count rows
+      → row_at rows (iface_key i) ≡ Some row
+      → change_row (λ old. Some (f row)) (iface_key i) rows ≡ map mapped_entry rows
   unfolding change_row changed_entry mapped_entry row_at
   changed_is_mapped row low count [] h found = refl
   changed_is_mapped row low count (e ∷ es) h found =
@@ -180,16 +199,19 @@ module _ (f : InterfaceRow → InterfaceRow) (i : ℕ) where
 
   -- the keys stay
   from_step : (low count : ℕ) (e : Key × InterfaceRow) (mapped : Table InterfaceRow) (b : Bool)
-      → (e.0 ≡ iface_key (iface_in e.0)) × (low ≤ iface_in e.0) × (iface_in e.0 < count) × InterfacesRise (iface_in e.0 + 1) count mapped
+      → (e.0 ≡ iface_key (iface_in e.0)) × (low ≤ iface_in e.0) × (iface_in e.0 < count)
+      × InterfacesRise (iface_in e.0 + 1) count mapped
       → InterfacesRise low count (cond b (e.0, f e.1) e ∷ mapped)
   from_step low count e mapped true h = h
   from_step low count e mapped false h = h
 
-  pub InterfacesRise-mapped : (low count : ℕ) (rows : Table InterfaceRow) → InterfacesRise low count rows → InterfacesRise low count (map mapped_entry rows)
+  pub InterfacesRise-mapped : (low count : ℕ) (rows : Table InterfaceRow) → InterfacesRise low count rows
+      → InterfacesRise low count (map mapped_entry rows)
   unfolding mapped_entry
   InterfacesRise-mapped low count [] h = tt
   InterfacesRise-mapped low count (e ∷ es) h =
-      from_step low count e (map mapped_entry es) (is_on i e.0) (h.0, h.1, h.2, InterfacesRise-mapped (iface_in e.0 + 1) count es h.3)
+      from_step low count e (map mapped_entry es) (is_on i e.0)
+      (h.0, h.1, h.2, InterfacesRise-mapped (iface_in e.0 + 1) count es h.3)
 
 -- ---- the two changes of the Hello state, and the end of a row
 
@@ -200,63 +222,76 @@ abbrev pub paid : InterfaceRow → InterfaceRow
 paid row = record row { is_hello_owed = false }
 
 -- what stays true of the rows, and what they are
-pub record Becomes (configured : List InterfaceConfig) (count : ℕ) (new wanted : Table InterfaceRow) : Type 0 where
-  pub held : IsHeld configured count new
+pub record Becomes (configured : List InterfaceConfig) (new wanted : Table InterfaceRow) : Type 0 where
+  pub held : IsHeld configured new
   pub same : new ≡ wanted
 
-module _ (configured : List InterfaceConfig) (count i : ℕ) (rows : Table InterfaceRow) where
-  becomes : (f : InterfaceRow → InterfaceRow) (new : Table InterfaceRow) → IsHeld configured count rows → new ≡ map (mapped_entry f i) rows
-      → Becomes configured count new (map (mapped_entry f i) rows)
+module _ (configured : List InterfaceConfig) (i : ℕ) (rows : Table InterfaceRow) where
+  becomes : (f : InterfaceRow → InterfaceRow) (new : Table InterfaceRow) → IsHeld configured rows
+      → new ≡ map (mapped_entry f i) rows
+      → Becomes configured new (map (mapped_entry f i) rows)
   becomes f new h e = record {
-    held = record { counted = h.counted; within = h.within; rise = rw e (InterfacesRise-mapped f i 0 count rows h.rise) };
+    held = record { within = h.within; rise = rw e (InterfacesRise-mapped f i 0 (length configured) rows h.rise) };
     same = e;
   }
 
-  pub owing_there : (end : ℕ) (row : InterfaceRow) (new : Table InterfaceRow) → IsHeld configured count rows → row_at rows (iface_key i) ≡ Some row
-      → new ≡ change_row (λ old. Some (owing end row)) (iface_key i) rows → Becomes configured count new (hellos_triggered i end rows)
+  pub owing_there : (end : ℕ) (row : InterfaceRow) (new : Table InterfaceRow) → IsHeld configured rows
+      → row_at rows (iface_key i) ≡ Some row
+      → new ≡ change_row (λ old. Some (owing end row)) (iface_key i) rows
+      → Becomes configured new (hellos_triggered i end rows)
   unfolding hellos_triggered mapped_entry
-  owing_there end row new h found e = becomes (owing end) new h (e ∙ changed_is_mapped (owing end) i row 0 count rows h.rise found)
+  owing_there end row new h found e =
+      becomes (owing end) new h (e ∙ changed_is_mapped (owing end) i row 0 (length configured) rows h.rise found)
 
-  pub owing_missing : (end : ℕ) → IsHeld configured count rows → row_at rows (iface_key i) ≡ None → rows ≡ hellos_triggered i end rows
+  pub owing_missing : (end : ℕ) → IsHeld configured rows → row_at rows (iface_key i) ≡ None
+      → rows ≡ hellos_triggered i end rows
   unfolding hellos_triggered mapped_entry
-  owing_missing end h missing = sym (mapped-missing (owing end) i 0 count rows h.rise missing)
+  owing_missing end h missing = sym (mapped-missing (owing end) i 0 (length configured) rows h.rise missing)
 
-  pub paid_there : (row : InterfaceRow) (new : Table InterfaceRow) → IsHeld configured count rows → row_at rows (iface_key i) ≡ Some row
-      → new ≡ change_row (λ old. Some (paid row)) (iface_key i) rows → Becomes configured count new (hellos_paid i rows)
+  pub paid_there : (row : InterfaceRow) (new : Table InterfaceRow) → IsHeld configured rows
+      → row_at rows (iface_key i) ≡ Some row
+      → new ≡ change_row (λ old. Some (paid row)) (iface_key i) rows → Becomes configured new (hellos_paid i rows)
   unfolding hellos_paid mapped_entry
-  paid_there row new h found e = becomes paid new h (e ∙ changed_is_mapped paid i row 0 count rows h.rise found)
+  paid_there row new h found e =
+      becomes paid new h (e ∙ changed_is_mapped paid i row 0 (length configured) rows h.rise found)
 
-  pub paid_missing : IsHeld configured count rows → row_at rows (iface_key i) ≡ None → rows ≡ hellos_paid i rows
+  pub paid_missing : IsHeld configured rows → row_at rows (iface_key i) ≡ None → rows ≡ hellos_paid i rows
   unfolding hellos_paid mapped_entry
-  paid_missing h missing = sym (mapped-missing paid i 0 count rows h.rise missing)
+  paid_missing h missing = sym (mapped-missing paid i 0 (length configured) rows h.rise missing)
 
   -- the interface's row is the one that goes
   drop_step : (e : Key × InterfaceRow) (left mapped : Table InterfaceRow) (b c : Bool) → b ≡ c → left ≡ mapped
       → cond (not b) (e ∷ left) left ≡ cond (not c) (e ∷ mapped) mapped
   drop_step e left mapped b c same rest = rw (same, rest) refl
 
-  dropped : (low : ℕ) (t : Table InterfaceRow) → InterfacesRise low count t → drop_at t (iface_key i) ≡ drop_where (is_on i) t
+  dropped : (low : ℕ) (t : Table InterfaceRow) → InterfacesRise low (length configured) t
+      → drop_at t (iface_key i) ≡ drop_where (is_on i) t
   unfolding drop_at drop_where
   dropped low [] h = refl
   dropped low (e ∷ es) h =
-      drop_step e _ _ (same_key (iface_key i) e.0) (is_on i e.0) (sym (is_on-key (λ row. row) i e h.0)) (dropped (iface_in e.0 + 1) es h.3)
+      drop_step e _ _ (same_key (iface_key i) e.0) (is_on i e.0) (sym (is_on-key (λ row. row) i e h.0))
+      (dropped (iface_in e.0 + 1) es h.3)
 
   from_left_step : (low : ℕ) (e : Key × InterfaceRow) (left : Table InterfaceRow) (b : Bool)
-      → (e.0 ≡ iface_key (iface_in e.0)) × (low ≤ iface_in e.0) × (iface_in e.0 < count) × InterfacesRise (iface_in e.0 + 1) count left
-      → InterfacesRise low count (cond b (e ∷ left) left)
+      → (e.0 ≡ iface_key (iface_in e.0)) × (low ≤ iface_in e.0) × (iface_in e.0 < (length configured))
+      × InterfacesRise (iface_in e.0 + 1) (length configured) left
+      → InterfacesRise low (length configured) (cond b (e ∷ left) left)
   from_left_step low e left true h = h
-  from_left_step low e left false h = InterfacesRise-lower (iface_in e.0 + 1) low count left (omega (arith, h.1)) h.3
+  from_left_step low e left false h =
+      InterfacesRise-lower (iface_in e.0 + 1) low (length configured) left (omega (arith, h.1)) h.3
 
-  from_left : (low : ℕ) (t : Table InterfaceRow) → InterfacesRise low count t → InterfacesRise low count (drop_where (is_on i) t)
+  from_left : (low : ℕ) (t : Table InterfaceRow) → InterfacesRise low (length configured) t
+      → InterfacesRise low (length configured) (drop_where (is_on i) t)
   unfolding drop_where
   from_left low [] h = tt
-  from_left low (e ∷ es) h = from_left_step low e _ (not (is_on i e.0)) (h.0, h.1, h.2, from_left (iface_in e.0 + 1) es h.3)
+  from_left low (e ∷ es) h =
+      from_left_step low e _ (not (is_on i e.0)) (h.0, h.1, h.2, from_left (iface_in e.0 + 1) es h.3)
 
-  pub row_dropped : (new : Table InterfaceRow) → IsHeld configured count rows → new ≡ drop_at rows (iface_key i)
-      → Becomes configured count new (drop_where (is_on i) rows)
+  pub row_dropped : (new : Table InterfaceRow) → IsHeld configured rows → new ≡ drop_at rows (iface_key i)
+      → Becomes configured new (drop_where (is_on i) rows)
   row_dropped new h e =
       let same : new ≡ drop_where (is_on i) rows = e ∙ dropped 0 rows h.rise in
       record {
-        held = record { counted = h.counted; within = h.within; rise = rw same (from_left 0 rows h.rise) };
+        held = record { within = h.within; rise = rw same (from_left 0 rows h.rise) };
         same = same;
       }

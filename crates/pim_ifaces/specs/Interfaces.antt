@@ -7,12 +7,8 @@ use Rattle.pim_ip.specs.Tests.{expect, ◌>>◌}
 use Rattle.pim_types.specs.declared.config.InterfaceConfig.{InterfaceConfig}
 use Rattle.pim_types.specs.declared.fact.InterfaceRow.{InterfaceRow}
 use Rattle.pim_model.specs.Limits.{are_apart, is_between, is_delay_config, most_ifaces}
-use Rattle.pim_model.specs.Tables.{Table, iface_in, iface_key}
-
--- the configured interfaces by their numbers, and the rows of those that are up
-pub record InterfaceTable : Type 0 where
-  pub configured : List InterfaceConfig
-  pub rows : Table InterfaceRow
+use Rattle.pim_model.specs.Tables.{Table}
+use Rattle.pim_types.specs.Keys.{iface_in, iface_key}
 
 -- the tests on how many interfaces there are, on their addresses and on their subnets
 unfoldable pub interfaces_test : List InterfaceConfig → Result (Unit {0}) Refusal
@@ -32,8 +28,7 @@ InterfacesRise low count [] = Unit {0}
 InterfacesRise low count (e ∷ es) =
     (e.0 ≡ iface_key (iface_in e.0)) × (low ≤ iface_in e.0) × (iface_in e.0 < count) × InterfacesRise (iface_in e.0 + 1) count es
 
--- so many interfaces are configured, and these are the rows of those that are up
-pub record IsHeld (configured : List InterfaceConfig) (count : ℕ) (rows : Table InterfaceRow) : Type 0 where
-  pub counted : length configured ≡ count
-  pub within : count ≤ most_ifaces
-  pub rise : InterfacesRise 0 count rows
+-- these interfaces are configured, and these are the rows of those that are up
+pub record IsHeld (configured : List InterfaceConfig) (rows : Table InterfaceRow) : Type 0 where
+  pub within : length configured ≤ most_ifaces
+  pub rise : InterfacesRise 0 (length configured) rows

@@ -1,13 +1,15 @@
 //! The interfaces of a router.
-ghost use Rattle.std.specs.Prelude.{◌≡◌, ◌<◌, ◌≤◌, [], length, slice_get, take, option_map, IfSome, IsTrue, OnOk, OnErr};
+ghost use Rattle.std.specs.Prelude.{◌≡◌, ◌<◌, ◌≤◌, [], length, slice_get, option_map, IfSome, IsTrue, OnOk, OnErr};
 ghost use Rattle.pim_model.specs.Hellos.{hellos_triggered};
 ghost use Rattle.pim_model.specs.State.{is_own_among};
-ghost use Rattle.pim_model.specs.Tables.{drop_where, has_row, iface_key, is_on, put, row_at};
+ghost use Rattle.pim_model.specs.Tables.{drop_where, has_row, put, row_at};
+ghost use Rattle.pim_types.specs.Keys.{iface_key, is_on};
 ghost use Rattle.pim_model.specs.Unicast.{is_on_link_among, link_among};
 ghost use Rattle.pim_model.specs.Writing.{hellos_paid};
 
 use crate::limits::{MOST_INTERFACES, subnet};
-use pim_facts::Facts;
+use arrayvec::ArrayVec;
+use pim_tables::Facts;
 use pim_types::fact::InterfaceRow;
 use pim_types::{Addr, IfaceId, InterfaceConfig, Key};
 use std::alloc::{AllocError, Global};
@@ -16,20 +18,19 @@ use std::marker::Model;
 /// The configured interfaces, and the rows of those that are up.
 #[derive(Drop)]
 pub struct Interfaces {
-    places: [InterfaceConfig; MOST_INTERFACES],
-    count: usize,
+    configured: ArrayVec<InterfaceConfig, MOST_INTERFACES>,
     rows: Facts<InterfaceRow>,
 }
 
 impl Model for Interfaces {
-    ghost use Rattle.std.specs.Prelude.{take};
-    ghost use Rattle.pim_ifaces.specs.Interfaces.{InterfaceTable, IsHeld};
+    ghost use Rattle.pim_ifaces.specs.Interfaces.{IsHeld};
+    ghost use Rattle.pim_model.specs.State.{InterfaceTable};
 
     ghost Value = { InterfaceTable };
 
-    ghost view = { λ a. record { configured = take a.count a.places; rows = a.rows } };
+    ghost view = { λ a. record { configured = a.configured.items; rows = a.rows } };
 
-    ghost invariant = { λ a. IsHeld (take a.count a.places) a.count a.rows };
+    ghost invariant = { λ a. IsHeld a.configured.items a.rows };
 }
 
 impl Interfaces {
@@ -39,8 +40,7 @@ impl Interfaces {
         ensures { result ≡ record { configured = configured.now; rows = [] } }
     {
         Interfaces {
-            places: places_of(configured),
-            count: configured.len(),
+            configured: copied(configured),
             rows: Facts::new(alloc),
         }
     }
@@ -50,14 +50,14 @@ impl Interfaces {
         ensures count { result ≡ length self.now.configured }
         ensures within { result ≤ MOST_INTERFACES }
     {
-        self.count as u32
+        self.configured.len() as u32
     }
 
     /// The configured interfaces, by their numbers.
     pub fn configured(&self) -> &[InterfaceConfig]
         ensures { result.now ≡ self.now.configured }
     {
-        &self.places[..self.count]
+        self.configured.as_slice()
     }
 
     /// What is configured of the interface. There is none past the last.
@@ -72,14 +72,14 @@ impl Interfaces {
         ensures up { result ≡ has_row self.now.rows (iface_key iface.number) }
         ensures configured { IsTrue result → iface.number < length self.now.configured }
     {
-        self.rows.contains(key_of(iface))
+        self.rows.contains(Key::iface(iface))
     }
 
     /// The row of the interface, if it is up.
     pub fn row(&self, iface: IfaceId) -> Option<InterfaceRow>
         ensures { result ≡ row_at self.now.rows (iface_key iface.number) }
     {
-        self.rows.get(key_of(iface))
+        self.rows.get(Key::iface(iface))
     }
 
     /// Whether the address is one of the router's, its interface being up or not.
@@ -127,14 +127,14 @@ impl Interfaces {
         ensures ok { OnOk result (self.new ≡ record self.old { rows = put self.old.rows (iface_key iface.number) row }) }
         ensures err { OnErr result (self.new ≡ self.old) }
     {
-        self.rows.put(key_of(iface), row)
+        self.rows.put(Key::iface(iface), row)
     }
 
     /// Makes the interface down: its row goes, if it has one.
     pub fn set_down(&mut self, iface: IfaceId)
         ensures { self.new ≡ record self.old { rows = drop_where (is_on iface.number) self.old.rows } }
     {
-        self.rows.remove(key_of(iface));
+        self.rows.remove(Key::iface(iface));
     }
 
     /// Makes a Hello owed on the interface, if it is up, and lets its Hello timer end at this moment
@@ -142,7 +142,7 @@ impl Interfaces {
     pub fn owe_hello(&mut self, iface: IfaceId, end: u64)
         ensures { self.new ≡ record self.old { rows = hellos_triggered iface.number end self.old.rows } }
     {
-        let key = key_of(iface);
+        let key = Key::iface(iface);
         if let Some(row) = self.rows.get(key) {
             let owing = InterfaceRow {
                 hello_end: row.hello_end.min(end),
@@ -157,7 +157,7 @@ impl Interfaces {
     pub fn pay_hello(&mut self, iface: IfaceId)
         ensures { self.new ≡ record self.old { rows = hellos_paid iface.number self.old.rows } }
     {
-        let key = key_of(iface);
+        let key = Key::iface(iface);
         if let Some(row) = self.rows.get(key) {
             let paid = InterfaceRow {
                 is_hello_owed: false,
@@ -168,34 +168,14 @@ impl Interfaces {
     }
 }
 
-// What a place holds that no interface has.
-const UNUSED: InterfaceConfig = InterfaceConfig {
-    address: Addr { bits: 0 },
-    length: 0,
-    priority: 0,
-    propagation_delay: 0,
-    override_interval: 0,
-};
-
-// A place for each interface, of which the first are taken.
-fn places_of(configured: &[InterfaceConfig]) -> [InterfaceConfig; MOST_INTERFACES]
+// The same, held in place.
+fn copied(configured: &[InterfaceConfig]) -> ArrayVec<InterfaceConfig, MOST_INTERFACES>
     requires { length configured.now ≤ MOST_INTERFACES }
-    ensures { take (length configured.now) result ≡ configured.now }
+    ensures { result.items ≡ configured.now }
 {
-    let mut places = [UNUSED; MOST_INTERFACES];
-    let taken = configured.len();
-    places[..taken].copy_from_slice(configured);
-    places
-}
-
-// The key of an interface's facts.
-fn key_of(iface: IfaceId) -> Key
-    ensures { result ≡ iface_key iface.number }
-{
-    Key {
-        iface,
-        group: Addr { bits: 0 },
-        source: None,
-        rpt: false,
+    let mut held = ArrayVec::new();
+    for interface in configured {
+        held.push(*interface);
     }
+    held
 }

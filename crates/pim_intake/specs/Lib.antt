@@ -1,5 +1,1 @@
-pub mod Accepted
-pub mod Counting
-pub mod Judging
-pub mod Laws
-pub mod Packets
+pub mod Memory

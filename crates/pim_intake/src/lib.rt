@@ -1,13 +1,11 @@
-//! Which packets the router takes: each refusal and each reason to ignore one, before anything changes.
+//! What an event is judged to be, before anything changes: each refusal and each reason to ignore one, or what the
+//! router is to act on.
 #![tactic(auto)]
 
-pub mod accepted;
-mod counting;
-pub mod frame;
-pub mod laws;
+pub mod event;
+mod frame;
+mod igmp;
 mod message;
-pub mod unicast;
+mod unicast;
 
-pub use accepted::{Accepted, Stop};
-pub use frame::judge_frame;
-pub use unicast::judge_unicast;
+pub use event::judge;

@@ -1,6 +1,10 @@
--- What an IPv4 address prints.
+-- An IPv4 address, and what it prints.
 use Rattle.std.specs.Prelude.{ℕ, List, ◌++◌, codes, decimal}
 use Rattle.std.specs.Int.{byte_at}
+use Rattle.pim_ip.specs.declared.addr.Addr.{Addr}
+
+abbrev pub addr : ℕ → Addr
+addr bits = record { bits = bits }
 
 -- four decimal numbers with dots between them, of the highest byte first
 abbrev pub dotted_text : ℕ → List ℕ

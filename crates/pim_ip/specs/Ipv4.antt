@@ -20,6 +20,10 @@ pub record Packet : Type 0 where
 abbrev pub packet_limit : ℕ
 packet_limit = 1528
 
+-- the longest packet that a link carries
+abbrev pub frame_limit : ℕ
+frame_limit = 1500
+
 -- the first address that is no unicast address
 abbrev pub first_multicast : ℕ
 first_multicast = 0xE000_0000
@@ -35,6 +39,17 @@ is_unicast address = nat_lt 0 address && nat_lt address first_multicast
 -- in 224.0.0.0/24, whose packets never leave their link
 abbrev pub is_link_local : ℕ → Bool
 is_link_local address = address / 0x100 == 0xE0_0000
+
+-- in 232.0.0.0/8: source-specific multicast (RFC 7761, section 4.8)
+abbrev pub is_source_specific : ℕ → Bool
+is_source_specific group = group / 0x100_0000 == 232
+
+-- ALL-PIM-ROUTERS and all systems
+abbrev pub all_pim_routers : ℕ
+all_pim_routers = 0xE000_000D
+
+abbrev pub all_systems : ℕ
+all_systems = 0xE000_0001
 
 abbrev pub protocol_igmp : ℕ
 protocol_igmp = 2

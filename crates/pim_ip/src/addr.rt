@@ -1,7 +1,7 @@
 ghost use Rattle.std.specs.Prelude.{◌≡◌, ◌-◌, ◌≤◌, Some};
 ghost use Rattle.byteorder.specs.Endian.{big_bytes, big_from};
 ghost use Rattle.pim_ip.specs.Addr.{dotted_text};
-ghost use Rattle.pim_ip.specs.Ipv4.{is_multicast, is_unicast};
+ghost use Rattle.pim_ip.specs.Ipv4.{is_link_local, is_multicast, is_source_specific, is_unicast};
 
 use std::fmt;
 
@@ -12,6 +12,13 @@ pub struct Addr {
 }
 
 impl Addr {
+    /// 0.0.0.0: no address, or every source of a group.
+    pub const NONE: Addr = Addr { bits: 0 };
+    /// All PIM routers of a link (RFC 7761, section 4.9): 224.0.0.13.
+    pub const ALL_PIM_ROUTERS: Addr = Addr { bits: 0xe000_000d };
+    /// All systems of a link (RFC 3376, section 4.1.12): 224.0.0.1.
+    pub const ALL_SYSTEMS: Addr = Addr { bits: 0xe000_0001 };
+
     /// The four bytes, as they stand in a packet.
     pub fn octets(self) -> [u8; 4]
         ensures { result ≡ big_bytes 4 self.bits }
@@ -24,6 +31,20 @@ impl Addr {
         ensures { result ≡ is_multicast self.bits }
     {
         self.bits >> 28 == 14
+    }
+
+    /// Whether the address is in 224.0.0.0/24, whose packets never leave their link.
+    pub fn is_link_local(self) -> bool
+        ensures { result ≡ is_link_local self.bits }
+    {
+        self.bits >> 8 == 0xe0_0000
+    }
+
+    /// Whether the group is source-specific: it lies in 232.0.0.0/8 (RFC 7761, section 4.8).
+    pub fn is_source_specific(self) -> bool
+        ensures { result ≡ is_source_specific self.bits }
+    {
+        self.bits >> 24 == 232
     }
 
     /// Whether a host can have the address: it is not 0.0.0.0, and below 224.0.0.0.

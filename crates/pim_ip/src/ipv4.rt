@@ -15,6 +15,9 @@ use std::marker::Model;
 /// own.
 pub const PACKET_LIMIT: usize = 1528;
 
+/// The longest packet that a link carries, in bytes.
+pub const FRAME_LIMIT: usize = 1500;
+
 /// The protocol number of IGMP.
 pub const PROTOCOL_IGMP: u8 = 2;
 

@@ -12,6 +12,8 @@ pub mod write;
 pub use addr::{Addr, Prefix};
 pub use checksum::{set_checksum, sum16};
 pub use fault::Fault;
-pub use ipv4::{Ipv4View, PACKET_LIMIT, PROTOCOL_IGMP, PROTOCOL_PIM, read_ipv4, write_copy};
+pub use ipv4::{
+    FRAME_LIMIT, Ipv4View, PACKET_LIMIT, PROTOCOL_IGMP, PROTOCOL_PIM, read_ipv4, write_copy,
+};
 pub use refusal::Refusal;
 pub use write::{ControlHeader, write_header, write_igmp_packet, write_pim_packet};

@@ -26,4 +26,5 @@ hello_text_low_bits propagation_delay override_interval priority generation =
     ap (λ a. text a (propagation_delay % 65536 % 256) high low) (high_bits propagation_delay)
     ∙ ap (λ b. text (propagation_delay / 256 % 256) b high low) (low_bits propagation_delay)
     ∙ ap (λ c. text (propagation_delay / 256 % 256) (propagation_delay % 256) c low) (high_bits override_interval)
-    ∙ ap (λ d. text (propagation_delay / 256 % 256) (propagation_delay % 256) (override_interval / 256 % 256) d) (low_bits override_interval)
+    ∙ ap (λ d. text (propagation_delay / 256 % 256) (propagation_delay % 256) (override_interval / 256 % 256) d)
+    (low_bits override_interval)

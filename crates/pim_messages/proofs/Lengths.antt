@@ -37,7 +37,14 @@ length-register_stop_text group source = length-pim_text 2 _
 pub length-null_register_text : (source group : ℕ) → length (null_register_text source group) ≡ 28
 unfolding null_register_text dummy_text
 length-null_register_text source group =
-    omega (arith, length-append (with_checksum (0x21 ∷ 0 ∷ []) (0x40 ∷ 0 ∷ 0 ∷ 0 ∷ [])) (dummy_text source group), length-with_checksum (0x21 ∷ 0 ∷ []) (0x40 ∷ 0 ∷ 0 ∷ 0 ∷ []), length-with_checksum (0x45 ∷ 0 ∷ 0 ∷ 20 ∷ 0 ∷ 0 ∷ 0 ∷ 0 ∷ 1 ∷ 103 ∷ []) (bytes_high_first 4 source ++ bytes_high_first 4 group))
+    omega (
+      arith,
+      length-append (with_checksum (0x21 ∷ 0 ∷ []) (0x40 ∷ 0 ∷ 0 ∷ 0 ∷ []))
+          (dummy_text source group),
+      length-with_checksum (0x21 ∷ 0 ∷ []) (0x40 ∷ 0 ∷ 0 ∷ 0 ∷ []),
+      length-with_checksum
+          (0x45 ∷ 0 ∷ 0 ∷ 20 ∷ 0 ∷ 0 ∷ 0 ∷ 0 ∷ 1 ∷ 103 ∷ []) (bytes_high_first 4 source ++ bytes_high_first 4 group),
+    )
 
 -- each entry has 8 bytes, each address 4
 length-entries : (entries : List Entry) → length (flat_map entry_text entries) ≡ 8 * length entries
@@ -46,7 +53,8 @@ length-entries (e ∷ es) = omega (arith, length-append (entry_text e) (flat_map
 
 length-addresses : (ns : List ℕ) → length (flat_map (bytes_high_first 4) ns) ≡ 4 * length ns
 length-addresses [] = refl
-length-addresses (n ∷ ns) = omega (arith, length-append (bytes_high_first 4 n) (flat_map (bytes_high_first 4) ns), length-addresses ns)
+length-addresses (n ∷ ns) =
+    omega (arith, length-append (bytes_high_first 4 n) (flat_map (bytes_high_first 4) ns), length-addresses ns)
 
 pub length-join_prune_text : (upstream group : ℕ) (joins prunes : List Entry)
     → length (join_prune_text upstream group joins prunes) ≡ 26 + 8 * (length joins + length prunes)
@@ -56,7 +64,15 @@ length-join_prune_text upstream group joins prunes =
     ++ group_text group ++ bytes_high_first 2 (length joins) ++ bytes_high_first 2 (length prunes) in
     let joined : List ℕ = flat_map entry_text joins in
     let pruned : List ℕ = flat_map entry_text prunes in
-    omega (arith, length-pim_text 3 (front ++ joined ++ pruned), length-append (front ++ joined) pruned, length-append front joined, length-entries joins, length-entries prunes)
+    omega (
+      arith,
+      length-pim_text 3 (front ++ joined ++ pruned),
+      length-append
+          (front ++ joined) pruned,
+      length-append front joined,
+      length-entries joins,
+      length-entries prunes,
+    )
 
 pub length-query_text : (header : QueryHeader) (sources : List Addr)
     → length (query_text (query_with header sources)) ≡ 12 + 4 * length sources
@@ -64,8 +80,22 @@ unfolding query_text
 length-query_text header sources =
     let addresses : List ℕ = bits_of sources in
     let body : List ℕ = bytes_high_first 4 header.group.bits
-    ++ ((if header.suppress then 8 else 0) + header.robustness) ∷ header.interval_code ∷ bytes_high_first 2 (length addresses)
+    ++ ((if header.suppress then 8 else 0) + header.robustness) ∷ header.interval_code ∷ bytes_high_first 2
+    (length addresses)
     ++ flat_map (bytes_high_first 4) addresses in
-    omega (arith, length-with_checksum (0x11 ∷ header.max_response_code ∷ []) body, length-addresses (bits_of sources), length-map sources (λ (a : Addr). a.bits))
+    omega (
+      arith,
+      length-with_checksum (0x11 ∷ header.max_response_code ∷ []) body,
+      length-addresses
+          (bits_of sources),
+      length-map sources (λ (a : Addr). a.bits),
+    )
 
-pub ruleset text_lengths = (length-hello_text, length-assert_text, length-register_stop_text, length-null_register_text, length-join_prune_text, length-query_text)
+pub ruleset text_lengths = (
+  length-hello_text,
+  length-assert_text,
+  length-register_stop_text,
+  length-null_register_text,
+  length-join_prune_text,
+  length-query_text,
+)

@@ -1,2 +1,1 @@
 pub mod Sendable
-pub mod Standing

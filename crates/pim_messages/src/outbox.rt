@@ -3,10 +3,8 @@ ghost use Rattle.std.specs.Prelude.{◌≡◌, ◌↔◌, ◌+◌, ◌^◌, ◌<
 ghost use Rattle.std.specs.Option.{option_map_or};
 ghost use Rattle.igmp_wire.specs.Written.{query_with};
 ghost use Rattle.pim_model.specs.Messages.{Message as ModelMessage};
-ghost use Rattle.pim_model.specs.State.{State};
-ghost use Rattle.pim_model.specs.Writing.{hello_emission, hellos_paid, is_hello_owed, write_all, written};
+ghost use Rattle.pim_model.specs.Writing.{all_written, is_hello_owed, written};
 ghost use Rattle.pim_messages.specs.Sendable.{message_of, messages_of, IsSendable};
-ghost use Rattle.pim_messages.specs.Standing.{interfaces_of, standing};
 
 use crate::message::{Assert, JoinPrune, Message, Query, RegisterMessage};
 use crate::packet::{hello_packet, packet_of};
@@ -198,14 +196,8 @@ impl Outbox {
         interfaces: &mut Interfaces,
         emissions: &mut Vec<Emission>,
     ) -> Result<(), Fault>
-        ensures sent { (s : State) → interfaces_of s ≡ interfaces.old → OnOk result
-            (emissions.new.items ≡ emissions.old.items ++ (write_all s self.now).1) }
-        ensures paid { (s : State) → interfaces_of s ≡ interfaces.old → OnOk result
-            ((write_all s self.now).0 ≡ record s { interfaces = interfaces.new.rows }) }
-
-        // What was there before stays, also where memory is refused.
-        ensures kept { take (length emissions.old.items) emissions.new.items ≡ emissions.old.items }
-        ensures configured { interfaces.new.configured ≡ interfaces.old.configured }
+        ensures sent { OnOk result (emissions.new.items ≡ emissions.old.items ++ (all_written interfaces.old self.now).1) }
+        ensures paid { OnOk result (interfaces.new ≡ (all_written interfaces.old self.now).0) }
         ensures fault { IsOkUnless result Fault.Memory }
     {
         write_each(self.alloc, &self.messages, interfaces, emissions)?;
@@ -222,12 +214,8 @@ fn write_each(
 ) -> Result<(), AllocError>
     requires { All IsSendable messages.now }
     ensures sent { OnOk result (emissions.new.items
-        ≡ emissions.old.items ++ (write_all (standing interfaces.old) (messages_of messages.now)).1) }
-    ensures paid { OnOk result (interfaces.new ≡ record interfaces.old {
-      rows = (write_all (standing interfaces.old) (messages_of messages.now)).0.interfaces;
-    }) }
-    ensures kept { take (length emissions.old.items) emissions.new.items ≡ emissions.old.items }
-    ensures configured { interfaces.new.configured ≡ interfaces.old.configured }
+        ≡ emissions.old.items ++ (all_written interfaces.old (messages_of messages.now)).1) }
+    ensures paid { OnOk result (interfaces.new ≡ (all_written interfaces.old (messages_of messages.now)).0) }
 {
     for message in messages {
         write_message(alloc, message, interfaces, emissions)?;
@@ -245,12 +233,8 @@ fn write_message(
 ) -> Result<(), AllocError>
     requires { IsSendable message.now }
     ensures sent { OnOk result (emissions.new.items
-        ≡ emissions.old.items ++ (written (standing interfaces.old) (message_of message.now)).1) }
-    ensures paid { OnOk result (interfaces.new ≡ record interfaces.old {
-      rows = (written (standing interfaces.old) (message_of message.now)).0.interfaces;
-    }) }
-    ensures kept { take (length emissions.old.items) emissions.new.items ≡ emissions.old.items }
-    ensures configured { interfaces.new.configured ≡ interfaces.old.configured }
+        ≡ emissions.old.items ++ (written interfaces.old (message_of message.now)).1) }
+    ensures paid { OnOk result (interfaces.new ≡ (written interfaces.old (message_of message.now)).0) }
 {
     let packet = packet_of(alloc, interfaces, message)?;
     if let Some(iface) = message.announced_on()
@@ -268,7 +252,7 @@ fn write_message(
 
 /// Whether a Hello goes before the next Join/Prune or Assert on the interface.
 fn is_hello_owed(interfaces: &Interfaces, iface: IfaceId) -> bool
-    ensures { result ≡ is_hello_owed (standing interfaces.now) iface.number }
+    ensures { result ≡ is_hello_owed interfaces.now iface.number }
 {
     interfaces.row(iface).is_some_and(|row| row.is_hello_owed)
 }

@@ -1,8 +1,7 @@
 // Each message as the packet that leaves.
 ghost use Rattle.std.specs.Prelude.{◌≡◌, ◌+◌, ◌%◌, ◌^◌, ◌<◌, ◌≤◌, length, IfOk};
 ghost use Rattle.pim_messages.specs.Sendable.{message_of, AssertFits, IsSendable, JoinPruneFits, QueryFits};
-ghost use Rattle.pim_messages.specs.Standing.{standing};
-ghost use Rattle.pim_model.specs.State.{my_address, my_override_interval, my_priority, my_propagation_delay};
+ghost use Rattle.pim_model.specs.State.{address_among, value_among};
 ghost use Rattle.pim_model.specs.Writing.{emission_of, hello_emission, pim_on_link, pim_to, query_destination};
 ghost use Rattle.pim_wire.specs.Registers.{null_register_text, register_stop_text};
 
@@ -17,41 +16,24 @@ use pim_wire::{
 };
 use std::alloc::{AllocError, Global};
 
-/// ALL-PIM-ROUTERS, 224.0.0.13.
-const ALL_PIM_ROUTERS: Addr = Addr { bits: 0xe000_000d };
-
-/// All systems of a link, 224.0.0.1.
-const ALL_SYSTEMS: Addr = Addr { bits: 0xe000_0001 };
-
 /// The time to live of a PIM message that stays on its link.
 const LINK_TIME_TO_LIVE: u8 = 1;
 
 /// The time to live of a PIM message to an address.
 const UNICAST_TIME_TO_LIVE: u8 = 64;
 
-/// What an Assert about a whole group has for its source, 0.0.0.0.
-const NO_SOURCE: Addr = Addr { bits: 0 };
-
-/// What stands for an interface that isn't configured.
-const UNCONFIGURED: InterfaceConfig = InterfaceConfig {
-    address: Addr { bits: 0 },
-    length: 0,
-    priority: 0,
-    propagation_delay: 0,
-    override_interval: 0,
-};
-
 /// What is configured of the interface.
-#[tactic(auto, unfolding(pim_model::specs::State::iface_config))]
 fn config_of(interfaces: &Interfaces, iface: IfaceId) -> InterfaceConfig
-    ensures address { result.address.bits ≡ my_address (standing interfaces.now) iface.number }
-    ensures priority { result.priority ≡ my_priority (standing interfaces.now) iface.number }
+    ensures address { result.address.bits ≡ address_among interfaces.now.configured iface.number }
+    ensures priority { result.priority ≡ value_among (λ c. c.priority) interfaces.now.configured iface.number }
     ensures propagation_delay { result.propagation_delay
-        ≡ my_propagation_delay (standing interfaces.now) iface.number }
+        ≡ value_among (λ c. c.propagation_delay) interfaces.now.configured iface.number }
     ensures override_interval { result.override_interval
-        ≡ my_override_interval (standing interfaces.now) iface.number }
+        ≡ value_among (λ c. c.override_interval) interfaces.now.configured iface.number }
 {
-    interfaces.config(iface).unwrap_or(UNCONFIGURED)
+    interfaces
+        .config(iface)
+        .unwrap_or(InterfaceConfig::UNCONFIGURED)
 }
 
 /// A PIM message to all routers of the link.
@@ -63,14 +45,14 @@ fn pim_on_link(
     text: &[u8],
 ) -> Result<Emission, AllocError>
     requires { 20 + length text.now < 2 ^ 16 }
-    ensures { IfOk result (λ e. e ≡ pim_on_link (standing interfaces.now) iface.number text.now) }
+    ensures { IfOk result (λ e. e ≡ pim_on_link interfaces.now iface.number text.now) }
 {
     let source = config_of(interfaces, iface).address;
     let mut packet = Vec::new(alloc);
     write_pim_packet(
         LINK_TIME_TO_LIVE,
         source,
-        ALL_PIM_ROUTERS,
+        Addr::ALL_PIM_ROUTERS,
         text,
         &mut packet,
     )?;
@@ -107,7 +89,7 @@ pub(crate) fn hello_packet(
     interfaces: &Interfaces,
     iface: IfaceId,
 ) -> Result<Emission, AllocError>
-    ensures { IfOk result (λ e. e ≡ hello_emission (standing interfaces.now) iface.number) }
+    ensures { IfOk result (λ e. e ≡ hello_emission interfaces.now iface.number) }
 {
     let config = config_of(interfaces, iface);
     let generation = interfaces.row(iface).map_or(0, |row| row.generation);
@@ -132,7 +114,7 @@ fn join_prune_packet(
 ) -> Result<Emission, AllocError>
     requires { JoinPruneFits message.now }
     ensures { IfOk result
-        (λ e. e ≡ emission_of (standing interfaces.now) (message_of (Message.JoinPrune message.now))) }
+        (λ e. e ≡ emission_of interfaces.now (message_of (Message.JoinPrune message.now))) }
 {
     let joins = message.joins.as_slice();
     let prunes = message.prunes.as_slice();
@@ -155,7 +137,7 @@ fn assert_packet(
 ) -> Result<Emission, AllocError>
     requires { AssertFits message.now }
     ensures { IfOk result
-        (λ e. e ≡ emission_of (standing interfaces.now) (message_of (Message.Assert message.now))) }
+        (λ e. e ≡ emission_of interfaces.now (message_of (Message.Assert message.now))) }
 {
     let AssertMetric {
         rpt,
@@ -163,7 +145,7 @@ fn assert_packet(
         metric,
         ..
     } = message.metric;
-    let source = message.source.unwrap_or(NO_SOURCE);
+    let source = message.source.unwrap_or(Addr::NONE);
     let mut text = Vec::new(alloc);
     write_assert(message.group, source, rpt, preference, metric, &mut text)?;
     pim_on_link(alloc, interfaces, message.iface, &text)
@@ -173,7 +155,11 @@ fn assert_packet(
 fn query_destination(group: Addr) -> Addr
     ensures { result.bits ≡ query_destination group.bits }
 {
-    if group.bits == 0 { ALL_SYSTEMS } else { group }
+    if group.bits == 0 {
+        Addr::ALL_SYSTEMS
+    } else {
+        group
+    }
 }
 
 #[tactic(auto, using(crate::proofs::Lengths::text_lengths), unfolding(pim_model::specs::Writing::emission_of))]
@@ -184,7 +170,7 @@ fn query_packet(
 ) -> Result<Emission, AllocError>
     requires { QueryFits message.now }
     ensures { IfOk result
-        (λ e. e ≡ emission_of (standing interfaces.now) (message_of (Message.Query message.now))) }
+        (λ e. e ≡ emission_of interfaces.now (message_of (Message.Query message.now))) }
 {
     let mut text = Vec::new(alloc);
     write_query(&mut text, &message.header, message.sources.as_slice())?;
@@ -226,7 +212,7 @@ pub(crate) fn packet_of(
     message: &Message,
 ) -> Result<Emission, AllocError>
     requires { IsSendable message.now }
-    ensures { IfOk result (λ e. e ≡ emission_of (standing interfaces.now) (message_of message.now)) }
+    ensures { IfOk result (λ e. e ≡ emission_of interfaces.now (message_of message.now)) }
 {
     match message {
         Message::Hello(iface) => hello_packet(alloc, interfaces, *iface),

@@ -9,21 +9,25 @@ use Rattle.pim_model.specs.State.{State}
 use Rattle.pim_model.specs.Unicast.{is_rpf_interface, is_rpf_interface_rp}
 
 -- the interfaces on which (S,G) is forwarded, but for receivers of that source alone
+-- reads: rows of (*,G), (S,G) and (S,G,rpt), the group record, the source record; I_am_DR(I), RPF_interface(RP(G))
 unfoldable pub forwarding_set : State → ℕ → ℕ → Set
 forwarding_set s g src =
     (joins_star s g ∖ prunes s g src) ∪ (pim_include_star s g ∖ pim_exclude s g src)
     ∖ lost_assert_star s g ∪ joins s g src
 
 -- CouldAssert(S,G,I)
+-- reads: what `forwarding_set` and pim_include(S,G) read; SPTbit(S,G), RPF_interface(S)
 unfoldable pub could_assert : State → ℕ → ℕ → ℕ → Bool
 could_assert s g src i =
     spt_bit s g src && not (is_rpf_interface s src i) && (forwarding_set s g src ∪ pim_include s g src) i
 
 -- CouldAssert(*,G,I)
+-- reads: what joins(*,G) and pim_include(*,G) read; RPF_interface(RP(G))
 unfoldable pub could_assert_star : State → ℕ → ℕ → Bool
 could_assert_star s g i = (joins_star s g ∪ pim_include_star s g) i && not (is_rpf_interface_rp s g i)
 
 -- AssertTrackingDesired(S,G,I)
+-- reads: what `forwarding_set`, JoinDesired(S,G) and JoinDesired(*,G) read; SPTbit(S,G), both RPF interfaces
 unfoldable pub is_tracking_desired : State → ℕ → ℕ → ℕ → Bool
 is_tracking_desired s g src i =
     forwarding_set s g src i
@@ -32,6 +36,7 @@ is_tracking_desired s g src i =
     || (is_rpf_interface_rp s g i && join_desired_star s g && not (spt_bit s g src))
 
 -- AssertTrackingDesired(*,G,I)
+-- reads: what CouldAssert(*,G,I) and JoinDesired(*,G) read; the group record, I_am_DR(I), the assert of (*,G)
 unfoldable pub is_tracking_desired_star : State → ℕ → ℕ → Bool
 is_tracking_desired_star s g i =
     could_assert_star s g i
@@ -49,9 +54,11 @@ unfoldable pub is_infinite : AssertMetric → Bool
 is_infinite m = m.rpt && (m.preference == unreachable_preference) && (m.metric == infinite_metric)
 
 -- my_assert_metric(*,G,I)
+-- reads: what CouldAssert(*,G,I) and rpt_assert_metric(G,I) read
 unfoldable pub my_metric_star : State → ℕ → ℕ → AssertMetric
 my_metric_star s g i = if could_assert_star s g i then rpt_metric s g i else infinite
 
 -- my_assert_metric(S,G,I)
+-- reads: what CouldAssert(S,G,I), spt_assert_metric(S,I) and my_assert_metric(*,G,I) read
 unfoldable pub my_metric : State → ℕ → ℕ → ℕ → AssertMetric
 my_metric s g src i = if could_assert s g src i then spt_metric s src i else my_metric_star s g i

@@ -11,7 +11,8 @@ use Rattle.pim_model.specs.Desires.{join_desired}
 use Rattle.pim_model.specs.Messages.{Message}
 use Rattle.pim_model.specs.Sets.{is_better, is_winner, metric_of, rpt_metric, spt_metric}
 use Rattle.pim_model.specs.State.{State}
-use Rattle.pim_model.specs.Tables.{change_row, drop_at, group_in, has_row, iface_in, is_star, put, row_at, source_in, source_key, star_key}
+use Rattle.pim_model.specs.Tables.{change_row, drop_at, has_row, put, row_at}
+use Rattle.pim_types.specs.Keys.{group_in, iface_in, is_star, source_in, source_key, star_key}
 use Rattle.pim_model.specs.Unicast.{is_rpf_interface}
 
 -- ends in ms: Assert_Time less Assert_Override_Interval for a winner, Assert_Time for a loser

@@ -15,7 +15,7 @@ use Rattle.pim_model.specs.Registers.{settle_registers}
 use Rattle.pim_model.specs.Repeat.{until_none}
 use Rattle.pim_model.specs.Sets.{is_better, is_winner}
 use Rattle.pim_model.specs.State.{State}
-use Rattle.pim_model.specs.Tables.{addr_cmp, group_in, iface_in, is_star, source_in}
+use Rattle.pim_types.specs.Keys.{addr_cmp, group_in, iface_in, is_star, source_in}
 use Rattle.pim_model.specs.Unicast.{is_rpf_interface, is_rpf_interface_rp}
 
 -- by group, (*,G) before its sources, source, interface

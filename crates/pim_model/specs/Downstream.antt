@@ -3,7 +3,7 @@
 use Rattle.std.specs.List.{list_any}
 use Rattle.std.specs.Option.{option_map_or}
 use Rattle.std.specs.Prelude.{Bool, List, None, Option, Some, [], false, filter, flat_map, fold, if◌then◌else◌, map, max, nat_lt, not, suc, true, zero, ℕ, ◌&&◌, ◌*◌, ◌++◌, ◌+◌, ◌==◌, ◌||◌, ◌∷◌}
-use Rattle.pim_ip.specs.Ipv4.{is_link_local}
+use Rattle.pim_ip.specs.Ipv4.{is_link_local, is_source_specific}
 use Rattle.pim_types.specs.declared.fact.AssertRow.{AssertRow}
 use Rattle.pim_types.specs.declared.fact.DownstreamRow.{DownstreamRow}
 use Rattle.pim_types.specs.declared.fact.Key.{Key}
@@ -14,8 +14,9 @@ use Rattle.pim_model.specs.Messages.{Message, entry}
 use Rattle.pim_model.specs.Neighbours.{join_prune_override_interval, neighbour_count}
 use Rattle.pim_model.specs.Sets.{is_loser}
 use Rattle.pim_model.specs.State.{State, my_address}
-use Rattle.pim_model.specs.Tables.{Table, change_row, drop_at, group_in, iface_in, is_on, is_star, keys_in, later_end, row_at, rpt_key, same_key, set_row, source_in, source_key, star_key}
-use Rattle.pim_model.specs.Unicast.{is_rp, is_ssm, rp_of}
+use Rattle.pim_model.specs.Tables.{Table, change_row, drop_at, keys_in, later_end, row_at, set_row}
+use Rattle.pim_types.specs.Keys.{group_in, iface_in, is_on, is_star, rpt_key, same_key, source_in, source_key, star_key}
+use Rattle.pim_model.specs.Unicast.{is_rp, rp_of}
 
 abbrev pub holdtime_forever : ℕ
 holdtime_forever = 0xFFFF
@@ -39,7 +40,7 @@ Named = ℕ × Entry
 
 -- groups of 224.0.0.0/24 are skipped, and of an SSM group all entries but those of (S,G)
 abbrev pub is_used : Named → Bool
-is_used n = not (is_link_local n.0) && (not (is_ssm n.0) || is_kind (n.1).kind EntryKind.Source)
+is_used n = not (is_link_local n.0) && (not (is_source_specific n.0) || is_kind (n.1).kind EntryKind.Source)
 
 -- a Join(*,G) counts where it names RP(G)
 unfoldable pub is_accepted : State → Named → Bool
@@ -67,8 +68,15 @@ key_by i g address EntryKind.SourceRpt = rpt_key i g address
 abbrev pub named_key : ℕ → Named → Key
 named_key i n = key_by i n.0 (n.1).address.bits (n.1).kind
 
-abbrev pub names_key : ℕ → Key → List Named → Bool
-names_key i k ns = list_any (λ n. same_key k (named_key i n)) ns
+-- the keys that a message names, in its order: those that it joins, and those that it prunes
+unfoldable pub joined_keys : State → ℕ → JoinPrune → List Key
+joined_keys s i m = map (named_key i) (accepted_joins s m)
+
+unfoldable pub pruned_keys : ℕ → JoinPrune → List Key
+pruned_keys i m = map (named_key i) (accepted_prunes m)
+
+unfoldable pub is_named : List Key → Key → Bool
+is_named keys k = list_any (same_key k) keys
 
 -- the end of a Prune-Pending that starts now; none with at most one neighbour on the interface
 unfoldable pub prune_pending_end : State → ℕ → Option ℕ
@@ -97,42 +105,45 @@ pruned_rpt_row end zero pending None = None
 pruned_rpt_row end (suc n) pending None = Some (record { expiry = end; pending = pending })
 pruned_rpt_row end _ pending (Some r) = Some (record r { expiry = later_end r.expiry end })
 
--- the row of a key after the message
-unfoldable pub row_after : State → ℕ → JoinPrune → Key → Option DownstreamRow
-row_after s i m k =
+-- the row of a key after a message with these keys
+unfoldable pub row_after : State → ℕ → ℕ → List Key → List Key → Key → Option DownstreamRow
+row_after s i holdtime joined pruned k =
     let row : Option DownstreamRow = row_at s.downstream k in
-    let end : Option ℕ = holdtime_end s m.holdtime in
+    let end : Option ℕ = holdtime_end s holdtime in
     let pending : Option ℕ = prune_pending_end s i in
-    let is_joined : Bool = names_key i k (accepted_joins s m) in
-    let is_pruned : Bool = names_key i k (accepted_prunes m) in
-    let group_joined : Bool = names_key i (star_key i (group_in k)) (accepted_joins s m) in
+    let is_joined : Bool = is_named joined k in
+    let is_pruned : Bool = is_named pruned k in
+    let group_joined : Bool = is_named joined (star_key i (group_in k)) in
     if k.rpt
     then (let left : Option DownstreamRow = (if is_joined then None else row) in
-    if is_pruned then pruned_rpt_row end m.holdtime pending left
+    if is_pruned then pruned_rpt_row end holdtime pending left
     else (if group_joined then None else left))
-    else (let joined : Option DownstreamRow = (if is_joined then joined_row end m.holdtime row else row) in
-    if is_pruned then pruned_row pending joined else joined)
+    else (let after_join : Option DownstreamRow = (if is_joined then joined_row end holdtime row else row) in
+    if is_pruned then pruned_row pending after_join else after_join)
 
 -- the (S,G,rpt) rows of the joined groups
-unfoldable pub rpt_rows_joined : State → ℕ → JoinPrune → List Key
-rpt_rows_joined s i m =
-    filter (λ k. is_on i k && k.rpt && names_key i (star_key i (group_in k)) (accepted_joins s m)) (keys_in s.downstream)
+unfoldable pub rpt_rows_joined : State → ℕ → List Key → List Key
+rpt_rows_joined s i joined =
+    filter (λ k. is_on i k && k.rpt && is_named joined (star_key i (group_in k))) (keys_in s.downstream)
 
--- the keys that the message can change
-unfoldable pub touched_keys : State → ℕ → JoinPrune → List Key
-touched_keys s i m =
-    map (named_key i) (accepted_joins s m) ++ map (named_key i) (accepted_prunes m) ++ rpt_rows_joined s i m
+-- the keys whose rows the message can change
+unfoldable pub touched_keys : State → ℕ → List Key → List Key → List Key
+touched_keys s i joined pruned = joined ++ pruned ++ rpt_rows_joined s i joined
 
 -- a Join(S,G), or an accepted Join(*,G), ends the router's loser state there (RFC 7761, section 4.6)
-unfoldable pub asserts_after_joins : State → ℕ → JoinPrune → Table AssertRow
-asserts_after_joins s i m =
-    filter (λ e. not (is_loser (Some e.1) && names_key i e.0 (accepted_joins s m))) s.asserts
+unfoldable pub asserts_after_joins : State → List Key → Table AssertRow
+asserts_after_joins s joined = filter (λ e. not (is_loser (Some e.1) && is_named joined e.0)) s.asserts
+
+-- a message with these keys, each of which asks the whole message
+unfoldable pub keys_taken : State → ℕ → ℕ → List Key → List Key → State
+keys_taken s i holdtime joined pruned = record s {
+  downstream =
+      fold (λ t k. set_row t k (row_after s i holdtime joined pruned k)) s.downstream (touched_keys s i joined pruned);
+  asserts = asserts_after_joins s joined;
+}
 
 unfoldable pub to_me : State → ℕ → JoinPrune → State
-to_me s i m = record s {
-  downstream = fold (λ t k. set_row t k (row_after s i m k)) s.downstream (touched_keys s i m);
-  asserts = asserts_after_joins s i m;
-}
+to_me s i m = keys_taken s i m.holdtime (joined_keys s i m) (pruned_keys i m)
 
 -- ---- the ends of a row
 

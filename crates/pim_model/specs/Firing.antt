@@ -18,7 +18,8 @@ use Rattle.pim_model.specs.Querier.{general_query_due, group_record_due, group_r
 use Rattle.pim_model.specs.Registers.{register_due}
 use Rattle.pim_model.specs.Repeat.{until_none}
 use Rattle.pim_model.specs.State.{State}
-use Rattle.pim_model.specs.Tables.{Table, change_row, group_in, iface_in, row_at, source_in}
+use Rattle.pim_model.specs.Tables.{Table, change_row, row_at}
+use Rattle.pim_types.specs.Keys.{group_in, iface_in, source_in}
 use Rattle.pim_model.specs.Timers.{Ending, next_due, timers}
 use Rattle.pim_model.specs.Upstream.{join_timer_due, override_timer_due, upstream}
 use Rattle.pim_model.specs.Writing.{write_all}

@@ -8,7 +8,8 @@ use Rattle.pim_model.specs.Messages.{Message}
 use Rattle.pim_model.specs.Registers.{is_spt_wanted, settle_register, with_keepalive}
 use Rattle.pim_model.specs.Sets.{Set, assert_source, inherited_olist, inherited_olist_rpt, is_empty, is_loser, pim_exclude, pim_include, pim_include_star, spt_bit, tunnel, ◌∖◌, ◌∪◌}
 use Rattle.pim_model.specs.State.{State}
-use Rattle.pim_model.specs.Tables.{same_hop, same_option, source_key, star_key}
+use Rattle.pim_model.specs.Tables.{same_hop, same_option}
+use Rattle.pim_types.specs.Keys.{source_key, star_key}
 use Rattle.pim_model.specs.Unicast.{is_connected, is_rp, is_rpf_interface, is_rpf_interface_rp, rpf_interface, rpf_interface_rp}
 
 -- the list of outgoing interfaces of a packet, with the tunnel, and the messages on the way

@@ -1,4 +1,4 @@
--- Hellos (RFC 7761, sections 4.3.1 and 4.3.4).
+-- Hellos (RFC 7761, section 4.3.1).
 use Rattle.std.specs.Prelude.{Bool, List, None, Option, Some, [], false, filter, if◌then◌else◌, map, min, not, option_and_then, true, unwrap_or, ℕ, ◌&&◌, ◌+◌, ◌==◌, ◌||◌, ◌∷◌}
 use Rattle.pim_types.specs.declared.fact.AssertRow.{AssertRow}
 use Rattle.pim_types.specs.declared.fact.InterfaceRow.{InterfaceRow}
@@ -8,12 +8,13 @@ use Rattle.pim_types.specs.declared.fact.NeighbourRow.{NeighbourRow}
 use Rattle.pim_types.specs.declared.path.Hop.{Hop}
 use Rattle.pim_wire.specs.declared.hello.Hello.{Hello as HelloValue}
 use Rattle.pim_model.specs.Desires.{rpf_source, rpf_star}
-use Rattle.pim_model.specs.Downstream.{holdtime_end, holdtime_end_from}
+use Rattle.pim_model.specs.Downstream.{holdtime_end_from}
 use Rattle.pim_model.specs.Messages.{Message}
 use Rattle.pim_model.specs.Neighbours.{is_neighbour, t_override}
 use Rattle.pim_model.specs.Sets.{is_loser}
 use Rattle.pim_model.specs.State.{State}
-use Rattle.pim_model.specs.Tables.{change_row, delay_in, drop_at, group_in, hop_at, iface_in, is_on, is_star, neighbour_key, row_at, same_hop, set_row, source_in, Table}
+use Rattle.pim_model.specs.Tables.{change_row, delay_in, drop_at, hop_at, row_at, same_hop, set_row, Table}
+use Rattle.pim_types.specs.Keys.{group_in, iface_in, is_on, is_star, neighbour_key, source_in}
 
 -- the holdtime of a Hello without the option, in seconds: Default_Hello_Holdtime
 abbrev pub default_holdtime : ℕ
@@ -28,9 +29,6 @@ triggered_hello_delay = 5000
 
 abbrev pub hello_holdtime_of : HelloValue → ℕ
 hello_holdtime_of h = unwrap_or h.holdtime default_holdtime
-
-abbrev pub neighbour_row : State → ℕ → ℕ → Option NeighbourRow
-neighbour_row s i address = row_at s.neighbours (neighbour_key i address)
 
 -- both generation IDs are known and differ
 abbrev pub is_other_generation : Option ℕ → Option ℕ → Bool

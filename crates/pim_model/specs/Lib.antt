@@ -22,11 +22,10 @@ pub mod Clearing
 pub mod Timers
 pub mod Firing
 pub mod Limits
+pub mod Judging
+pub mod Full
 pub mod Step
 pub mod Built
 pub mod Sure
 pub mod Printed
 pub mod Network
-pub mod Laws
-pub mod Transcript
-pub mod Examples

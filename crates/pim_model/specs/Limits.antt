@@ -1,6 +1,6 @@
--- The limit on counted facts, and the configurations, routes and RP ranges that are accepted.
+-- The configurations, routes and RP ranges that are accepted.
 use Rattle.std.specs.List.{list_all, list_any}
-use Rattle.std.specs.Prelude.{Bool, List, Result, [], filter, flat_map, fold, if◌then◌else◌, length, map, nat_le, nat_lt, not, true, ℕ, ◌&&◌, ◌*◌, ◌++◌, ◌+◌, ◌==◌, ◌||◌, ◌∷◌}
+use Rattle.std.specs.Prelude.{Bool, List, Result, [], length, map, nat_le, nat_lt, not, true, ℕ, ◌&&◌, ◌*◌, ◌==◌, ◌||◌, ◌∷◌}
 use Rattle.pim_ip.specs.declared.addr.Prefix.{Prefix}
 use Rattle.pim_ip.specs.declared.refusal.Refusal.{Refusal}
 use Rattle.pim_ip.specs.Ipv4.{is_multicast, is_unicast}
@@ -10,74 +10,8 @@ use Rattle.pim_types.specs.declared.config.Config.{Config}
 use Rattle.pim_types.specs.declared.config.InterfaceConfig.{InterfaceConfig}
 use Rattle.pim_types.specs.declared.config.Route.{Route}
 use Rattle.pim_types.specs.declared.config.RpRange.{RpRange}
-use Rattle.pim_types.specs.declared.fact.Key.{Key}
-use Rattle.pim_wire.specs.Values.{JoinPrune}
-use Rattle.pim_wire.specs.declared.assert.Assert.{Assert as AssertMessage}
-use Rattle.pim_wire.specs.declared.join_prune.EntryKind.{EntryKind}
-use Rattle.igmp_wire.specs.Values.{Record}
-use Rattle.pim_model.specs.AssertMacros.{is_infinite}
-use Rattle.pim_model.specs.Asserts.{theirs_of}
-use Rattle.pim_model.specs.Downstream.{accepted_joins, accepted_prunes, is_kind, named_key}
-use Rattle.pim_model.specs.Neighbours.{is_neighbour, neighbour_count}
-use Rattle.pim_model.specs.Querier.{is_skipped}
-use Rattle.pim_model.specs.State.{State, is_own_among}
-use Rattle.pim_model.specs.Tables.{Table, has_row, same_key, source_key, star_key}
+use Rattle.pim_model.specs.State.{is_own_among}
 use Rattle.pim_model.specs.Unicast.{subnet}
-
--- the facts that count
-unfoldable pub counted : State → ℕ
-counted s =
-    length s.neighbours + length s.group_records + length s.source_records
-    + length s.downstream + length s.asserts + length s.sources
-
-abbrev pub names_one_of : List Key → Key → Bool
-names_one_of ks k = list_any (same_key k) ks
-
-unfoldable pub distinct : List Key → List Key
-distinct ks = fold (λ found k. if names_one_of found k then found else k ∷ found) [] ks
-
--- how many of the named keys have no row yet
-unfoldable pub needed : {R : Type 0} → Table R → List Key → ℕ
-needed t ks = length (filter (λ k. not (has_row t k)) (distinct ks))
-
--- so many more facts would pass the limit
-unfoldable pub is_full : State → ℕ → Bool
-is_full s more = not (more == 0) && nat_lt s.config.limit (counted s + more)
-
--- the most neighbours of an interface
-abbrev pub most_neighbours : ℕ
-most_neighbours = 64
-
-unfoldable pub hello_is_full : State → ℕ → ℕ → ℕ → Bool
-hello_is_full s i address holdtime =
-    not (holdtime == 0) && not (is_neighbour s i address)
-    && (nat_le most_neighbours (neighbour_count s i) || is_full s 1)
-
--- the keys that a Join/Prune to the router may make: its joins of (*,G) and (S,G), its prunes of (S,G,rpt)
-unfoldable pub join_prune_keys : State → ℕ → JoinPrune → List Key
-join_prune_keys s i m =
-    map (named_key i) (filter (λ n. not (is_kind (n.1).kind EntryKind.SourceRpt)) (accepted_joins s m))
-    ++ map (named_key i) (filter (λ n. is_kind (n.1).kind EntryKind.SourceRpt) (accepted_prunes m))
-
-unfoldable pub join_prune_is_full : State → ℕ → JoinPrune → Bool
-join_prune_is_full s i m =
-    not (m.holdtime == 0) && is_full s (needed s.downstream (join_prune_keys s i m))
-
-unfoldable pub report_is_full : State → ℕ → List Record → Bool
-report_is_full s i records =
-    let used : List Record = filter (λ r. not (is_skipped r)) records in
-    let groups : List Key = map (λ (r : Record). star_key i r.group) used in
-    let sources : List Key = flat_map (λ (r : Record). map (source_key i r.group) r.sources) used in
-    is_full s (needed s.group_records groups + needed s.source_records sources)
-
-unfoldable pub assert_is_full : State → ℕ → AssertMessage → Bool
-assert_is_full s i a =
-    let source_keys : List Key = (if a.source.bits == 0 then [] else source_key i a.group.bits a.source.bits ∷ []) in
-    let star_keys : List Key = (if a.rpt then star_key i a.group.bits ∷ [] else []) in
-    not (is_infinite (theirs_of a 0)) && is_full s (needed s.asserts (source_keys ++ star_keys))
-
-unfoldable pub source_is_full : State → ℕ → ℕ → Bool
-source_is_full s g src = is_full s (needed s.sources (source_key 0 g src ∷ []))
 
 -- ---- routes and RP ranges
 

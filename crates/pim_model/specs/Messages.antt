@@ -1,7 +1,7 @@
 -- What the machines send, as data. It becomes packets in one last pass.
 use Rattle.std.specs.Prelude.{List, ℕ}
 use Rattle.pim_types.specs.declared.fact.AssertMetric.{AssertMetric}
-use Rattle.pim_wire.specs.Encoded.{addr}
+use Rattle.pim_ip.specs.Addr.{addr}
 use Rattle.pim_wire.specs.declared.join_prune.Entry.{Entry}
 use Rattle.pim_wire.specs.declared.join_prune.EntryKind.{EntryKind}
 use Rattle.igmp_wire.specs.Values.{Query as QueryValue}

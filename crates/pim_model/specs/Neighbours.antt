@@ -1,14 +1,15 @@
 -- What the router knows of its PIM neighbours (RFC 7761, section 4.3).
 use Rattle.std.specs.List.{list_all, list_any}
 use Rattle.std.specs.Option.{option_map_or}
-use Rattle.std.specs.Prelude.{Bool, None, Option, Some, false, filter, fold, if◌then◌else◌, is_some, length, max, nat_lt, not, unwrap_or, ℕ, ◌&&◌, ◌+◌, ◌==◌}
+use Rattle.std.specs.Prelude.{Bool, None, Option, Some, false, fold, if◌then◌else◌, is_some, length, max, nat_lt, not, unwrap_or, ℕ, ◌&&◌, ◌+◌, ◌==◌}
 use Rattle.pim_types.specs.declared.fact.Key.{Key}
 use Rattle.pim_types.specs.declared.fact.LanDelay.{LanDelay}
 use Rattle.pim_types.specs.declared.fact.NeighbourRow.{NeighbourRow}
 use Rattle.pim_types.specs.declared.path.Hop.{Hop}
 use Rattle.pim_types.specs.declared.path.Path.{Path}
 use Rattle.pim_model.specs.State.{State, my_address, my_override_interval, my_priority, my_propagation_delay}
-use Rattle.pim_model.specs.Tables.{Table, delay_in, has_row, is_on, neighbour_key, source_in, rows_on}
+use Rattle.pim_model.specs.Tables.{Table, delay_in, has_row, rows_on}
+use Rattle.pim_types.specs.Keys.{neighbour_key, source_in}
 
 abbrev pub is_neighbour : State → ℕ → ℕ → Bool
 is_neighbour s i address = has_row s.neighbours (neighbour_key i address)
@@ -26,6 +27,7 @@ nbr_among rows (Some p) =
     if has_row rows (neighbour_key p.iface.number p.next_hop.bits)
     then Some (record { iface = p.iface; address = p.next_hop }) else None
 
+-- reads: the neighbour row of the next hop
 unfoldable pub nbr : State → Option Path → Option Hop
 nbr s path = nbr_among s.neighbours path
 
@@ -43,6 +45,7 @@ unfoldable pub is_dr_among : ℕ → ℕ → Table NeighbourRow → Bool
 is_dr_among priority address rows = not (list_any (is_better_dr (all_have_priority rows) priority address) rows)
 
 -- I_am_DR(I)
+-- reads: the interface's configuration, the neighbour rows on it
 unfoldable pub is_dr : State → ℕ → Bool
 is_dr s i = is_dr_among (my_priority s i) (my_address s i) (neighbours_on s i)
 
@@ -70,12 +73,15 @@ propagation_delay_among mine rows = effective_delay (λ d. d.propagation_delay) 
 unfoldable pub override_interval_among : ℕ → Table NeighbourRow → ℕ
 override_interval_among mine rows = effective_delay (λ d. d.override_interval) default_override_interval mine rows
 
+-- reads: the interface's configuration, the neighbour rows on it
 unfoldable pub effective_propagation_delay : State → ℕ → ℕ
 effective_propagation_delay s i = propagation_delay_among (my_propagation_delay s i) (neighbours_on s i)
 
+-- reads: the interface's configuration, the neighbour rows on it
 unfoldable pub effective_override_interval : State → ℕ → ℕ
 effective_override_interval s i = override_interval_among (my_override_interval s i) (neighbours_on s i)
 
+-- reads: the interface's configuration, the neighbour rows on it
 unfoldable pub join_prune_override_interval : State → ℕ → ℕ
 join_prune_override_interval s i = effective_propagation_delay s i + effective_override_interval s i
 
@@ -84,6 +90,7 @@ unfoldable pub is_suppression_among : Table NeighbourRow → Bool
 is_suppression_among rows =
     not (list_all (λ e. option_map_or (λ (d : LanDelay). d.can_track) (e.1).lan_delay false) rows)
 
+-- reads: the neighbour rows on the interface
 unfoldable pub is_suppression_on : State → ℕ → Bool
 is_suppression_on s i = is_suppression_among (neighbours_on s i)
 
@@ -91,11 +98,13 @@ is_suppression_on s i = is_suppression_among (neighbours_on s i)
 unfoldable pub t_override_among : ℕ → Table NeighbourRow → ℕ → ℕ
 t_override_among mine rows w = delay_in 1 (max 1 (override_interval_among mine rows)) w
 
+-- reads: the interface's configuration, the neighbour rows on it
 unfoldable pub t_override : State → ℕ → ℕ → ℕ
 t_override s i w = t_override_among (my_override_interval s i) (neighbours_on s i) w
 
 unfoldable pub t_suppressed_among : Table NeighbourRow → ℕ → ℕ
 t_suppressed_among rows w = if is_suppression_among rows then delay_in 66000 84000 w else 0
 
+-- reads: the neighbour rows on the interface
 unfoldable pub t_suppressed : State → ℕ → ℕ → ℕ
 t_suppressed s i w = t_suppressed_among (neighbours_on s i) w

@@ -14,11 +14,12 @@ use Rattle.pim_types.specs.declared.table.DownstreamState.{DownstreamState}
 use Rattle.pim_types.specs.declared.table.RegisterName.{RegisterName}
 use Rattle.pim_types.specs.declared.table.Row.{Row}
 use Rattle.pim_types.specs.declared.table.Table.{Table as PrintedTable}
-use Rattle.pim_wire.specs.Encoded.{addr}
-use Rattle.pim_model.specs.Desires.{NotJoined, NotPruned, Pruned, TreeState, tree_state}
+use Rattle.pim_ip.specs.Addr.{addr}
+use Rattle.pim_model.specs.Desires.{tree_state}
+use Rattle.pim_types.specs.declared.upstream.TreeState.{TreeState}
 use Rattle.pim_model.specs.Sets.{register_state}
 use Rattle.pim_model.specs.State.{State}
-use Rattle.pim_model.specs.Tables.{group_in, source_in}
+use Rattle.pim_types.specs.Keys.{group_in, source_in}
 use Rattle.pim_model.specs.Upstream.{fact_keys, groups_of, sources_of}
 
 abbrev pub number : ℕ → IfaceId
@@ -54,18 +55,18 @@ upstream_line e = Row.Upstream (e.0).group (e.0).source (e.1).end
 
 -- the (S,G,rpt) states of the sources with a fact, where the group is joined
 abbrev pub tree_line : ℕ → ℕ → TreeState → List Row
-tree_line g src NotJoined = []
-tree_line g src Pruned = Row.Tree (addr g) (addr src) true ∷ []
-tree_line g src NotPruned = Row.Tree (addr g) (addr src) false ∷ []
+tree_line g src TreeState.NotJoined = []
+tree_line g src TreeState.Pruned = Row.Tree (addr g) (addr src) true ∷ []
+tree_line g src TreeState.NotPruned = Row.Tree (addr g) (addr src) false ∷ []
 
 unfoldable pub tree_lines : State → List Row
 tree_lines s =
     let keys : List Key = fact_keys s in
     flat_map (λ g. flat_map (λ src. tree_line g src (tree_state s g src)) (sources_of g keys)) (groups_of keys)
 
-unfoldable pub sending_line : State → Key × SourceRow → Row
-sending_line s e =
-    Row.Sending (e.0).group (addr (source_in e.0)) (e.1).keepalive (e.1).spt
+unfoldable pub active_line : State → Key × SourceRow → Row
+active_line s e =
+    Row.Active (e.0).group (addr (source_in e.0)) (e.1).keepalive (e.1).spt
     (option_map register_name (register_state s (group_in e.0) (source_in e.0)))
 
 -- the rows of a table, ascending by their keys
@@ -77,10 +78,10 @@ rows s PrintedTable.Downstream = map downstream_line s.downstream
 rows s PrintedTable.Asserts = map assert_line s.asserts
 rows s PrintedTable.Upstream = map upstream_line s.join_timers
 rows s PrintedTable.Trees = tree_lines s
-rows s PrintedTable.Sending = map (sending_line s) s.sources
+rows s PrintedTable.Active = map (active_line s) s.sources
 
 -- all rows, table by table
 unfoldable pub all_rows : State → List Row
 all_rows s =
     rows s PrintedTable.Neighbours ++ rows s PrintedTable.Groups ++ rows s PrintedTable.Sources ++ rows s PrintedTable.Downstream
-    ++ rows s PrintedTable.Asserts ++ rows s PrintedTable.Upstream ++ rows s PrintedTable.Trees ++ rows s PrintedTable.Sending
+    ++ rows s PrintedTable.Asserts ++ rows s PrintedTable.Upstream ++ rows s PrintedTable.Trees ++ rows s PrintedTable.Active

@@ -15,30 +15,28 @@ use Rattle.igmp_wire.specs.Values.{Query as QueryValue, Record}
 use Rattle.igmp_wire.specs.declared.report.RecordType.{RecordType}
 use Rattle.pim_model.specs.Messages.{Message}
 use Rattle.pim_model.specs.Records.{AskGroup, AskSources, Asked, GroupRecord, apply_record, group_expired, is_at_group, record_of, source_expired, with_members, with_record}
-use Rattle.pim_model.specs.State.{State, configured, my_address}
-use Rattle.pim_model.specs.Tables.{Table, change_row, drop_where, iface_key, is_among, is_empty_list, is_on, put, row_at, same_key, set_row, source_in, source_key, star_key}
-use Rattle.pim_model.specs.Unicast.{is_ssm}
-
-abbrev pub configured_robustness : State → ℕ
-configured_robustness s = s.config.robustness
+use Rattle.pim_model.specs.State.{State, my_address}
+use Rattle.pim_model.specs.Tables.{Table, change_row, drop_where, is_among, is_empty_list, put, row_at, set_row}
+use Rattle.pim_types.specs.Keys.{iface_key, is_on, same_key, source_in, source_key, star_key}
+use Rattle.pim_ip.specs.Ipv4.{is_source_specific}
 
 abbrev pub querier_on : State → ℕ → Option QuerierRow
 querier_on s i = row_at s.queriers (iface_key i)
 
 -- [Robustness Variable] and [Query Interval] in force: adopted from the querier where another one is
 unfoldable pub robustness : State → ℕ → ℕ
-robustness s i = option_map_or (λ (q : QuerierRow). q.robustness) (querier_on s i) s.config.robustness
+robustness s i = option_map_or (λ (q : QuerierRow). q.robustness) (querier_on s i) s.settings.robustness
 
 unfoldable pub query_interval : State → ℕ → ℕ
 query_interval s i =
-    1000 * option_map_or (λ (q : QuerierRow). q.query_interval) (querier_on s i) s.config.query_interval
+    1000 * option_map_or (λ (q : QuerierRow). q.query_interval) (querier_on s i) s.settings.query_interval
 
 -- [Query Response Interval] and [Last Member Query Interval], always the configured ones
 abbrev pub query_response_interval : State → ℕ
-query_response_interval s = 100 * s.config.query_response_interval
+query_response_interval s = 100 * s.settings.query_response_interval
 
 abbrev pub last_member_query_interval : State → ℕ
-last_member_query_interval s = 100 * s.config.last_member_query_interval
+last_member_query_interval s = 100 * s.settings.last_member_query_interval
 
 -- [Group Membership Interval]
 unfoldable pub group_membership_interval : State → ℕ → ℕ
@@ -76,10 +74,10 @@ query_sent s i response_tenths group suppress sources = Message.Query i (record 
 })
 
 abbrev pub general_query : State → ℕ → Message
-general_query s i = query_sent s i s.config.query_response_interval 0 false []
+general_query s i = query_sent s i s.settings.query_response_interval 0 false []
 
 abbrev pub specific_query : State → ℕ → ℕ → Bool → List ℕ → Message
-specific_query s i g suppress sources = query_sent s i s.config.last_member_query_interval g suppress sources
+specific_query s i g suppress sources = query_sent s i s.settings.last_member_query_interval g suppress sources
 
 -- ---- election
 
@@ -87,8 +85,8 @@ specific_query s i g suppress sources = query_sent s i s.config.last_member_quer
 unfoldable pub querier_row : State → ℕ → ℕ → QuerierRow
 querier_row s next left = record {
   role = QuerierRole.Querier next left;
-  robustness = s.config.robustness;
-  query_interval = s.config.query_interval;
+  robustness = s.settings.robustness;
+  query_interval = s.settings.query_interval;
 }
 
 unfoldable pub querying : State → ℕ → ℕ → ℕ → State
@@ -103,7 +101,7 @@ querying_on s i next left =
 unfoldable pub querier_up : State → ℕ → State × List Message
 querier_up s i =
     let started : State = querying s i 0 0 in
-    let after : State = querying s i (s.present + startup_query_interval started i) (s.config.robustness - 1) in
+    let after : State = querying s i (s.present + startup_query_interval started i) (s.settings.robustness - 1) in
     (after, general_query after i ∷ [])
 
 -- the general query timer's end
@@ -129,8 +127,8 @@ unfoldable pub querier_elected : State → ℕ → ℕ → ℕ → State
 querier_elected s i qrv qqi =
     let row : ℕ → QuerierRow = λ end. record {
       role = QuerierRole.NonQuerier end;
-      robustness = given_or qrv s.config.robustness;
-      query_interval = given_or qqi s.config.query_interval;
+      robustness = given_or qrv s.settings.robustness;
+      query_interval = given_or qqi s.settings.query_interval;
     } in
     let adopted : State = record s { queriers = put s.queriers (iface_key i) (row 0) } in
     record s {
@@ -277,7 +275,7 @@ is_excluding RecordType.ToExclude = true
 is_excluding _ = false
 
 abbrev pub is_skipped : Record → Bool
-is_skipped r = is_ssm r.group && is_excluding r.type
+is_skipped r = is_source_specific r.group && is_excluding r.type
 
 unfoldable pub record_seen : ℕ → State → Record → State × List Message
 record_seen i s r =

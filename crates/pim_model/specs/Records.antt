@@ -1,4 +1,4 @@
--- One IGMPv3 group record (RFC 3376, section 6.4): tables of source-list and filter-mode changes as
+-- One IGMPv3 group record (RFC 3376, section 6): tables of source-list and filter-mode changes as
 -- equations between sets, for each source by itself.
 use Rattle.std.specs.List.{list_any}
 use Rattle.std.specs.Option.{option_map_or}
@@ -10,7 +10,8 @@ use Rattle.pim_types.specs.declared.fact.SourceRecordRow.{SourceRecordRow}
 use Rattle.igmp_wire.specs.declared.report.RecordType.{RecordType}
 use Rattle.pim_model.specs.Sets.{Set}
 use Rattle.pim_model.specs.State.{State}
-use Rattle.pim_model.specs.Tables.{Table, ascending, drop_at, drop_where, has_row, is_among, is_empty_list, is_of_group, is_on, put, row_at, source_in, source_key, star_key}
+use Rattle.pim_model.specs.Tables.{Table, ascending, drop_at, drop_where, has_row, is_among, is_empty_list, put, row_at}
+use Rattle.pim_types.specs.Keys.{is_of_group, is_on, source_in, source_key, star_key}
 
 -- a source of a record: with an end its timer runs, without one it is excluded
 abbrev pub Member : Type 0

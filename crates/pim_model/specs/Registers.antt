@@ -6,12 +6,27 @@ use Rattle.pim_types.specs.declared.fact.Key.{Key}
 use Rattle.pim_types.specs.declared.fact.RegisterRow.{RegisterRow}
 use Rattle.pim_types.specs.declared.fact.RegisterState.{RegisterState}
 use Rattle.pim_types.specs.declared.path.Path.{Path}
+use Rattle.pim_wire.specs.Values.{Encapsulated, Null, Register}
 use Rattle.pim_model.specs.Messages.{Message}
 use Rattle.pim_model.specs.Neighbours.{is_dr}
 use Rattle.pim_model.specs.Sets.{is_kept_alive, spt_bit}
 use Rattle.pim_model.specs.State.{State, is_own, my_address}
-use Rattle.pim_model.specs.Tables.{Table, change_row, delay_in, drop_at, group_in, has_row, keys_in, put, same_option, source_in, source_key}
+use Rattle.pim_model.specs.Tables.{Table, change_row, delay_in, drop_at, has_row, keys_in, put, same_option}
+use Rattle.pim_types.specs.Keys.{group_in, source_in, source_key}
 use Rattle.pim_model.specs.Unicast.{route, rp_of, rpf_interface}
+
+-- what a Register names
+abbrev pub registered_group : Register → ℕ
+registered_group (Encapsulated inner) = inner.destination
+registered_group (Null source group) = group
+
+abbrev pub registered_source : Register → ℕ
+registered_source (Encapsulated inner) = inner.source
+registered_source (Null source group) = source
+
+abbrev pub is_null : Register → Bool
+is_null (Encapsulated inner) = false
+is_null (Null source group) = true
 
 -- Keepalive_Period, which also serves at the RP: max(210 s, 185 s), in ms
 abbrev pub keepalive_period : ℕ
@@ -37,6 +52,7 @@ abbrev pub is_dr_of_path : State → Path → Bool
 is_dr_of_path s p = p.is_connected && is_dr s p.iface.number
 
 -- CouldRegister(S,G): the source's DR, while the source sends
+-- reads: the route to S, I_am_DR of its interface, the source row of (S,G), the RP ranges, the own addresses
 unfoldable pub could_register : State → ℕ → ℕ → Bool
 could_register s g src =
     option_map_or (is_dr_of_path s) (route s src) false && is_kept_alive s g src && has_other_rp s g
@@ -56,20 +72,20 @@ unfoldable pub settle_registers : State → State
 settle_registers s =
     record s { registers = fold (λ t k. settled_register s k t) s.registers (keys_in s.sources ++ keys_in s.registers) }
 
--- a Register-Stop in Join or Join-Pending; source 0.0.0.0 means all sources of the group
-abbrev pub is_stopped : ℕ → ℕ → Key × RegisterRow → Bool
-is_stopped g src e = (group_in e.0 == g) && ((src == 0) || (source_in e.0 == src))
+-- whom a Register-Stop means, in Join or Join-Pending; source 0.0.0.0 means all sources of the group
+abbrev pub is_meant : ℕ → ℕ → Key × RegisterRow → Bool
+is_meant g src e = (group_in e.0 == g) && ((src == 0) || (source_in e.0 == src))
 
-abbrev pub stopped_state : ℕ → RegisterState → RegisterState
-stopped_state end (RegisterState.Prune old) = RegisterState.Prune old
-stopped_state end _ = RegisterState.Prune end
+abbrev pub state_after_stop : ℕ → RegisterState → RegisterState
+state_after_stop end (RegisterState.Prune old) = RegisterState.Prune old
+state_after_stop end _ = RegisterState.Prune end
 
 unfoldable pub register_stop_seen : State → ℕ → ℕ → ℕ → State
 register_stop_seen s w g src =
     let end : ℕ = s.present + delay_in 25000 85000 w in
     record s {
       registers = map (λ (e : Key × RegisterRow).
-          if is_stopped g src e then (e.0, record { state = stopped_state end (e.1).state }) else e) s.registers;
+          if is_meant g src e then (e.0, record { state = state_after_stop end (e.1).state }) else e) s.registers;
     }
 
 -- the source of a Register is the address of RPF_interface(S)
@@ -97,4 +113,4 @@ registers_after_rps before after =
 
 -- SwitchToSptDesired(S,G)
 abbrev pub is_spt_wanted : State → Bool
-is_spt_wanted s = elim (s.config.spt) [ SptSwitch.Always ↦ true | SptSwitch.Never ↦ false ]
+is_spt_wanted s = elim (s.settings.spt) [ SptSwitch.Always ↦ true | SptSwitch.Never ↦ false ]

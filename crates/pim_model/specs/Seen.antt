@@ -1,4 +1,4 @@
--- A Join/Prune between other routers (RFC 7761, sections 4.5.4 to 4.5.6), judged by the desires and the
+-- A Join/Prune between other routers (RFC 7761, sections 4.5.4, 4.5.5 and 4.5.7), judged by the desires and the
 -- upstream neighbours that it finds.
 use Rattle.std.specs.Option.{option_map_or}
 use Rattle.std.specs.Prelude.{Bool, List, None, Option, Some, false, filter, fold, if◌then◌else◌, map, max, min, not, ℕ, ◌&&◌, ◌*◌, ◌+◌}
@@ -8,11 +8,13 @@ use Rattle.pim_types.specs.declared.fact.OverrideTimerRow.{OverrideTimerRow}
 use Rattle.pim_types.specs.declared.path.Hop.{Hop}
 use Rattle.pim_wire.specs.Values.{JoinPrune}
 use Rattle.pim_wire.specs.declared.join_prune.EntryKind.{EntryKind}
-use Rattle.pim_model.specs.Desires.{NotJoined, NotPruned, Pruned, rpf_rpt, rpf_source, rpf_star, tree_state}
+use Rattle.pim_model.specs.Desires.{rpf_rpt, rpf_source, rpf_star, tree_state}
+use Rattle.pim_types.specs.declared.upstream.TreeState.{TreeState}
 use Rattle.pim_model.specs.Downstream.{Named, accepted_joins, accepted_prunes, is_kind}
 use Rattle.pim_model.specs.Neighbours.{t_override, t_suppressed}
 use Rattle.pim_model.specs.State.{State}
-use Rattle.pim_model.specs.Tables.{drop_at, hop_at, is_of_group, is_star, keys_in, put, row_at, rpt_key, same_hop, set_row, source_in, source_key, star_key}
+use Rattle.pim_model.specs.Tables.{drop_at, hop_at, keys_in, put, row_at, same_hop, set_row}
+use Rattle.pim_types.specs.Keys.{is_of_group, is_star, rpt_key, source_in, source_key, star_key}
 
 -- raised to an end that is later, and lowered to one that is earlier; no timer never ends
 abbrev pub raised_row : ℕ → Option JoinTimerRow → Option JoinTimerRow
@@ -48,9 +50,9 @@ override_end s i w = s.present + t_override s i w
 unfoldable pub is_unpruned_towards : State → Hop → ℕ → ℕ → Bool
 is_unpruned_towards o hop g src =
     elim (tree_state o g src) [
-      | NotPruned ↦ same_hop (rpf_rpt o g src) (Some hop)
-      | Pruned ↦ false
-      | NotJoined ↦ false
+      | TreeState.NotPruned ↦ same_hop (rpf_rpt o g src) (Some hop)
+      | TreeState.Pruned ↦ false
+      | TreeState.NotJoined ↦ false
     ]
 
 -- what an entry of a Join does: o is the state that the message finds

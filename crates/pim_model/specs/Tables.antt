@@ -3,71 +3,13 @@
 use Rattle.std.specs.BTreeMap.{insert_entry, is_at}
 use Rattle.std.specs.List.{list_any, range_with_len}
 use Rattle.std.specs.Map.{lookup}
-use Rattle.std.specs.Option.{option_cmp, option_map_or}
-use Rattle.std.specs.Ordering.{bool_cmp, is_eq, nat_cmp, ordering_then}
-use Rattle.std.specs.Prelude.{Bool, List, None, Option, Some, [], false, filter, filter_map, fold, if◌then◌else◌, is_none, is_some, map, max, nat_lt, not, option_map, true, ℕ, ◌%◌, ◌&&◌, ◌+◌, ◌-◌, ◌==◌, ◌∷◌}
-use Rattle.std.specs.declared.cmp.Ordering.{Ordering}
+use Rattle.std.specs.Prelude.{Bool, List, None, Option, Some, [], false, filter, filter_map, fold, if◌then◌else◌, is_some, map, max, nat_lt, not, option_map, true, ℕ, ◌%◌, ◌&&◌, ◌+◌, ◌-◌, ◌==◌, ◌∷◌}
 use Rattle.pim_ip.specs.declared.addr.Addr.{Addr}
+use Rattle.pim_types.specs.declared.config.IfaceId.{IfaceId}
 use Rattle.pim_types.specs.declared.fact.Key.{Key}
+use Rattle.pim_types.specs.Keys.{is_on, key_cmp, same_key}
 use Rattle.pim_types.specs.declared.path.Hop.{Hop}
-use Rattle.pim_wire.specs.Encoded.{addr}
-
--- by interface, group, (*,G) before its sources, source, (S,G) before (S,G,rpt)
-unfoldable pub addr_cmp : Addr → Addr → Ordering
-addr_cmp a b = nat_cmp a.bits b.bits
-
-unfoldable pub key_cmp : Key → Key → Ordering
-key_cmp a b =
-    ordering_then (nat_cmp a.iface.number b.iface.number)
-    (ordering_then (addr_cmp a.group b.group)
-    (ordering_then (option_cmp addr_cmp a.source b.source) (bool_cmp a.rpt b.rpt)))
-
-abbrev pub key_of : ℕ → ℕ → Option ℕ → Bool → Key
-key_of i g source rpt =
-    record { iface = record { number = i }; group = addr g; source = option_map addr source; rpt = rpt }
-
--- (*,G), (S,G) and (S,G,rpt) on an interface
-abbrev pub star_key : ℕ → ℕ → Key
-star_key i g = key_of i g None false
-
-abbrev pub source_key : ℕ → ℕ → ℕ → Key
-source_key i g src = key_of i g (Some src) false
-
-abbrev pub rpt_key : ℕ → ℕ → ℕ → Key
-rpt_key i g src = key_of i g (Some src) true
-
--- an interface, and a neighbour on it
-abbrev pub iface_key : ℕ → Key
-iface_key i = key_of i 0 None false
-
-abbrev pub neighbour_key : ℕ → ℕ → Key
-neighbour_key i address = key_of i 0 (Some address) false
-
-abbrev pub iface_in : Key → ℕ
-iface_in k = k.iface.number
-
-abbrev pub group_in : Key → ℕ
-group_in k = k.group.bits
-
--- the source, or 0 where there is none
-abbrev pub source_in : Key → ℕ
-source_in k = option_map_or (λ a. a.bits) k.source 0
-
-abbrev pub is_star : Key → Bool
-is_star k = is_none k.source
-
--- the key is about this source of this group, on whichever interface
-unfoldable pub names_source : ℕ → ℕ → Key → Bool
-names_source g src k = (group_in k == g) && is_some k.source && (source_in k == src)
-
-abbrev pub is_on : ℕ → Key → Bool
-is_on i k = iface_in k == i
-
-abbrev pub is_of_group : ℕ → Key → Bool
-is_of_group g k = group_in k == g
-
-abbrev pub same_key : Key → Key → Bool
-same_key k q = is_eq (key_cmp k q)
+use Rattle.pim_ip.specs.Addr.{addr}
 
 abbrev pub Table : Type 0 → Type 0
 Table R = List (Key × R)
@@ -152,6 +94,12 @@ same_hop None None = true
 same_hop None (Some h) = false
 same_hop (Some h) None = false
 same_hop (Some h) (Some k) = (h.iface.number == k.iface.number) && (h.address.bits == k.address.bits)
+
+abbrev pub same_address : Option Addr → Option Addr → Bool
+same_address a b = same_option (option_map (λ (x : Addr). x.bits) a) (option_map (λ (x : Addr). x.bits) b)
+
+abbrev pub same_iface : Option IfaceId → Option IfaceId → Bool
+same_iface a b = same_option (option_map (λ (x : IfaceId). x.number) a) (option_map (λ (x : IfaceId). x.number) b)
 
 -- the later of two ends, where `None` never ends
 abbrev pub later_end : Option ℕ → Option ℕ → Option ℕ

@@ -22,24 +22,8 @@ use Rattle.pim_types.specs.declared.timer.Timer.{Timer}
 use Rattle.pim_types.specs.declared.timer.TimerKind.{TimerKind}
 use Rattle.pim_model.specs.Clearing.{first_by}
 use Rattle.pim_model.specs.State.{State}
-use Rattle.pim_model.specs.Tables.{Table, key_cmp}
-
-abbrev pub rank : TimerKind → ℕ
-rank TimerKind.Neighbour = 1
-rank TimerKind.PrunePending = 2
-rank TimerKind.DownstreamExpiry = 3
-rank TimerKind.GroupRecord = 4
-rank TimerKind.SourceRecord = 5
-rank TimerKind.Assert = 6
-rank TimerKind.Keepalive = 7
-rank TimerKind.Register = 8
-rank TimerKind.Override = 9
-rank TimerKind.Join = 10
-rank TimerKind.OtherQuerier = 11
-rank TimerKind.GroupRepeat = 12
-rank TimerKind.SourceRepeat = 13
-rank TimerKind.GeneralQuery = 14
-rank TimerKind.Hello = 15
+use Rattle.pim_model.specs.Tables.{Table}
+use Rattle.pim_types.specs.Timers.{timer_cmp}
 
 pub record Ending : Type 0 where
   pub end : ℕ
@@ -87,8 +71,7 @@ timers s =
 -- by moment, rank and key
 unfoldable pub ending_cmp : Ending → Ending → Ordering
 ending_cmp a b =
-    ordering_then (nat_cmp a.end b.end)
-    (ordering_then (nat_cmp (rank a.timer.kind) (rank b.timer.kind)) (key_cmp a.timer.key b.timer.key))
+    ordering_then (nat_cmp a.end b.end) (timer_cmp a.timer b.timer)
 
 abbrev pub is_ending_first : Ending → Ending → Bool
 is_ending_first a b = is_lt (ending_cmp a b)

@@ -1,16 +1,18 @@
 -- Unicast routes and static RPs.
 use Rattle.std.specs.Option.{option_map_or}
-use Rattle.std.specs.Prelude.{Bool, None, Option, Some, false, find, if◌then◌else◌, option_and_then, option_map, true, ℕ, ◌&&◌, ◌/◌, ◌==◌, List, length, slice_get}
+use Rattle.std.specs.Prelude.{Bool, None, Option, Some, false, find, if◌then◌else◌, option_and_then, option_map, true, ℕ, ◌&&◌, List, length, slice_get}
 use Rattle.pim_ip.specs.declared.addr.Prefix.{Prefix}
+use Rattle.pim_ip.specs.Ipv4.{is_source_specific}
 use Rattle.pim_ip.specs.Prefixes.{contains, longest_match}
 use Rattle.pim_types.specs.declared.config.InterfaceConfig.{InterfaceConfig}
 use Rattle.pim_types.specs.declared.config.Route.{Route}
 use Rattle.pim_types.specs.declared.config.RpRange.{RpRange}
 use Rattle.pim_types.specs.declared.fact.InterfaceRow.{InterfaceRow}
 use Rattle.pim_types.specs.declared.path.Path.{Path}
-use Rattle.pim_wire.specs.Encoded.{addr}
-use Rattle.pim_model.specs.State.{State, iface_config, ifaces, is_own, is_up, is_own_among}
-use Rattle.pim_model.specs.Tables.{same_option, Table, has_row, below, iface_key}
+use Rattle.pim_ip.specs.Addr.{addr}
+use Rattle.pim_model.specs.State.{State, is_own_among}
+use Rattle.pim_model.specs.Tables.{same_option, Table, has_row, below}
+use Rattle.pim_types.specs.Keys.{iface_key}
 
 abbrev pub subnet : InterfaceConfig → Prefix
 subnet c = record { address = c.address; length = c.length }
@@ -62,19 +64,17 @@ route_among configured up routes address =
     if is_own_among configured address then None
     else option_map_or (λ i. Some (link_path address i)) over_link over_route
 
+-- reads: the configured interfaces, those that are up, the routes
 unfoldable pub route : State → ℕ → Option Path
-route s address = route_among s.config.interfaces s.interfaces s.routes address
-
--- source-specific multicast (RFC 7761, section 4.8): 232.0.0.0/8
-abbrev pub is_ssm : ℕ → Bool
-is_ssm g = g / 0x100_0000 == 232
+route s address = route_among s.configured s.interfaces s.routes address
 
 -- RP(G) (RFC 7761, section 4.7), from static ranges; an SSM group has none
 unfoldable pub rp_among : List RpRange → ℕ → Option ℕ
 rp_among ranges g =
-    if is_ssm g then None
+    if is_source_specific g then None
     else option_map (λ (r : RpRange). r.rp.bits) (longest_match (λ (r : RpRange). r.prefix) ranges g)
 
+-- reads: the RP ranges
 unfoldable pub rp_of : State → ℕ → Option ℕ
 rp_of s g = rp_among s.ranges g
 
@@ -82,13 +82,16 @@ abbrev pub is_rp : State → ℕ → ℕ → Bool
 is_rp s g address = same_option (rp_of s g) (Some address)
 
 -- the route to the RP of a group
+-- reads: the RP ranges, and the route to RP(G)
 unfoldable pub rp_route : State → ℕ → Option Path
 rp_route s g = option_and_then (route s) (rp_of s g)
 
 -- RPF_interface(S) and RPF_interface(RP(G)) (RFC 7761, section 4.1.6)
+-- reads: the route to the address
 unfoldable pub rpf_interface : State → ℕ → Option ℕ
 rpf_interface s address = option_map (λ (p : Path). p.iface.number) (route s address)
 
+-- reads: the RP ranges, and the route to RP(G)
 unfoldable pub rpf_interface_rp : State → ℕ → Option ℕ
 rpf_interface_rp s g = option_map (λ (p : Path). p.iface.number) (rp_route s g)
 
@@ -99,5 +102,6 @@ abbrev pub is_rpf_interface_rp : State → ℕ → ℕ → Bool
 is_rpf_interface_rp s g i = same_option (rpf_interface_rp s g) (Some i)
 
 -- the source is on a link of the router
+-- reads: the route to the source
 unfoldable pub is_connected : State → ℕ → Bool
 is_connected s src = option_map_or (λ (p : Path). p.is_connected) (route s src) false

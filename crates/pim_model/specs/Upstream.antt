@@ -1,4 +1,4 @@
--- The upstream machines (RFC 7761, sections 4.5.4 to 4.5.6). What is told upstream follows from the desires
+-- The upstream machines (RFC 7761, sections 4.5.4 to 4.5.7). What is told upstream follows from the desires
 -- and the upstream neighbours at the opening of an event, compared with those after it. The macros read
 -- the state after the event as it is before these timers move.
 use Rattle.std.specs.Option.{option_map_or}
@@ -6,17 +6,25 @@ use Rattle.std.specs.Prelude.{Bool, List, None, Option, Some, [], filter, if◌t
 use Rattle.pim_types.specs.declared.fact.JoinTimerRow.{JoinTimerRow}
 use Rattle.pim_types.specs.declared.fact.Key.{Key}
 use Rattle.pim_types.specs.declared.fact.OverrideTimerRow.{OverrideTimerRow}
+use Rattle.pim_types.specs.declared.config.IfaceId.{IfaceId}
 use Rattle.pim_types.specs.declared.path.Hop.{Hop}
+use Rattle.pim_types.specs.declared.path.Path.{Path}
+use Rattle.pim_types.specs.declared.upstream.SourceView.{SourceView}
+use Rattle.pim_types.specs.declared.upstream.StarView.{StarView}
+use Rattle.pim_ip.specs.Addr.{addr}
+use Rattle.pim_ip.specs.declared.addr.Addr.{Addr}
 use Rattle.pim_wire.specs.declared.join_prune.Entry.{Entry}
 use Rattle.pim_wire.specs.declared.join_prune.EntryKind.{EntryKind}
-use Rattle.pim_model.specs.Desires.{NotJoined, NotPruned, Pruned, TreeState, join_desired, join_desired_star, rpf_rpt, rpf_source, rpf_star, tree_state}
+use Rattle.pim_model.specs.Desires.{join_desired, join_desired_star, rpf_rpt, rpf_source, rpf_star, tree_state}
+use Rattle.pim_types.specs.declared.upstream.TreeState.{TreeState}
 use Rattle.pim_model.specs.Messages.{Message, entry}
 use Rattle.pim_model.specs.Neighbours.{is_neighbour, nbr, t_override}
 use Rattle.pim_model.specs.Querier.{each_in_turn}
 use Rattle.pim_model.specs.Sets.{inherited_olist_rpt, is_empty, joins, prunes, spt_bit}
 use Rattle.pim_model.specs.State.{State}
-use Rattle.pim_model.specs.Tables.{ascending, change_row, drop_at, group_in, is_of_group, is_star, keys_in, row_at, rpt_key, same_hop, same_option, set_row, source_in, source_key, star_key}
-use Rattle.pim_model.specs.Unicast.{route, rp_of, rp_route, rpf_interface, rpf_interface_rp}
+use Rattle.pim_model.specs.Tables.{ascending, change_row, drop_at, keys_in, row_at, same_address, same_hop, same_iface, set_row}
+use Rattle.pim_types.specs.Keys.{group_in, is_of_group, is_star, rpt_key, source_in, source_key, star_key}
+use Rattle.pim_model.specs.Unicast.{route, rp_of, rp_route}
 
 -- t_periodic, in ms
 abbrev pub join_period : ℕ
@@ -51,7 +59,7 @@ groups_of keys = ascending (map group_in keys)
 unfoldable pub sources_of : ℕ → List Key → List ℕ
 sources_of g keys = ascending (map source_in (filter (λ k. is_of_group g k && is_some k.source) keys))
 
--- a Join(*,G) prunes a source off the shared tree
+-- a Join(*,G) prunes a source off the shared tree (RFC 7761, section 4.5.6)
 unfoldable pub is_pruned_with_star : State → ℕ → ℕ → Bool
 is_pruned_with_star s g src =
     if spt_bit s g src then not (same_hop (rpf_star s g) (rpf_source s g src))
@@ -65,15 +73,14 @@ unfoldable pub pruned_with_star : State → ℕ → List Entry
 pruned_with_star s g =
     map (entry EntryKind.SourceRpt) (take most_pruned (filter (is_pruned_with_star s g) (sources_of g (fact_keys s))))
 
--- Join(*,G) with its prunes, and Prune(*,G); neither without an RP
-unfoldable pub join_star_to : State → Option Hop → ℕ → List Message
-join_star_to s hop g =
-    option_map_or (λ rp. join_prune_to hop g (entry EntryKind.Star rp ∷ []) (pruned_with_star s g)) (rp_of s g) []
+-- Join(*,G) with its prunes, and Prune(*,G), each with an RP
+unfoldable pub join_star_to : State → Option Addr → Option Hop → ℕ → List Message
+join_star_to s rp hop g =
+    option_map_or (λ (a : Addr). join_prune_to hop g (entry EntryKind.Star a.bits ∷ []) (pruned_with_star s g)) rp []
 
-unfoldable pub prune_star_to : State → Option ℕ → Option Hop → ℕ → List Message
+unfoldable pub prune_star_to : State → Option Addr → Option Hop → ℕ → List Message
 prune_star_to s rp hop g =
-    if is_none (rp_of s g) then []
-    else option_map_or (λ address. join_prune_to (if_neighbour s hop) g [] (entry EntryKind.Star address ∷ [])) rp []
+    option_map_or (λ (a : Addr). join_prune_to (if_neighbour s hop) g [] (entry EntryKind.Star a.bits ∷ [])) rp []
 
 abbrev pub join_source_to : Option Hop → ℕ → ℕ → List Message
 join_source_to hop g src = join_prune_to hop g (entry EntryKind.Source src ∷ []) []
@@ -102,80 +109,96 @@ pub record Told : Type 0 where
 abbrev pub nothing_told : Told
 nothing_told = record { timer = Keep; messages = [] }
 
--- the change is due to an assert: the route and its next hop are as before
-abbrev pub is_due_to_assert : Option ℕ → Option ℕ → Option Hop → Option Hop → Bool
-is_due_to_assert old_iface new_iface old_nbr new_nbr = same_option old_iface new_iface && same_hop old_nbr new_nbr
+-- what the machines compare before and after a change
+unfoldable pub star_view : State → ℕ → StarView
+star_view s g = record {
+  is_desired = join_desired_star s g;
+  rp = option_map addr (rp_of s g);
+  iface = option_map (λ (p : Path). p.iface) (rp_route s g);
+  next_hop = nbr s (rp_route s g);
+  upstream = rpf_star s g;
+}
+
+unfoldable pub source_view : State → ℕ → ℕ → SourceView
+source_view s g src = record {
+  is_desired = join_desired s g src;
+  iface = option_map (λ (p : Path). p.iface) (route s src);
+  next_hop = nbr s (route s src);
+  upstream = rpf_source s g src;
+  star_upstream = rpf_star s g;
+  tree_upstream = rpf_rpt s g src;
+  tree = tree_state s g src;
+}
+
+-- the change of an upstream neighbour is due to an assert: the route and its next hop are as before
+abbrev pub is_due_to_assert : Option IfaceId → Option IfaceId → Option Hop → Option Hop → Bool
+is_due_to_assert old_iface new_iface old_hop new_hop = same_iface old_iface new_iface && same_hop old_hop new_hop
 
 -- t_override on the interface of the new upstream neighbour, or else of the route
-abbrev pub override_on : State → ℕ → Option ℕ → ℕ
-override_on s w iface = s.present + option_map_or (λ i. t_override s i w) iface 1
+abbrev pub override_on : State → ℕ → Option IfaceId → ℕ
+override_on s w iface = s.present + option_map_or (λ (i : IfaceId). t_override s i.number w) iface 1
 
--- (*,G), joined before and after
-unfoldable pub star_stays : State → State → ℕ → ℕ → Told
-star_stays o a w g =
-    let old : Option Hop = rpf_star o g in
-    let new : Option Hop = rpf_star a g in
-    let by_assert : Bool =
-    is_due_to_assert (rpf_interface_rp o g) (rpf_interface_rp a g) (nbr o (rp_route o g)) (nbr a (rp_route a g)) in
-    if not (same_hop old new)
-    then (if by_assert then record { timer = LowerTo (override_on a w (rpf_interface_rp a g)); messages = [] }
-    else record { timer = SetTo (periodic_end a); messages = join_star_to a new g ++ prune_star_to a (rp_of a g) old g })
-    else (if same_option (rp_of o g) (rp_of a g) then nothing_told
-    else record { timer = SetTo (periodic_end a); messages = join_star_to a new g })
+-- (*,G), joined before and after; a is the state after the change
+unfoldable pub star_stays : State → ℕ → ℕ → StarView → StarView → Told
+star_stays a w g old new =
+    let joins : List Message = join_star_to a new.rp new.upstream g in
+    if not (same_hop old.upstream new.upstream)
+    then (if is_due_to_assert old.iface new.iface old.next_hop new.next_hop
+    then record { timer = LowerTo (override_on a w new.iface); messages = [] }
+    else record { timer = SetTo (periodic_end a); messages = joins ++ prune_star_to a new.rp old.upstream g })
+    else (if same_address old.rp new.rp then nothing_told
+    else record { timer = SetTo (periodic_end a); messages = joins })
 
--- (*,G) (RFC 7761, section 4.5.4)
-unfoldable pub star_told : State → State → ℕ → ℕ → Told
-star_told o a w g =
-    let was : Bool = join_desired_star o g in
-    let wants : Bool = join_desired_star a g in
-    if wants
-    then (if was then star_stays o a w g
-    else record { timer = SetTo (periodic_end a); messages = join_star_to a (rpf_star a g) g })
-    else (if was then record { timer = Cancel; messages = prune_star_to a (rp_of o g) (rpf_star o g) g }
+-- (*,G) (RFC 7761, section 4.5.4). Without an RP after the change no message is written.
+unfoldable pub star_told : State → ℕ → ℕ → StarView → StarView → Told
+star_told a w g old new =
+    if new.is_desired
+    then (if old.is_desired then star_stays a w g old new
+    else record { timer = SetTo (periodic_end a); messages = join_star_to a new.rp new.upstream g })
+    else (if old.is_desired
+    then record { timer = Cancel; messages = (if is_none new.rp then [] else prune_star_to a old.rp old.upstream g) }
     else nothing_told)
 
-unfoldable pub source_stays : State → State → ℕ → ℕ → ℕ → Told
-source_stays o a w g src =
-    let old : Option Hop = rpf_source o g src in
-    let new : Option Hop = rpf_source a g src in
-    let by_assert : Bool =
-    is_due_to_assert (rpf_interface o src) (rpf_interface a src) (nbr o (route o src)) (nbr a (route a src)) in
-    if same_hop old new then nothing_told
-    else (if by_assert then record { timer = LowerTo (override_on a w (rpf_interface a src)); messages = [] }
-    else record { timer = SetTo (periodic_end a); messages = join_source_to new g src ++ prune_source_to a old g src })
+unfoldable pub source_stays : State → ℕ → ℕ → ℕ → SourceView → SourceView → Told
+source_stays a w g src old new =
+    if same_hop old.upstream new.upstream then nothing_told
+    else (if is_due_to_assert old.iface new.iface old.next_hop new.next_hop
+    then record { timer = LowerTo (override_on a w new.iface); messages = [] }
+    else record {
+      timer = SetTo (periodic_end a);
+      messages = join_source_to new.upstream g src ++ prune_source_to a old.upstream g src;
+    })
 
 -- (S,G) (RFC 7761, section 4.5.5)
-unfoldable pub source_told : State → State → ℕ → ℕ → ℕ → Told
-source_told o a w g src =
-    let was : Bool = join_desired o g src in
-    let wants : Bool = join_desired a g src in
-    if wants
-    then (if was then source_stays o a w g src
-    else record { timer = SetTo (periodic_end a); messages = join_source_to (rpf_source a g src) g src })
-    else (if was then record { timer = Cancel; messages = prune_source_to a (rpf_source o g src) g src }
+unfoldable pub source_told : State → ℕ → ℕ → ℕ → SourceView → SourceView → Told
+source_told a w g src old new =
+    if new.is_desired
+    then (if old.is_desired then source_stays a w g src old new
+    else record { timer = SetTo (periodic_end a); messages = join_source_to new.upstream g src })
+    else (if old.is_desired then record { timer = Cancel; messages = prune_source_to a old.upstream g src }
     else nothing_told)
 
 -- RPF'(S,G,rpt) becomes RPF'(*,G)
-unfoldable pub becomes_star : State → State → ℕ → ℕ → Bool
-becomes_star o a g src =
-    is_some (rpf_rpt a g src) && same_hop (rpf_rpt a g src) (rpf_star a g)
-    && not (same_hop (rpf_rpt o g src) (rpf_star o g))
+unfoldable pub becomes_star : SourceView → SourceView → Bool
+becomes_star old new =
+    is_some new.tree_upstream && same_hop new.tree_upstream new.star_upstream
+    && not (same_hop old.tree_upstream old.star_upstream)
 
--- the state and the new one (RFC 7761, section 4.5.6)
-unfoldable pub rpt_told_from : State → State → ℕ → ℕ → ℕ → TreeState → TreeState → Told
-rpt_told_from o a w g src NotPruned Pruned =
-    record { timer = Cancel; messages = prune_rpt_to (rpf_rpt a g src) g src }
-rpt_told_from o a w g src Pruned NotPruned =
-    record { timer = Keep; messages = join_rpt_to (rpf_rpt a g src) g src }
-rpt_told_from o a w g src NotPruned NotPruned =
-    if becomes_star o a g src
-    then record { timer = LowerTo (override_on a w (rpf_interface_rp a g)); messages = [] }
+-- the state and the new one of (S,G,rpt) (RFC 7761, section 4.5.7)
+unfoldable pub rpt_told_from : State → ℕ → ℕ → ℕ → SourceView → SourceView → TreeState → TreeState → Told
+rpt_told_from a w g src old new TreeState.NotPruned TreeState.Pruned =
+    record { timer = Cancel; messages = prune_rpt_to new.tree_upstream g src }
+rpt_told_from a w g src old new TreeState.Pruned TreeState.NotPruned =
+    record { timer = Keep; messages = join_rpt_to new.tree_upstream g src }
+rpt_told_from a w g src old new TreeState.NotPruned TreeState.NotPruned =
+    if becomes_star old new
+    then record { timer = LowerTo (override_on a w (option_map (λ (p : Path). p.iface) (rp_route a g))); messages = [] }
     else nothing_told
-rpt_told_from o a w g src NotPruned NotJoined = record { timer = Cancel; messages = [] }
-rpt_told_from o a w g src _ _ = nothing_told
+rpt_told_from a w g src old new TreeState.NotPruned TreeState.NotJoined = record { timer = Cancel; messages = [] }
+rpt_told_from a w g src old new _ _ = nothing_told
 
-unfoldable pub rpt_told : State → State → ℕ → ℕ → ℕ → Told
-rpt_told o a w g src = rpt_told_from o a w g src (tree_state o g src) (tree_state a g src)
+unfoldable pub rpt_told : State → ℕ → ℕ → ℕ → SourceView → SourceView → Told
+rpt_told a w g src old new = rpt_told_from a w g src old new old.tree new.tree
 
 -- ---- all of them
 
@@ -212,15 +235,17 @@ with_override_timer s k (LowerTo e) = moved_override_timer s k (LowerTo e)
 -- o is the opening and a the state after the change; the timers move in s
 unfoldable pub source_upstream : State → State → ℕ → ℕ → State → ℕ → State × List Message
 source_upstream o a w g s src =
-    let joins : Told = source_told o a w g src in
-    let prunes : Told = rpt_told o a w g src in (
+    let old : SourceView = source_view o g src in
+    let new : SourceView = source_view a g src in
+    let joins : Told = source_told a w g src old new in
+    let prunes : Told = rpt_told a w g src old new in (
       with_override_timer (with_join_timer s (source_key 0 g src) joins.timer) (rpt_key 0 g src) prunes.timer,
       joins.messages ++ prunes.messages,
     )
 
 unfoldable pub group_upstream : State → State → ℕ → List Key → State → ℕ → State × List Message
 group_upstream o a w keys s g =
-    let star : Told = star_told o a w g in
+    let star : Told = star_told a w g (star_view o g) (star_view a g) in
     let first : State = with_join_timer s (star_key 0 g) star.timer in
     let later : State × List Message = each_in_turn (source_upstream o a w g) first (sources_of g keys) in
     (later.0, star.messages ++ later.1)
@@ -238,7 +263,7 @@ join_timer_due s k =
     let g : ℕ = group_in k in
     let src : ℕ = source_in k in
     let messages : List Message =
-    (if is_star k then join_star_to s (rpf_star s g) g else join_source_to (rpf_source s g src) g src) in
+    (if is_star k then join_star_to s (option_map addr (rp_of s g)) (rpf_star s g) g else join_source_to (rpf_source s g src) g src) in
     (record s { join_timers = change_row (λ (old : JoinTimerRow). Some (record { end = periodic_end s })) k s.join_timers }, messages)
 
 unfoldable pub override_timer_due : State → Key → State × List Message

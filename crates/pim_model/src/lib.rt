@@ -1,15 +1,6 @@
-//! The written machine: definitions, laws about them, and worked runs that the kernel checks by
-//! computing with them. Each law and each run is the contract of a function with nothing to do.
+//! The written machine: its definitions stand in `specs/`. The one type here is what they judge an event to be.
 #![tactic(auto)]
 
-pub mod asserts;
-pub mod data;
-pub mod joins;
-pub mod laws;
-pub mod limits;
-pub mod membership;
-pub mod neighbours;
-pub mod readings;
-pub mod routes;
-pub mod source_specific;
-pub mod two_routers;
+pub mod accepted;
+
+pub use accepted::Accepted;

@@ -35,9 +35,11 @@ module _ (configured : List InterfaceConfig) where
   pub routes_canonical : (routes : List Route) → pass_each routes ≡ true
       → list_all (λ (r : Route). is_canonical r.prefix) routes ≡ true
   routes_canonical routes h =
-      all_pass (is_route configured) (λ (r : Route). is_canonical r.prefix) route_prefix routes (and_second (nat_le (length routes) most_routes) _ h)
+      all_pass (is_route configured) (λ (r : Route). is_canonical r.prefix) route_prefix routes
+      (and_second (nat_le (length routes) most_routes) _ h)
 
-  pub routes_apart : (routes : List Route) → pass_each routes ≡ true → are_routes configured routes ≡ are_distinct (map (λ (r : Route). r.prefix) routes)
+  pub routes_apart : (routes : List Route) → pass_each routes ≡ true
+      → are_routes configured routes ≡ are_distinct (map (λ (r : Route). r.prefix) routes)
   unfolding are_routes
   routes_apart routes h = ap (λ (b : Bool). b && are_distinct (map (λ (r : Route). r.prefix) routes)) h
 
@@ -55,9 +57,11 @@ range_prefix r h = and_first _ _ (and_first _ _ (and_first _ _ h))
 pub ranges_canonical : (ranges : List RpRange) → pass_each_rp ranges ≡ true
     → list_all (λ (r : RpRange). is_canonical r.prefix) ranges ≡ true
 ranges_canonical ranges h =
-    all_pass is_rp_range (λ (r : RpRange). is_canonical r.prefix) range_prefix ranges (and_second (nat_le (length ranges) most_rps) _ h)
+    all_pass is_rp_range (λ (r : RpRange). is_canonical r.prefix) range_prefix ranges
+    (and_second (nat_le (length ranges) most_rps) _ h)
 
-pub ranges_apart : (ranges : List RpRange) → pass_each_rp ranges ≡ true → are_rps ranges ≡ are_distinct (map (λ (r : RpRange). r.prefix) ranges)
+pub ranges_apart : (ranges : List RpRange) → pass_each_rp ranges ≡ true
+    → are_rps ranges ≡ are_distinct (map (λ (r : RpRange). r.prefix) ranges)
 unfolding are_rps
 ranges_apart ranges h = ap (λ (b : Bool). b && are_distinct (map (λ (r : RpRange). r.prefix) ranges)) h
 

@@ -50,7 +50,8 @@ module _ {V : Type 0} where
   abbrev added : ℕ → Prefix × V → Option (Prefix × V) → Option (Prefix × V)
   added address e best = with_candidate (λ (x : Prefix × V). x.0) e (contains e.0 address) best
 
-  longest-cons : (e : Prefix × V) (es : List (Prefix × V)) (address : ℕ) → longest (e ∷ es) address ≡ added address e (longest es address)
+  longest-cons : (e : Prefix × V) (es : List (Prefix × V)) (address : ℕ)
+      → longest (e ∷ es) address ≡ added address e (longest es address)
   unfolding longest_match
   longest-cons e es address = go (contains e.0 address)
     where
@@ -63,15 +64,18 @@ module _ {V : Type 0} where
       → prefix_cmp p e.0 ≡ o → is_canonical p ≡ true → is_canonical e.0 ≡ true
       → cond (is_eq o) (Some e.1) (lookup (is_at (prefix_cmp p)) es) ≡ None
       → (lookup (is_at (prefix_cmp p)) es ≡ None → longest more address ≡ added address (p, v) (longest es address))
-      → longest (match_ordering o ((p, v) ∷ e ∷ es) ((e.0, v) ∷ es) (e ∷ more)) address ≡ added address (p, v) (longest (e ∷ es) address)
+      → longest (match_ordering o ((p, v) ∷ e ∷ es) ((e.0, v) ∷ es) (e ∷ more)) address
+      ≡ added address (p, v) (longest (e ∷ es) address)
   longest_step address p v e es more Less was pc ec absent rest = longest-cons (p, v) (e ∷ es) address
   longest_step address p v e es more Equal was pc ec absent rest = cc
   longest_step address p v e es more Greater was pc ec absent rest =
       let apart : contains e.0 address ≡ true → contains p address ≡ true → e.0.length ≡ p.length → ⊥ =
-      λ inside here lengths. let same : is_eq (prefix_cmp p e.0) ≡ true = ties_are_equal p e.0 address pc ec here inside (sym lengths) in
+      λ inside here lengths. let same : is_eq (prefix_cmp p e.0)
+      ≡ true = ties_are_equal p e.0 address pc ec here inside (sym lengths) in
       absurd (cc) in
       longest-cons e more address ∙ ap (added address e) (rest absent)
-      ∙ candidates_swap (λ (x : Prefix × V). x.0) e (p, v) (contains e.0 address) (contains p address) (longest es address) apart
+      ∙ candidates_swap (λ (x : Prefix × V). x.0) e (p, v) (contains e.0 address) (contains p address)
+      (longest es address) apart
       ∙ ap (added address (p, v)) (sym (longest-cons e es address))
 
   pub longest-insert : (address : ℕ) (p : Prefix) (v : V) (es : List (Prefix × V)) → is_canonical p ≡ true
@@ -79,7 +83,8 @@ module _ {V : Type 0} where
       → longest (insert_entry prefix_cmp es p v) address ≡ added address (p, v) (longest es address)
   longest-insert address p v [] pc canonical absent = longest-cons (p, v) [] address
   longest-insert address p v (e ∷ es) pc canonical absent =
-      longest_step address p v e es _ (prefix_cmp p e.0) refl pc (not_not (is_canonical e.0) (or_first _ _ canonical)) absent
+      longest_step address p v e es _ (prefix_cmp p e.0) refl pc
+      (not_not (is_canonical e.0) (or_first _ _ canonical)) absent
       (longest-insert address p v es pc (or_second (not (is_canonical e.0)) _ canonical))
 
 -- ---- prefixes that are the same
@@ -114,39 +119,49 @@ module _ {T : Type 0} (prefix_of : T → Prefix) where
   none_uncanonical (value ∷ values) h = go (canonical value) h (none_uncanonical values)
     where
       go : (b : Bool) → (b && list_all canonical values) ≡ true
-          → (list_all canonical values ≡ true → list_any (λ (e : Prefix × T). not (is_canonical e.0)) (map (entry_of prefix_of) values) ≡ false)
+          → (list_all canonical values ≡ true
+          → list_any (λ (e : Prefix × T). not (is_canonical e.0)) (map (entry_of prefix_of) values) ≡ false)
           → (not b || list_any (λ (e : Prefix × T). not (is_canonical e.0)) (map (entry_of prefix_of) values)) ≡ false
       go true e rest = rest e
       go false e rest = cc
 
   -- the longest match of the values, as entries
-  entry-longer : (value : T) (best : Option T) → longer (λ (e : Prefix × T). e.0) (entry_of prefix_of value) (option_map (entry_of prefix_of) best)
+  entry-longer : (value : T) (best : Option T)
+      → longer (λ (e : Prefix × T). e.0) (entry_of prefix_of value) (option_map (entry_of prefix_of) best)
       ≡ entry_of prefix_of (longer prefix_of value best)
   unfolding longer
   entry-longer value None = refl
   entry-longer value (Some other) = go (nat_lt (prefix_of other).length (prefix_of value).length)
     where
-      go : (b : Bool) → cond b (entry_of prefix_of value) (entry_of prefix_of other) ≡ entry_of prefix_of (cond b value other)
+      go : (b : Bool) → cond b (entry_of prefix_of value) (entry_of prefix_of other)
+          ≡ entry_of prefix_of (cond b value other)
       go true = refl
       go false = refl
 
   pub match-entry : (value : T) (values : List T) (address : ℕ)
-      → added address (entry_of prefix_of value) (option_map (entry_of prefix_of) (longest_match prefix_of values address))
+      → added address (entry_of prefix_of value)
+      (option_map (entry_of prefix_of) (longest_match prefix_of values address))
       ≡ option_map (entry_of prefix_of) (longest_match prefix_of (value ∷ values) address)
   unfolding longest_match
   match-entry value values address = go (contains (prefix_of value) address)
     where
-      go : (b : Bool) → with_candidate (λ (e : Prefix × T). e.0) (entry_of prefix_of value) b (option_map (entry_of prefix_of) (longest_match prefix_of values address))
-          ≡ option_map (entry_of prefix_of) (cond b (Some (longer prefix_of value (longest_match prefix_of values address))) (longest_match prefix_of values address))
+      go : (b : Bool) → with_candidate (λ (e : Prefix × T). e.0) (entry_of prefix_of value) b
+          (option_map (entry_of prefix_of) (longest_match prefix_of values address))
+          ≡ option_map (entry_of prefix_of)
+          (cond b (Some (longer prefix_of value (longest_match prefix_of values address)))
+          (longest_match prefix_of values address))
       go true = ap (λ (e : Prefix × T). Some e) (entry-longer value (longest_match prefix_of values address))
       go false = refl
 
   -- one value more
-  pub indexed_more : (value : T) (values : List T) (es : List (Prefix × T)) → canonical value ≡ true → list_all canonical values ≡ true
+  pub indexed_more : (value : T) (values : List T) (es : List (Prefix × T)) → canonical value ≡ true
+      → list_all canonical values ≡ true
       → IsIndexOf prefix_of values es → lookup (is_at (prefix_cmp (prefix_of value))) es ≡ None
       → IsIndexOf prefix_of (value ∷ values) (insert_entry prefix_cmp es (prefix_of value) value)
   indexed_more value values es here others index absent = record {
-    holds = λ test. any-insert test (prefix_of value) value es absent ∙ ap (λ (b : Bool). test (entry_of prefix_of value) || b) (index.holds test);
+    holds =
+        λ test. any-insert test (prefix_of value) value es absent
+        ∙ ap (λ (b : Bool). test (entry_of prefix_of value) || b) (index.holds test);
     finds = λ address.
         longest-insert address (prefix_of value) value es here
         (index.holds (λ (e : Prefix × T). not (is_canonical e.0)) ∙ none_uncanonical values others) absent
@@ -155,27 +170,34 @@ module _ {T : Type 0} (prefix_of : T → Prefix) where
 
   -- a look-up of a value's prefix finds something where another value has the same
   any_same : (p : Prefix) (values : List T)
-      → list_any (λ (e : Prefix × T). is_at (prefix_cmp p) e.0) (map (entry_of prefix_of) values) ≡ list_any (same_prefix p) (map prefix_of values)
+      → list_any (λ (e : Prefix × T). is_at (prefix_cmp p) e.0) (map (entry_of prefix_of) values)
+      ≡ list_any (same_prefix p) (map prefix_of values)
   any_same p [] = refl
   any_same p (value ∷ values) =
-      ap (λ (b : Bool). b || list_any (λ (e : Prefix × T). is_at (prefix_cmp p) e.0) (map (entry_of prefix_of) values)) (sym (same_prefix_order p (prefix_of value)))
+      ap (λ (b : Bool). b || list_any (λ (e : Prefix × T). is_at (prefix_cmp p) e.0) (map (entry_of prefix_of) values))
+      (sym (same_prefix_order p (prefix_of value)))
       ∙ ap (λ (b : Bool). same_prefix p (prefix_of value) || b) (any_same p values)
 
   pub is_there : (p : Prefix) (values : List T) (es : List (Prefix × T)) → IsIndexOf prefix_of values es
       → is_some (lookup (is_at (prefix_cmp p)) es) ≡ list_any (same_prefix p) (map prefix_of values)
-  is_there p values es index = is_some-lookup (is_at (prefix_cmp p)) es ∙ index.holds (λ (e : Prefix × T). is_at (prefix_cmp p) e.0) ∙ any_same p values
+  is_there p values es index =
+      is_some-lookup (is_at (prefix_cmp p)) es ∙ index.holds (λ (e : Prefix × T). is_at (prefix_cmp p) e.0)
+      ∙ any_same p values
 
   -- ---- the values from a place on
 
-  from_place : (values : List T) (n : ℕ) (value : T) → n < length values → value ≡ get_or values n value → drop n values ≡ value ∷ drop (n + 1) values
-  from_place values n value within is = rw (add-one, drop-cons values n value within) (ap (λ (x : T). x ∷ drop (suc n) values) (sym is))
+  from_place : (values : List T) (n : ℕ) (value : T) → n < length values → value ≡ get_or values n value
+      → drop n values ≡ value ∷ drop (n + 1) values
+  from_place values n value within is =
+      rw (add-one, drop-cons values n value within) (ap (λ (x : T). x ∷ drop (suc n) values) (sym is))
 
   all-drop : (values : List T) (n : ℕ) → list_all canonical values ≡ true → list_all canonical (drop n values) ≡ true
   all-drop values zero h = h
   all-drop [] (suc n) h = h
   all-drop (value ∷ values) (suc n) h = all-drop values n (and_second (canonical value) _ h)
 
-  distinct-drop : (values : List T) (n : ℕ) → are_distinct (map prefix_of (drop n values)) ≡ false → are_distinct (map prefix_of values) ≡ false
+  distinct-drop : (values : List T) (n : ℕ) → are_distinct (map prefix_of (drop n values)) ≡ false
+      → are_distinct (map prefix_of values) ≡ false
   unfolding are_distinct
   distinct-drop values zero h = h
   distinct-drop [] (suc n) h = h
@@ -209,7 +231,8 @@ module _ {T : Type 0} (prefix_of : T → Prefix) where
   }
 
   -- the first of the values has a prefix of its own, or one that another has
-  first_distinct : (value : T) (values : List T) (es : List (Prefix × T)) → IsIndexOf prefix_of values es → are_distinct (map prefix_of values) ≡ true
+  first_distinct : (value : T) (values : List T) (es : List (Prefix × T)) → IsIndexOf prefix_of values es
+      → are_distinct (map prefix_of values) ≡ true
       → lookup (is_at (prefix_cmp (prefix_of value))) es ≡ None → are_distinct (map prefix_of (value ∷ values)) ≡ true
   unfolding are_distinct
   first_distinct value values es index rest absent =
@@ -218,7 +241,8 @@ module _ {T : Type 0} (prefix_of : T → Prefix) where
       rw (others, rest) refl
 
   first_repeated : (value : T) (values : List T) (es : List (Prefix × T)) → IsIndexOf prefix_of values es
-      → is_some (lookup (is_at (prefix_cmp (prefix_of value))) es) ≡ true → are_distinct (map prefix_of (value ∷ values)) ≡ false
+      → is_some (lookup (is_at (prefix_cmp (prefix_of value))) es) ≡ true
+      → are_distinct (map prefix_of (value ∷ values)) ≡ false
   unfolding are_distinct
   first_repeated value values es index found =
       let others : list_any (same_prefix (prefix_of value)) (map prefix_of values) ≡ true =
@@ -235,8 +259,11 @@ module _ {T : Type 0} (prefix_of : T → Prefix) where
       sym (ap (list_all canonical) here) ∙ all-drop values place all in
       record {
         within = omega arith;
-        index = subst (λ (xs : List T). IsIndexOf prefix_of xs (insert_entry prefix_cmp es (prefix_of value) value)) (sym here)
-            (indexed_more value (drop (place + 1) values) es (and_first (canonical value) _ both) (and_second (canonical value) _ both) has.index absent);
+        index =
+            subst (λ (xs : List T). IsIndexOf prefix_of xs (insert_entry prefix_cmp es (prefix_of value) value))
+            (sym here)
+            (indexed_more value (drop (place + 1) values) es (and_first (canonical value) _ both)
+            (and_second (canonical value) _ both) has.index absent);
         distinct = ap (λ (xs : List T). are_distinct (map prefix_of xs)) here
             ∙ first_distinct value (drop (place + 1) values) es has.index has.distinct absent;
       }
@@ -256,19 +283,24 @@ module _ {T : Type 0} (prefix_of : T → Prefix) where
       → nodes_along es address 32 ≡ nodes_visited prefix_of values address
   unfolding nodes_visited nodes_along passes
   index_nodes values es address index =
-      λ i. count_by (λ length. index.holds (λ (e : Prefix × T). nat_le length e.0.length && contains (record { address = e.0.address; length = length }) address) i) (range_with_len 0 33)
+      λ i. count_by (λ length. index.holds
+      (λ (e : Prefix × T). nat_le length e.0.length
+      && contains (record { address = e.0.address; length = length }) address) i) (range_with_len 0 33)
 
   -- what it finds is what the list has
 
-  pub found_none : (values : List T) (es : List (Prefix × T)) (address : ℕ) → IsIndexOf prefix_of values es → None ≡ longest es address
+  pub found_none : (values : List T) (es : List (Prefix × T)) (address : ℕ) → IsIndexOf prefix_of values es
+      → None ≡ longest es address
       → None ≡ longest_match prefix_of values address
-  found_none values es address index missing = go (longest_match prefix_of values address) (missing ∙ index.finds address)
+  found_none values es address index missing =
+      go (longest_match prefix_of values address) (missing ∙ index.finds address)
     where
       go : (best : Option T) → None ≡ option_map (entry_of prefix_of) best → None ≡ best
       go None e = refl
       go (Some value) e = cc
 
-  pub found_some : (values : List T) (es : List (Prefix × T)) (address : ℕ) (e : Prefix × T) → IsIndexOf prefix_of values es
+  pub found_some : (values : List T) (es : List (Prefix × T)) (address : ℕ) (e : Prefix × T)
+      → IsIndexOf prefix_of values es
       → Some e ≡ longest es address → Some e.1 ≡ longest_match prefix_of values address
   found_some values es address e index found = go (longest_match prefix_of values address) (found ∙ index.finds address)
     where
@@ -279,9 +311,11 @@ module _ {T : Type 0} (prefix_of : T → Prefix) where
           ap (λ (x : Prefix × T). Some x.1) whole
 
 -- a test of what a look-up found
-pub found_true : {V : Type 0} (found was : Option V) (b : Bool) → b ≡ is_some found → b ≡ true → found ≡ was → is_some was ≡ true
+pub found_true : {V : Type 0} (found was : Option V) (b : Bool) → b ≡ is_some found → b ≡ true → found ≡ was
+    → is_some was ≡ true
 found_true found was b e f g = sym (ap is_some g) ∙ sym e ∙ f
 
-pub found_false : {V : Type 0} (found was : Option V) (b : Bool) → b ≡ is_some found → b ≡ false → found ≡ was → was ≡ None
+pub found_false : {V : Type 0} (found was : Option V) (b : Bool) → b ≡ is_some found → b ≡ false → found ≡ was
+    → was ≡ None
 found_false None was b e f g = sym g
 found_false (Some x) was b e f g = cc

@@ -1,5 +1,6 @@
 -- The longest match does not depend on the order of its candidates where no two of them tie.
-use Rattle.std.proofs.Common.{◌≡◌, ℕ, ◌-◌, ◌*◌, ◌/◌, ◌%◌, ◌^◌, ◌<◌, Bool, true, false, cond, ◌&&◌, eqb, ltb, leb, Option, Some, None, refl, sym, ap, subst, ◌∙◌, arith}
+use Rattle.std.proofs.Common.{◌≡◌, ℕ, ◌-◌, ◌*◌, ◌/◌, ◌%◌, ◌^◌, ◌<◌, Bool, true, false, cond, eqb, ltb, leb, Option, Some, None, refl, sym, ap, subst, ◌∙◌, arith}
+use Rattle.std.specs.Cmp.{second_so}
 use Rattle.std.specs.declared.cmp.Ordering.{Ordering}
 use Rattle.std.specs.declared.cmp.Ordering.TheVariants.{Equal}
 use Rattle.std.proofs.lemmas.Nat.{pow_pos}
@@ -57,7 +58,8 @@ module _ {X : Type 0} (prefix_of : X → Prefix) where
 
 -- ---- prefixes that tie are one
 
-same_blocks : (a p q d : ℕ) → eqb (a / d) (p / d) ≡ true → eqb (a / d) (q / d) ≡ true → eqb (p % d) 0 ≡ true → eqb (q % d) 0 ≡ true
+same_blocks : (a p q d : ℕ) → eqb (a / d) (p / d) ≡ true → eqb (a / d) (q / d) ≡ true → eqb (p % d) 0 ≡ true
+    → eqb (q % d) 0 ≡ true
     → 0 < d → p ≡ q
 same_blocks a p q d e f g h above =
     let pd : a / d ≡ p / d = grind (arith, nat_tests, e) in
@@ -74,11 +76,8 @@ same_numbers {m} {n} e = grind (arith, common_steps, e)
 equal_then : {a b : Ordering} → a ≡ Equal → b ≡ Equal → ordering_then a b ≡ Equal
 equal_then {a} {b} e f = rw (e, f) refl
 
-and_right : (a b : Bool) → (a && b) ≡ true → b ≡ true
-and_right true b e = e
-and_right false b e = cc
-
-pub ties_are_equal : (p q : Prefix) (a : ℕ) → is_canonical p ≡ true → is_canonical q ≡ true → contains p a ≡ true → contains q a ≡ true
+pub ties_are_equal : (p q : Prefix) (a : ℕ) → is_canonical p ≡ true → is_canonical q ≡ true → contains p a ≡ true
+    → contains q a ≡ true
     → p.length ≡ q.length → is_at (prefix_cmp p) q ≡ true
 unfolding is_canonical is_host_clear contains prefix_cmp
 ties_are_equal p q a pc qc pa qa lengths =
@@ -86,7 +85,8 @@ ties_are_equal p q a pc qc pa qa lengths =
     let q_contains : eqb (a / d) (q.address.bits / d) ≡ true =
     subst (λ (n : ℕ). eqb (a / 2 ^ (32 - n)) (q.address.bits / 2 ^ (32 - n)) ≡ true) (sym lengths) qa in
     let q_clear : eqb (q.address.bits % d) 0 ≡ true =
-    subst (λ (n : ℕ). eqb (q.address.bits % 2 ^ (32 - n)) 0 ≡ true) (sym lengths) (and_right (leb q.length 32) _ qc) in
+    subst (λ (n : ℕ). eqb (q.address.bits % 2 ^ (32 - n)) 0 ≡ true) (sym lengths) (second_so (leb q.length 32) _ qc) in
     let bits : p.address.bits ≡ q.address.bits =
-    same_blocks a p.address.bits q.address.bits d pa q_contains (and_right (leb p.length 32) _ pc) q_clear (pow_pos (32 - p.length)) in
+    same_blocks a p.address.bits q.address.bits d pa q_contains (second_so (leb p.length 32) _ pc) q_clear
+    (pow_pos (32 - p.length)) in
     ap is_eq (equal_then (same_numbers bits) (same_numbers lengths))

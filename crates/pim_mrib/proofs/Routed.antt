@@ -7,8 +7,10 @@ use Rattle.pim_types.specs.declared.config.RpRange.{RpRange}
 use Rattle.pim_types.specs.declared.fact.InterfaceRow.{InterfaceRow}
 use Rattle.pim_trie.specs.Meter.{raised}
 use Rattle.pim_model.specs.State.{is_own_among}
-use Rattle.pim_model.specs.Tables.{Table, has_row, iface_key}
-use Rattle.pim_model.specs.Unicast.{is_ssm, link_among, link_path, route_among, route_path, routed_among, rp_among}
+use Rattle.pim_model.specs.Tables.{Table, has_row}
+use Rattle.pim_types.specs.Keys.{iface_key}
+use Rattle.pim_model.specs.Unicast.{link_among, link_path, route_among, route_path, routed_among, rp_among}
+use Rattle.pim_ip.specs.Ipv4.{is_source_specific}
 use Rattle.pim_mrib.specs.Index.{nodes_visited}
 use Rattle.pim_mrib.specs.Routes.{route_nodes, rp_nodes}
 
@@ -55,20 +57,22 @@ module _ (configured : List InterfaceConfig) (up : Table InterfaceRow) (routes :
   nodes_routed own link = rw (own, link) refl
 
 module _ (ranges : List RpRange) (group : ℕ) where
-  pub rp_none : is_ssm group ≡ true → rp_among ranges group ≡ None
+  pub rp_none : is_source_specific group ≡ true → rp_among ranges group ≡ None
   unfolding rp_among
   rp_none ssm = rw ssm refl
 
-  pub rp_found : (best : Option RpRange) → is_ssm group ≡ false → longest_match (λ (r : RpRange). r.prefix) ranges group ≡ best
+  pub rp_found : (best : Option RpRange) → is_source_specific group ≡ false
+      → longest_match (λ (r : RpRange). r.prefix) ranges group ≡ best
       → rp_among ranges group ≡ option_map (λ (r : RpRange). r.rp.bits) best
   unfolding rp_among
   rp_found best ssm longest = rw (ssm, longest) refl
 
-  pub rp_nodes_none : is_ssm group ≡ true → rp_nodes ranges group ≡ 0
+  pub rp_nodes_none : is_source_specific group ≡ true → rp_nodes ranges group ≡ 0
   unfolding rp_nodes
   rp_nodes_none ssm = rw ssm refl
 
-  pub rp_nodes_found : is_ssm group ≡ false → rp_nodes ranges group ≡ nodes_visited (λ (r : RpRange). r.prefix) ranges group
+  pub rp_nodes_found : is_source_specific group ≡ false
+      → rp_nodes ranges group ≡ nodes_visited (λ (r : RpRange). r.prefix) ranges group
   unfolding rp_nodes
   rp_nodes_found ssm = rw ssm refl
 
@@ -76,4 +80,18 @@ pub raised-zero : (count : ℕ) → raised count 0 ≡ count
 unfolding raised
 raised-zero count = grind arith
 
-pub ruleset routed = (route_own, route_linked, route_missing, route_down, route_over, nodes_own, nodes_linked, nodes_routed, rp_none, rp_found, rp_nodes_none, rp_nodes_found, raised-zero)
+pub ruleset routed = (
+  route_own,
+  route_linked,
+  route_missing,
+  route_down,
+  route_over,
+  nodes_own,
+  nodes_linked,
+  nodes_routed,
+  rp_none,
+  rp_found,
+  rp_nodes_none,
+  rp_nodes_found,
+  raised-zero,
+)

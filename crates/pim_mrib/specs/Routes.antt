@@ -6,7 +6,8 @@ use Rattle.pim_types.specs.declared.config.RpRange.{RpRange}
 use Rattle.pim_types.specs.declared.fact.InterfaceRow.{InterfaceRow}
 use Rattle.pim_model.specs.State.{is_own_among}
 use Rattle.pim_model.specs.Tables.{Table}
-use Rattle.pim_model.specs.Unicast.{is_ssm, link_among}
+use Rattle.pim_model.specs.Unicast.{link_among}
+use Rattle.pim_ip.specs.Ipv4.{is_source_specific}
 use Rattle.pim_mrib.specs.Index.{nodes_visited}
 
 -- the unicast routes and the RP ranges, each in the order in which they were given
@@ -22,4 +23,4 @@ route_nodes configured up routes address =
 
 -- none for a source-specific group
 unfoldable pub rp_nodes : List RpRange → ℕ → ℕ
-rp_nodes ranges group = if is_ssm group then 0 else nodes_visited (λ (r : RpRange). r.prefix) ranges group
+rp_nodes ranges group = if is_source_specific group then 0 else nodes_visited (λ (r : RpRange). r.prefix) ranges group

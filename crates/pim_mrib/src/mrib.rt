@@ -4,7 +4,8 @@ ghost use Rattle.pim_ip.specs.declared.fault.Fault.{Fault};
 ghost use Rattle.pim_ip.specs.declared.refusal.Refusal.{Refusal};
 ghost use Rattle.pim_trie.specs.Meter.{raised};
 ghost use Rattle.pim_model.specs.Limits.{are_routes, are_rps};
-ghost use Rattle.pim_model.specs.Unicast.{is_ssm, link_path, route_among, route_path, rp_among};
+ghost use Rattle.pim_model.specs.Unicast.{link_path, route_among, route_path, rp_among};
+ghost use Rattle.pim_ip.specs.Ipv4.{is_source_specific};
 ghost use Rattle.pim_mrib.specs.Routes.{route_nodes, rp_nodes};
 
 use crate::limits::{each_is_route, each_is_rp_range};
@@ -180,7 +181,7 @@ fn route_path(route: Route) -> Path
 
 // Whether the group is source-specific: it lies in 232.0.0.0/8 (RFC 7761, section 4.8).
 fn is_source_specific(group: Addr) -> bool
-    ensures { result ≡ is_ssm group.bits }
+    ensures { result ≡ is_source_specific group.bits }
 {
     group.bits >> 24 == 232
 }

@@ -7,5 +7,5 @@ pub mod neighbours;
 pub mod neighbours_on;
 
 pub use delays::delay_in;
-pub use neighbours::Neighbours;
+pub use neighbours::{Neighbours, holdtime_end};
 pub use neighbours_on::NeighboursOn;

@@ -4,23 +4,18 @@ ghost use Rattle.std.specs.List.Sorted.{IsStrictlySortedBy};
 ghost use Rattle.pim_model.specs.Downstream.{holdtime_end_from};
 ghost use Rattle.pim_model.specs.Hellos.{is_generation_changed_among, neighbours_replaced};
 ghost use Rattle.pim_model.specs.Neighbours.{all_have_priority, is_better_dr, is_dr_among, is_suppression_among, nbr_among, override_interval_among, propagation_delay_among, t_override_among, t_suppressed_among};
-ghost use Rattle.pim_model.specs.Tables.{drop_at, drop_where, has_row, is_on, key_cmp, keys_in, neighbour_key, row_at, rows_on};
+ghost use Rattle.pim_model.specs.Tables.{drop_at, drop_where, has_row, keys_in, row_at, rows_on};
+ghost use Rattle.pim_types.specs.Keys.{is_on, key_cmp, neighbour_key};
 
 use crate::delays::{Delays, delay_in};
 use crate::neighbours_on::NeighboursOn;
-use pim_facts::Facts;
+use pim_tables::Facts;
 use pim_types::fact::NeighbourRow;
 use pim_types::{Addr, Hop, IfaceId, InterfaceConfig, Key, Path};
-use pim_wire::Hello;
+use pim_wire::{DEFAULT_HOLDTIME, HOLDTIME_FOREVER, Hello};
 use std::alloc::{AllocError, Global};
 use std::collections::btree_map::Iter;
 use std::marker::Model;
-
-/// The holdtime of a Hello without the option, in seconds.
-const DEFAULT_HOLDTIME: u16 = 105;
-
-/// The holdtime that never ends.
-const HOLDTIME_FOREVER: u16 = 0xffff;
 
 /// The least `t_suppressed`, in ms: 1.1 times the period of Joins.
 const LEAST_SUPPRESSED: u32 = 66_000;
@@ -43,21 +38,9 @@ impl Model for Neighbours {
     ghost view = { λ n. n.rows };
 }
 
-// The key of the neighbour with the address on the interface.
-fn neighbour_key(iface: IfaceId, address: Addr) -> Key
-    ensures { result ≡ neighbour_key iface.number address.bits }
-{
-    Key {
-        iface,
-        group: Addr { bits: 0 },
-        source: Some(address),
-        rpt: false,
-    }
-}
-
-// The end of a holdtime in seconds from now; `None` never ends.
+/// The end of a holdtime in seconds that starts at the present moment, in ms; `None` never ends.
 #[tactic(auto, unfolding(pim_model::specs::Downstream::holdtime_end_from))]
-fn holdtime_end(present: u64, holdtime: u16) -> Option<u64>
+pub fn holdtime_end(present: u64, holdtime: u16) -> Option<u64>
     requires { present ≤ 2 ^ 62 }
     ensures { result ≡ holdtime_end_from present holdtime }
 {
@@ -138,14 +121,14 @@ impl Neighbours {
     pub fn get(&self, iface: IfaceId, address: Addr) -> Option<NeighbourRow>
         ensures { result ≡ row_at self.now (neighbour_key iface.number address.bits) }
     {
-        self.rows.get(neighbour_key(iface, address))
+        self.rows.get(Key::neighbour(iface, address))
     }
 
     /// Whether there is a neighbour with the address on the interface.
     pub fn contains(&self, iface: IfaceId, address: Addr) -> bool
         ensures { result ≡ has_row self.now (neighbour_key iface.number address.bits) }
     {
-        self.rows.contains(neighbour_key(iface, address))
+        self.rows.contains(Key::neighbour(iface, address))
     }
 
     /// The neighbour that is the next hop of a route: `NBR` of RFC 7761, section 4.1.6. `None`
@@ -251,9 +234,10 @@ impl Neighbours {
     /// `J/P_Override_Interval` of the interface (RFC 7761, section 4.3.3), in ms: the sum of its
     /// two delays.
     pub fn join_prune_override_interval(&self, iface: IfaceId, own: &InterfaceConfig) -> u64
-        ensures { let rows = rows_on iface.number self.now in
+        ensures value { let rows = rows_on iface.number self.now in
             result ≡ propagation_delay_among own.now.propagation_delay rows
             + override_interval_among own.now.override_interval rows }
+        ensures within { result < 2 ^ 33 }
     {
         let delays = self.delays(iface, own);
         u64::from(delays.propagation_delay) + u64::from(delays.override_interval)
@@ -328,7 +312,7 @@ impl Neighbours {
             ≡ neighbours_replaced present iface.number address.bits hello.now self.old) }
         ensures err { OnErr result (self.new ≡ self.old) }
     {
-        let key = neighbour_key(iface, address);
+        let key = Key::neighbour(iface, address);
         let holdtime = hello.holdtime.unwrap_or(DEFAULT_HOLDTIME);
         if holdtime == 0 {
             self.rows.remove(key);
@@ -347,7 +331,7 @@ impl Neighbours {
     pub fn remove(&mut self, iface: IfaceId, address: Addr)
         ensures { self.new ≡ drop_at self.old (neighbour_key iface.number address.bits) }
     {
-        self.rows.remove(neighbour_key(iface, address));
+        self.rows.remove(Key::neighbour(iface, address));
     }
 
     /// Takes the neighbours on the interface away.

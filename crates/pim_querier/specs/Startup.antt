@@ -1,9 +1,9 @@
 -- General queries of a querier with the configured values.
 use Rattle.std.specs.Prelude.{false}
-use Rattle.pim_wire.specs.Encoded.{addr}
+use Rattle.pim_ip.specs.Addr.{addr}
 use Rattle.igmp_wire.specs.Codes.{value_code}
 use Rattle.igmp_wire.specs.declared.write.QueryHeader.{QueryHeader}
-use Rattle.pim_world.specs.declared.settings.Settings.{Settings}
+use Rattle.pim_types.specs.declared.config.Settings.{Settings}
 
 abbrev pub general_header : Settings → QueryHeader
 general_header s = record {

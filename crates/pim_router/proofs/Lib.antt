@@ -1,4 +1,5 @@
-mod Concluding
+mod Configured
+mod PlainLaws
 mod Runs
 mod Settling
-mod Steps
+mod Taking

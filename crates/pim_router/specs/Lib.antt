@@ -1,1 +1,3 @@
-pub mod Answers
+pub mod Naming
+pub mod Settling
+pub mod Stops

@@ -1,71 +1,147 @@
-//! One event.
-ghost use Rattle.std.specs.Prelude.{◌≡◌, ◌++◌, IfOk, IsOk, IsOkUnless, IsTrue, OnOk, length, take};
+//! One event: it is judged; what is accepted changes the state, where it is built and there is room for its facts.
+ghost use Rattle.std.specs.Prelude.{◌≡◌, [], IfOk, IsOk, IsOkUnless, IsTrue, OnOk, true};
 ghost use Rattle.pim_ip.specs.declared.fault.Fault.{Fault};
-ghost use Rattle.pim_model.specs.Built.{built_step};
-ghost use Rattle.pim_model.specs.Sure.{is_sure};
-ghost use Rattle.pim_router.specs.Answers.{moment_test};
+ghost use Rattle.pim_macros.specs.Plain.{IsPlain};
+ghost use Rattle.pim_model.specs.Built.{built_step, is_built, taken_if_built};
+ghost use Rattle.pim_model.specs.Step.{outcome_of, taken, taken_unless_full};
+ghost use Rattle.pim_model.specs.Sure.{is_sure, needs_no_memory};
+ghost use Rattle.pim_router.specs.Naming.{AreNamedBy, IsConfigured};
+ghost use Rattle.pim_router.specs.Stops.{stop_outcome};
 
-use crate::answer::{Answer, answer_of, unbuilt};
-use crate::frame::receive;
-use crate::iface::{go_up, judge_down};
-use pim_intake::judge_unicast;
+use crate::built::is_built;
+use crate::change::apply;
+use crate::named::{is_full, named_by};
+use crate::settle::settle;
+use pim_downstream::Named;
+use pim_intake::judge;
+use pim_macros::{Turn, World};
+use pim_model::Accepted;
 use pim_trie::Meter;
-use pim_types::{Emission, Event, EventKind, Fault, Refusal};
-use pim_world::{World, test_rps};
+use pim_types::{Event, Fault, Ignored, Outcome, Refusal, Series, Stop, Verdict};
+use pim_upstream::Opening;
 use std::alloc::Global;
+use std::mem::replace;
 
-// The last moment, in ms.
-const LAST_MOMENT: u64 = 1 << 62;
+// The outcome of an event that changes nothing.
+fn stopped(alloc: Global, stop: Stop) -> Outcome
+    ensures { result ≡ stop_outcome stop }
+{
+    let answer = match stop {
+        Stop::Refuse(refusal) => Err(refusal),
+        Stop::Ignore(reason) => Ok(Verdict::Ignored(reason)),
+    };
+    Outcome {
+        answer,
+        emissions: Series::new(alloc),
+        copies: 0,
+    }
+}
 
-/// Takes an event: its tests, its own change, and what follows of it. The packets that leave stand at
-/// the end of the emissions.
+// What there is room for: its own change, and what follows of it. No packet of data is copied yet.
+fn take(
+    world: &mut World,
+    turn: &mut Turn,
+    accepted: &Accepted<'_>,
+    named: &Named,
+) -> Result<Outcome, Fault>
+    requires plain { IsPlain world.old }
+    requires begun { turn.old.messages ≡ [] }
+    requires built { is_built accepted.now ≡ true }
+    requires configured { IsConfigured world.old accepted.now }
+    requires named { AreNamedBy world.old accepted.now named.now.joined.items named.now.pruned.items }
+    ensures outcome { IfOk result (λ outcome. outcome ≡ outcome_of (taken world.old turn.old.draw accepted.now)) }
+    ensures state { OnOk result (world.new ≡ (taken world.old turn.old.draw accepted.now).state) }
+    ensures plain { OnOk result (IsPlain world.new) }
+    ensures fault { IsOkUnless result Fault.Memory }
+{
+    let opening = Opening::of(world, turn)?;
+    apply(world, turn, accepted, named)?;
+    let emissions = settle(world, turn, &opening)?;
+    Ok(Outcome {
+        answer: Ok(Verdict::Done),
+        emissions: Series::from_vec(emissions),
+        copies: 0,
+    })
+}
+
+// What is built: it is refused where there is no room.
+#[tactic(auto, unfolding(pim_model::specs::Step::taken_unless_full))]
+fn take_unless_full(
+    world: &mut World,
+    turn: &mut Turn,
+    accepted: &Accepted<'_>,
+) -> Result<Outcome, Fault>
+    requires plain { IsPlain world.old }
+    requires begun { turn.old.messages ≡ [] }
+    requires built { is_built accepted.now ≡ true }
+    requires configured { IsConfigured world.old accepted.now }
+    ensures outcome { IfOk result (λ outcome. outcome ≡ outcome_of (taken_unless_full world.old turn.old.draw accepted.now)) }
+    ensures state { OnOk result (world.new ≡ (taken_unless_full world.old turn.old.draw accepted.now).state) }
+    ensures plain { OnOk result (IsPlain world.new) }
+    ensures fault { IsOkUnless result Fault.Memory }
+{
+    let named = named_by(world, turn, accepted)?;
+    if is_full(world, turn, accepted, &named)? {
+        return Ok(stopped(turn.alloc, Stop::Refuse(Refusal::Full)));
+    }
+    take(world, turn, accepted, &named)
+}
+
+// What was accepted: it is ignored where it isn't built, without memory.
+#[tactic(auto, unfolding(pim_model::specs::Built::taken_if_built))]
+fn take_if_built(
+    world: &mut World,
+    turn: &mut Turn,
+    accepted: &Accepted<'_>,
+) -> Result<Outcome, Fault>
+    requires plain { IsPlain world.old }
+    requires begun { turn.old.messages ≡ [] }
+    requires configured { IsConfigured world.old accepted.now }
+    ensures outcome { IfOk result (λ outcome. outcome ≡ outcome_of (taken_if_built world.old turn.old.draw accepted.now)) }
+    ensures state { OnOk result (world.new ≡ (taken_if_built world.old turn.old.draw accepted.now).state) }
+    ensures plain { OnOk result (IsPlain world.new) }
+    ensures fault { IsOkUnless result Fault.Memory }
+    ensures sure { IsTrue (needs_no_memory (taken_if_built world.old turn.old.draw accepted.now).answer) → IsOk result }
+{
+    if !is_built(accepted) {
+        return Ok(stopped(turn.alloc, Stop::Ignore(Ignored::Unbuilt)));
+    }
+    take_unless_full(world, turn, accepted)
+}
+
+// An event in its turn.
+#[tactic(auto, unfolding(pim_model::specs::Built::built_step))]
+fn take_turn(world: &mut World, turn: &mut Turn, event: &Event) -> Result<Outcome, Fault>
+    requires plain { IsPlain world.old }
+    requires begun { turn.old ≡ record { draw = event.now.draw; messages = [] } }
+    ensures outcome { IfOk result (λ outcome. outcome ≡ outcome_of (built_step world.old event.now)) }
+    ensures state { OnOk result (world.new ≡ (built_step world.old event.now).state) }
+    ensures plain { OnOk result (IsPlain world.new) }
+    ensures fault { IsOkUnless result Fault.Memory }
+    ensures sure { IsTrue (is_sure event.now.kind (built_step world.old event.now).answer) → IsOk result }
+{
+    match judge(turn.alloc, world, event, &mut turn.meter)? {
+        Ok(accepted) => take_if_built(world, turn, &accepted),
+        Err(stop) => Ok(stopped(turn.alloc, stop)),
+    }
+}
+
+/// Takes an event. Look-ups raise the meter.
 pub(crate) fn take_in(
     alloc: Global,
     world: &mut World,
     event: &Event,
-    emissions: &mut Vec<Emission>,
     meter: &mut Meter,
-) -> Result<Answer, Fault>
-    ensures answer { IfOk result (λ answer. answer ≡ (built_step world.old event.now).answer) }
+) -> Result<Outcome, Fault>
+    requires { IsPlain world.old }
+    ensures outcome { IfOk result (λ outcome. outcome ≡ outcome_of (built_step world.old event.now)) }
     ensures state { OnOk result (world.new ≡ (built_step world.old event.now).state) }
-    ensures sent { OnOk result (emissions.new.items ≡ emissions.old.items ++ (built_step world.old event.now).emissions) }
-    ensures copies { OnOk result ((built_step world.old event.now).copies ≡ 0) }
-    ensures kept { take (length emissions.old.items) emissions.new.items ≡ emissions.old.items }
+    ensures plain { OnOk result (IsPlain world.new) }
     ensures fault { IsOkUnless result Fault.Memory }
     ensures sure { IsTrue (is_sure event.now.kind (built_step world.old event.now).answer) → IsOk result }
 {
-    match &event.kind {
-        EventKind::Advance { moment } => Ok(unbuilt(test_moment(world, *moment))),
-        EventKind::Frame { iface, bytes } => receive(
-            alloc,
-            world,
-            *iface,
-            bytes.as_slice(),
-            event.draw,
-            emissions,
-            meter,
-        ),
-        EventKind::Unicast { bytes } => {
-            Ok(answer_of(judge_unicast(world, bytes.as_slice(), meter)))
-        }
-        EventKind::Up { iface } => go_up(alloc, world, *iface, event.draw, emissions, meter),
-        EventKind::Down { iface } => Ok(judge_down(world, *iface)),
-        EventKind::Routes { routes } => {
-            Ok(unbuilt(world.test_routes(alloc, routes.as_slice())?))
-        }
-        EventKind::Rps { rps } => Ok(unbuilt(test_rps(alloc, rps.as_slice())?)),
-    }
-}
-
-// Tests a moment to advance to: it isn't past, and not beyond the last.
-fn test_moment(world: &World, moment: u64) -> Result<(), Refusal>
-    ensures { result ≡ moment_test world.now moment }
-{
-    if moment < world.present() {
-        return Err(Refusal::MomentBack);
-    }
-    if moment > LAST_MOMENT {
-        return Err(Refusal::MomentFar);
-    }
-    Ok(())
+    let mut turn = Turn::new(alloc, event.draw, replace(meter, Meter::new()));
+    let outcome = take_turn(world, &mut turn, event);
+    *meter = turn.meter;
+    outcome
 }

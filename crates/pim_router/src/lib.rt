@@ -1,11 +1,11 @@
 //! The router: events in, outcomes and packets out, exactly as the written machine has them.
 #![tactic(auto)]
 
-mod answer;
-mod event;
-mod frame;
-mod iface;
+pub mod built;
+pub mod change;
+pub mod event;
+pub mod named;
 pub mod router;
-mod settle;
+pub mod settle;
 
 pub use router::Router;

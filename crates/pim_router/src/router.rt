@@ -1,17 +1,16 @@
 //! The router.
-ghost use Rattle.std.specs.Prelude.{◌≡◌, ◌++◌, ◌↔◌, [], Err, IfErr, IfOk, IfSome, IsOk, IsOkUnless, IsTrue, None, Ok, OnErr, OnOk, Some, length, take};
+ghost use Rattle.std.specs.Prelude.{◌≡◌, ◌++◌, ◌↔◌, [], Err, IfErr, IfOk, IfSome, IsOk, IsOkUnless, IsTrue, None, Ok, OnErr, OnOk, Some};
 ghost use Rattle.pim_ip.specs.declared.fault.Fault.{Fault};
+ghost use Rattle.pim_macros.specs.Plain.{IsPlain};
 ghost use Rattle.pim_model.specs.Built.{built_run, built_state_after, built_step};
 ghost use Rattle.pim_model.specs.Limits.{config_test};
 ghost use Rattle.pim_model.specs.State.{opening};
-ghost use Rattle.pim_model.specs.Step.{outcome_of};
 ghost use Rattle.pim_model.specs.Sure.{is_sure};
 
-use crate::answer::Answer;
 use crate::event::take_in;
+use pim_macros::World;
 use pim_trie::Meter;
-use pim_types::{Config, Emission, Event, Fault, Outcome, Refusal, Series, Verdict};
-use pim_world::World;
+use pim_types::{Config, Emission, Event, Fault, Outcome, Refusal, Verdict};
 use std::alloc::Global;
 use std::marker::Model;
 
@@ -26,12 +25,16 @@ pub struct Router {
 }
 
 impl Model for Router {
-    ghost use Rattle.std.specs.Prelude.{None, Option, Some, if◌then◌else◌};
+    ghost use Rattle.std.specs.Prelude.{None, Option, Some, false, if◌then◌else◌, ◌≡◌};
+    ghost use Rattle.pim_macros.specs.Plain.{IsPlain};
     ghost use Rattle.pim_model.specs.State.{State};
 
     ghost Value = { Option State };
 
     ghost view = { λ r. if r.failed then None else Some r.world };
+
+    // What isn't built isn't there.
+    ghost invariant = { λ r. r.failed ≡ false → IsPlain r.world };
 }
 
 impl Router {
@@ -77,24 +80,11 @@ impl Router {
         if self.failed {
             return Err(Fault::Failed);
         }
-        let before = emissions.len();
         self.failed = true;
-        match take_in(
-            self.alloc,
-            &mut self.world,
-            event,
-            emissions,
-            &mut self.meter,
-        ) {
-            Ok(answer) => {
-                self.failed = false;
-                Ok(answer)
-            }
-            Err(fault) => {
-                emissions.truncate(before);
-                Err(fault)
-            }
-        }
+        let outcome = take_in(self.alloc, &mut self.world, event, &mut self.meter)?;
+        emissions.append(&mut outcome.emissions.into_vec())?;
+        self.failed = false;
+        Ok(outcome.answer)
     }
 
     /// Takes events one after the other, and tells the outcome of each. After a fault the router answers
@@ -124,34 +114,16 @@ fn run_world(
     events: &[Event],
     meter: &mut Meter,
 ) -> Result<Vec<Outcome>, Fault>
+    requires { IsPlain world.old }
     ensures outcomes { IfOk result (λ outcomes. outcomes.items ≡ built_run world.old events.now) }
     ensures state { OnOk result (world.new ≡ built_state_after world.old events.now) }
+    ensures plain { OnOk result (IsPlain world.new) }
     ensures fault { IsOkUnless result Fault.Memory }
     ensures sure { events.now ≡ [] → IsOk result }
 {
     let mut outcomes = Vec::new(alloc);
     for event in events {
-        outcomes.push(outcome_of(alloc, world, event, meter)?)?;
+        outcomes.push(take_in(alloc, world, event, meter)?)?;
     }
     Ok(outcomes)
-}
-
-// The outcome of an event. No packet of data is copied yet.
-fn outcome_of(
-    alloc: Global,
-    world: &mut World,
-    event: &Event,
-    meter: &mut Meter,
-) -> Result<Outcome, Fault>
-    ensures outcome { IfOk result (λ outcome. outcome ≡ outcome_of (built_step world.old event.now)) }
-    ensures state { OnOk result (world.new ≡ (built_step world.old event.now).state) }
-    ensures fault { IsOkUnless result Fault.Memory }
-{
-    let mut emissions = Vec::new(alloc);
-    let answer: Answer = take_in(alloc, world, event, &mut emissions, meter)?;
-    Ok(Outcome {
-        answer,
-        emissions: Series::from_vec(emissions),
-        copies: 0,
-    })
 }

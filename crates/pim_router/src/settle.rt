@@ -1,35 +1,28 @@
 //! What follows of an event's own change.
-ghost use Rattle.std.specs.Prelude.{◌≡◌, ◌++◌, ℕ, IsOkUnless, OnOk, length, take};
+ghost use Rattle.std.specs.Prelude.{◌≡◌, IfOk, IsOkUnless, OnOk};
 ghost use Rattle.pim_ip.specs.declared.fault.Fault.{Fault};
-ghost use Rattle.pim_model.specs.Firing.{settled};
-ghost use Rattle.pim_model.specs.State.{State};
-ghost use Rattle.pim_world.specs.Plain.{IsPlain};
-ghost use Rattle.pim_upstream.specs.Openings.{IsOpeningOf};
+ghost use Rattle.pim_macros.specs.Plain.{IsPlain};
+ghost use Rattle.pim_router.specs.Settling.{settled_by};
 
-use pim_messages::Outbox;
-use pim_trie::Meter;
+use pim_macros::{Turn, World};
 use pim_types::{Emission, Fault};
 use pim_upstream::{Opening, changed};
-use pim_world::World;
-use std::alloc::Global;
 
-/// Settles a change: what is told upstream after it, by comparison with the opening; then all messages
-/// leave, those of the change first. No assert and no source is kept yet, so nothing is to be cleared.
+/// Settles a change: what is told upstream after it, by comparison with the opening; then all messages leave, those of
+/// the change first. No assert and no source is kept yet, so nothing is to be cleared.
+#[tactic(auto, unfolding(crate::specs::Settling::settled_by))]
 pub(crate) fn settle(
-    alloc: Global,
     world: &mut World,
+    turn: &mut Turn,
     opening: &Opening,
-    mut out: Outbox,
-    emissions: &mut Vec<Emission>,
-    meter: &mut Meter,
-) -> Result<(), Fault>
-    ensures state { (o : State) (w : ℕ) → IsPlain o → IsOpeningOf o opening.now
-        → OnOk result (world.new ≡ (settled o (world.old, out) w).0) }
-    ensures sent { (o : State) (w : ℕ) → IsPlain o → IsOpeningOf o opening.now
-        → OnOk result (emissions.new.items ≡ emissions.old.items ++ (settled o (world.old, out) w).1) }
-    ensures kept { take (length emissions.old.items) emissions.new.items ≡ emissions.old.items }
+) -> Result<Vec<Emission>, Fault>
+    requires { IsPlain world.old }
+    ensures state { OnOk result (world.new ≡ (settled_by opening.now world.old turn.old.messages turn.old.draw).0) }
+    ensures sent { IfOk result (λ sent. sent.items ≡ (settled_by opening.now world.old turn.old.messages turn.old.draw).1) }
     ensures fault { IsOkUnless result Fault.Memory }
 {
-    changed(alloc, world, opening, &mut out, meter)?;
-    world.write(&out, emissions)
+    changed(world, turn, opening)?;
+    let mut emissions = Vec::new(turn.alloc);
+    world.write(&turn.out, &mut emissions)?;
+    Ok(emissions)
 }

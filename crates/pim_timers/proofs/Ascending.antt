@@ -9,11 +9,13 @@ use Rattle.std.specs.FinMap as finmap
 use Rattle.std.proofs.lemmas.Bool.{true≢false}
 use Rattle.std.proofs.lemmas.Bool.Decides.{nat_tests}
 use Rattle.pim_types.specs.declared.timer.Timer.{Timer}
-use Rattle.pim_timers.specs.Order.{timer_cmp, due_cmp}
+use Rattle.pim_timers.specs.Order.{due_cmp}
+use Rattle.pim_types.specs.Timers.{timer_cmp}
 use Rattle.pim_timers.specs.Schedule.{Contents}
 use Rattle.pim_timers.specs.Ends.{same_timer, end_in, contents_of, After, Rises}
 use Rattle.pim_timers.specs.Next.{IsLeast, IsNext}
-use Rattle.pim_timers.proofs.Total.{timer_cmp_total, due_cmp_total, timer_exact, due_exact}
+use Rattle.pim_timers.proofs.Total.{due_cmp_total, due_exact}
+use Rattle.pim_types.proofs.Timers.{timer_cmp_total, timer_exact}
 
 pub same_itself : (t : Timer) → same_timer t t ≡ true
 unfolding same_timer

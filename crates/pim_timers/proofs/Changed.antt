@@ -6,12 +6,12 @@ use Rattle.std.proofs.lemmas.Bool.{true≢false}
 use Rattle.pim_types.specs.declared.timer.Timer.{Timer}
 use Rattle.pim_timers.specs.declared.slots.Entry.{Entry}
 use Rattle.pim_timers.specs.Schedule.{Contents}
-use Rattle.pim_timers.specs.Order.{timer_cmp}
+use Rattle.pim_types.specs.Timers.{timer_cmp}
 use Rattle.pim_timers.specs.Ends.{same_timer, contents_of}
 use Rattle.pim_timers.specs.Held.{Held, entry_at}
 use Rattle.pim_timers.specs.Kept.{IsIndexed, IsWheel, ends_of}
 use Rattle.pim_timers.specs.Levels.{StandsIn}
-use Rattle.pim_timers.proofs.Total.{timer_cmp_total, timer_exact}
+use Rattle.pim_types.proofs.Timers.{timer_cmp_total, timer_exact}
 use Rattle.pim_timers.proofs.Ascending.{contents_none, get_removed, get_inserted, same_itself, same_or_not}
 use Rattle.pim_timers.proofs.Keys.{same_key, eq_same, eq_other}
 use Rattle.pim_timers.proofs.Kept.{one_entry, no_entry, one_number, no_number, kept, get_kept, end_at}

@@ -12,7 +12,8 @@ use Rattle.pim_timers.specs.declared.slots.Node.{Node}
 use Rattle.pim_timers.specs.Held.{due_of}
 use Rattle.pim_timers.specs.Heaps.{Nodes, entry_of, slot_of, child_of, parent_of, place_cmp, IsAfter, AreHeaps, IsLinked, IsSunk}
 use Rattle.pim_timers.specs.Order.{due_cmp}
-use Rattle.pim_timers.proofs.Total.{due_cmp_total, both_tied}
+use Rattle.pim_timers.proofs.Total.{due_cmp_total}
+use Rattle.pim_types.proofs.Keys.{both_tied}
 use Rattle.pim_timers.proofs.Ascending.{less_is}
 use Rattle.pim_timers.proofs.Keys.{one_key, no_key, same_key, same_side}
 

@@ -5,10 +5,10 @@ use Rattle.std.specs.Ordering.{eq_by_cmp}
 use Rattle.std.specs.FinMap as finmap
 use Rattle.pim_types.specs.declared.timer.Timer.{Timer}
 use Rattle.pim_types.specs.contracts.timer.TimerPartialEq.TheImpl as timer_eq
-use Rattle.pim_timers.specs.Order.{timer_cmp}
+use Rattle.pim_types.specs.Timers.{timer_cmp}
 use Rattle.pim_timers.specs.Schedule.{Contents}
 use Rattle.pim_timers.specs.Ends.{same_timer}
-use Rattle.pim_timers.proofs.Total.{timer_cmp_total, timer_exact}
+use Rattle.pim_types.proofs.Timers.{timer_cmp_total, timer_exact}
 use Rattle.pim_timers.proofs.Ranks.{timer_ties}
 use Rattle.pim_timers.proofs.Ascending.{same_symm, get_removed, get_inserted}
 

@@ -17,7 +17,9 @@ use Rattle.std.specs.declared.cmp.Ordering.TheVariants.{Less, Equal, Greater}
 use Rattle.std.specs.Bool.{beq}
 use Rattle.std.proofs.lemmas.Bool.Decides.{nat_tests}
 use Rattle.pim_timers.specs.Ends.{same_timer}
-use Rattle.pim_timers.specs.Order.{rank, timer_cmp, key_cmp, addr_cmp, due_cmp}
+use Rattle.pim_timers.specs.Order.{due_cmp}
+use Rattle.pim_types.specs.Timers.{rank, timer_cmp}
+use Rattle.pim_types.specs.Keys.{key_cmp, addr_cmp}
 
 -- kinds compare by their ranks
 pub kind_order : (a b : TimerKind) → (kind_ord.ghosts).cmp a b ≡ nat_cmp (rank a) (rank b)

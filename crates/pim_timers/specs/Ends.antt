@@ -4,7 +4,8 @@ use Rattle.std.specs.Ordering.{eq_by_cmp}
 use Rattle.std.specs.declared.cmp.Ordering.TheVariants.{Less}
 use Rattle.std.specs.FinMap as finmap
 use Rattle.pim_types.specs.declared.timer.Timer.{Timer}
-use Rattle.pim_timers.specs.Order.{timer_cmp, due_cmp}
+use Rattle.pim_timers.specs.Order.{due_cmp}
+use Rattle.pim_types.specs.Timers.{timer_cmp}
 use Rattle.pim_timers.specs.Schedule.{Contents}
 
 -- the two timers are one

@@ -3,7 +3,7 @@ use Rattle.std.specs.Prelude.{ℕ, refl}
 use Rattle.std.specs.Coded.{Coded, code_by, coded×, coded_ℕ}
 use Rattle.std.specs.FinMap as map
 use Rattle.pim_types.specs.contracts.timer.Timer as timer
-use Rattle.pim_timers.specs.Order.{timer_cmp}
+use Rattle.pim_types.specs.Timers.{timer_cmp}
 
 -- when each timer that is set ends
 abbrev pub Contents : Type 0

@@ -1,6 +1,6 @@
 ghost use Rattle.std.specs.Prelude.{◌≡◌, ℕ, Option};
 ghost use Rattle.pim_types.specs.declared.timer.Timer.{Timer as TimerValue};
-ghost use Rattle.pim_timers.specs.Order.{timer_cmp};
+ghost use Rattle.pim_types.specs.Timers.{timer_cmp};
 ghost use Rattle.pim_timers.specs.Next.{IsNext};
 
 use pim_types::Timer;

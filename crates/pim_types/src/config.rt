@@ -7,6 +7,11 @@ pub struct IfaceId {
     pub number: u32,
 }
 
+impl IfaceId {
+    /// What a key of the whole router has in place of an interface.
+    pub const NONE: IfaceId = IfaceId { number: 0 };
+}
+
 /// What is configured of an interface.
 #[derive(Clone, Copy)]
 pub struct InterfaceConfig {
@@ -23,12 +28,28 @@ pub struct InterfaceConfig {
 }
 
 impl InterfaceConfig {
+    /// What stands for an interface that isn't configured.
+    pub const UNCONFIGURED: InterfaceConfig = InterfaceConfig {
+        address: Addr { bits: 0 },
+        length: 0,
+        priority: 0,
+        propagation_delay: 0,
+        override_interval: 0,
+    };
+
     /// The announced DR priority where none is configured.
     pub const DEFAULT_PRIORITY: u32 = 1;
     /// The announced propagation delay where none is configured, in ms.
     pub const DEFAULT_PROPAGATION_DELAY: u32 = 500;
     /// The announced override interval where none is configured, in ms.
     pub const DEFAULT_OVERRIDE_INTERVAL: u32 = 2500;
+}
+
+/// What a place for an interface holds before one is put there.
+impl Default for InterfaceConfig {
+    fn default() -> Self {
+        Self::UNCONFIGURED
+    }
 }
 
 /// Whether the router leaves the shared tree for the shortest path tree: `SwitchToSptDesired(S,G)`
@@ -76,6 +97,22 @@ pub struct Config {
     pub last_member_query_interval: u32,
     pub routes: Series<Route>,
     pub rps: Series<RpRange>,
+}
+
+/// A configuration without its lists.
+#[derive(Clone, Copy)]
+pub struct Settings {
+    /// The limit on counted facts, 1 to 1,000,000.
+    pub limit: u32,
+    pub spt: SptSwitch,
+    /// The robustness variable of IGMP, 2 to 7.
+    pub robustness: u32,
+    /// The query interval, in seconds, 1 to 31744.
+    pub query_interval: u32,
+    /// The query response interval, in tenths of a second, 1 to 31744 and below the query interval.
+    pub query_response_interval: u32,
+    /// The last member query interval, in tenths of a second, 1 to 255.
+    pub last_member_query_interval: u32,
 }
 
 impl Config {

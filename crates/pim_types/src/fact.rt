@@ -1,3 +1,6 @@
+ghost use Rattle.std.specs.Prelude.{◌≡◌};
+ghost use Rattle.pim_types.specs.Keys.{iface_key, neighbour_key, rpt_key, source_key, star_key};
+
 use crate::config::IfaceId;
 use pim_ip::Addr;
 
@@ -11,6 +14,65 @@ pub struct Key {
     pub source: Option<Addr>,
     /// (S,G,rpt) in place of (S,G).
     pub rpt: bool,
+}
+
+impl Key {
+    /// The key of (*,G) on an interface.
+    pub fn star(iface: IfaceId, group: Addr) -> Key
+        ensures { result ≡ star_key iface.number group.bits }
+    {
+        Key {
+            iface,
+            group,
+            source: None,
+            rpt: false,
+        }
+    }
+
+    /// The key of (S,G) on an interface.
+    pub fn source(iface: IfaceId, group: Addr, source: Addr) -> Key
+        ensures { result ≡ source_key iface.number group.bits source.bits }
+    {
+        Key {
+            iface,
+            group,
+            source: Some(source),
+            rpt: false,
+        }
+    }
+
+    /// The key of (S,G,rpt) on an interface.
+    pub fn source_rpt(iface: IfaceId, group: Addr, source: Addr) -> Key
+        ensures { result ≡ rpt_key iface.number group.bits source.bits }
+    {
+        Key {
+            iface,
+            group,
+            source: Some(source),
+            rpt: true,
+        }
+    }
+
+    /// The key of an interface.
+    pub fn iface(iface: IfaceId) -> Key
+        ensures { result ≡ iface_key iface.number }
+    {
+        Key::star(iface, Addr::NONE)
+    }
+
+    /// The key of a neighbour on an interface.
+    pub fn neighbour(iface: IfaceId, address: Addr) -> Key
+        ensures { result ≡ neighbour_key iface.number address.bits }
+    {
+        Key::source(iface, Addr::NONE, address)
+    }
+
+    /// The key of (*,G) of the whole router.
+    pub fn group(group: Addr) -> Key
+        ensures { result ≡ star_key 0 group.bits }
+    {
+        Key::star(IfaceId::NONE, group)
+    }
 }
 
 /// An interface that is up.

@@ -13,13 +13,15 @@ pub mod path;
 pub mod series;
 pub mod table;
 pub mod timer;
+pub mod upstream;
 
-pub use config::{Config, IfaceId, InterfaceConfig, Route, RpRange, SptSwitch};
+pub use config::{Config, IfaceId, InterfaceConfig, Route, RpRange, Settings, SptSwitch};
 pub use event::{Event, EventKind};
 pub use fact::Key;
-pub use outcome::{Emission, Ignored, Outcome, Verdict};
+pub use outcome::{Emission, Ignored, Outcome, Stop, Verdict};
 pub use path::{Hop, Path};
 pub use pim_ip::{Addr, Fault, Prefix, Refusal};
-pub use series::Series;
+pub use series::{Lent, Series};
 pub use table::{Row, Table};
 pub use timer::{Timer, TimerKind};
+pub use upstream::{SourceView, StarView, TreeState};

@@ -25,6 +25,24 @@ pub enum Ignored {
     Unbuilt,
 }
 
+/// Why an event changes nothing.
+#[derive(Clone, Copy)]
+pub enum Stop {
+    Refuse(Refusal),
+    Ignore(Ignored),
+}
+
+impl From<Refusal> for Stop {
+    ghost use Rattle.std.specs.Prelude.{◌≡◌};
+    ghost use Rattle.pim_types.specs.declared.outcome.Stop.{Stop};
+
+    ghost from_gives = { λ refusal stop. stop ≡ Stop.Refuse refusal };
+
+    fn from(refusal: Refusal) -> Stop {
+        Stop::Refuse(refusal)
+    }
+}
+
 /// What became of an event that wasn't refused.
 #[derive(Clone, Copy)]
 pub enum Verdict {

@@ -3,6 +3,36 @@ ghost use Rattle.std.specs.Prelude.{◌≡◌, ◌↔◌, [], ◌∷◌, ◌++�
 use std::alloc::{AllocError, Global};
 use std::marker::Model;
 
+/// Values that are lent, which a clause sees as their list.
+#[derive(Drop)]
+pub struct Lent<'a, T> {
+    items: &'a [T],
+}
+
+impl<'a, T> Model for Lent<'a, T> {
+    ghost use Rattle.std.specs.Prelude.{List};
+
+    ghost Value = { List T };
+
+    ghost view = { λ a. a.items.now };
+}
+
+impl<'a, T> Lent<'a, T> {
+    /// These values.
+    pub fn of(items: &'a [T]) -> Self
+        ensures { result ≡ items.now }
+    {
+        Lent { items }
+    }
+
+    /// The values, to be read.
+    pub fn as_slice(&self) -> &'a [T]
+        ensures { result.now ≡ self.now }
+    {
+        self.items
+    }
+}
+
 /// Values in order, which a clause sees as their list.
 #[derive(Drop)]
 pub struct Series<T> {

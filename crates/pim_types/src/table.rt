@@ -20,7 +20,7 @@ pub enum Table {
     /// `R`: the upstream (S,G,rpt) states of joined groups.
     Trees,
     /// `F`: the sources, with their registers.
-    Sending,
+    Active,
 }
 
 /// A downstream state as it is printed.
@@ -81,7 +81,7 @@ pub enum Row {
         source: Addr,
         is_pruned: bool,
     },
-    Sending {
+    Active {
         group: Addr,
         source: Addr,
         keepalive: Option<u64>,

@@ -1,8 +1,9 @@
-mod Absent
-mod Ascending
-mod Frames
-mod Kept
-mod Messages
+mod Absence
+pub mod Frames
+mod Numbers
+mod Progress
 mod Reactions
-mod TurnLaws
+pub mod Sources
 mod Unions
+pub mod UpstreamLaws
+mod Views

@@ -3,12 +3,9 @@
 #![tactic(auto)]
 
 pub mod opening;
-pub mod reaction;
-pub mod star;
-mod tell;
+mod star;
+mod timer;
 pub mod turns;
 
 pub use opening::Opening;
-pub use reaction::Reaction;
-pub use star::Star;
 pub use turns::changed;

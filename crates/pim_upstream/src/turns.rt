@@ -1,90 +1,70 @@
 //! What is told upstream after an event's own change.
-ghost use Rattle.std.specs.Prelude.{◌≡◌, ◌++◌, ℕ, OnOk};
-ghost use Rattle.pim_model.specs.State.{State};
-ghost use Rattle.pim_model.specs.Upstream.{upstream};
-ghost use Rattle.pim_world.specs.Groups.{numbers_of};
-ghost use Rattle.pim_world.specs.Plain.{IsPlain};
-ghost use Rattle.pim_upstream.specs.Openings.{IsOpeningOf};
-ghost use Rattle.pim_upstream.specs.Stars.{IsButForTimers};
-ghost use Rattle.pim_upstream.specs.Turns.{star_upstream, stars_upstream};
+ghost use Rattle.std.specs.Prelude.{◌≡◌, IfOk, OnOk, map};
+ghost use Rattle.pim_macros.specs.Groups.{numbers_of};
+ghost use Rattle.pim_macros.specs.Plain.{IsPlain};
+ghost use Rattle.pim_macros.specs.Turns.{saying};
+ghost use Rattle.pim_upstream.specs.Turns.{pair_of, pairs_told, upstream_by};
 
 use crate::opening::Opening;
-use crate::reaction::Reaction;
-use crate::star::Star;
-use crate::tell::{begin, tell};
-use pim_messages::Outbox;
-use pim_trie::Meter;
-use pim_types::Addr;
-use pim_world::World;
+use crate::star::tell;
+use pim_macros::{Turn, World};
+use pim_types::{Addr, StarView};
 use std::alloc::{AllocError, Global};
 use std::collections::BTreeMap;
 
-// One group's turn.
-#[tactic(auto, unfolding(crate::specs::Turns::star_upstream))]
-fn take_turn(
-    world: &mut World,
-    opening: &Opening,
+// A group with its views before and after a change.
+#[derive(Clone, Copy)]
+struct Pair {
     group: Addr,
-    out: &mut Outbox,
-    meter: &mut Meter,
-) -> Result<(), AllocError>
-    ensures timer { (o a : State) (w : ℕ) → IsPlain o → IsPlain a → IsOpeningOf o opening.now → IsButForTimers a world.old
-        → OnOk result (world.new ≡ (star_upstream o a w world.old group.bits).0) }
-    ensures messages { (o a : State) (w : ℕ) → IsPlain o → IsPlain a → IsOpeningOf o opening.now → IsButForTimers a world.old
-        → OnOk result (out.new ≡ out.old ++ (star_upstream o a w world.old group.bits).1) }
-{
-    let after = Star::of(world, group, meter);
-    match opening.star(group) {
-        Some(before) => tell(
-            world,
-            Reaction::between(before, after),
-            before,
-            after,
-            group,
-            out,
-        ),
-        None => begin(world, after, group, out),
-    }
+    old: StarView,
+    new: StarView,
 }
 
-/// What is told upstream after a change, and the Join timers, for each group that had a fact at the
-/// opening or has one now, ascending.
-pub fn changed(
-    alloc: Global,
-    world: &mut World,
-    opening: &Opening,
-    out: &mut Outbox,
-    meter: &mut Meter,
-) -> Result<(), AllocError>
-    ensures state { (o : State) (w : ℕ) → IsPlain o → IsOpeningOf o opening.now
-        → OnOk result (world.new ≡ (upstream o world.old w).0) }
-    ensures messages { (o : State) (w : ℕ) → IsPlain o → IsOpeningOf o opening.now
-        → OnOk result (out.new ≡ out.old ++ (upstream o world.old w).1) }
-
-    // Of every world: what it doesn't keep yet isn't there.
-    ensures plain { OnOk result (IsPlain world.old) }
-{
-    let mut groups = BTreeMap::new(alloc);
-    opening.gather_groups(&mut groups)?;
-    world.gather_groups(&mut groups)?;
-    take_turns(world, opening, &groups, out, meter)
-}
-
-// The turns of these groups.
-fn take_turns(
-    world: &mut World,
+// The views of these groups before and after the change.
+fn pairs(
+    world: &World,
+    turn: &mut Turn,
     opening: &Opening,
     groups: &BTreeMap<Addr, (), Global>,
-    out: &mut Outbox,
-    meter: &mut Meter,
-) -> Result<(), AllocError>
-    ensures state { (o : State) (w : ℕ) → IsPlain o → IsPlain world.old → IsOpeningOf o opening.now
-        → OnOk result (world.new ≡ (stars_upstream o world.old w world.old (numbers_of groups.now.entries)).0) }
-    ensures messages { (o : State) (w : ℕ) → IsPlain o → IsPlain world.old → IsOpeningOf o opening.now
-        → OnOk result (out.new ≡ out.old ++ (stars_upstream o world.old w world.old (numbers_of groups.now.entries)).1) }
+) -> Result<Vec<Pair>, AllocError>
+    requires { IsPlain world.now }
+    ensures pairs { IfOk result (λ pairs.
+        pairs.items ≡ map (pair_of opening.now world.now) (numbers_of groups.now.entries)) }
+    ensures silent { turn.new ≡ turn.old }
 {
+    let mut pairs = Vec::new(turn.alloc);
     for (group, ()) in groups.iter() {
-        take_turn(world, opening, *group, out, meter)?;
+        pairs.push(Pair {
+            group: *group,
+            old: opening.before(*group),
+            new: world.star_view(*group, &mut turn.meter),
+        })?;
+    }
+    Ok(pairs)
+}
+
+// Tells what follows of each pair.
+fn tell_all(world: &mut World, turn: &mut Turn, pairs: &[Pair]) -> Result<(), AllocError>
+    requires { IsPlain world.old }
+    ensures state { OnOk result (world.new ≡ (pairs_told world.old turn.old.draw pairs.now).0) }
+    ensures messages { OnOk result (turn.new ≡ saying turn.old (pairs_told world.old turn.old.draw pairs.now).1) }
+{
+    for pair in pairs {
+        tell(world, turn, pair.group, pair.old, pair.new)?;
     }
     Ok(())
+}
+
+/// What is told upstream after a change, and the Join timers, for each group that had a fact at the opening or has one
+/// now, ascending.
+pub fn changed(world: &mut World, turn: &mut Turn, opening: &Opening) -> Result<(), AllocError>
+    requires { IsPlain world.old }
+    ensures state { OnOk result (world.new ≡ (upstream_by opening.now world.old turn.old.draw).0) }
+    ensures messages { OnOk result (turn.new ≡ saying turn.old (upstream_by opening.now world.old turn.old.draw).1) }
+{
+    let mut groups = BTreeMap::new(turn.alloc);
+    opening.gather_groups(&mut groups)?;
+    world.gather_groups(&mut groups)?;
+    let pairs = pairs(world, turn, opening, &groups)?;
+    tell_all(world, turn, &pairs)
 }

@@ -10,7 +10,8 @@ use Rattle.pim_ip.specs.Tests.{◌>>◌}
 use Rattle.pim_ip.proofs.ChecksumLemmas.{sum16-with_checksum}
 use Rattle.pim_wire.specs.declared.view.PimView.TheVariants.{Register, RegisterStop, Assert}
 use Rattle.pim_wire.specs.Values.{Encapsulated, Null}
-use Rattle.pim_wire.specs.Encoded.{addr, version_of, type_of, address_at, unicast_at, unicast_test, source_test, group_test, unicast_text, group_text, pim_text}
+use Rattle.pim_wire.specs.Encoded.{version_of, type_of, address_at, unicast_at, unicast_test, source_test, group_test, unicast_text, group_text, pim_text}
+use Rattle.pim_ip.specs.Addr.{addr}
 use Rattle.pim_wire.specs.Asserts.{assert_text, assert_test, assert_of}
 use Rattle.pim_wire.specs.Hellos.{hello_text, hello_test, hello_of, options_test, is_option_length, with_options, with_option, lan_delay_at}
 use Rattle.pim_wire.specs.Registers.{register_text, inner_test, register_test, register_of, null_inner_test, dummy_text, null_register_text, register_stop_text, register_stop_test, register_stop_of}

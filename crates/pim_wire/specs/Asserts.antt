@@ -6,7 +6,8 @@ use Rattle.pim_ip.specs.declared.refusal.Refusal.TheVariants.{BadAddress}
 use Rattle.pim_ip.specs.Tests.{expect, ◌>>◌}
 use Rattle.pim_ip.specs.Ipv4.{first_multicast}
 use Rattle.pim_wire.specs.declared.assert.Assert.{Assert}
-use Rattle.pim_wire.specs.Encoded.{addr, field_test, unicast_test, group_test, mask_length_at, address_at, unicast_at, unicast_text, group_text, pim_text}
+use Rattle.pim_wire.specs.Encoded.{field_test, unicast_test, group_test, mask_length_at, address_at, unicast_at, unicast_text, group_text, pim_text}
+use Rattle.pim_ip.specs.Addr.{addr}
 
 -- group, source, the R bit with the preference, the metric
 unfoldable pub assert_test : List ℕ → Result (Unit {0}) Refusal

@@ -2,7 +2,6 @@
 -- their places in the message.
 use Rattle.std.specs.Prelude.{ℕ, ◌+◌, ◌/◌, ◌%◌, Bool, ◌&&◌, ◌==◌, nat_le, List, [], ◌∷◌, length, slice_index, Result}
 use Rattle.byteorder.specs.Endian.{big_from, big_bytes}
-use Rattle.pim_ip.specs.declared.addr.Addr.{Addr}
 use Rattle.pim_ip.specs.declared.refusal.Refusal.{Refusal}
 use Rattle.pim_ip.specs.declared.refusal.Refusal.TheVariants.{Short, BadAddress, NotMulticast}
 use Rattle.pim_ip.specs.Tests.{expect, ◌>>◌}
@@ -45,9 +44,6 @@ source_test b p = field_test b p 8 >> expect (is_native_ipv4 b p) BadAddress
 
 unfoldable pub group_test : List ℕ → ℕ → Result (Unit {0}) Refusal
 group_test b p = source_test b p >> expect (is_multicast (address_at b p)) NotMulticast
-
-abbrev pub addr : ℕ → Addr
-addr bits = record { bits = bits }
 
 -- written: native IPv4, mask length 32
 abbrev pub unicast_text : ℕ → List ℕ

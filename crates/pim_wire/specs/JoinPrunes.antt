@@ -8,7 +8,8 @@ use Rattle.pim_wire.specs.declared.join_prune.Entry.{Entry}
 use Rattle.pim_wire.specs.declared.join_prune.EntryKind.{EntryKind}
 use Rattle.pim_wire.specs.declared.join_prune.EntryKind.TheVariants.{Star, Source, SourceRpt}
 use Rattle.pim_wire.specs.Values.{Group, JoinPrune}
-use Rattle.pim_wire.specs.Encoded.{addr, field_test, unicast_test, group_test, source_test, flags_at, mask_length_at, address_at, unicast_at, unicast_text, group_text, source_text, pim_text}
+use Rattle.pim_wire.specs.Encoded.{field_test, unicast_test, group_test, source_test, flags_at, mask_length_at, address_at, unicast_at, unicast_text, group_text, source_text, pim_text}
+use Rattle.pim_ip.specs.Addr.{addr}
 
 -- the tests of n sources from place p on
 unfoldable pub sources_test : List ℕ → ℕ → ℕ → Result (Unit {0}) Refusal

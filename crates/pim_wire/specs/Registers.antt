@@ -5,10 +5,11 @@ use Rattle.pim_ip.specs.declared.refusal.Refusal.{Refusal}
 use Rattle.pim_ip.specs.declared.refusal.Refusal.TheVariants.{Short, BadChecksum, BadLength, BadAddress, NotMulticast}
 use Rattle.pim_ip.specs.Tests.{expect, ◌>>◌}
 use Rattle.pim_ip.specs.Checksum.{sum16, with_checksum}
-use Rattle.pim_ip.specs.Ipv4.{Packet, ipv4_reading, packet_of, is_multicast, is_unicast, protocol_pim}
+use Rattle.pim_ip.specs.Ipv4.{frame_limit, Packet, ipv4_reading, packet_of, is_multicast, is_unicast, protocol_pim}
 use Rattle.pim_wire.specs.declared.register.RegisterStop.{RegisterStop}
 use Rattle.pim_wire.specs.Values.{Register, Encapsulated, Null}
-use Rattle.pim_wire.specs.Encoded.{addr, group_test, unicast_test, address_at, mask_length_at, unicast_at, group_text, unicast_text, pim_text}
+use Rattle.pim_wire.specs.Encoded.{group_test, unicast_test, address_at, mask_length_at, unicast_at, group_text, unicast_text, pim_text}
+use Rattle.pim_ip.specs.Addr.{addr}
 
 -- the N bit: a Null-Register
 abbrev pub is_null_register : List ℕ → Bool
@@ -17,10 +18,6 @@ is_null_register b = (slice_index b 4 / 0x40) % 2 == 1
 -- the packet in a Register
 abbrev pub inner_of : List ℕ → List ℕ
 inner_of b = drop 8 b
-
--- the longest packet that a link carries
-abbrev pub frame_limit : ℕ
-frame_limit = 1500
 
 -- a packet that was read has a source and a group
 unfoldable pub source_and_group_test : Result Packet Refusal → Result (Unit {0}) Refusal

@@ -10,6 +10,13 @@ use pim_ip::{Refusal, set_checksum};
 use pim_types::fact::LanDelay;
 use std::alloc::AllocError;
 
+/// The holdtime of a Hello without the option, and of those that are written, in seconds:
+/// Default_Hello_Holdtime of RFC 7761, section 4.11.
+pub const DEFAULT_HOLDTIME: u16 = 105;
+
+/// The holdtime that never ends.
+pub const HOLDTIME_FOREVER: u16 = 0xffff;
+
 const HOLDTIME: u16 = 1;
 
 const LAN_DELAY: u16 = 2;
@@ -121,9 +128,6 @@ pub(crate) fn read_hello(bytes: &[u8]) -> Result<Hello, Refusal>
     Ok(hello)
 }
 
-/// The holdtime that the router announces, in seconds.
-const HELLO_HOLDTIME: u16 = 105;
-
 /// The bytes of the Hello that the router sends.
 #[tactic(auto, unfolding(crate::specs::Hellos::hello_text, crate::specs::Encoded::pim_text))]
 fn hello_bytes(
@@ -137,7 +141,7 @@ fn hello_bytes(
     let mut bytes = [0; 34];
     bytes[0] = VERSION_BITS;
     bytes[4..8].copy_from_slice(&[0, 1, 0, 2]);
-    BigEndian::write_u16(&mut bytes[8..10], HELLO_HOLDTIME);
+    BigEndian::write_u16(&mut bytes[8..10], DEFAULT_HOLDTIME);
     bytes[10..14].copy_from_slice(&[0, 2, 0, 4]);
     BigEndian::write_u16(&mut bytes[14..16], propagation_delay);
     BigEndian::write_u16(&mut bytes[16..18], override_interval);

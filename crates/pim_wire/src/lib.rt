@@ -9,7 +9,7 @@ pub mod register;
 pub mod view;
 
 pub use assert::{Assert, write_assert};
-pub use hello::{Hello, write_hello};
+pub use hello::{DEFAULT_HOLDTIME, HOLDTIME_FOREVER, Hello, write_hello};
 pub use join_prune::{
     Entries, Entry, EntryKind, GroupView, Groups, JoinPruneView, write_join_prune,
 };

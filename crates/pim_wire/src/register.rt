@@ -9,7 +9,7 @@ use crate::encoded::{
     CHECKSUM_PLACE, VERSION_BITS, address_at, check_group, check_unicast, group_bytes, u16_at,
     u32_at, unicast_at, unicast_bytes,
 };
-use pim_ip::{Addr, Ipv4View, PROTOCOL_PIM, Refusal, read_ipv4, set_checksum, sum16};
+use pim_ip::{Addr, FRAME_LIMIT, Ipv4View, PROTOCOL_PIM, Refusal, read_ipv4, set_checksum, sum16};
 use std::alloc::AllocError;
 use std::marker::Model;
 
@@ -24,9 +24,6 @@ pub struct RegisterStop {
 
 /// The length of a Register's header.
 pub(crate) const REGISTER_HEADER: usize = 8;
-
-/// The longest packet that a link carries.
-const FRAME_LIMIT: usize = 1500;
 
 /// The length of an IPv4 header without options.
 const HEADER_LENGTH: usize = 20;

@@ -1,8 +1,8 @@
-use Rattle.std.proofs.Common.{◌≡◌, ◌+◌, None, ap, drop, false, sym, ◌∙◌}
+use Rattle.std.proofs.Common.{◌+◌, ap, drop, sym, ◌∙◌}
 use Rattle.pim_types.specs.declared.fact.JoinTimerRow.{JoinTimerRow}
-use Rattle.pim_types.specs.declared.fact.Key.{Key}
 use Rattle.pim_model.specs.State.{State}
-use Rattle.pim_model.specs.Tables.{Table, star_key}
+use Rattle.pim_model.specs.Tables.{Table}
+use Rattle.pim_types.specs.Keys.{star_key}
 use Rattle.pim_hello.specs.Towards.{all_lowered}
 use Rattle.pim_hello.proofs.Lowering.{kept, none_left_lowered, one_more_lowered}
 use Rattle.pim_hello.proofs.restarted.lower_timers.Goals as goal
@@ -16,11 +16,14 @@ loop-key-preserved c =
       ap (λ (t : Table JoinTimerRow). all_lowered end t (drop (i + 1) keys)) timers
           ∙ one_more_lowered end keys i (star_key 0 0) c.loop-key.world.join_timers c.loop-key-test.true
           ∙ c.loop-key.invariant.0,
-      kept c.args.world.now c.loop-key.world c.lower_join_timer.new.self _ c.loop-key.invariant.1 c.lower_join_timer.ensures,
+      kept c.args.world.now c.loop-key.world c.lower_join_timer.new.self _ c.loop-key.invariant.1
+          c.lower_join_timer.ensures,
     )
 
 pub returns : goal.returns
 returns c =
-    let timers = sym (none_left_lowered c.args.end c.args.keys.now c.loop-key.key-index c.loop-key.world.join_timers c.loop-key-test.false)
+    let timers = sym (none_left_lowered c.args.end c.args.keys.now c.loop-key.key-index c.loop-key.world.join_timers
+    c.loop-key-test.false)
     ∙ c.loop-key.invariant.0 in
-    c.loop-key.invariant.1 ∙ ap (λ (t : Table JoinTimerRow). let s : State = record c.args.world.now { join_timers = t } in s) timers
+    c.loop-key.invariant.1
+    ∙ ap (λ (t : Table JoinTimerRow). let s : State = record c.args.world.now { join_timers = t } in s) timers

@@ -1,18 +1,25 @@
-use Rattle.std.proofs.Common.{◌≡◌}
 use Rattle.pim_hello.proofs.Found.{all_found, found, passed}
 use Rattle.pim_hello.proofs.restarted.timers_towards.Goals as goal
 
 pub loop-key-preserved-in-Continue-1 : goal.loop-key-preserved-in-Continue-1
-loop-key-preserved-in-Continue-1 c =
-    found c.args.world.now c.args.neighbour _ c.loop-key.keys.items c.push.new.self.items (c.in-Some.key.now, c.in-Some.field-0-1.now)
-    c.loop-key.key-iterator c.next.new.self c.is_rpf_star.result c.in-Some.ensures.steps c.in_ok-push.ensures.items c.is_rpf_star.ensures
-    c.if-is_rpf_star.true c.loop-key.invariant
+loop-key-preserved-in-Continue-1 c = (
+  found c.args.world.now c.args.neighbour _ c.loop-key.keys.items c.push.new.self.items
+      (c.in-Some.key.now, c.in-Some.field-0-1.now)
+      c.loop-key.key-iterator c.next.new.self c.is_rpf_star.result c.in-Some.ensures.steps c.in_ok-push.ensures.items
+      c.is_rpf_star.ensures
+      c.if-is_rpf_star.true c.loop-key.invariant.0,
+  c.loop-key.invariant.1,
+)
 
 pub loop-key-preserved : goal.loop-key-preserved
-loop-key-preserved c =
-    passed c.args.world.now c.args.neighbour _ c.loop-key.keys.items (c.in-Some.key.now, c.in-Some.field-0-1.now)
-    c.loop-key.key-iterator c.next.new.self c.is_rpf_star.result c.in-Some.ensures.steps c.is_rpf_star.ensures c.if-is_rpf_star.false c.loop-key.invariant
+loop-key-preserved c = (
+  passed c.args.world.now c.args.neighbour _ c.loop-key.keys.items (c.in-Some.key.now, c.in-Some.field-0-1.now)
+      c.loop-key.key-iterator c.next.new.self c.is_rpf_star.result c.in-Some.ensures.steps c.is_rpf_star.ensures
+      c.if-is_rpf_star.false c.loop-key.invariant.0,
+  c.loop-key.invariant.1,
+)
 
-pub returns : goal.returns
-returns c =
-    all_found c.args.world.now c.args.neighbour _ c.loop-key.keys.items c.loop-key.key-iterator c.in-None.ensures.steps.0 c.loop-key.invariant
+pub returns-clause-keys : goal.returns-clause-keys
+returns-clause-keys c =
+    all_found c.args.world.now c.args.neighbour _ c.loop-key.keys.items c.loop-key.key-iterator
+    c.in-None.ensures.steps.0 c.loop-key.invariant.0

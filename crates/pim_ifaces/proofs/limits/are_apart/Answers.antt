@@ -11,12 +11,14 @@ blank = record { address = record { bits = 0 }; length = 0; priority = 0; propag
 
 pub returns-then-overlaps_any : goal.returns-then-overlaps_any
 unfolding blank
-returns-then-overlaps_any c = let e = are_apart-drop c.args.configured.now c.loop-number.number blank c.loop-number-test.true in
+returns-then-overlaps_any c = let e = are_apart-drop c.args.configured.now c.loop-number.number blank
+    c.loop-number-test.true in
     grind (arith, common_steps, e)
 
 pub loop-number-preserved : goal.loop-number-preserved
 unfolding blank
-loop-number-preserved c = let e = are_apart-drop c.args.configured.now c.loop-number.number blank c.loop-number-test.true in
+loop-number-preserved c = let e = are_apart-drop c.args.configured.now c.loop-number.number blank
+    c.loop-number-test.true in
     grind (arith, common_steps, e)
 
 pub returns : goal.returns

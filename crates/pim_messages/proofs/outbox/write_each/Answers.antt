@@ -7,8 +7,8 @@ loop-message-preserved c =
     let l = c.loop-message in
     let e = c.in_ok-write_message.ensures in
     sends_next (messages_of c.args.messages.now) c.args.interfaces.now c.args.emissions.now.items c.args.messages.now
-    l.message-index c.message-item.result l.interfaces l.emissions.items c.write_message.new.interfaces
-    c.write_message.new.emissions.items c.loop-message-test.true c.message-item.is e.paid e.sent e.kept l.invariant
+    l.message-index c.message-item.result l.interfaces c.write_message.new.interfaces l.emissions.items
+    c.write_message.new.emissions.items c.loop-message-test.true c.message-item.is e.paid e.sent l.invariant
 
 pub returns-clause-sent : goal.returns-clause-sent
 returns-clause-sent c =

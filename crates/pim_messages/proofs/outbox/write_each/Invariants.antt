@@ -5,4 +5,5 @@ use Rattle.pim_messages.proofs.outbox.write_each.Given as goal
 
 abbrev pub invariant-loop-message : goal.invariant-loop-message
 invariant-loop-message l =
-    Sends (messages_of (drop l.message-index l.messages)) l.interfaces l.emissions.items (messages_of l.messages) l.initial.interfaces l.initial.emissions.items
+    Sends (messages_of (drop l.message-index l.messages)) l.interfaces l.emissions.items
+    (messages_of l.messages) l.initial.interfaces l.initial.emissions.items

@@ -1,17 +1,28 @@
-use Rattle.std.proofs.Common.{◌≡◌, ◌++◌, ◌∷◌, [], ap, refl, sym, ◌∙◌}
-use Rattle.pim_router.proofs.Runs.{Runs, runs_end, runs_next}
+use Rattle.std.proofs.Common.{◌++◌, ◌∷◌, [], ap, ◌∙◌}
+use Rattle.pim_router.proofs.Runs.{runs_end, runs_next}
 use Rattle.pim_router.proofs.router.run_world.Goals as goal
+
+pub take_in-requires : goal.take_in-requires
+take_in-requires c = c.loop-event.invariant.plain
 
 pub loop-event-preserved : goal.loop-event-preserved
 loop-event-preserved c =
-    runs_next c.args.world.now c.args.events.now c.loop-event.event-index c.loop-event.world c.outcome_of.new.world c.loop-event.outcomes.items
-    c.push.new.self.items c.event-item.result c.loop-event-test.true c.event-item.is c.in_ok-outcome_of.ensures.state
-    (c.in_ok-push.ensures.items ∙ ap (λ o. c.loop-event.outcomes.items ++ o ∷ []) c.in_ok-outcome_of.ensures.outcome) c.loop-event.invariant
+    runs_next c.args.world.now c.args.events.now c.loop-event.event-index c.loop-event.world c.take_in.new.world
+    c.loop-event.outcomes.items
+    c.push.new.self.items c.event-item.result c.loop-event-test.true c.event-item.is c.in_ok-take_in.ensures.plain
+    c.in_ok-take_in.ensures.state
+    (c.in_ok-push.ensures.items
+    ∙ ap (λ o. c.loop-event.outcomes.items ++ o ∷ []) c.in_ok-take_in.ensures.outcome) c.loop-event.invariant
 
 pub returns-clause-outcomes : goal.returns-clause-outcomes
 returns-clause-outcomes c =
-    (runs_end c.args.world.now c.args.events.now c.loop-event.event-index c.loop-event.world c.loop-event.outcomes.items c.loop-event-test.false c.loop-event.invariant).0
+    (runs_end c.args.world.now c.args.events.now c.loop-event.event-index c.loop-event.world
+    c.loop-event.outcomes.items c.loop-event-test.false c.loop-event.invariant).0
 
 pub returns-clause-state : goal.returns-clause-state
 returns-clause-state c =
-    (runs_end c.args.world.now c.args.events.now c.loop-event.event-index c.loop-event.world c.loop-event.outcomes.items c.loop-event-test.false c.loop-event.invariant).1
+    (runs_end c.args.world.now c.args.events.now c.loop-event.event-index c.loop-event.world
+    c.loop-event.outcomes.items c.loop-event-test.false c.loop-event.invariant).1
+
+pub returns-clause-plain : goal.returns-clause-plain
+returns-clause-plain c = c.loop-event.invariant.plain

@@ -1,18 +1,20 @@
-use Rattle.std.proofs.Common.{◌≡◌, None, Some, ap, take, ◌∙◌, sym}
+use Rattle.std.proofs.Common.{◌≡◌, None, Some, ap, ◌∙◌, sym}
 use Rattle.pim_model.specs.Hellos.{hellos_triggered}
-use Rattle.pim_model.specs.Tables.{Table, iface_key, row_at}
+use Rattle.pim_model.specs.Tables.{Table, row_at}
+use Rattle.pim_types.specs.Keys.{iface_key}
 use Rattle.pim_types.specs.declared.fact.InterfaceRow.{InterfaceRow}
-use Rattle.pim_ifaces.specs.Interfaces.{InterfaceTable}
+use Rattle.pim_model.specs.State.{InterfaceTable}
 use Rattle.pim_ifaces.proofs.Rows.{Becomes, owing_missing, owing_there}
 use Rattle.pim_ifaces.proofs.interfaces.Interfaces.owe_hello.Goals as goal
 
-changed : (c : goal.After-change) → Becomes (take c.self.inside.count c.self.inside.places) c.self.inside.count c.change.new.self
+changed : (c : goal.After-change) → Becomes c.self.inside.configured.items c.change.new.self
     (hellos_triggered c.args.iface.number c.args.end c.self.inside.rows)
 changed c =
     let found : row_at c.self.inside.rows (iface_key c.args.iface.number) ≡ Some c.in-Some.row =
-    sym (rw c.key_of-key.ensures at c.get.ensures) ∙ c.in-Some.is in
-    owing_there _ _ c.args.iface.number c.self.inside.rows c.args.end c.in-Some.row c.change.new.self c.self.invariant found
-    (rw (c.key_of-key.ensures, c.min.ensures) at c.change.ensures.to)
+    sym (rw c.iface-key.ensures at c.get.ensures) ∙ c.in-Some.is in
+    owing_there _ c.args.iface.number c.self.inside.rows c.args.end c.in-Some.row c.change.new.self c.self.invariant
+    found
+    (rw (c.iface-key.ensures, c.min.ensures) at c.change.ensures.to)
 
 pub invariant_of-self : goal.invariant_of-self
 invariant_of-self c = (changed c).held
@@ -20,12 +22,14 @@ invariant_of-self c = (changed c).held
 pub returns-in-Some : goal.returns-in-Some
 returns-in-Some c =
     rw (← c.self.view_is)
-    (ap (λ (rows : Table InterfaceRow). let t : InterfaceTable = record { configured = take c.self.inside.count c.self.inside.places; rows = rows } in t) (changed c).same)
+    (ap (λ (rows : Table InterfaceRow). let t : InterfaceTable = record
+    { configured = c.self.inside.configured.items; rows = rows } in t) (changed c).same)
 
 pub returns-in_default : goal.returns-in_default
 returns-in_default c =
     let missing : row_at c.self.inside.rows (iface_key c.args.iface.number) ≡ None =
-    sym (rw c.key_of-key.ensures at c.get.ensures) ∙ c.in_default.is in
+    sym (rw c.iface-key.ensures at c.get.ensures) ∙ c.in_default.is in
     rw (← c.self.view_is)
-    (ap (λ (rows : Table InterfaceRow). let t : InterfaceTable = record { configured = take c.self.inside.count c.self.inside.places; rows = rows } in t)
-    (owing_missing _ _ c.args.iface.number c.self.inside.rows c.args.end c.self.invariant missing))
+    (ap (λ (rows : Table InterfaceRow). let t : InterfaceTable = record
+    { configured = c.self.inside.configured.items; rows = rows } in t)
+    (owing_missing _ c.args.iface.number c.self.inside.rows c.args.end c.self.invariant missing))

@@ -1,0 +1,16 @@
+use Rattle.std.proofs.Common.{List, ap, ◌∙◌}
+use Rattle.pim_types.specs.declared.fact.Key.{Key}
+use Rattle.pim_model.specs.Downstream.{asserts_after_joins}
+use Rattle.pim_model.specs.State.{State}
+use Rattle.pim_downstream.proofs.Rows.{taken}
+use Rattle.pim_downstream.proofs.message.to_me.Goals as goal
+
+pub returns-clause-state : goal.returns-clause-state
+returns-clause-state c =
+    let named = c.args.named.now in
+    let later = c.set_rows.new.world in
+    let losses_ended : List Key → State = λ ks. record later { asserts = asserts_after_joins later ks } in
+    taken c.args.world.now c.args.iface.number c.args.holdtime named.joined.items named.pruned.items
+    c.deref.result.now c.deref-2.result.now later c.end_losses.new.self
+    (c.deref.ensures.value ∙ c.in_ok-keys.ensures) (c.deref-2.ensures.value ∙ c.in_ok-changes.ensures)
+    c.in_ok-set_rows.ensures (c.end_losses.ensures ∙ ap losses_ended c.deref-3.ensures.value)

@@ -1,0 +1,28 @@
+-- The keys that the entries of one group name, and rows that are set one after the other.
+use Rattle.std.specs.Prelude.{Bool, List, filter, fold, map, ℕ, ◌&&◌}
+use Rattle.pim_types.specs.Keys.{group_in, is_on, star_key}
+use Rattle.pim_types.specs.declared.fact.Key.{Key}
+use Rattle.pim_wire.specs.declared.join_prune.Entry.{Entry}
+use Rattle.pim_model.specs.Downstream.{Named, is_accepted, is_named, is_used, named_key}
+use Rattle.pim_model.specs.State.{State}
+use Rattle.pim_model.specs.Tables.{set_row}
+use Rattle.pim_downstream.specs.declared.message.Change.{Change}
+
+-- a join counts where it is used and accepted
+abbrev pub is_counted : State → Named → Bool
+is_counted s n = is_used n && is_accepted s n
+
+-- the keys of those entries of a group that pass a test, in their order
+unfoldable pub entry_keys : (Named → Bool) → ℕ → ℕ → List Entry → List Key
+entry_keys test i g es = map (named_key i) (filter test (map (λ e. (g, e)) es))
+
+-- the key is of (S,G,rpt) on an interface, and its group is joined
+abbrev pub is_rpt_joined : ℕ → List Key → Key → Bool
+is_rpt_joined i joined k = is_on i k && k.rpt && is_named joined (star_key i (group_in k))
+
+-- the row of a key set, or taken away
+unfoldable pub row_set : State → Change → State
+row_set s c = record s { downstream = set_row s.downstream c.key c.row }
+
+unfoldable pub rows_set : State → List Change → State
+rows_set s changes = fold row_set s changes

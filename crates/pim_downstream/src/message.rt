@@ -1,0 +1,114 @@
+//! A message as a whole.
+ghost use Rattle.std.specs.Prelude.{◌≡◌, ◌++◌, IfOk, OnOk, map};
+ghost use Rattle.pim_downstream.specs.Naming.{is_rpt_joined, rows_set};
+ghost use Rattle.pim_model.specs.Downstream.{keys_taken, row_after, rpt_rows_joined, touched_keys};
+
+use crate::named::Named;
+use crate::row::row_after;
+use pim_macros::{Turn, World};
+use pim_tables::is_named;
+use pim_types::fact::DownstreamRow;
+use pim_types::{IfaceId, Key};
+use std::alloc::{AllocError, Global};
+
+// Whether the key is of (S,G,rpt) on the interface, and its group is joined.
+fn is_rpt_joined(iface: IfaceId, joined: &[Key], key: Key) -> bool
+    ensures { result ≡ is_rpt_joined iface.number joined.now key }
+{
+    key.iface == iface && key.rpt && is_named(joined, Key::star(iface, key.group))
+}
+
+// Puts the (S,G,rpt) rows of the joined groups behind the other keys.
+fn push_rpt_rows(
+    world: &World,
+    iface: IfaceId,
+    joined: &[Key],
+    keys: &mut Vec<Key>,
+) -> Result<(), AllocError>
+    ensures { OnOk result (keys.new.items ≡ keys.old.items ++ rpt_rows_joined world.now iface.number joined.now) }
+{
+    for (key, _) in world.downstream() {
+        if is_rpt_joined(iface, joined, *key) {
+            keys.push(*key)?;
+        }
+    }
+    Ok(())
+}
+
+// The keys whose rows the message can change.
+#[tactic(auto, unfolding(pim_model::specs::Downstream::touched_keys))]
+fn touched_keys(
+    alloc: Global,
+    world: &World,
+    iface: IfaceId,
+    named: &Named,
+) -> Result<Vec<Key>, AllocError>
+    ensures { IfOk result (λ keys. keys.items
+        ≡ touched_keys world.now iface.number named.now.joined.items named.now.pruned.items) }
+{
+    let mut keys = Vec::new(alloc);
+    keys.extend_from_slice(&named.joined)?;
+    keys.extend_from_slice(&named.pruned)?;
+    push_rpt_rows(world, iface, &named.joined, &mut keys)?;
+    Ok(keys)
+}
+
+// A key with its row after the message.
+#[derive(Clone, Copy)]
+struct Change {
+    key: Key,
+    row: Option<DownstreamRow>,
+}
+
+// The rows of the keys after the message, each judged by what the message finds.
+fn rows_after(
+    alloc: Global,
+    world: &World,
+    iface: IfaceId,
+    holdtime: u16,
+    named: &Named,
+    keys: &[Key],
+) -> Result<Vec<Change>, AllocError>
+    ensures { IfOk result (λ changes. changes.items ≡ map (λ k. record {
+      key = k;
+      row = row_after world.now iface.number holdtime named.now.joined.items named.now.pruned.items k;
+    }) keys.now) }
+{
+    let mut changes = Vec::new(alloc);
+    for key in keys {
+        let row = row_after(world, iface, holdtime, named, *key);
+        changes.push(Change { key: *key, row })?;
+    }
+    Ok(changes)
+}
+
+// Sets the rows, one after the other.
+#[tactic(auto, unfolding(crate::specs::Naming::row_set, crate::specs::Naming::rows_set))]
+fn set_rows(world: &mut World, changes: &[Change]) -> Result<(), AllocError>
+    ensures { OnOk result (world.new ≡ rows_set world.old changes.now) }
+{
+    for change in changes {
+        world.set_downstream(change.key, change.row)?;
+    }
+    Ok(())
+}
+
+/// Takes a Join/Prune to the router that came on an interface, as one message: each key asks the whole message, and the
+/// state that it finds. Where memory is refused, some keys may be taken and others not.
+pub fn to_me(
+    world: &mut World,
+    turn: &mut Turn,
+    iface: IfaceId,
+    holdtime: u16,
+    named: &Named,
+) -> Result<(), AllocError>
+    ensures state { OnOk result (world.new
+        ≡ keys_taken world.old iface.number holdtime named.now.joined.items named.now.pruned.items) }
+    ensures silent { turn.new ≡ turn.old }
+{
+    let keys = touched_keys(turn.alloc, world, iface, named)?;
+    let changes = rows_after(turn.alloc, world, iface, holdtime, named, &keys)?;
+    set_rows(world, &changes)?;
+    world.end_losses(&named.joined);
+    Ok(())
+}

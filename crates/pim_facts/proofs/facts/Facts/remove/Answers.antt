@@ -1,9 +1,0 @@
-use Rattle.std.proofs.Common.{◌∙◌}
-use Rattle.pim_model.specs.Tables.{addr_cmp, key_cmp, keys_in}
-use Rattle.pim_facts.proofs.facts.Facts.remove.Goals as goal
-use Rattle.pim_facts.proofs.Rows.{removed_is_dropped}
-
-pub returns : goal.returns
-unfolding keys_in key_cmp addr_cmp
-returns g c =
-    rw (← c.self.view_is) (c.remove.ensures.entries ∙ removed_is_dropped c.args.key c.self.inside.rows.entries c.self.invariant)

@@ -1,6 +1,0 @@
-//! A table of facts: each under its key, in the order of the keys.
-#![tactic(auto, unfolding(pim_model::specs::Tables::key_cmp, pim_model::specs::Tables::addr_cmp, pim_model::specs::Tables::row_at, pim_model::specs::Tables::has_row, pim_model::specs::Tables::put, pim_model::specs::Tables::drop_at, pim_model::specs::Tables::drop_where, pim_model::specs::Tables::set_row, pim_model::specs::Tables::change_row, pim_model::specs::Tables::changed_entry, pim_model::specs::Tables::rows_on, pim_model::specs::Tables::keys_in))]
-
-pub mod facts;
-
-pub use facts::Facts;

@@ -1,0 +1,9 @@
+-- Which events are tested in memory.
+use Rattle.std.specs.Prelude.{Bool, false, true}
+use Rattle.pim_types.specs.declared.event.EventKind.{EventKind}
+
+-- routes and RP ranges
+abbrev pub is_tested_in_memory : EventKind → Bool
+is_tested_in_memory (EventKind.Routes routes) = true
+is_tested_in_memory (EventKind.Rps rps) = true
+is_tested_in_memory kind = false

@@ -1,0 +1,114 @@
+//! Events of each kind.
+ghost use Rattle.std.specs.Prelude.{◌≡◌, IfErr, IfOk, IsOk, false};
+ghost use Rattle.pim_ip.specs.declared.fault.Fault.{Fault};
+ghost use Rattle.pim_intake.specs.Memory.{is_tested_in_memory};
+ghost use Rattle.pim_model.specs.Judging.{advance_judged, down_judged, judged, routes_judged, rps_judged, up_judged};
+
+use crate::frame::judge_frame;
+use crate::unicast::judge_unicast;
+use pim_macros::{World, test_rps};
+use pim_model::Accepted;
+use pim_trie::Meter;
+use pim_types::{Event, EventKind, Fault, IfaceId, Ignored, Lent, Refusal, Route, RpRange, Stop};
+use std::alloc::Global;
+
+// The last moment, in ms.
+const LAST_MOMENT: u64 = 1 << 62;
+
+// Time that is to pass.
+#[tactic(auto, unfolding(pim_model::specs::Judging::advance_judged))]
+fn judge_advance<'a>(world: &World, moment: u64) -> Result<Accepted<'a>, Stop>
+    ensures { result ≡ advance_judged world.now moment }
+{
+    if moment < world.present() {
+        return Err(Stop::Refuse(Refusal::MomentBack));
+    }
+    if moment > LAST_MOMENT {
+        return Err(Stop::Refuse(Refusal::MomentFar));
+    }
+    Ok(Accepted::Advance { moment })
+}
+
+// An interface that is to go up.
+#[tactic(auto, unfolding(pim_model::specs::Judging::up_judged))]
+fn judge_up<'a>(world: &World, iface: IfaceId) -> Result<Accepted<'a>, Stop>
+    ensures { result ≡ up_judged world.now iface }
+{
+    if iface.number >= world.iface_count() {
+        return Err(Stop::Refuse(Refusal::NoInterface));
+    }
+    if world.is_up(iface) {
+        return Err(Stop::Ignore(Ignored::Already));
+    }
+    Ok(Accepted::Up { iface })
+}
+
+// An interface that is to go down.
+#[tactic(auto, unfolding(pim_model::specs::Judging::down_judged))]
+fn judge_down<'a>(world: &World, iface: IfaceId) -> Result<Accepted<'a>, Stop>
+    ensures { result ≡ down_judged world.now iface }
+{
+    if iface.number >= world.iface_count() {
+        return Err(Stop::Refuse(Refusal::NoInterface));
+    }
+    if !world.is_up(iface) {
+        return Err(Stop::Ignore(Ignored::Already));
+    }
+    Ok(Accepted::Down { iface })
+}
+
+// Routes that are to replace those there are.
+#[tactic(auto, unfolding(pim_model::specs::Judging::routes_judged))]
+fn judge_routes<'a>(
+    alloc: Global,
+    world: &World,
+    routes: &'a [Route],
+) -> Result<Result<Accepted<'a>, Stop>, Fault>
+    ensures value { IfOk result (λ judgement. judgement ≡ routes_judged world.now routes.now) }
+    ensures memory { IfErr result (λ fault. fault ≡ Fault.Memory) }
+{
+    match world.test_routes(alloc, routes)? {
+        Ok(()) => Ok(Ok(Accepted::Routes {
+            routes: Lent::of(routes),
+        })),
+        Err(refusal) => Ok(Err(Stop::Refuse(refusal))),
+    }
+}
+
+// RP ranges that are to replace those there are.
+#[tactic(auto, unfolding(pim_model::specs::Judging::rps_judged))]
+fn judge_rps<'a>(alloc: Global, ranges: &'a [RpRange]) -> Result<Result<Accepted<'a>, Stop>, Fault>
+    ensures value { IfOk result (λ judgement. judgement ≡ rps_judged ranges.now) }
+    ensures memory { IfErr result (λ fault. fault ≡ Fault.Memory) }
+{
+    match test_rps(alloc, ranges)? {
+        Ok(()) => Ok(Ok(Accepted::Rps {
+            ranges: Lent::of(ranges),
+        })),
+        Err(refusal) => Ok(Err(Stop::Refuse(refusal))),
+    }
+}
+
+/// Judges an event: what the router is to act on, or the first test that fails. Only routes and RP ranges are
+/// tested in memory. Look-ups of RPs raise the meter.
+#[tactic(auto, unfolding(pim_model::specs::Judging::judged))]
+pub fn judge<'a>(
+    alloc: Global,
+    world: &World,
+    event: &'a Event,
+    meter: &mut Meter,
+) -> Result<Result<Accepted<'a>, Stop>, Fault>
+    ensures value { IfOk result (λ judgement. judgement ≡ judged world.now event.now.kind) }
+    ensures memory { IfErr result (λ fault. fault ≡ Fault.Memory) }
+    ensures sure { is_tested_in_memory event.now.kind ≡ false → IsOk result }
+{
+    match &event.kind {
+        EventKind::Advance { moment } => Ok(judge_advance(world, *moment)),
+        EventKind::Frame { iface, bytes } => Ok(judge_frame(world, *iface, bytes.as_slice())),
+        EventKind::Unicast { bytes } => Ok(judge_unicast(world, bytes.as_slice(), meter)),
+        EventKind::Up { iface } => Ok(judge_up(world, *iface)),
+        EventKind::Down { iface } => Ok(judge_down(world, *iface)),
+        EventKind::Routes { routes } => judge_routes(alloc, world, routes.as_slice()),
+        EventKind::Rps { rps } => judge_rps(alloc, rps.as_slice()),
+    }
+}

@@ -1,0 +1,14 @@
+pub mod BuiltLaws
+pub mod ClearingLaws
+pub mod DueKept
+pub mod Ends
+pub mod FiringLaws
+pub mod IgmpKept
+pub mod ListLaws
+pub mod RecordsKept
+pub mod RepeatLaws
+pub mod SettledKept
+pub mod TableLaws
+pub mod TimerLaws
+pub mod TurnLaws
+pub mod UnchangedLaws

@@ -1,0 +1,369 @@
+-- The same of IGMP's records: the group timer and the source timers.
+use Rattle.std.proofs.Common.{◌≡◌, ℕ, nat_lt, ◌==◌, Bool, true, false, not, cond, ◌&&◌, ◌||◌, List, [], ◌∷◌, map, fold, filter, Option, Some, None, is_some, refl, sym, ap, ◌∙◌, subst, eqb-true, eq-eqb}
+use Rattle.std.specs.Cmp.{first_so, second_so}
+use Rattle.std.specs.List.{list_any}
+use Rattle.std.specs.Option.{option_map_or}
+use Rattle.pim_types.specs.declared.fact.GroupRecordRow.{GroupRecordRow}
+use Rattle.pim_types.specs.declared.fact.GroupRepeatRow.{GroupRepeatRow}
+use Rattle.pim_types.specs.declared.fact.Key.{Key}
+use Rattle.pim_types.specs.declared.fact.SendingRow.{SendingRow}
+use Rattle.pim_types.specs.declared.fact.SourceRecordRow.{SourceRecordRow}
+use Rattle.pim_types.specs.declared.fact.SourceRepeatRow.{SourceRepeatRow}
+use Rattle.pim_types.specs.declared.timer.TimerKind.{TimerKind}
+use Rattle.pim_laws.specs.Laws.{is_under_star, is_under_source}
+use Rattle.pim_model.specs.Querier.{group_record_due, source_record_due}
+use Rattle.pim_model.specs.Records.{GroupRecord, Member, group_expired, is_at_group, is_no_record, members_of, put_member, record_of, source_expired, with_members, with_repeats_of_rows}
+use Rattle.pim_model.specs.State.{State}
+use Rattle.pim_model.specs.Tables.{Table, same_option, put, drop_where, drop_at, change_row}
+use Rattle.pim_types.specs.Keys.{same_key, iface_in, group_in, source_in, source_key, star_key}
+use Rattle.pim_types.proofs.Keys.{equal_keys, same_key_same}
+use Rattle.pim_laws.proofs.ListLaws.{any_more, any_of_filter}
+use Rattle.pim_laws.proofs.TableLaws.{any_of_either, none_passes, or_left, or_right, either, any_of_put, any_of_map, any_in_filter}
+use Rattle.pim_laws.proofs.Ends.{Mark, Ends, Faulty, counts, shows_row, TableKeeps, shows, Keeps, kept_then, fresh_row, drop_kept, drop_at_kept, same_kept, cond_kept, replaced_kept, later_is_gone, group_records_kept, source_records_kept, group_repeats_kept, source_repeats_kept, sendings_kept}
+use Rattle.pim_laws.proofs.DueKept.{Gone, Fires}
+use Rattle.pim_laws.proofs.IgmpKept.{IsSound, still_gone}
+
+-- a member as an entry of the table
+abbrev entry_of : ℕ → ℕ → Member → Key × SourceRecordRow
+entry_of i g p = (source_key i g p.0, record { end = p.1 })
+
+abbrev shows_source : Mark → Key × SourceRecordRow → Bool
+shows_source mark e = shows_row (λ (r : SourceRecordRow). r.end) is_under_source mark e
+
+-- what passes after the members were put passes as a member, or did before
+module _ (q : Key × SourceRecordRow → Bool) (i g : ℕ) where
+  any_of_members : (ms : List Member) (t : Table SourceRecordRow) → list_any q (fold (put_member i g) t ms) ≡ true
+      → (list_any (λ p. q (entry_of i g p)) ms || list_any q t) ≡ true
+  any_of_members [] t e = e
+  any_of_members (p ∷ ps) t e =
+      let new : Bool = q (entry_of i g p) in
+      let later : Bool = list_any (λ p. q (entry_of i g p)) ps in
+      let old : Bool = list_any q t in
+      either later (list_any q (put t (source_key i g p.0) (record { end = p.1 })))
+      (λ f. or_left (new || later) old (or_right new later f))
+      (λ f. either new old (λ h. or_left (new || later) old (or_left new later h)) (λ h. or_right (new || later) old h)
+      (any_of_put q t (source_key i g p.0) (record { end = p.1 }) f))
+      (any_of_members ps (put t (source_key i g p.0) (record { end = p.1 })) e)
+
+-- the members show nothing by the moment that didn't show before
+abbrev MembersKeep : ℕ → State → ℕ → ℕ → List Member → Type 0
+MembersKeep m s i g ms =
+    (mark : Mark) → counts m mark ≡ true → list_any (λ p. shows_source mark (entry_of i g p)) ms ≡ true
+    → shows TimerKind.SourceRecord mark s ≡ true
+
+abbrev cut_group_repeats : State → ℕ → ℕ → Bool → Table GroupRepeatRow
+cut_group_repeats s i g b = cond b s.group_repeats (drop_at s.group_repeats (star_key i g))
+
+abbrev cut_source_repeats : State → ℕ → ℕ → Bool → Table SourceRepeatRow
+cut_source_repeats s i g b = cond b s.source_repeats (drop_at s.source_repeats (star_key i g))
+
+module _ (m : ℕ) (s : State) (i g : ℕ) where
+  cut_kept : (b c : Bool) (t : Table SendingRow) → Keeps m s (record s {
+    group_repeats = cut_group_repeats s i g b;
+    source_repeats = cut_source_repeats s i g c;
+    sendings = t;
+  })
+  cut_kept b c t =
+      let one : State = record s { sendings = t } in
+      let two : State = record one { group_repeats = cut_group_repeats s i g b } in
+      kept_then m s one (record two { source_repeats = cut_source_repeats s i g c }) (sendings_kept m s t)
+      (kept_then m one two (record two { source_repeats = cut_source_repeats s i g c })
+      (group_repeats_kept m one (cut_group_repeats s i g b)
+      (cond_kept (λ (r : GroupRepeatRow). Some r.next) is_under_star m b s.group_repeats s.group_repeats
+      (drop_at s.group_repeats (star_key i g))
+      (same_kept (λ (r : GroupRepeatRow). Some r.next) is_under_star m s.group_repeats)
+      (drop_at_kept (λ (r : GroupRepeatRow). Some r.next) is_under_star m (star_key i g) s.group_repeats)))
+      (source_repeats_kept m two (cut_source_repeats s i g c)
+      (cond_kept (λ (r : SourceRepeatRow). Some r.next) is_under_star m c s.source_repeats s.source_repeats
+      (drop_at s.source_repeats (star_key i g))
+      (same_kept (λ (r : SourceRepeatRow). Some r.next) is_under_star m s.source_repeats)
+      (drop_at_kept (λ (r : SourceRepeatRow). Some r.next) is_under_star m (star_key i g) s.source_repeats))))
+
+  repeats_kept : Keeps m s (with_repeats_of_rows s i g)
+  unfolding with_repeats_of_rows
+  repeats_kept = cut_kept _ _ _
+
+module _ (m : ℕ) (s : State) (i g : ℕ) where
+  put_back : (ms : List Member) → MembersKeep m s i g ms
+      → TableKeeps (λ (r : SourceRecordRow). r.end) is_under_source m s.source_records
+      (fold (put_member i g) (drop_where (is_at_group i g) s.source_records) ms)
+  put_back ms keeps mark by e =
+      either (list_any (λ p. shows_source mark (entry_of i g p)) ms)
+      (list_any (shows_source mark) (drop_where (is_at_group i g) s.source_records))
+      (keeps mark by)
+      (drop_kept (λ (r : SourceRecordRow). r.end) is_under_source m (is_at_group i g) s.source_records mark by)
+      (any_of_members (shows_source mark) i g ms (drop_where (is_at_group i g) s.source_records) e)
+
+  written : Bool → List Member → State
+  written b ms = record s {
+    group_records = cond b (drop_at s.group_records (star_key i g)) s.group_records;
+    source_records = fold (put_member i g) (drop_where (is_at_group i g) s.source_records) ms;
+  }
+
+  written_kept : (b : Bool) (ms : List Member) → MembersKeep m s i g ms → Keeps m s (written b ms)
+  unfolding written
+  written_kept b ms keeps =
+      let groups : Table GroupRecordRow = cond b (drop_at s.group_records (star_key i g)) s.group_records in
+      let sources : Table SourceRecordRow = fold (put_member i g) (drop_where (is_at_group i g) s.source_records) ms in
+      let one : State = record s { group_records = groups } in
+      kept_then m s one (record one { source_records = sources })
+      (group_records_kept m s groups
+      (cond_kept (λ (r : GroupRecordRow). r.end) is_under_star m b s.group_records
+      (drop_at s.group_records (star_key i g)) s.group_records
+      (drop_at_kept (λ (r : GroupRecordRow). r.end) is_under_star m (star_key i g) s.group_records)
+      (same_kept (λ (r : GroupRecordRow). r.end) is_under_star m s.group_records)))
+      (source_records_kept m one sources (put_back ms keeps))
+
+  members_kept : (r : GroupRecord) → MembersKeep m s i g r.members → Keeps m s (with_members s i g r)
+  unfolding with_members written
+  members_kept r keeps =
+      kept_then m s (written (is_no_record r) r.members) (with_repeats_of_rows (written (is_no_record r) r.members) i g)
+      (written_kept (is_no_record r) r.members keeps) (repeats_kept m (written (is_no_record r) r.members) i g)
+
+-- ---- the group timer ends
+
+module _ (m : ℕ) (s : State) (now : s.present ≡ m) (i g : ℕ) where
+  timed : State
+  timed = record s {
+    group_records = change_row (λ (old : GroupRecordRow). Some (record { end = None })) (star_key i g) s.group_records;
+  }
+
+  timed_kept : Keeps m s timed
+  unfolding timed
+  timed_kept =
+      group_records_kept m s
+      (change_row (λ (old : GroupRecordRow). Some (record { end = None })) (star_key i g) s.group_records)
+      (replaced_kept (λ (r : GroupRecordRow). r.end) is_under_star m (star_key i g)
+      (record { end = None }) s.group_records
+      (same_key_same (star_key i g)) refl)
+
+  timed_gone : Gone m TimerKind.GroupRecord (star_key i g) timed
+  unfolding timed
+  timed_gone x by e =
+      later_is_gone (λ (r : GroupRecordRow). r.end) is_under_star m (star_key i g) x
+      (record { end = None }) by refl s.group_records e
+
+  runs_on : Member → Bool
+  runs_on p = option_map_or (nat_lt s.present) p.1 false
+
+  later_member : (mark : Mark) → counts m mark ≡ true → (p : Member)
+      → (runs_on p && shows_source mark (entry_of i g p)) ≡ true → ⊥
+  unfolding runs_on
+  later_member mark by p e =
+      go p.1 (first_so (runs_on p) (shows_source mark (entry_of i g p)) e)
+      (second_so (runs_on p) (shows_source mark (entry_of i g p)) e)
+    where
+      go : (o : Option ℕ) → option_map_or (nat_lt s.present) o false ≡ true
+          → shows_source mark (source_key i g p.0, record { end = o }) ≡ true → ⊥
+      go None f h = cc
+      go (Some x) f h =
+          fresh_row (λ (r : SourceRecordRow). r.end) is_under_source m (source_key i g p.0) (record { end = Some x })
+          (same_key_same (source_key i g p.0)) (ap (λ n. nat_lt n x) (sym now) ∙ f) mark by h
+
+  later_members : (ms : List Member) (t : State) → MembersKeep m t i g (filter runs_on ms)
+  later_members ms t mark by e =
+      absurd (none_passes (λ p. runs_on p && shows_source mark (entry_of i g p)) (later_member mark by) ms
+      (sym (any_in_filter runs_on (λ p. shows_source mark (entry_of i g p)) ms) ∙ e))
+
+  expired_members : MembersKeep m timed i g (group_expired s.present (record_of s i g)).members
+  unfolding group_expired runs_on
+  expired_members = later_members (record_of s i g).members timed
+
+  pub group_record_fires : Fires m TimerKind.GroupRecord (star_key i g) s (group_record_due s i g)
+  unfolding group_record_due timed
+  group_record_fires =
+      let expired : GroupRecord = group_expired s.present (record_of s i g) in
+      let after : Keeps m timed (with_members timed i g expired) = members_kept m timed i g expired expired_members in
+      record {
+        keeps = kept_then m s timed (with_members timed i g expired) timed_kept after;
+        gone =
+            still_gone m TimerKind.GroupRecord (star_key i g) timed (with_members timed i g expired) after timed_gone;
+      }
+
+-- ---- a source timer ends
+
+abbrev is_source_of : ℕ → Member → Bool
+is_source_of src p = p.0 == src
+
+-- a row of the group shows as the member that it is, unless it is under a key of another kind
+module _ (i g : ℕ) where
+  equal_forms : (e : Key × SourceRecordRow) → is_at_group i g e.0 ≡ true → is_under_source e ≡ true
+      → source_key i g (source_in e.0) ≡ e.0
+  equal_forms e here good =
+      let iface : iface_in e.0
+      ≡ i = eqb-true (iface_in e.0) i (first_so (iface_in e.0 == i) (group_in e.0 == g) here) in
+      let group : group_in e.0
+      ≡ g = eqb-true (group_in e.0) g (second_so (iface_in e.0 == i) (group_in e.0 == g) here) in
+      let own : source_key (iface_in e.0) (group_in e.0) (source_in e.0) ≡ e.0 = equal_keys _ _ good in
+      ap (λ (n : ℕ). source_key n g (source_in e.0)) (sym iface)
+      ∙ (ap (λ (n : ℕ). source_key (iface_in e.0) n (source_in e.0)) (sym group) ∙ own)
+
+  as_member : (mark : Mark) (e : Key × SourceRecordRow)
+      → (is_at_group i g e.0 && shows_source mark (entry_of i g (source_in e.0, (e.1).end))) ≡ true
+      → (shows_source mark e || shows_source Faulty e) ≡ true
+  as_member mark e f = go (is_under_source e) refl
+    where
+      here : is_at_group i g e.0 ≡ true
+      here = first_so (is_at_group i g e.0) (shows_source mark (entry_of i g (source_in e.0, (e.1).end))) f
+
+      shown : shows_source mark (entry_of i g (source_in e.0, (e.1).end)) ≡ true
+      shown = second_so (is_at_group i g e.0) (shows_source mark (entry_of i g (source_in e.0, (e.1).end))) f
+
+      go : (b : Bool) → is_under_source e ≡ b → (shows_source mark e || not b) ≡ true
+      go true good = or_left (shows_source mark e) false
+          (subst (λ (k : Key). shows_source mark (k, e.1) ≡ true) (equal_forms e here good) shown)
+      go false bad = or_right (shows_source mark e) true refl
+
+module _ (m : ℕ) (s : State) (sound : IsSound s) (i g : ℕ) where
+  group_members : List Member
+  group_members = members_of (filter (λ e. is_at_group i g e.0) s.source_records)
+
+  -- what the members of the record show, its rows show
+  members_shown : (mark : Mark) → list_any (λ p. shows_source mark (entry_of i g p)) group_members ≡ true
+      → shows TimerKind.SourceRecord mark s ≡ true
+  unfolding group_members members_of
+  members_shown mark e =
+      either (list_any (shows_source mark) s.source_records) (list_any (shows_source Faulty) s.source_records) (λ f. f)
+      (λ f. absurd (sound.faultless TimerKind.SourceRecord f))
+      (any_of_either (shows_source mark) (shows_source Faulty) s.source_records
+      (any_more (λ e. is_at_group i g e.0 && shows_source mark (entry_of i g (source_in e.0, (e.1).end)))
+      (λ e. shows_source mark e || shows_source Faulty e) (as_member i g mark) s.source_records
+      (sym (any_in_filter (λ (e : Key × SourceRecordRow). is_at_group i g e.0)
+      (λ e. shows_source mark (entry_of i g (source_in e.0, (e.1).end))) s.source_records)
+      ∙ (sym (any_of_map (λ (p : Member). shows_source mark (entry_of i g p))
+      (λ (e : Key × SourceRecordRow). let p : Member = (source_in e.0, (e.1).end) in p)
+      (filter (λ e. is_at_group i g e.0) s.source_records)) ∙ e))))
+
+abbrev unset : ℕ → Member → Member
+unset src p = cond (p.0 == src) (src, None) p
+
+module _ (m : ℕ) (s : State) (sound : IsSound s) (i g src : ℕ) where
+  unset_shows : (mark : Mark) → counts m mark ≡ true → (p : Member)
+      → shows_source mark (entry_of i g (unset src p)) ≡ true
+      → shows_source mark (entry_of i g p) ≡ true
+  unset_shows mark by p e = go (p.0 == src) e
+    where
+      go : (b : Bool) → shows_source mark (entry_of i g (cond b (src, None) p)) ≡ true
+          → shows_source mark (entry_of i g p) ≡ true
+      go true f =
+          absurd (fresh_row (λ (r : SourceRecordRow). r.end) is_under_source m (source_key i g src)
+          (record { end = None })
+          (same_key_same (source_key i g src)) refl mark by f)
+      go false f = f
+
+  unset_members : MembersKeep m s i g (map (unset src) (group_members m s sound i g))
+  unset_members mark by e =
+      members_shown m s sound i g mark
+      (any_more (λ p. shows_source mark (entry_of i g (unset src p))) (λ p. shows_source mark (entry_of i g p))
+      (unset_shows mark by)
+      (group_members m s sound i g)
+      (sym (any_of_map (λ p. shows_source mark (entry_of i g p)) (unset src) (group_members m s sound i g)) ∙ e))
+
+  left_members : MembersKeep m s i g (filter (λ p. not (p.0 == src)) (group_members m s sound i g))
+  left_members mark by e =
+      members_shown m s sound i g mark
+      (any_of_filter (λ p. not (p.0 == src)) (λ p. shows_source mark (entry_of i g p)) (group_members m s sound i g) e)
+
+  expired_kept : Keeps m s (with_members s i g (source_expired src (record_of s i g)))
+  unfolding source_expired record_of group_members
+  expired_kept = go (is_some (record_of s i g).timer)
+    where
+      go : (b : Bool) → Keeps m s (with_members s i g (cond b
+          (record (record_of s i g) { members = map (unset src) (group_members m s sound i g) })
+          (record (record_of s i g) { members = filter (λ p. not (p.0 == src)) (group_members m s sound i g) })))
+      go true =
+          members_kept m s i g (record (record_of s i g) { members = map (unset src) (group_members m s sound i g) })
+          unset_members
+      go false =
+          members_kept m s i g (record
+          (record_of s i g) { members = filter (λ p. not (p.0 == src)) (group_members m s sound i g) }) left_members
+
+module _ (m : ℕ) (s : State) (k : Key) (x : ℕ) where
+  own_group : is_at_group (iface_in k) (group_in k) k ≡ true
+  own_group = rw (eq-eqb (iface_in k) (iface_in k) refl, eq-eqb (group_in k) (group_in k) refl) refl
+
+  no_other : (e : Key × SourceRecordRow)
+      → (not (is_at_group (iface_in k) (group_in k) e.0) && shows_source (Ends k x) e) ≡ true → ⊥
+  no_other e f =
+      let key : k ≡ e.0 = equal_keys k e.0 (first_so (same_key k e.0) (same_option (e.1).end (Some x))
+      (second_so (not (is_at_group (iface_in k) (group_in k) e.0)) (shows_source (Ends k x) e) f)) in
+      let here : is_at_group (iface_in k) (group_in k) e.0 ≡ true =
+      subst (λ (q : Key). is_at_group (iface_in k) (group_in k) q ≡ true) key own_group in
+      let out : not (is_at_group (iface_in k) (group_in k) e.0) ≡ true =
+      first_so (not (is_at_group (iface_in k) (group_in k) e.0)) (shows_source (Ends k x) e) f in
+      cc
+
+  -- a member that shows it is its source
+  its_source : (p : Member) → shows_source (Ends k x) (entry_of (iface_in k) (group_in k) p) ≡ true
+      → (p.0 == source_in k) ≡ true
+  its_source p e =
+      let key : k ≡ source_key (iface_in k) (group_in k) p.0 =
+      equal_keys k (source_key (iface_in k) (group_in k) p.0)
+      (first_so (same_key k (source_key (iface_in k) (group_in k) p.0)) (same_option p.1 (Some x)) e) in
+      eq-eqb p.0 (source_in k) (sym (ap (λ (q : Key). source_in q) key))
+
+  not_unset : (p : Member)
+      → shows_source (Ends k x) (entry_of (iface_in k) (group_in k) (unset (source_in k) p)) ≡ true → ⊥
+  not_unset p e = go (p.0 == source_in k) refl e
+    where
+      go : (b : Bool) → (p.0 == source_in k) ≡ b
+          → shows_source (Ends k x) (entry_of (iface_in k) (group_in k) (cond b (source_in k, None) p)) ≡ true → ⊥
+      go true same f =
+          let no : false ≡ true = second_so
+          (same_key k (source_key (iface_in k) (group_in k) (source_in k))) false f in cc
+      go false other f = let same : (p.0 == source_in k) ≡ true = its_source p f in cc
+
+  not_left : (p : Member)
+      → (not (p.0 == source_in k) && shows_source (Ends k x) (entry_of (iface_in k) (group_in k) p)) ≡ true → ⊥
+  not_left p e =
+      let same : (p.0 == source_in k) ≡ true =
+      its_source p (second_so (not (p.0 == source_in k))
+      (shows_source (Ends k x) (entry_of (iface_in k) (group_in k) p)) e) in
+      let other : not (p.0 == source_in k) ≡ true =
+      first_so (not (p.0 == source_in k)) (shows_source (Ends k x) (entry_of (iface_in k) (group_in k) p)) e in
+      cc
+
+  gone_unless : (r : GroupRecord)
+      → (list_any (λ p. shows_source (Ends k x) (entry_of (iface_in k) (group_in k) p)) r.members ≡ true → ⊥)
+      → shows TimerKind.SourceRecord (Ends k x) (with_members s (iface_in k) (group_in k) r) ≡ true → ⊥
+  unfolding with_members with_repeats_of_rows drop_where
+  gone_unless r none e =
+      either (list_any (λ p. shows_source (Ends k x) (entry_of (iface_in k) (group_in k) p)) r.members)
+      (list_any (shows_source (Ends k x)) (drop_where (is_at_group (iface_in k) (group_in k)) s.source_records)) none
+      (λ f. none_passes (λ e. not (is_at_group (iface_in k) (group_in k) e.0)
+      && shows_source (Ends k x) e) no_other s.source_records
+      (sym (any_in_filter (λ (e : Key × SourceRecordRow). not (is_at_group (iface_in k) (group_in k) e.0))
+      (shows_source (Ends k x)) s.source_records) ∙ f))
+      (any_of_members (shows_source (Ends k x)) (iface_in k) (group_in k) r.members
+      (drop_where (is_at_group (iface_in k) (group_in k)) s.source_records) e)
+
+  expired_gone : shows TimerKind.SourceRecord (Ends k x)
+      (with_members s (iface_in k) (group_in k) (source_expired (source_in k) (record_of s (iface_in k) (group_in k))))
+      ≡ true → ⊥
+  unfolding source_expired
+  expired_gone = go (is_some (record_of s (iface_in k) (group_in k)).timer) (record_of s (iface_in k) (group_in k))
+    where
+      go : (b : Bool) (r : GroupRecord)
+          → shows TimerKind.SourceRecord (Ends k x) (with_members s (iface_in k) (group_in k) (cond b
+          (record r { members = map (unset (source_in k)) r.members })
+          (record r { members = filter (λ p. not (p.0 == source_in k)) r.members }))) ≡ true → ⊥
+      go true r =
+          gone_unless (record r { members = map (unset (source_in k)) r.members })
+          (λ f. none_passes (λ p. shows_source (Ends k x) (entry_of (iface_in k) (group_in k) (unset (source_in k) p)))
+          not_unset r.members
+          (sym (any_of_map (λ p. shows_source (Ends k x) (entry_of (iface_in k) (group_in k) p))
+          (unset (source_in k)) r.members) ∙ f))
+      go false r =
+          gone_unless (record r { members = filter (λ p. not (p.0 == source_in k)) r.members })
+          (λ f. none_passes (λ p. not (p.0 == source_in k)
+          && shows_source (Ends k x) (entry_of (iface_in k) (group_in k) p)) not_left r.members
+          (sym (any_in_filter (λ (p : Member). not (p.0 == source_in k))
+          (λ p. shows_source (Ends k x) (entry_of (iface_in k) (group_in k) p)) r.members) ∙ f))
+
+pub source_record_fires : (m : ℕ) (s : State) → IsSound s → (k : Key)
+    → Fires m TimerKind.SourceRecord k s (source_record_due s (iface_in k) (group_in k) (source_in k))
+unfolding source_record_due
+source_record_fires m s sound k = record {
+  keeps = expired_kept m s sound (iface_in k) (group_in k) (source_in k);
+  gone = λ x by e. expired_gone m s k x e;
+}

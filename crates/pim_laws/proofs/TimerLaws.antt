@@ -1,0 +1,548 @@
+-- The timers of a state and its ends are the same; what is due is one of them, the least.
+use Rattle.std.proofs.Common.{◌≡◌, ⊎_elim, ℕ, ◌<◌, ◌≤◌, nat_lt, nat_le, ◌==◌, Bool, true, false, cond, ◌&&◌, List, [], ◌∷◌, ◌++◌, Option, Some, None, option_map, refl, sym, ap, ◌∙◌, subst, arith, leb-true, le-leb, leb-false, lt-ltb, ltb-true, eqb-true}
+use Rattle.std.specs.Cmp.{first_so, second_so}
+use Rattle.std.specs.List.{filter, cons_option, list_any, list_all, AllByRecursion}
+use Rattle.std.specs.Option.{option_map_or}
+use Rattle.std.specs.declared.cmp.Ordering.{Ordering}
+use Rattle.std.specs.declared.cmp.Ordering.TheVariants.{Less, Equal, Greater}
+use Rattle.std.specs.Ordering.{nat_cmp, is_lt, ordering_then}
+use Rattle.std.proofs.lemmas.Bool.{cases_lt}
+use Rattle.std.proofs.lemmas.Grind.{common_steps}
+use Rattle.pim_types.specs.declared.fact.AssertRow.{AssertRow}
+use Rattle.pim_types.specs.declared.fact.DownstreamRow.{DownstreamRow}
+use Rattle.pim_types.specs.declared.fact.GroupRecordRow.{GroupRecordRow}
+use Rattle.pim_types.specs.declared.fact.GroupRepeatRow.{GroupRepeatRow}
+use Rattle.pim_types.specs.declared.fact.InterfaceRow.{InterfaceRow}
+use Rattle.pim_types.specs.declared.fact.JoinTimerRow.{JoinTimerRow}
+use Rattle.pim_types.specs.declared.fact.Key.{Key}
+use Rattle.pim_types.specs.declared.fact.NeighbourRow.{NeighbourRow}
+use Rattle.pim_types.specs.declared.fact.OverrideTimerRow.{OverrideTimerRow}
+use Rattle.pim_types.specs.declared.fact.QuerierRow.{QuerierRow}
+use Rattle.pim_types.specs.declared.fact.RegisterRow.{RegisterRow}
+use Rattle.pim_types.specs.declared.fact.SourceRecordRow.{SourceRecordRow}
+use Rattle.pim_types.specs.declared.fact.SourceRepeatRow.{SourceRepeatRow}
+use Rattle.pim_types.specs.declared.fact.SourceRow.{SourceRow}
+use Rattle.pim_types.specs.declared.timer.TimerKind.{TimerKind}
+use Rattle.pim_model.specs.Clearing.{first_by, first_of_both}
+use Rattle.pim_laws.specs.Laws.{is_under_star, is_under_source, is_querier_entry, ends_after, ends_from}
+use Rattle.pim_model.specs.State.{State}
+use Rattle.pim_model.specs.Tables.{Table, same_option}
+use Rattle.pim_types.specs.Keys.{same_key}
+use Rattle.pim_model.specs.Timers.{Ending, ending, ending_cmp, endings, is_ending_first, next_due, next_query, other_querier_end, register_end, timers}
+use Rattle.pim_types.proofs.Keys.{equal_keys, same_key_same}
+use Rattle.pim_laws.proofs.ListLaws.{any_more}
+use Rattle.pim_laws.proofs.TableLaws.{or_left, or_right, either, any_append, any_of_filter_map, any_in_filter}
+use Rattle.pim_laws.proofs.Ends.{Ends, always, shows_row, shows_in, shows}
+
+-- ---- each timer is an end that shows
+
+module _ {X : Type 0} (P : X → Type 0) where
+  pub all_append : (xs ys : List X) → AllByRecursion P xs → AllByRecursion P ys → AllByRecursion P (xs ++ ys)
+  all_append [] ys f g = g
+  all_append (x ∷ xs) ys f g = (f.0, all_append xs ys f.1 g)
+
+  all_filter : (p : X → Bool) (xs : List X) → AllByRecursion P xs → AllByRecursion P (filter p xs)
+  all_filter p [] f = f
+  all_filter p (x ∷ xs) f = go (p x) (all_filter p xs f.1)
+    where
+      go : (b : Bool) → AllByRecursion P (filter p xs) → AllByRecursion P (cond b (x ∷ filter p xs) (filter p xs))
+      go true rest = (f.0, rest)
+      go false rest = rest
+
+same_end : (n : ℕ) → (n == n) ≡ true
+same_end n = grind (arith, common_steps)
+
+module _ {R : Type 0} (kind : TimerKind) (end_of : R → Option ℕ) (sound : Key × R → Bool) (whole : Table R) where
+  abbrev ShownIn : Ending → Type 0
+  ShownIn d = (d.timer.kind ≡ kind) × (shows_in end_of sound (Ends d.timer.key d.end) whole ≡ true)
+
+  shown_entry : (e : Key × R) (o : Option ℕ) → end_of e.1 ≡ o
+      → ((q : Key × R → Bool) → q e ≡ true → list_any q whole ≡ true) → (ds : List Ending) → AllByRecursion ShownIn ds
+      → AllByRecursion ShownIn (cons_option (option_map (ending kind e.0) o) ds)
+  shown_entry e None f here ds rest = rest
+  shown_entry e (Some x) f here ds rest =
+      ((refl, here (shows_row end_of sound (Ends e.0 x)) (rw (same_key_same e.0, f, same_end x) refl)), rest)
+
+  each_shown : (rows : Table R) → ((q : Key × R → Bool) → list_any q rows ≡ true → list_any q whole ≡ true)
+      → AllByRecursion ShownIn (endings kind end_of rows)
+  unfolding endings
+  each_shown [] inside = tt
+  each_shown (e ∷ es) inside =
+      shown_entry e (end_of e.1) refl (λ q here. inside q (or_left (q e) (list_any q es) here)) (endings kind end_of es)
+      (each_shown es (λ q later. inside q (or_right (q e) (list_any q es) later)))
+
+-- the end of a timer shows
+abbrev pub Shown : State → Ending → Type 0
+Shown s d = shows d.timer.kind (Ends d.timer.key d.end) s ≡ true
+
+all_more : {X : Type 0} (P Q : X → Type 0) → ((x : X) → P x → Q x) → (xs : List X) → AllByRecursion P xs
+    → AllByRecursion Q xs
+all_more P Q f [] h = tt
+all_more P Q f (x ∷ xs) h = (f x h.0, all_more P Q f xs h.1)
+
+module _ (s : State) where
+  of_kind : (kind : TimerKind) (ds : List Ending)
+      → AllByRecursion (λ d. (d.timer.kind ≡ kind) × (shows kind (Ends d.timer.key d.end) s ≡ true)) ds
+      → AllByRecursion (Shown s) ds
+  of_kind kind ds h =
+      all_more (λ d. (d.timer.kind ≡ kind) × (shows kind (Ends d.timer.key d.end) s ≡ true)) (Shown s)
+      (λ d f. subst (λ (k : TimerKind). shows k (Ends d.timer.key d.end) s ≡ true) (sym f.0) f.1) ds h
+
+  pub all_shown : AllByRecursion (Shown s) (timers s)
+  unfolding timers
+  all_shown =
+      (all_append (Shown s) _ _
+      (all_append (Shown s) _ _
+      (all_append (Shown s) _ _
+      (all_append (Shown s) _ _
+      (all_append (Shown s) _ _
+      (all_append (Shown s) _ _
+      (all_append (Shown s) _ _
+      (all_append (Shown s) _ _
+      (all_append (Shown s) _ _
+      (all_append (Shown s) _ _
+      (all_append (Shown s) _ _
+      (all_append (Shown s) _ _
+      (all_append (Shown s) _ _
+      (all_append (Shown s) _ _
+      (of_kind TimerKind.Neighbour _
+      (each_shown TimerKind.Neighbour (λ (r : NeighbourRow). r.end) always s.neighbours s.neighbours (λ q e. e)))
+      (of_kind TimerKind.PrunePending _
+      (each_shown TimerKind.PrunePending (λ (r : DownstreamRow). r.pending) always s.downstream s.downstream
+      (λ q e. e))))
+      (of_kind TimerKind.DownstreamExpiry _
+      (each_shown TimerKind.DownstreamExpiry (λ (r : DownstreamRow). r.expiry) always s.downstream s.downstream
+      (λ q e. e))))
+      (of_kind TimerKind.GroupRecord _
+      (each_shown TimerKind.GroupRecord (λ (r : GroupRecordRow). r.end) is_under_star s.group_records s.group_records
+      (λ q e. e))))
+      (of_kind TimerKind.SourceRecord _
+      (each_shown TimerKind.SourceRecord
+      (λ (r : SourceRecordRow). r.end) is_under_source s.source_records s.source_records (λ q e. e))))
+      (of_kind TimerKind.Assert _
+      (each_shown TimerKind.Assert (λ (r : AssertRow). Some r.end) always s.asserts s.asserts (λ q e. e))))
+      (of_kind TimerKind.Keepalive _
+      (each_shown TimerKind.Keepalive (λ (r : SourceRow). r.keepalive) always s.sources s.sources (λ q e. e))))
+      (of_kind TimerKind.Register _
+      (each_shown TimerKind.Register (λ (r : RegisterRow). register_end r.state) always s.registers s.registers
+      (λ q e. e))))
+      (of_kind TimerKind.Override _
+      (each_shown TimerKind.Override (λ (r : OverrideTimerRow). Some r.end) always s.override_timers s.override_timers
+      (λ q e. e))))
+      (of_kind TimerKind.Join _
+      (each_shown TimerKind.Join (λ (r : JoinTimerRow). Some r.end) always s.join_timers s.join_timers (λ q e. e))))
+      (of_kind TimerKind.OtherQuerier _
+      (each_shown TimerKind.OtherQuerier
+      (λ (r : QuerierRow). other_querier_end r.role) is_querier_entry s.queriers s.queriers (λ q e. e))))
+      (of_kind TimerKind.GroupRepeat _
+      (each_shown TimerKind.GroupRepeat
+      (λ (r : GroupRepeatRow). Some r.next) is_under_star s.group_repeats s.group_repeats (λ q e. e))))
+      (of_kind TimerKind.SourceRepeat _
+      (each_shown TimerKind.SourceRepeat
+      (λ (r : SourceRepeatRow). Some r.next) is_under_star s.source_repeats s.source_repeats (λ q e. e))))
+      (of_kind TimerKind.GeneralQuery _
+      (each_shown TimerKind.GeneralQuery (λ (r : QuerierRow). next_query r.role) is_querier_entry s.queriers s.queriers
+      (λ q e. e))))
+      (of_kind TimerKind.Hello _
+      (each_shown TimerKind.Hello (λ (r : InterfaceRow). Some r.hello_end) always s.interfaces s.interfaces
+      (λ q e. e))))
+
+-- ---- each end that shows is a timer
+
+module _ {R : Type 0} (kind : TimerKind) (end_of : R → Option ℕ) (sound : Key × R → Bool) (q : Ending
+    → Bool) (k : Key) (x : ℕ)
+    (here : q (ending kind k x) ≡ true) where
+  as_ending : (e : Key × R) (o : Option ℕ) → (same_key k e.0 && same_option o (Some x)) ≡ true
+      → option_map_or q (option_map (ending kind e.0) o) false ≡ true
+  as_ending e None f = second_so (same_key k e.0) false f
+  as_ending e (Some y) f =
+      let key : k ≡ e.0 = equal_keys k e.0 (first_so (same_key k e.0) (y == x) f) in
+      let end : y ≡ x = eqb-true y x (second_so (same_key k e.0) (y == x) f) in
+      subst (λ (n : ℕ). q (ending kind e.0 n)
+      ≡ true) (sym end) (subst (λ (a : Key). q (ending kind a x) ≡ true) key here)
+
+  shown_ends : (t : Table R) → shows_in end_of sound (Ends k x) t ≡ true → list_any q (endings kind end_of t) ≡ true
+  unfolding endings
+  shown_ends t e =
+      any_of_filter_map q (λ (e : Key × R). option_map (ending kind e.0) (end_of e.1)) t
+      ∙ any_more (shows_row end_of sound (Ends k x))
+      (λ (e : Key × R). option_map_or q (option_map (ending kind e.0) (end_of e.1)) false)
+      (λ e f. as_ending e (end_of e.1) f) t e
+
+record SomePasses (q : Ending → Bool) (ds : List Ending) : Type 0 where
+  passes : list_any q ds ≡ true
+
+module _ (q : Ending → Bool) where
+  first : (xs ys : List Ending) → SomePasses q xs → SomePasses q (xs ++ ys)
+  first xs ys e = record { passes = any_append q xs ys ∙ or_left (list_any q xs) (list_any q ys) e.passes }
+
+  rest : (xs ys : List Ending) → list_any q ys ≡ true → SomePasses q (xs ++ ys)
+  rest xs ys e = record { passes = any_append q xs ys ∙ or_right (list_any q xs) (list_any q ys) e }
+
+some_timer : (s : State) (q : Ending → Bool) (kind : TimerKind) (k : Key) (x : ℕ) → q (ending kind k x) ≡ true
+    → shows kind (Ends k x) s ≡ true → SomePasses q (timers s)
+unfolding timers
+some_timer s q TimerKind.Neighbour k x here e =
+    first q _ _ (first q _ _
+    (first q _ _ (first q _ _
+    (first q _ _ (first q _ _
+    (first q _ _ (first q _ _
+    (first q _ _ (first q _ _
+    (first q _ _ (first q _ _
+    (first q _ _ (first q _ _
+    (record {
+      passes = (shown_ends TimerKind.Neighbour
+          (λ (r : NeighbourRow). r.end) always q k x here s.neighbours e);
+    }))))))))))))))
+some_timer s q TimerKind.PrunePending k x here e =
+    first q _ _ (first q _ _
+    (first q _ _ (first q _ _
+    (first q _ _ (first q _ _
+    (first q _ _ (first q _ _
+    (first q _ _ (first q _ _
+    (first q _ _ (first q _ _
+    (first q _ _ (rest q _ _
+    (shown_ends TimerKind.PrunePending
+    (λ (r : DownstreamRow). r.pending) always q k x here s.downstream e))))))))))))))
+some_timer s q TimerKind.DownstreamExpiry k x here e =
+    first q _ _ (first q _ _
+    (first q _ _ (first q _ _
+    (first q _ _ (first q _ _
+    (first q _ _ (first q _ _
+    (first q _ _ (first q _ _
+    (first q _ _ (first q _ _
+    (rest q _ _ (shown_ends TimerKind.DownstreamExpiry
+    (λ (r : DownstreamRow). r.expiry) always q k x here s.downstream e)))))))))))))
+some_timer s q TimerKind.GroupRecord k x here e =
+    first q _ _ (first q _ _
+    (first q _ _ (first q _ _
+    (first q _ _ (first q _ _
+    (first q _ _ (first q _ _
+    (first q _ _ (first q _ _
+    (first q _ _ (rest q _ _
+    (shown_ends TimerKind.GroupRecord
+    (λ (r : GroupRecordRow). r.end) is_under_star q k x here s.group_records e))))))))))))
+some_timer s q TimerKind.SourceRecord k x here e =
+    first q _ _ (first q _ _
+    (first q _ _ (first q _ _
+    (first q _ _ (first q _ _
+    (first q _ _ (first q _ _
+    (first q _ _ (first q _ _
+    (rest q _ _ (shown_ends TimerKind.SourceRecord
+    (λ (r : SourceRecordRow). r.end) is_under_source q k x here s.source_records e)))))))))))
+some_timer s q TimerKind.Assert k x here e =
+    first q _ _ (first q _ _
+    (first q _ _ (first q _ _
+    (first q _ _ (first q _ _
+    (first q _ _ (first q _ _
+    (first q _ _ (rest q _ _
+    (shown_ends TimerKind.Assert (λ (r : AssertRow). Some r.end) always q k x here s.asserts e))))))))))
+some_timer s q TimerKind.Keepalive k x here e =
+    first q _ _ (first q _ _
+    (first q _ _ (first q _ _
+    (first q _ _ (first q _ _
+    (first q _ _ (first q _ _
+    (rest q _ _ (shown_ends TimerKind.Keepalive
+    (λ (r : SourceRow). r.keepalive) always q k x here s.sources e)))))))))
+some_timer s q TimerKind.Register k x here e =
+    first q _ _ (first q _ _
+    (first q _ _ (first q _ _
+    (first q _ _ (first q _ _
+    (first q _ _ (rest q _ _
+    (shown_ends TimerKind.Register
+    (λ (r : RegisterRow). register_end r.state) always q k x here s.registers e))))))))
+some_timer s q TimerKind.Override k x here e =
+    first q _ _ (first q _ _
+    (first q _ _ (first q _ _
+    (first q _ _ (first q _ _
+    (rest q _ _ (shown_ends TimerKind.Override
+    (λ (r : OverrideTimerRow). Some r.end) always q k x here s.override_timers e)))))))
+some_timer s q TimerKind.Join k x here e =
+    first q _ _ (first q _ _
+    (first q _ _ (first q _ _
+    (first q _ _ (rest q _ _
+    (shown_ends TimerKind.Join (λ (r : JoinTimerRow). Some r.end) always q k x here s.join_timers e))))))
+some_timer s q TimerKind.OtherQuerier k x here e =
+    first q _ _ (first q _ _
+    (first q _ _ (first q _ _
+    (rest q _ _ (shown_ends TimerKind.OtherQuerier
+    (λ (r : QuerierRow). other_querier_end r.role) is_querier_entry q k x here s.queriers e)))))
+some_timer s q TimerKind.GroupRepeat k x here e =
+    first q _ _ (first q _ _
+    (first q _ _ (rest q _ _
+    (shown_ends TimerKind.GroupRepeat
+    (λ (r : GroupRepeatRow). Some r.next) is_under_star q k x here s.group_repeats e))))
+some_timer s q TimerKind.SourceRepeat k x here e =
+    first q _ _ (first q _ _
+    (rest q _ _ (shown_ends TimerKind.SourceRepeat
+    (λ (r : SourceRepeatRow). Some r.next) is_under_star q k x here s.source_repeats e)))
+some_timer s q TimerKind.GeneralQuery k x here e =
+    first q _ _ (rest q _ _
+    (shown_ends TimerKind.GeneralQuery
+    (λ (r : QuerierRow). next_query r.role) is_querier_entry q k x here s.queriers e))
+some_timer s q TimerKind.Hello k x here e =
+    rest q _ _ (shown_ends TimerKind.Hello (λ (r : InterfaceRow). Some r.hello_end) always q k x here s.interfaces e)
+
+pub among_timers : (s : State) (q : Ending → Bool) (kind : TimerKind) (k : Key) (x : ℕ) → q (ending kind k x) ≡ true
+    → shows kind (Ends k x) s ≡ true → list_any q (timers s) ≡ true
+among_timers s q kind k x here e = (some_timer s q kind k x here e).passes
+
+-- ---- the first of a list
+
+any_among_all : {X C : Type 0} (P : X → Type 0) (q : X → Bool) → ((x : X) → P x → q x ≡ true → C) → (xs : List X)
+    → AllByRecursion P xs → list_any q xs ≡ true → C
+any_among_all P q done [] h e = absurd (let no : false ≡ true = e in cc)
+any_among_all P q done (x ∷ xs) h e = either (q x) (list_any q xs) (done x h.0) (any_among_all P q done xs h.1) e
+
+module _ {X : Type 0} (is_first : X → X → Bool) where
+  first_of_two : (P : X → Type 0) (x : X) (o : Option X) → P x → ((y : X) → o ≡ Some y → P y)
+      → P (first_of_both is_first x o)
+  unfolding first_of_both
+  first_of_two P x None here later = here
+  first_of_two P x (Some y) here later = go (is_first y x)
+    where
+      go : (b : Bool) → P (cond b y x)
+      go true = later y refl
+      go false = here
+
+  first_of_all : (P : X → Type 0) (xs : List X) → AllByRecursion P xs → (d : X) → first_by is_first xs ≡ Some d → P d
+  unfolding first_by
+  first_of_all P [] h d e = cc
+  first_of_all P (x ∷ xs) h d e =
+      let same : first_of_both is_first x (first_by is_first xs) ≡ d = cc in
+      subst P same (first_of_two P x (first_by is_first xs) h.0 (first_of_all P xs h.1))
+
+  nothing_first : (xs : List X) → first_by is_first xs ≡ None → xs ≡ []
+  unfolding first_by
+  nothing_first [] e = refl
+  nothing_first (x ∷ xs) e = cc
+
+  module _ (size : X → ℕ) (before : (a b : X) → is_first a b ≡ true → size a ≤ size b) (behind : (a b : X)
+      → is_first a b ≡ false → size b ≤ size a) where
+    abbrev AtLeast : ℕ → X → Type 0
+    AtLeast n x = n ≤ size x
+
+    all_at_least : (n m : ℕ) → n ≤ m → (xs : List X) → AllByRecursion (AtLeast m) xs → AllByRecursion (AtLeast n) xs
+    all_at_least n m h xs all = all_more (AtLeast m) (AtLeast n) (λ x (f : m ≤ size x). omega arith) xs all
+
+    least_of_two : (x : X) (xs : List X) (o : Option X) → first_by is_first xs ≡ o
+        → ((y : X) → first_by is_first xs ≡ Some y → AllByRecursion (AtLeast (size y)) xs)
+        → AllByRecursion (AtLeast (size (first_of_both is_first x o))) (x ∷ xs)
+    unfolding first_of_both first_by
+    least_of_two x [] None was ih = (omega arith, tt)
+    least_of_two x (z ∷ zs) None was ih = cc
+    least_of_two x xs (Some y) was ih = go (is_first y x) refl
+      where
+        go : (b : Bool) → is_first y x ≡ b → AllByRecursion (AtLeast (size (cond b y x))) (x ∷ xs)
+        go true e = (before y x e, ih y was)
+        go false e = (omega arith, all_at_least (size x) (size y) (behind y x e) xs (ih y was))
+
+    first_is_least : (xs : List X) (d : X) → first_by is_first xs ≡ Some d → AllByRecursion (AtLeast (size d)) xs
+    unfolding first_by
+    first_is_least [] d e = cc
+    first_is_least (x ∷ xs) d e =
+        let same : first_of_both is_first x (first_by is_first xs) ≡ d = cc in
+        subst (λ (a : X). AllByRecursion (AtLeast (size a)) (x ∷ xs)) same
+        (least_of_two x xs (first_by is_first xs) refl (first_is_least xs))
+
+-- ---- what is due
+
+module _ (a b : Ending) where
+  ending_order : (o p : Ordering) → nat_cmp a.end b.end ≡ o → is_lt (ordering_then o p) ≡ true → a.end ≤ b.end
+  ending_order Less p e f = grind (arith, common_steps, e)
+  ending_order Equal p e f = grind (arith, common_steps, e)
+  ending_order Greater p e f = cc
+
+  ending_behind : (o p : Ordering) → nat_cmp a.end b.end ≡ o → is_lt (ordering_then o p) ≡ false → b.end ≤ a.end
+  ending_behind Less p e f = cc
+  ending_behind Equal p e f = grind (arith, common_steps, e)
+  ending_behind Greater p e f = grind (arith, common_steps, e)
+
+  earlier : is_ending_first a b ≡ true → a.end ≤ b.end
+  unfolding ending_cmp
+  earlier e = ending_order (nat_cmp a.end b.end) _ refl e
+
+  later : is_ending_first a b ≡ false → b.end ≤ a.end
+  unfolding ending_cmp
+  later e = ending_behind (nat_cmp a.end b.end) _ refl e
+
+abbrev is_due : ℕ → Ending → Bool
+is_due m d = nat_le d.end m
+
+-- the next timer that is due by a moment
+pub record IsNext (m : ℕ) (s : State) (e : Ending) : Type 0 where
+  pub due : e.end ≤ m
+  pub shown : Shown s e
+  pub least : (kind : TimerKind) (k : Key) (x : ℕ) → shows kind (Ends k x) s ≡ true → e.end ≤ x
+
+all_pass : {X : Type 0} (p : X → Bool) (xs : List X) → AllByRecursion (λ x. p x ≡ true) (filter p xs)
+all_pass p [] = tt
+all_pass p (x ∷ xs) = go (p x) refl (all_pass p xs)
+  where
+    go : (b : Bool) → p x ≡ b → AllByRecursion (λ x. p x ≡ true) (filter p xs)
+        → AllByRecursion (λ x. p x ≡ true) (cond b (x ∷ filter p xs) (filter p xs))
+    go true e rest = (e, rest)
+    go false e rest = rest
+
+-- an end by the moment is among what is due
+among_due : (m : ℕ) (s : State) (kind : TimerKind) (k : Key) (x : ℕ) → shows kind (Ends k x) s ≡ true
+    → nat_le x m ≡ true
+    → list_any (λ (d : Ending). d.end == x) (filter (is_due m) (timers s)) ≡ true
+among_due m s kind k x e by =
+    any_in_filter (is_due m) (λ (d : Ending). d.end == x) (timers s)
+    ∙ among_timers s (λ (d : Ending). nat_le d.end m && (d.end == x)) kind k x (rw (by, same_end x) refl) e
+
+pub is_next : (m : ℕ) (s : State) (e : Ending) → next_due m s ≡ Some e → IsNext m s e
+unfolding next_due
+is_next m s e f = record {
+  due = by_moment;
+  shown =
+      first_of_all is_ending_first (Shown s) (filter (is_due m) (timers s))
+      (all_filter (Shown s) (is_due m) (timers s) (all_shown s)) e f;
+  least = λ kind k x g. of_least kind k x g (nat_le x m) refl;
+}
+  where
+    by_moment : e.end ≤ m
+    by_moment =
+        leb-true e.end m (first_of_all is_ending_first (λ d. nat_le d.end m
+        ≡ true) (filter (is_due m) (timers s)) (all_pass (is_due m) (timers s)) e f)
+
+    of_least : (kind : TimerKind) (k : Key) (x : ℕ) → shows kind (Ends k x) s ≡ true → (b : Bool) → nat_le x m ≡ b
+        → e.end ≤ x
+    of_least kind k x g true by =
+        any_among_all (λ (d : Ending). e.end ≤ d.end) (λ (d : Ending). d.end == x)
+        (λ d (h : e.end ≤ d.end) same. let end : d.end
+        ≡ x = eqb-true d.end x same in let r : e.end ≤ x = omega arith in r)
+        (filter (is_due m) (timers s))
+        (first_is_least is_ending_first (λ (d : Ending). d.end) earlier later (filter (is_due m) (timers s)) e f)
+        (among_due m s kind k x g by)
+    of_least kind k x g false by =
+        let late : m < x = leb-false x m by in let early : e.end ≤ m = by_moment in omega arith
+
+-- where nothing is due every end is later
+pub all_later : (m : ℕ) (s : State) → next_due m s ≡ None → (kind : TimerKind) (k : Key) (x : ℕ)
+    → shows kind (Ends k x) s ≡ true → m < x
+unfolding next_due
+all_later m s f kind k x e = go (nat_le x m) refl
+  where
+    go : (b : Bool) → nat_le x m ≡ b → m < x
+    go true by =
+        let none : filter (is_due m) (timers s) ≡ [] = nothing_first is_ending_first (filter (is_due m) (timers s)) f in
+        let no : false ≡ true = sym (ap (list_any (λ (d : Ending). d.end == x)) none) ∙ among_due m s kind k x e by in
+        cc
+    go false late = leb-false x m late
+
+-- ---- the tests of all ends
+
+all_of_list : {X : Type 0} (p : X → Bool) (xs : List X) → list_all p xs ≡ true → AllByRecursion (λ x. p x ≡ true) xs
+all_of_list p [] e = tt
+all_of_list p (x ∷ xs) e = (first_so (p x) (list_all p xs) e, all_of_list p xs (second_so (p x) (list_all p xs) e))
+
+list_of_all : {X : Type 0} (p : X → Bool) (xs : List X) → AllByRecursion (λ x. p x ≡ true) xs → list_all p xs ≡ true
+list_of_all p [] h = refl
+list_of_all p (x ∷ xs) h = rw (h.0, list_of_all p xs h.1) refl
+
+pub from_shown : (m : ℕ) (s : State) → ends_from m s ≡ true → (kind : TimerKind) (k : Key) (x : ℕ)
+    → shows kind (Ends k x) s ≡ true → m ≤ x
+from_shown m s f kind k x e =
+    any_among_all (λ (d : Ending). nat_le m d.end ≡ true) (λ (d : Ending). d.end == x)
+    (λ d g same. let end : d.end
+    ≡ x = eqb-true d.end x same in let early : m ≤ d.end = leb-true m d.end g in let r : m ≤ x = omega arith in r)
+    (timers s) (all_of_list (λ (d : Ending). nat_le m d.end) (timers s) f)
+    (among_timers s (λ (d : Ending). d.end == x) kind k x (same_end x) e)
+
+pub shown_from : (m : ℕ) (s : State) → ((kind : TimerKind) (k : Key) (x : ℕ) → shows kind (Ends k x) s ≡ true → m ≤ x)
+    → ends_from m s ≡ true
+shown_from m s f =
+    list_of_all (λ (d : Ending). nat_le m d.end) (timers s)
+    (all_more (Shown s) (λ d. nat_le m d.end
+    ≡ true) (λ d e. le-leb m d.end (f d.timer.kind d.timer.key d.end e)) (timers s) (all_shown s))
+
+pub shown_after : (m : ℕ) (s : State) → ((kind : TimerKind) (k : Key) (x : ℕ) → shows kind (Ends k x) s ≡ true → m < x)
+    → ends_after m s ≡ true
+shown_after m s f =
+    list_of_all (λ (d : Ending). nat_lt m d.end) (timers s)
+    (all_more (Shown s) (λ d. nat_lt m d.end
+    ≡ true) (λ d e. lt-ltb m d.end (f d.timer.kind d.timer.key d.end e)) (timers s) (all_shown s))
+
+pub after_is_from : (m : ℕ) (s : State) → ends_after m s ≡ true → ends_from m s ≡ true
+after_is_from m s f =
+    list_of_all (λ (d : Ending). nat_le m d.end) (timers s)
+    (all_more (λ (d : Ending). nat_lt m d.end ≡ true) (λ (d : Ending). nat_le m d.end ≡ true)
+    (λ d e. let later : m < d.end = ltb-true m d.end e in le-leb m d.end (omega arith)) (timers s)
+    (all_of_list (λ (d : Ending). nat_lt m d.end) (timers s) f))
+
+-- ---- the first timer of all that is due is the first of its instant
+
+module _ (n m : ℕ) (less : n ≤ m) where
+  -- the first by m, and the first by n
+  Agrees : Option Ending → Option Ending → Type 0
+  Agrees None o = o ≡ None
+  Agrees (Some a) o = (a.end ≤ n → o ≡ Some a) × (n < a.end → o ≡ None)
+
+  both_by : (x : Ending) (o p : Option Ending) → x.end ≤ n → Agrees o p
+      → Agrees (Some (first_of_both is_ending_first x o)) (Some (first_of_both is_ending_first x p))
+  unfolding Agrees first_of_both
+  both_by x None p by same = rw same ((λ h. refl), (λ h. absurd (omega arith)))
+  both_by x (Some a) p by same = ⊎_elim late early (cases_lt n a.end)
+    where
+      late : n < a.end → Agrees (Some (first_of_both is_ending_first x (Some a)))
+          (Some (first_of_both is_ending_first x p))
+      late h = go (is_ending_first a x) refl
+        where
+          go : (b : Bool) → is_ending_first a x ≡ b
+              → Agrees (Some (cond b a x)) (Some (first_of_both is_ending_first x p))
+          go true e = let before : a.end ≤ x.end = earlier a x e in absurd (omega arith)
+          go false e = rw (same.1 h) ((λ f. refl), (λ f. absurd (omega arith)))
+
+      early : a.end ≤ n → Agrees (Some (first_of_both is_ending_first x (Some a)))
+          (Some (first_of_both is_ending_first x p))
+      early h = rw (same.0 h) (go (is_ending_first a x))
+        where
+          go : (b : Bool) → Agrees (Some (cond b a x)) (Some (cond b a x))
+          go true = ((λ f. refl), (λ f. absurd (omega arith)))
+          go false = ((λ f. refl), (λ f. absurd (omega arith)))
+
+  one_by : (x : Ending) (o p : Option Ending) → n < x.end → Agrees o p
+      → Agrees (Some (first_of_both is_ending_first x o)) p
+  unfolding Agrees first_of_both
+  one_by x None p after same = ((λ h. absurd (omega arith)), (λ h. same))
+  one_by x (Some a) p after same = ⊎_elim late early (cases_lt n a.end)
+    where
+      late : n < a.end → Agrees (Some (first_of_both is_ending_first x (Some a))) p
+      late h = go (is_ending_first a x)
+        where
+          go : (b : Bool) → Agrees (Some (cond b a x)) p
+          go true = ((λ f. absurd (omega arith)), (λ f. same.1 h))
+          go false = ((λ f. absurd (omega arith)), (λ f. same.1 h))
+
+      early : a.end ≤ n → Agrees (Some (first_of_both is_ending_first x (Some a))) p
+      early h = go (is_ending_first a x) refl
+        where
+          go : (b : Bool) → is_ending_first a x ≡ b → Agrees (Some (cond b a x)) p
+          go true e = ((λ f. same.0 h), (λ f. absurd (omega arith)))
+          go false e = let before : x.end ≤ a.end = later a x e in absurd (omega arith)
+
+  firsts_agree : (xs : List Ending)
+      → Agrees (first_by is_ending_first (filter (is_due m) xs)) (first_by is_ending_first (filter (is_due n) xs))
+  unfolding Agrees first_by
+  firsts_agree [] = refl
+  firsts_agree (x ∷ xs) = go (nat_le x.end m) (nat_le x.end n) refl refl (firsts_agree xs)
+    where
+      go : (b c : Bool) → nat_le x.end m ≡ b → nat_le x.end n ≡ c
+          → Agrees (first_by is_ending_first (filter (is_due m) xs)) (first_by is_ending_first (filter (is_due n) xs))
+          → Agrees (first_by is_ending_first (cond b (x ∷ filter (is_due m) xs) (filter (is_due m) xs)))
+          (first_by is_ending_first (cond c (x ∷ filter (is_due n) xs) (filter (is_due n) xs)))
+      go true true e f ih = both_by x _ _ (leb-true x.end n f) ih
+      go true false e f ih = one_by x _ _ (leb-false x.end n f) ih
+      go false true e f ih =
+          let by : x.end ≤ n = leb-true x.end n f in let after : m < x.end = leb-false x.end m e in absurd (omega arith)
+      go false false e f ih = ih
+
+pub first_of_instant : (m : ℕ) (s : State) (e : Ending) → next_due m s ≡ Some e → next_due e.end s ≡ Some e
+unfolding next_due Agrees
+first_of_instant m s e there =
+    let next : IsNext m s e = is_next m s e there in
+    (subst (λ (o : Option Ending). Agrees e.end m next.due o
+    (first_by is_ending_first (filter (is_due e.end) (timers s)))) there
+    (firsts_agree e.end m next.due (timers s))).0 (omega arith)

@@ -1,0 +1,166 @@
+-- What holds of the definitions for every state.
+use Rattle.std.specs.List.{list_all}
+use Rattle.std.specs.Prelude.{Bool, Err, List, None, Ok, Some, [], nat_le, nat_lt, true, ℕ, ◌&&◌, ◌≡◌, ◌≤◌}
+use Rattle.pim_ip.specs.declared.refusal.Refusal.{Refusal}
+use Rattle.pim_types.specs.declared.config.Config.{Config}
+use Rattle.pim_types.specs.declared.event.Event.{Event}
+use Rattle.pim_types.specs.declared.fact.Key.{Key}
+use Rattle.pim_types.specs.declared.fact.QuerierRow.{QuerierRow}
+use Rattle.pim_types.specs.declared.outcome.Ignored.{Ignored}
+use Rattle.pim_types.specs.declared.outcome.Verdict.{Verdict}
+use Rattle.pim_model.specs.Built.{are_built, built_run, built_state_after, built_step, is_event_built}
+use Rattle.pim_model.specs.Clearing.{Cleared, clear_all, cleared, to_clear}
+use Rattle.pim_model.specs.Firing.{fire_all, fire_instant, fire_once}
+use Rattle.pim_model.specs.Limits.{config_test}
+use Rattle.pim_model.specs.Repeat.{and_then}
+use Rattle.pim_model.specs.State.{State, opening}
+use Rattle.pim_model.specs.Step.{Answered, advanced, run, state_after, step}
+use Rattle.pim_types.specs.Keys.{group_in, iface_in, iface_key, same_key, source_in, source_key, star_key}
+use Rattle.pim_model.specs.Timers.{Ending, next_due, timers}
+
+-- clearing leaves nothing that must go
+abbrev pub ClearingIsComplete : Type 0
+ClearingIsComplete = (o s : State) → to_clear o (clear_all o s).0 ≡ None
+
+-- the first fact that must go goes, and then the rest, the messages in that order
+abbrev pub ClearingGoesOn : Type 0
+ClearingGoesOn = (o s : State) (c : Cleared) → to_clear o s ≡ Some c
+    → clear_all o s ≡ and_then (to_clear o) cleared (clear_all o) (cleared s c)
+
+-- an answer that leaves the state as it was, and sends nothing
+abbrev pub IsUnchanged : State → Answered → Type 0
+IsUnchanged s a = (a.state ≡ s) × (a.emissions ≡ []) × (a.copies ≡ 0)
+
+-- a refused event
+abbrev pub RefusedEventChangesNothing : Type 0
+RefusedEventChangesNothing =
+    (s : State) (e : Event) (refusal : Refusal) → (step s e).answer ≡ Err refusal → IsUnchanged s (step s e)
+
+-- an ignored event
+abbrev pub IgnoredEventChangesNothing : Type 0
+IgnoredEventChangesNothing =
+    (s : State) (e : Event) (reason : Ignored) → (step s e).answer ≡ Ok (Verdict.Ignored reason) → IsUnchanged s (step s e)
+
+-- ---- firing
+
+-- an entry is under a key of (*,G), of (S,G), of an interface
+abbrev pub is_under_star : {R : Type 0} → Key × R → Bool
+is_under_star e = same_key (star_key (iface_in e.0) (group_in e.0)) e.0
+
+abbrev pub is_under_source : {R : Type 0} → Key × R → Bool
+is_under_source e = same_key (source_key (iface_in e.0) (group_in e.0) (source_in e.0)) e.0
+
+-- a querier with a query interval
+abbrev pub is_querier_entry : Key × QuerierRow → Bool
+is_querier_entry e = same_key (iface_key (iface_in e.0)) e.0 && nat_lt 0 (e.1).query_interval
+
+-- what firing asks of a state: no interval is 0, and IGMP's facts are under keys of their kind
+pub record IsFirable (s : State) : Type 0 where
+  pub query_interval : nat_lt 0 s.settings.query_interval ≡ true
+  pub last_member_query_interval : nat_lt 0 s.settings.last_member_query_interval ≡ true
+  pub queriers : list_all is_querier_entry s.queriers ≡ true
+  pub group_records : list_all is_under_star s.group_records ≡ true
+  pub source_records : list_all is_under_source s.source_records ≡ true
+  pub group_repeats : list_all is_under_star s.group_repeats ≡ true
+  pub source_repeats : list_all is_under_star s.source_repeats ≡ true
+
+-- every timer ends later than a moment, or at that moment at the earliest
+abbrev pub ends_after : ℕ → State → Bool
+ends_after m s = list_all (λ (e : Ending). nat_lt m e.end) (timers s)
+
+abbrev pub ends_from : ℕ → State → Bool
+ends_from m s = list_all (λ (e : Ending). nat_le m e.end) (timers s)
+
+-- at the moment m, with nothing that should have fired before
+pub record IsReady (m : ℕ) (s : State) : Type 0 where
+  pub firable : IsFirable s
+  pub present : s.present ≡ m
+  pub ends : ends_from m s ≡ true
+
+-- at the moment m, with all that is due by then fired
+pub record IsAhead (m : ℕ) (s : State) : Type 0 where
+  pub firable : IsFirable s
+  pub present : s.present ≡ m
+  pub ends : ends_after m s ≡ true
+
+abbrev pub AheadIsReady : Type 0
+AheadIsReady = (m : ℕ) (s : State) → IsAhead m s → IsReady m s
+
+abbrev pub ReadyAtPresent : Type 0
+ReadyAtPresent = (m : ℕ) (s : State) → IsReady m s → IsReady s.present s
+
+-- ---- the next timer
+
+abbrev pub NextIsDue : Type 0
+NextIsDue = (m : ℕ) (s : State) (e : Ending) → next_due m s ≡ Some e → e.end ≤ m
+
+abbrev pub NextIsLeast : Type 0
+NextIsLeast = (m : ℕ) (s : State) (e : Ending) → next_due m s ≡ Some e → ends_from e.end s ≡ true
+
+-- it is the first of its instant
+abbrev pub NextIsFirst : Type 0
+NextIsFirst = (m : ℕ) (s : State) (e : Ending) → next_due m s ≡ Some e → next_due e.end s ≡ Some e
+
+-- ---- an instant
+
+-- one firing within it leaves nothing that ends earlier
+abbrev pub OneFiringKeeps : Type 0
+OneFiringKeeps = (w : ℕ) (s : State) (e d : Ending) → IsFirable s → ends_from e.end s ≡ true → next_due e.end s ≡ Some d
+    → IsReady e.end (fire_once w s d).0
+
+-- it goes on by one firing, the emissions in that order, until nothing is due
+abbrev pub InstantGoesOn : Type 0
+InstantGoesOn = (w : ℕ) (s : State) (e d : Ending) → IsFirable s → ends_from e.end s ≡ true → next_due e.end s ≡ Some d
+    → fire_instant w s e ≡ and_then (next_due e.end) (fire_once w) (λ t. fire_instant w t e) (fire_once w s d)
+
+abbrev pub InstantStops : Type 0
+InstantStops = (w : ℕ) (s : State) (e : Ending) → next_due e.end s ≡ None → fire_instant w s e ≡ (s, [])
+
+-- after that of the next timer all ends are later
+abbrev pub InstantIsComplete : Type 0
+InstantIsComplete = (w m : ℕ) (s : State) (e : Ending) → IsFirable s → next_due m s ≡ Some e → IsAhead e.end (fire_instant w s e).0
+
+-- ---- all that is due
+
+-- it goes on by one instant, the emissions in that order, until nothing is due
+abbrev pub FiringGoesOn : Type 0
+FiringGoesOn = (w m : ℕ) (s : State) (e : Ending) → IsReady s.present s → next_due m s ≡ Some e
+    → fire_all w m s ≡ and_then (next_due m) (fire_instant w) (λ t. fire_all w m t) (fire_instant w s e)
+
+-- likewise by one firing
+abbrev pub FiringGoesOnByOne : Type 0
+FiringGoesOnByOne = (w m : ℕ) (s : State) (e : Ending) → IsReady s.present s → next_due m s ≡ Some e
+    → fire_all w m s ≡ and_then (next_due m) (fire_once w) (λ t. fire_all w m t) (fire_once w s e)
+
+abbrev pub FiringStops : Type 0
+FiringStops = (w m : ℕ) (s : State) → next_due m s ≡ None → fire_all w m s ≡ (s, [])
+
+-- nothing is due any more, and time can go on
+abbrev pub FiringIsComplete : Type 0
+FiringIsComplete = (w m : ℕ) (s : State) → IsReady s.present s → next_due m (fire_all w m s).0 ≡ None
+
+abbrev pub FiringIsAhead : Type 0
+FiringIsAhead = (w m : ℕ) (s : State) → IsReady s.present s → ends_after m (fire_all w m s).0 ≡ true
+
+abbrev pub AdvancedIsAhead : Type 0
+AdvancedIsAhead = (w m : ℕ) (s : State) → IsReady s.present s → IsAhead m (advanced s w m).state
+
+-- ---- the opening
+
+-- with an accepted configuration it is one from which time can go on
+abbrev pub OpeningIsAhead : Type 0
+OpeningIsAhead = (c : Config) → config_test c ≡ Ok tt → IsAhead 0 (opening c)
+
+-- ---- what is built
+
+-- an event that is built is taken as the written machine takes it
+abbrev pub BuiltStepIsStep : Type 0
+BuiltStepIsStep = (s : State) (e : Event) → is_event_built s e ≡ true → built_step s e ≡ step s e
+
+-- a run of such events is the written machine's, outcome for outcome
+abbrev pub BuiltRunIsRun : Type 0
+BuiltRunIsRun = (s : State) (events : List Event) → are_built s events ≡ true → built_run s events ≡ run s events
+
+abbrev pub BuiltStateIsState : Type 0
+BuiltStateIsState =
+    (s : State) (events : List Event) → are_built s events ≡ true → built_state_after s events ≡ state_after s events

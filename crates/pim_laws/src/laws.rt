@@ -1,0 +1,137 @@
+//! Laws of the definitions, each the contract of a function with nothing to do.
+
+ghost use Rattle.pim_laws.specs.Laws.{AdvancedIsAhead, AheadIsReady, BuiltRunIsRun, BuiltStateIsState, BuiltStepIsStep, ClearingGoesOn, ClearingIsComplete, FiringGoesOn, FiringGoesOnByOne, FiringIsAhead, FiringIsComplete, FiringStops, IgnoredEventChangesNothing, InstantGoesOn, InstantIsComplete, InstantStops, NextIsDue, NextIsFirst, NextIsLeast, OneFiringKeeps, OpeningIsAhead, ReadyAtPresent, RefusedEventChangesNothing};
+
+/// After clearing no assert and no SPTbit is left that must go.
+#[tactic(auto, using(crate::proofs::ClearingLaws::nothing_to_clear))]
+pub fn clearing_is_complete()
+    ensures { ClearingIsComplete }
+{}
+
+/// Clearing takes the first fact that must go, evaluates afresh, and goes on.
+#[tactic(auto, using(crate::proofs::ClearingLaws::clear_unrolls))]
+pub fn clearing_goes_on()
+    ensures { ClearingGoesOn }
+{}
+
+/// An event that is refused changes no fact and sends nothing.
+#[tactic(auto, using(crate::proofs::UnchangedLaws::refused_unchanged))]
+pub fn refused_event_changes_nothing()
+    ensures { RefusedEventChangesNothing }
+{}
+
+/// An event that is ignored changes no fact and sends nothing.
+#[tactic(auto, using(crate::proofs::UnchangedLaws::ignored_unchanged))]
+pub fn ignored_event_changes_nothing()
+    ensures { IgnoredEventChangesNothing }
+{}
+
+/// Where every timer ends later, none ends earlier.
+#[tactic(auto, using(crate::proofs::FiringLaws::ahead_is_ready))]
+pub fn ahead_is_ready()
+    ensures { AheadIsReady }
+{}
+
+/// A state that is ready at a moment is so at its present.
+#[tactic(auto, using(crate::proofs::FiringLaws::ready_at_present))]
+pub fn ready_at_present()
+    ensures { ReadyAtPresent }
+{}
+
+/// The next timer that is due by a moment is due by then.
+#[tactic(auto, using(crate::proofs::FiringLaws::next_is_due))]
+pub fn next_is_due()
+    ensures { NextIsDue }
+{}
+
+/// Nothing ends earlier than the next timer.
+#[tactic(auto, using(crate::proofs::FiringLaws::next_is_least))]
+pub fn next_is_least()
+    ensures { NextIsLeast }
+{}
+
+/// The next timer is the first of its instant.
+#[tactic(auto, using(crate::proofs::FiringLaws::next_is_first))]
+pub fn next_is_first()
+    ensures { NextIsFirst }
+{}
+
+/// One firing within an instant leaves nothing that ends earlier.
+pub fn one_firing_keeps()
+    ensures { OneFiringKeeps }
+{}
+
+/// An instant fires its next timer, and goes on.
+#[tactic(auto, using(crate::proofs::FiringLaws::instant_goes_on))]
+pub fn instant_goes_on()
+    ensures { InstantGoesOn }
+{}
+
+/// An instant at which nothing is due changes nothing.
+#[tactic(auto, using(crate::proofs::FiringLaws::instant_stops))]
+pub fn instant_stops()
+    ensures { InstantStops }
+{}
+
+/// After an instant every timer ends later.
+pub fn instant_is_complete()
+    ensures { InstantIsComplete }
+{}
+
+/// Firing fires the next instant, and goes on.
+#[tactic(auto, using(crate::proofs::FiringLaws::firing_goes_on))]
+pub fn firing_goes_on()
+    ensures { FiringGoesOn }
+{}
+
+/// Firing fires the next timer, and goes on.
+#[tactic(auto, using(crate::proofs::FiringLaws::firing_goes_on_by_one))]
+pub fn firing_goes_on_by_one()
+    ensures { FiringGoesOnByOne }
+{}
+
+/// Where nothing is due, firing changes nothing.
+#[tactic(auto, using(crate::proofs::FiringLaws::firing_stops))]
+pub fn firing_stops()
+    ensures { FiringStops }
+{}
+
+/// Firing leaves nothing that is due.
+#[tactic(auto, using(crate::proofs::FiringLaws::firing_is_complete))]
+pub fn firing_is_complete()
+    ensures { FiringIsComplete }
+{}
+
+/// After firing every timer ends later than the moment.
+#[tactic(auto, using(crate::proofs::FiringLaws::firing_is_ahead))]
+pub fn firing_is_ahead()
+    ensures { FiringIsAhead }
+{}
+
+/// After time went on every timer ends later than the present.
+pub fn advanced_is_ahead()
+    ensures { AdvancedIsAhead }
+{}
+
+/// Time can go on from the opening with an accepted configuration.
+pub fn opening_is_ahead()
+    ensures { OpeningIsAhead }
+{}
+
+/// An event that is built is taken as the written machine takes it.
+#[tactic(auto, using(crate::proofs::BuiltLaws::built_step_is_step))]
+pub fn built_step_is_step()
+    ensures { BuiltStepIsStep }
+{}
+
+/// A run of events that are all built has the written machine's outcomes.
+#[tactic(auto, using(crate::proofs::BuiltLaws::built_run_is_run))]
+pub fn built_run_is_run()
+    ensures { BuiltRunIsRun }
+{}
+
+/// A run of events that are all built ends in the written machine's state.
+#[tactic(auto, using(crate::proofs::BuiltLaws::built_state_is_state))]
+pub fn built_state_is_state()
+    ensures { BuiltStateIsState }
+{}

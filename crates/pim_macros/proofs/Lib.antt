@@ -1,0 +1,9 @@
+pub mod Accepted
+pub mod Gathered
+pub mod Gathering
+mod Lowered
+mod Options
+pub mod PlainLaws
+mod Ranges
+pub mod Stars
+pub mod Written

@@ -1,0 +1,17 @@
+use Rattle.pim_model.specs.Upstream.{fact_keys}
+use Rattle.pim_macros.proofs.Gathered.{gathered_last, gathered_more}
+use Rattle.pim_macros.proofs.world.World.gather_groups.Goals as goal
+
+pub returns : goal.returns
+unfolding fact_keys
+returns c =
+    let two = gathered_more _ _ _ _ _ c.in_ok-gather.ensures c.in_ok-gather-2.ensures in
+    let three = gathered_more _ _ _ _ _ two c.in_ok-gather-3.ensures in
+    let four = gathered_more _ _ _ _ _ three c.in_ok-gather-4.ensures in
+    let five = gathered_more _ _ _ _ _ four c.in_ok-gather-5.ensures in
+    let six = gathered_more _ _ _ _ _ five c.in_ok-gather-6.ensures in
+    let seven = gathered_more _ _ _ _ _ six c.in_ok-gather-7.ensures in
+    let eight = gathered_more _ _ _ _ _ seven c.in_ok-gather-8.ensures in
+    let nine = gathered_more _ _ _ _ _ eight c.in_ok-gather-9.ensures in
+    let ten = gathered_more _ _ _ _ _ nine c.in_ok-gather-10.ensures in
+    rw (← c.self.view_is) (gathered_last c.gather-11.result _ _ _ _ _ ten c.gather-11.ensures)

@@ -1,0 +1,41 @@
+//! The groups that have any fact.
+ghost use Rattle.std.specs.Prelude.{◌≡◌, map, OnOk};
+ghost use Rattle.pim_model.specs.Upstream.{fact_keys};
+ghost use Rattle.pim_model.specs.Tables.{keys_in};
+ghost use Rattle.pim_types.specs.Keys.{group_in};
+ghost use Rattle.pim_macros.specs.Groups.{numbers_of, gathered};
+
+use crate::world::World;
+use pim_tables::Facts;
+use pim_types::Addr;
+use std::alloc::{AllocError, Global};
+use std::collections::BTreeMap;
+
+impl World {
+    /// Puts the groups that have any fact into a set of groups.
+    pub fn gather_groups(&self, found: &mut BTreeMap<Addr, (), Global>) -> Result<(), AllocError>
+        ensures { OnOk result (numbers_of found.new.entries ≡ gathered (map group_in (fact_keys self.now)) (numbers_of found.old.entries)) }
+    {
+        gather(&self.group_records, found)?;
+        gather(&self.source_records, found)?;
+        gather(&self.group_repeats, found)?;
+        gather(&self.source_repeats, found)?;
+        gather(&self.sendings, found)?;
+        gather(&self.downstream, found)?;
+        gather(&self.asserts, found)?;
+        gather(&self.join_timers, found)?;
+        gather(&self.override_timers, found)?;
+        gather(&self.sources, found)?;
+        gather(&self.registers, found)
+    }
+}
+
+// Puts the groups of facts into a set of groups.
+fn gather<R>(facts: &Facts<R>, found: &mut BTreeMap<Addr, (), Global>) -> Result<(), AllocError>
+    ensures { OnOk result (numbers_of found.new.entries ≡ gathered (map group_in (keys_in facts.now)) (numbers_of found.old.entries)) }
+{
+    for (key, _) in facts.iter() {
+        found.insert(key.group, ())?;
+    }
+    Ok(())
+}

@@ -1,0 +1,16 @@
+//! All components of the router together: the whole state, the changes that the machines make in it,
+//! and the macros of RFC 7761, section 4.1.6, over it.
+#![tactic(auto)]
+
+pub mod groups;
+pub mod hellos;
+pub mod macros;
+pub mod routes;
+pub mod sending;
+pub mod settings;
+pub mod turn;
+pub mod world;
+
+pub use routes::test_rps;
+pub use turn::Turn;
+pub use world::World;

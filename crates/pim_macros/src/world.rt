@@ -1,0 +1,323 @@
+//! The whole state, and the changes that are made in it.
+ghost use Rattle.std.specs.Prelude.{◌≡◌, ◌<◌, ◌≤◌, ◌+◌, ◌^◌, [], Ok, Err, MatchResult, OnOk, OnErr, IfOk, IfErr, IfSome, length, min, option_map, slice_get, true};
+ghost use Rattle.pim_ip.specs.declared.fault.Fault.{Fault};
+ghost use Rattle.pim_ip.specs.declared.refusal.Refusal.{Refusal};
+ghost use Rattle.pim_types.specs.Keys.{iface_key, star_key};
+ghost use Rattle.pim_model.specs.Downstream.{asserts_after_joins};
+ghost use Rattle.pim_model.specs.Full.{counted, passes_limit};
+ghost use Rattle.pim_model.specs.Hellos.{hellos_triggered, neighbours_replaced};
+ghost use Rattle.pim_model.specs.Limits.{are_routes, are_rps, config_test};
+ghost use Rattle.pim_model.specs.Neighbours.{is_neighbour, neighbour_count};
+ghost use Rattle.pim_model.specs.State.{iface_count, is_own, is_up, iface_config, my_address, opening};
+ghost use Rattle.pim_model.specs.Tables.{change_row, has_row, put, row_at, set_row};
+ghost use Rattle.pim_macros.specs.Configurations.{without_facts};
+ghost use Rattle.pim_macros.specs.Timers.{lowered};
+
+use crate::settings::{settings_of, test_settings};
+use pim_ifaces::Interfaces;
+use pim_mrib::Mrib;
+use pim_neighbours::Neighbours;
+use pim_tables::Facts;
+use pim_types::fact::{
+    AssertRow, DownstreamRow, GroupRecordRow, GroupRepeatRow, InterfaceRow, JoinTimerRow,
+    OverrideTimerRow, QuerierRow, RegisterRow, SendingRow, SourceRecordRow, SourceRepeatRow,
+    SourceRow,
+};
+use pim_types::{Addr, Config, Fault, IfaceId, InterfaceConfig, Key, Refusal, Settings};
+use pim_wire::Hello;
+use std::alloc::{AllocError, Global};
+use std::collections::btree_map::Iter;
+use std::marker::Model;
+
+/// The whole state of a router that works.
+#[derive(Drop)]
+pub struct World {
+    pub(crate) settings: Settings,
+    // In ms.
+    pub(crate) present: u64,
+    pub(crate) interfaces: Interfaces,
+    pub(crate) mrib: Mrib,
+    pub(crate) neighbours: Neighbours,
+    pub(crate) queriers: Facts<QuerierRow>,
+    // IGMP membership.
+    pub(crate) group_records: Facts<GroupRecordRow>,
+    pub(crate) source_records: Facts<SourceRecordRow>,
+    pub(crate) group_repeats: Facts<GroupRepeatRow>,
+    pub(crate) source_repeats: Facts<SourceRepeatRow>,
+    pub(crate) sendings: Facts<SendingRow>,
+    // PIM.
+    pub(crate) downstream: Facts<DownstreamRow>,
+    pub(crate) asserts: Facts<AssertRow>,
+    pub(crate) join_timers: Facts<JoinTimerRow>,
+    pub(crate) override_timers: Facts<OverrideTimerRow>,
+    pub(crate) sources: Facts<SourceRow>,
+    pub(crate) registers: Facts<RegisterRow>,
+}
+
+impl Model for World {
+    ghost use Rattle.std.specs.Prelude.{◌≤◌, ◌^◌};
+    ghost use Rattle.pim_model.specs.State.{State};
+
+    ghost Value = { State };
+
+    ghost view = { λ w. record {
+      settings = w.settings;
+      configured = w.interfaces.configured;
+      present = w.present;
+      routes = w.mrib.routes;
+      ranges = w.mrib.ranges;
+      interfaces = w.interfaces.rows;
+      neighbours = w.neighbours;
+      queriers = w.queriers;
+      group_records = w.group_records;
+      source_records = w.source_records;
+      group_repeats = w.group_repeats;
+      source_repeats = w.source_repeats;
+      sendings = w.sendings;
+      downstream = w.downstream;
+      asserts = w.asserts;
+      join_timers = w.join_timers;
+      override_timers = w.override_timers;
+      sources = w.sources;
+      registers = w.registers;
+    } };
+
+    ghost invariant = { λ w. (w.present ≤ 2 ^ 62) × (2 ≤ w.settings.robustness) × (w.settings.robustness ≤ 7) };
+}
+
+impl World {
+    /// The state at the opening with a configuration: moment 0, all interfaces down. It is refused by
+    /// the first test of a configuration that fails.
+    #[tactic(auto, unfolding(pim_model::specs::State::opening))]
+    pub fn new(alloc: Global, config: Config) -> Result<Result<World, Refusal>, Fault>
+        ensures accepted { IfOk result (λ made. IfOk made (λ world. (config_test config ≡ Ok tt) × (world ≡ opening config))) }
+        ensures refused { IfOk result (λ made. IfErr made (λ refusal. config_test config ≡ Err refusal)) }
+        ensures memory { IfErr result (λ fault. fault ≡ Fault.Memory) }
+    {
+        if let Err(refusal) = test_settings(&config) {
+            return Ok(Err(refusal));
+        }
+        let interfaces = Interfaces::new(alloc, config.interfaces.as_slice());
+        let mut mrib = Mrib::new(alloc);
+        if mrib
+            .replace(&interfaces, config.routes.as_slice())?
+            .is_err()
+        {
+            return Ok(Err(Refusal::ConfiguredRoutes));
+        }
+        if mrib.replace_rps(config.rps.as_slice())?.is_err() {
+            return Ok(Err(Refusal::ConfiguredRps));
+        }
+        Ok(Ok(World::without_facts(alloc, settings_of(&config), interfaces, mrib)))
+    }
+
+    // No facts at moment 0.
+    fn without_facts(alloc: Global, settings: Settings, interfaces: Interfaces, mrib: Mrib) -> World
+        requires least { 2 ≤ settings.robustness }
+        requires most { settings.robustness ≤ 7 }
+        ensures { result ≡ without_facts settings interfaces mrib }
+    {
+        World {
+            settings,
+            present: 0,
+            interfaces,
+            mrib,
+            neighbours: Neighbours::new(alloc),
+            queriers: Facts::new(alloc),
+            group_records: Facts::new(alloc),
+            source_records: Facts::new(alloc),
+            group_repeats: Facts::new(alloc),
+            source_repeats: Facts::new(alloc),
+            sendings: Facts::new(alloc),
+            downstream: Facts::new(alloc),
+            asserts: Facts::new(alloc),
+            join_timers: Facts::new(alloc),
+            override_timers: Facts::new(alloc),
+            sources: Facts::new(alloc),
+            registers: Facts::new(alloc),
+        }
+    }
+
+    /// The present moment, in ms.
+    pub fn present(&self) -> u64
+        ensures present { result ≡ self.now.present }
+        ensures within { result ≤ 2 ^ 62 }
+    {
+        self.present
+    }
+
+    /// What is configured of an interface. There is none past the last.
+    #[tactic(auto, unfolding(pim_model::specs::State::iface_config))]
+    pub fn config(&self, iface: IfaceId) -> Option<InterfaceConfig>
+        ensures { result ≡ iface_config self.now iface.number }
+    {
+        self.interfaces.config(iface)
+    }
+
+    /// The router's address on the interface; 0.0.0.0 for one that isn't configured.
+    pub fn address(&self, iface: IfaceId) -> Addr
+        ensures { result.bits ≡ my_address self.now iface.number }
+    {
+        match self.interfaces.config(iface) {
+            Some(config) => config.address,
+            None => Addr::NONE,
+        }
+    }
+
+    /// What is configured of the whole router.
+    pub fn settings(&self) -> Settings
+        ensures value { result ≡ self.now.settings }
+
+        // Of every world: the robustness variable of a configuration that was accepted.
+        ensures least { 2 ≤ result.robustness }
+        ensures most { result.robustness ≤ 7 }
+    {
+        self.settings
+    }
+
+    /// How many interfaces are configured.
+    pub fn iface_count(&self) -> u32
+        ensures count { result ≡ iface_count self.now }
+        ensures within { result ≤ 120 }
+    {
+        self.interfaces.count()
+    }
+
+    /// Whether the interface is up.
+    pub fn is_up(&self, iface: IfaceId) -> bool
+        ensures { result ≡ is_up self.now iface.number }
+    {
+        self.interfaces.is_up(iface)
+    }
+
+    /// Whether the address is one of the router's, its interface being up or not.
+    pub fn is_own(&self, address: Addr) -> bool
+        ensures { result ≡ is_own self.now address.bits }
+    {
+        self.interfaces.is_own(address)
+    }
+
+    /// Whether the address is a neighbour on the interface.
+    pub fn is_neighbour(&self, iface: IfaceId, address: Addr) -> bool
+        ensures { result ≡ is_neighbour self.now iface.number address.bits }
+    {
+        self.neighbours.contains(iface, address)
+    }
+
+    /// How many neighbours there are on the interface.
+    pub fn neighbour_count(&self, iface: IfaceId) -> usize
+        ensures { result ≡ neighbour_count self.now iface.number }
+    {
+        self.neighbours.count_on(iface)
+    }
+
+    // How many facts count.
+    #[tactic(auto, unfolding(pim_model::specs::Full::counted))]
+    fn counted(&self) -> u128
+        ensures count { result ≡ counted self.now }
+        ensures within { result < 2 ^ 67 }
+    {
+        let neighbours = self.neighbours.len() as u128;
+        let records = self.group_records.len() as u128 + self.source_records.len() as u128;
+        let states = self.downstream.len() as u128 + self.asserts.len() as u128;
+        neighbours + records + states + self.sources.len() as u128
+    }
+
+    /// Whether so many more facts would pass the limit.
+    #[tactic(auto, unfolding(pim_model::specs::Full::passes_limit))]
+    pub fn passes_limit(&self, more: usize) -> bool
+        ensures { result ≡ passes_limit self.now more }
+    {
+        more != 0 && self.counted() + more as u128 > u128::from(self.settings.limit)
+    }
+
+    /// Makes the interface up, with this row.
+    pub fn set_up(&mut self, iface: IfaceId, row: InterfaceRow) -> Result<(), AllocError>
+        requires { iface.number < iface_count self.old }
+        ensures { OnOk result (self.new ≡ record self.old { interfaces = put self.old.interfaces (iface_key iface.number) row }) }
+    {
+        self.interfaces.set_up(iface, row)
+    }
+
+    /// Gives the interface's querier this row.
+    pub fn set_querier(&mut self, iface: IfaceId, row: QuerierRow) -> Result<(), AllocError>
+        ensures { OnOk result (self.new ≡ record self.old { queriers = put self.old.queriers (iface_key iface.number) row }) }
+    {
+        self.queriers.put(Key::iface(iface), row)
+    }
+
+    /// The downstream states, by rising key.
+    pub fn downstream(&self) -> Iter<'_, Key, DownstreamRow>
+        ensures { result ≡ self.now.downstream }
+    {
+        self.downstream.iter()
+    }
+
+    /// Whether there is a downstream state under the key.
+    pub fn has_downstream(&self, key: Key) -> bool
+        ensures { result ≡ has_row self.now.downstream key }
+    {
+        self.downstream.contains(key)
+    }
+
+    /// The downstream state under the key.
+    pub fn downstream_at(&self, key: Key) -> Option<DownstreamRow>
+        ensures { result ≡ row_at self.now.downstream key }
+    {
+        self.downstream.get(key)
+    }
+
+    /// Puts this downstream state under the key, or takes away the one that is there.
+    pub fn set_downstream(&mut self, key: Key, row: Option<DownstreamRow>) -> Result<(), AllocError>
+        ensures { OnOk result (self.new ≡ record self.old { downstream = set_row self.old.downstream key row }) }
+    {
+        self.downstream.set(key, row)
+    }
+
+    /// Ends the lost asserts under these keys.
+    #[tactic(auto, unfolding(pim_model::specs::Downstream::asserts_after_joins))]
+    pub fn end_losses(&mut self, keys: &[Key])
+        ensures { self.new ≡ record self.old { asserts = asserts_after_joins self.old keys.now } }
+    {
+        self.asserts.end_losses(keys);
+    }
+
+    /// The Join timers, by rising key.
+    pub fn join_timers(&self) -> Iter<'_, Key, JoinTimerRow>
+        ensures { result ≡ self.now.join_timers }
+    {
+        self.join_timers.iter()
+    }
+
+    /// The Join timer with this key.
+    pub fn join_timer(&self, key: Key) -> Option<JoinTimerRow>
+        ensures { result ≡ row_at self.now.join_timers key }
+    {
+        self.join_timers.get(key)
+    }
+
+    /// Sets the Join timer with this key, or takes it away.
+    pub fn set_join_timer(&mut self, key: Key, row: Option<JoinTimerRow>) -> Result<(), AllocError>
+        ensures { OnOk result (self.new ≡ record self.old { join_timers = set_row self.old.join_timers key row }) }
+    {
+        self.join_timers.set(key, row)
+    }
+
+    /// Lowers the Join timer with this key, if there is one, to this end, in ms.
+    pub fn lower_join_timer(&mut self, key: Key, end: u64)
+        ensures { self.new ≡ record self.old { join_timers = change_row (lowered end) key self.old.join_timers } }
+    {
+        let end = lowered_end(self.join_timers.get(key), end);
+        self.join_timers.change(key, JoinTimerRow { end });
+    }
+}
+
+// The end of a timer that is lowered to this end.
+fn lowered_end(row: Option<JoinTimerRow>, end: u64) -> u64
+    ensures { IfSome row (λ row. result ≡ min row.end end) }
+{
+    match row {
+        Some(row) => row.end.min(end),
+        None => end,
+    }
+}

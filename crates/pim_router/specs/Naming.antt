@@ -1,0 +1,16 @@
+-- The keys that what was accepted names.
+use Rattle.std.specs.Prelude.{List, ◌<◌, ◌≡◌}
+use Rattle.pim_types.specs.declared.fact.Key.{Key}
+use Rattle.pim_model.specs.declared.accepted.Accepted.{Accepted}
+use Rattle.pim_model.specs.Downstream.{joined_keys, pruned_keys}
+use Rattle.pim_model.specs.State.{State, iface_count}
+
+-- those that a Join/Prune to the router joins and prunes; nothing else names any so far
+abbrev pub AreNamedBy : State → Accepted → List Key → List Key → Type 0
+AreNamedBy s (Accepted.JoinPruneToMe i m) joined pruned = (joined ≡ joined_keys s i.number m) × (pruned ≡ pruned_keys i.number m)
+AreNamedBy s _ joined pruned = Unit {0}
+
+-- an interface that is to go up is one of the router's
+abbrev pub IsConfigured : State → Accepted → Type 0
+IsConfigured s (Accepted.Up i) = i.number < iface_count s
+IsConfigured s _ = Unit {0}

@@ -1,0 +1,14 @@
+pub mod Words
+pub mod Packets
+pub mod Base
+pub mod Joins
+pub mod Neighbours
+pub mod Membership
+pub mod Asserts
+pub mod Data
+pub mod Routes
+pub mod Limits
+pub mod SourceSpecific
+pub mod TwoRouters
+pub mod Readings
+pub mod Transcript

@@ -1,0 +1,14 @@
+//! Worked runs of the written machine, which the kernel checks by computing with the definitions. Each is the contract
+//! of a function with nothing to do.
+#![tactic(auto)]
+
+pub mod asserts;
+pub mod data;
+pub mod joins;
+pub mod limits;
+pub mod membership;
+pub mod neighbours;
+pub mod readings;
+pub mod routes;
+pub mod source_specific;
+pub mod two_routers;

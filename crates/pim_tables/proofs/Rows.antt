@@ -1,0 +1,112 @@
+-- In a table whose keys rise, a key stands once.
+use Rattle.std.proofs.Common.{◌≡◌, sym, Bool, true, false, [], ◌∷◌, Option, Some, None, refl, ap, ◌∙◌, cond, not, map, option_map}
+use Rattle.std.specs.declared.cmp.Ordering.TheVariants.{Less}
+use Rattle.std.specs.List.{cons_option, filter_map, AllByRecursion}
+use Rattle.std.specs.Option.{IfSome}
+use Rattle.std.specs.List.Sorted.{IsStrictlySortedBy}
+use Rattle.std.specs.Map.{lookup, remove_entry, set_value}
+use Rattle.std.specs.BTreeMap.{is_at}
+use Rattle.std.specs.Prelude.{filter, if◌then◌else◌}
+use Rattle.pim_types.specs.declared.fact.Key.{Key}
+use Rattle.pim_model.specs.Tables.{Table, drop_at, drop_where, change_row, changed_entry, row_at}
+use Rattle.pim_types.specs.Keys.{key_cmp, same_key}
+use Rattle.pim_types.proofs.Keys.{equal_keys}
+
+module _ {R : Type 0} (k : Key) where
+  without : Table R → Table R
+  without t = filter (λ e. not (same_key k e.0)) t
+
+  -- below all keys of a table: not among them
+  kept_whole : (t : Table R) → AllByRecursion (λ y. key_cmp k y ≡ Less) (map (λ e. e.0) t) → without t ≡ t
+  unfolding without
+  kept_whole [] above = refl
+  kept_whole (y ∷ t) above = rw above.0 (ap (λ s. y ∷ s) (kept_whole t above.1))
+
+  moved_above : (x : Key) → same_key k x ≡ true → (t : Table R)
+      → AllByRecursion (λ y. key_cmp x y ≡ Less) (map (λ e. e.0) t)
+      → AllByRecursion (λ y. key_cmp k y ≡ Less) (map (λ e. e.0) t)
+  moved_above x e t above = rw (equal_keys k x e) above
+
+  removed_first : (e : Key × R) (t : Table R) (b : Bool) → same_key k e.0 ≡ b
+      → AllByRecursion (λ y. key_cmp e.0 y ≡ Less) (map (λ e. e.0) t) → remove_entry (is_at (key_cmp k)) t ≡ without t
+      → cond b t (e ∷ remove_entry (is_at (key_cmp k)) t) ≡ (if not b then e ∷ without t else without t)
+  removed_first e t true h above rest = sym (kept_whole t (moved_above e.0 h t above))
+  removed_first e t false h above rest = ap (λ u. e ∷ u) rest
+
+  removed : (t : Table R) → IsStrictlySortedBy key_cmp (map (λ e. e.0) t)
+      → remove_entry (is_at (key_cmp k)) t ≡ without t
+  unfolding without IsStrictlySortedBy
+  removed [] s = refl
+  removed (e ∷ t) s = removed_first e t (same_key k e.0) refl s.0 (removed t s.1)
+
+  pub removed_is_dropped : (t : Table R) → IsStrictlySortedBy key_cmp (map (λ e. e.0) t)
+      → remove_entry (is_at (key_cmp k)) t ≡ drop_at t k
+  unfolding drop_at drop_where without
+  removed_is_dropped t s = removed t s
+
+module _ {R : Type 0} (k : Key) (change : R → Option R) where
+  changed : Table R → Table R
+  changed t = filter_map (changed_entry change k) t
+
+  first_changed : (e : Key × R) (t : Table R) (b : Bool) → same_key k e.0 ≡ b
+      → changed (e ∷ t) ≡ (if b then cons_option (option_map (λ row. (e.0, row)) (change e.1))
+      (changed t) else e ∷ changed t)
+  unfolding changed changed_entry
+  first_changed e t true h = rw h refl
+  first_changed e t false h = rw h refl
+
+  -- a key that isn't there changes nothing
+  below_all : (t : Table R) → AllByRecursion (λ y. key_cmp k y ≡ Less) (map (λ e. e.0) t) → changed t ≡ t
+  unfolding changed changed_entry
+  below_all [] above = refl
+  below_all (y ∷ t) above = rw above.0 (ap (λ s. y ∷ s) (below_all t above.1))
+
+  rest_absent : (b : Bool) (r : R) (o : Option R) → cond b (Some r) o ≡ None → o ≡ None
+  rest_absent true r o e = cc
+  rest_absent false r o e = e
+
+  head_differs : (b : Bool) (r : R) (o : Option R) → cond b (Some r) o ≡ None → b ≡ false
+  head_differs true r o e = cc
+  head_differs false r o e = refl
+
+  unchanged : (t : Table R) → lookup (is_at (key_cmp k)) t ≡ None → changed t ≡ t
+  unfolding changed
+  unchanged [] e = refl
+  unchanged (x ∷ t) e =
+      first_changed x t false (head_differs (same_key k x.0) x.1 (lookup (is_at (key_cmp k)) t) e)
+      ∙ ap (λ u. x ∷ u) (unchanged t (rest_absent (same_key k x.0) x.1 (lookup (is_at (key_cmp k)) t) e))
+
+  pub absent_is_unchanged : (t : Table R) → lookup (is_at (key_cmp k)) t ≡ None → t ≡ change_row change k t
+  unfolding change_row changed
+  absent_is_unchanged t e = sym (unchanged t e)
+
+  -- the row that a change makes of the one that is there
+  module _ (row : R) where
+    set_first : (e : Key × R) (t : Table R) (b : Bool) → same_key k e.0 ≡ b
+        → AllByRecursion (λ y. key_cmp e.0 y ≡ Less) (map (λ e. e.0) t)
+        → IfSome (cond b (Some e.1) (lookup (is_at (key_cmp k)) t)) (λ before. change before ≡ Some row)
+        → (IfSome (lookup (is_at (key_cmp k)) t) (λ before. change before ≡ Some row)
+        → set_value (is_at (key_cmp k)) t row ≡ changed t)
+        → cond b ((e.0, row) ∷ t) (e ∷ set_value (is_at (key_cmp k)) t row)
+        ≡ (if b then cons_option (option_map (λ row. (e.0, row)) (change e.1)) (changed t) else e ∷ changed t)
+    set_first e t true h above is rest =
+        rw is (ap (λ u. (e.0, row) ∷ u) (sym (below_all t (moved_above {R = R} k e.0 h t above))))
+    set_first e t false h above is rest = ap (λ u. e ∷ u) (rest is)
+
+    set : (t : Table R) → IsStrictlySortedBy key_cmp (map (λ e. e.0) t)
+        → IfSome (lookup (is_at (key_cmp k)) t) (λ before. change before ≡ Some row)
+        → set_value (is_at (key_cmp k)) t row ≡ changed t
+    unfolding IsStrictlySortedBy changed
+    set [] s is = refl
+    set (e ∷ t) s is =
+        set_first e t (same_key k e.0) refl s.0 is (set t s.1) ∙ sym (first_changed e t (same_key k e.0) refl)
+
+    pub written_is_changed : (t : Table R) → IsStrictlySortedBy key_cmp (map (λ e. e.0) t)
+        → IfSome (row_at t k) (λ before. change before ≡ Some row)
+        → set_value (is_at (key_cmp k)) t row ≡ change_row change k t
+    unfolding change_row changed row_at
+    written_is_changed t s is = set t s is
+
+pub always : {R : Type 0} (o : Option R) (row : R) → IfSome o (λ _. Some row ≡ Some row)
+always None row = tt
+always (Some r) row = refl

@@ -1,0 +1,11 @@
+use Rattle.std.proofs.Common.{◌∙◌}
+use Rattle.pim_model.specs.Tables.{keys_in}
+use Rattle.pim_types.specs.Keys.{addr_cmp, key_cmp}
+use Rattle.pim_tables.proofs.facts.Facts.remove.Goals as goal
+use Rattle.pim_tables.proofs.Rows.{removed_is_dropped}
+
+pub returns : goal.returns
+unfolding keys_in key_cmp addr_cmp
+returns g c =
+    rw (← c.self.view_is) (c.remove.ensures.entries
+    ∙ removed_is_dropped c.args.key c.self.inside.rows.entries c.self.invariant)

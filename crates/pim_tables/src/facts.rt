@@ -1,0 +1,140 @@
+ghost use Rattle.std.specs.Prelude.{◌≡◌, ◌↔◌, [], length, IsTrue, IfSome, OnOk, OnErr, Option, Some};
+ghost use Rattle.std.specs.List.Sorted.{IsStrictlySortedBy};
+ghost use Rattle.pim_model.specs.Tables.{keys_in, row_at, has_row, put, drop_at, drop_where, set_row, change_row, rows_on};
+ghost use Rattle.pim_types.specs.Keys.{key_cmp, is_on};
+
+use pim_types::{IfaceId, Key};
+use std::alloc::{AllocError, Global};
+use std::collections::BTreeMap;
+use std::collections::btree_map::Iter;
+use std::marker::Model;
+
+/// The facts of one kind.
+#[derive(Drop)]
+pub struct Facts<R> {
+    pub(crate) rows: BTreeMap<Key, R, Global>,
+}
+
+impl<R> Model for Facts<R> {
+    ghost use Rattle.std.specs.List.Sorted.{IsStrictlySortedBy};
+    ghost use Rattle.pim_model.specs.Tables.{Table, keys_in};
+    ghost use Rattle.pim_types.specs.Keys.{key_cmp};
+
+    ghost Value = { Table R };
+
+    ghost view = { λ f. f.rows.entries };
+
+    ghost invariant = { λ f. IsStrictlySortedBy key_cmp (keys_in f.rows.entries) };
+}
+
+impl<R> Facts<R> {
+    /// No facts; it takes no memory.
+    pub fn new(alloc: Global) -> Self
+        ensures { result ≡ [] }
+    {
+        Facts {
+            rows: BTreeMap::new(alloc),
+        }
+    }
+
+    /// How many facts there are.
+    pub fn len(&self) -> usize
+        ensures count { result ≡ length self.now }
+
+        // Of every table: the keys rise.
+        ensures ascending { IsStrictlySortedBy key_cmp (keys_in self.now) }
+    {
+        self.rows.len()
+    }
+
+    /// Whether there is no fact.
+    pub fn is_empty(&self) -> bool
+        ensures { IsTrue result ↔ (self.now ≡ []) }
+    {
+        self.rows.is_empty()
+    }
+
+    /// Whether there is a fact under the key.
+    pub fn contains(&self, key: Key) -> bool
+        ensures { result ≡ has_row self.now key }
+    {
+        self.rows.contains_key(&key)
+    }
+
+    /// The facts, by rising key.
+    pub fn iter(&self) -> Iter<'_, Key, R>
+        ensures { result ≡ self.now }
+    {
+        self.rows.iter()
+    }
+}
+
+impl<R: Copy> Facts<R> {
+    /// The fact under the key.
+    pub fn get(&self, key: Key) -> Option<R>
+        ensures { result ≡ row_at self.now key }
+    {
+        self.rows.get(&key).copied()
+    }
+
+    /// Puts the fact under the key, in place of one that is there.
+    pub fn put(&mut self, key: Key, row: R) -> Result<(), AllocError>
+        ensures ok { OnOk result (self.new ≡ put self.old key row) }
+        ensures err { OnErr result (self.new ≡ self.old) }
+    {
+        self.rows.insert(key, row)?;
+        Ok(())
+    }
+
+    /// Takes the fact under the key away.
+    pub fn remove(&mut self, key: Key)
+        ensures { self.new ≡ drop_at self.old key }
+    {
+        self.rows.remove(&key);
+    }
+
+    /// Puts the fact under the key, or takes away the one that is there.
+    pub fn set(&mut self, key: Key, row: Option<R>) -> Result<(), AllocError>
+        ensures ok { OnOk result (self.new ≡ set_row self.old key row) }
+        ensures err { OnErr result (self.new ≡ self.old) }
+    {
+        match row {
+            Some(row) => self.put(key, row),
+            None => {
+                self.remove(key);
+                Ok(())
+            }
+        }
+    }
+
+    /// Changes the fact under the key, where there is one, to this one.
+    pub fn change(&mut self, key: Key, row: R)
+        ensures to { self.new ≡ change_row (λ _. Some row) key self.old }
+        ensures by { (change : R → Option R) → IfSome (row_at self.old key) (λ before. change before ≡ Some row)
+            → self.new ≡ change_row change key self.old }
+    {
+        if let Some(place) = self.rows.get_mut(&key) {
+            *place = row;
+        }
+    }
+
+    /// How many facts are of the interface.
+    pub fn count_on(&self, iface: IfaceId) -> usize
+        ensures { result ≡ length (rows_on iface.number self.now) }
+    {
+        let mut count = 0;
+        for (key, _) in self.rows.iter() {
+            if key.iface == iface {
+                count += 1;
+            }
+        }
+        count
+    }
+
+    /// Takes the facts of the interface away.
+    pub fn drop_on(&mut self, iface: IfaceId)
+        ensures { self.new ≡ drop_where (is_on iface.number) self.old }
+    {
+        self.rows.retain(|key, _| key.iface != iface);
+    }
+}

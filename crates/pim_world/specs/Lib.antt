@@ -1,4 +1,0 @@
-pub mod Configurations
-pub mod Groups
-pub mod Plain
-pub mod Timers
