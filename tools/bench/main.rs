@@ -10,7 +10,6 @@ use std::time::Instant;
 const RUN: u64 = 210_000;
 const EVENTS: u64 = 10;
 const TIMERS: usize = 1_000_000;
-const FEW_TIMERS: usize = 10_000;
 const ROUTES: usize = 100_000;
 const LOOKUPS: usize = 1_000_000;
 
@@ -453,7 +452,16 @@ fn main() {
             "",
             "SortedTimers, pop_due",
         ];
-        compare_timers(repeats, &timers(FEW_TIMERS, spread), &names, |at, len| {
+        compare_timers(repeats, &timers(TIMERS, spread), &names, |at, len| {
+            bench_sorted(at, len)
+        });
+        let names = [
+            "SortedTimers at one moment, set",
+            "SortedTimers at one moment, cancel",
+            "",
+            "SortedTimers at one moment, pop_due",
+        ];
+        compare_timers(repeats, &timers(TIMERS, |_| RUN), &names, |at, len| {
             bench_sorted(at, len)
         });
     }

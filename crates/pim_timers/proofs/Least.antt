@@ -1,5 +1,6 @@
 -- What is known of the timer that is next.
-use Rattle.std.proofs.Common.{◌≡◌, ℕ, ◌<◌, ◌≤◌, true, false, refl, sym, ap, ◌∙◌, inl, inr, Option, Some, None, arith, nat_lt}
+use Rattle.std.proofs.Common.{◌≡◌, ℕ, ◌<◌, ◌≤◌, true, false, refl, sym, ap, ◌∙◌, inl, inr, Option, Some, None, arith}
+use Rattle.std.proofs.Common.{nat_lt}
 use Rattle.std.specs.Ordering.{is_lt, ordering_reverse}
 use Rattle.std.specs.declared.cmp.Ordering.{Ordering}
 use Rattle.std.specs.declared.cmp.Ordering.TheVariants.{Less, Equal, Greater}
@@ -24,13 +25,16 @@ least_moment f d t m least is = elim (cases_order m d.0) [
 ]
 
 -- there is one least
-neither_less : (o : Ordering) (a b : ℕ × Timer) → due_cmp a b ≡ o → is_lt (due_cmp a b) ≡ false → is_lt (due_cmp b a) ≡ false → a ≡ b
+neither_less : (o : Ordering) (a b : ℕ × Timer) → due_cmp a b ≡ o → is_lt (due_cmp a b) ≡ false
+    → is_lt (due_cmp b a) ≡ false → a ≡ b
 neither_less Less a b is first second = absurd (true≢false (ap is_lt (sym is) ∙ first))
 neither_less Equal a b is first second = due_exact a b is
-neither_less Greater a b is first second = absurd (true≢false (ap is_lt (sym (due_cmp_total.antisymm b a ∙ ap ordering_reverse is)) ∙ second))
+neither_less Greater a b is first second = absurd
+    (true≢false (ap is_lt (sym (due_cmp_total.antisymm b a ∙ ap ordering_reverse is)) ∙ second))
 
 pub least_is_one : (f : Timer → Option ℕ) (a b : ℕ × Timer) → IsLeast f a → IsLeast f b → a ≡ b
-least_is_one f a b first second = neither_less (due_cmp a b) a b refl (second.none_before a.1 a.0 first.is_set) (first.none_before b.1 b.0 second.is_set)
+least_is_one f a b first second = neither_less (due_cmp a b) a b refl (second.none_before a.1 a.0 first.is_set)
+    (first.none_before b.1 b.0 second.is_set)
 
 -- one timer is next, or none is
 pub next_is_one : (f : Timer → Option ℕ) (r s : Option (ℕ × Timer)) → IsNext f r → IsNext f s → r ≡ s
@@ -44,4 +48,5 @@ none_later none some = cc
 
 -- what ends later doesn't come first
 pub not_earlier : (m n : ℕ) (t u : Timer) → n < m → is_lt (due_cmp (m, t) (n, u)) ≡ false
-not_earlier m n t u after = ap is_lt (due_cmp_total.antisymm (m, t) (n, u) ∙ ap ordering_reverse (earlier n m u t after))
+not_earlier m n t u after = ap is_lt (due_cmp_total.antisymm (m, t) (n, u)
+    ∙ ap ordering_reverse (earlier n m u t after))

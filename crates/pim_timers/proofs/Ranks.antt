@@ -2,7 +2,10 @@
 use Rattle.std.proofs.Common.{◌≡◌, ℕ, Bool, true, false, Option, Some, None, ◌==◌, ◌&&◌, refl, sym, ap, ◌∙◌, arith}
 use Rattle.std.specs.Ordering.{nat_cmp, bool_cmp, ordering_then, is_eq}
 use Rattle.pim_types.specs.declared.timer.TimerKind.{TimerKind}
-use Rattle.pim_types.specs.declared.timer.TimerKind.TheVariants.{Neighbour, PrunePending, DownstreamExpiry, GroupRecord, SourceRecord, Assert, Keepalive, Register, Override, Join, OtherQuerier, GroupRepeat, SourceRepeat, GeneralQuery, Hello}
+use Rattle.pim_types.specs.declared.timer.TimerKind.TheVariants.{Neighbour, PrunePending, DownstreamExpiry, GroupRecord}
+use Rattle.pim_types.specs.declared.timer.TimerKind.TheVariants.{SourceRecord, Assert, Keepalive, Register, Override}
+use Rattle.pim_types.specs.declared.timer.TimerKind.TheVariants.{Join, OtherQuerier, GroupRepeat, SourceRepeat}
+use Rattle.pim_types.specs.declared.timer.TimerKind.TheVariants.{GeneralQuery, Hello}
 use Rattle.pim_types.specs.declared.timer.Timer.{Timer}
 use Rattle.pim_types.specs.contracts.timer.TimerKindOrd.TheImpl as kind_ord
 use Rattle.pim_types.specs.contracts.timer.TimerOrd.TheImpl as timer_ord
@@ -88,7 +91,9 @@ source_ties None (Some b) = refl
 source_ties (Some a) None = refl
 source_ties (Some a) (Some b) = nat_ties a.bits b.bits
 
-key_ties : (a b : Key) → (a.iface.number == b.iface.number && (a.group.bits == b.group.bits && (option_eq (addr_eq.ghosts).eq a.source b.source && beq a.rpt b.rpt))) ≡ is_eq (key_cmp a b)
+key_ties : (a b : Key) → (a.iface.number == b.iface.number &&
+    (a.group.bits == b.group.bits && (option_eq (addr_eq.ghosts).eq a.source b.source && beq a.rpt b.rpt))) ≡ is_eq
+    (key_cmp a b)
 unfolding key_cmp addr_cmp
 key_ties a b =
     let iface = nat_ties a.iface.number b.iface.number in
@@ -96,8 +101,11 @@ key_ties a b =
     let source = source_ties a.source b.source in
     let rpt = bool_ties a.rpt b.rpt in
     (λ i. iface i && (group i && (source i && rpt i)))
-    ∙ sym (is_eq_then (nat_cmp a.iface.number b.iface.number) _ ∙ ap (λ x. is_eq (nat_cmp a.iface.number b.iface.number) && x)
-    (is_eq_then (nat_cmp a.group.bits b.group.bits) _ ∙ ap (λ x. is_eq (nat_cmp a.group.bits b.group.bits) && x) (is_eq_then (option_cmp addr_cmp a.source b.source) (bool_cmp a.rpt b.rpt))))
+    ∙ sym (is_eq_then (nat_cmp a.iface.number b.iface.number) _
+    ∙ ap (λ x. is_eq (nat_cmp a.iface.number b.iface.number) && x)
+    (is_eq_then (nat_cmp a.group.bits b.group.bits) _
+    ∙ ap (λ x. is_eq (nat_cmp a.group.bits b.group.bits) && x)
+    (is_eq_then (option_cmp addr_cmp a.source b.source) (bool_cmp a.rpt b.rpt))))
 
 -- timers are equal where they tie
 pub timer_ties : (a b : Timer) → (timer_eq.ghosts).eq a b ≡ same_timer a b

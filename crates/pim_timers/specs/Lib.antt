@@ -1,9 +1,6 @@
+pub mod Dues
 pub mod Ends
-pub mod Heaps
-pub mod Held
-pub mod Kept
-pub mod Levels
-pub mod Marks
 pub mod Next
 pub mod Order
 pub mod Schedule
+pub mod Slots

@@ -1,14 +1,14 @@
-ghost use Rattle.std.specs.Prelude.{◌≡◌, ℕ, Option};
+ghost use Rattle.std.specs.Prelude.{◌≡◌};
 ghost use Rattle.pim_types.specs.declared.timer.Timer.{Timer as TimerValue};
 ghost use Rattle.pim_types.specs.Timers.{timer_cmp};
-ghost use Rattle.pim_timers.specs.Next.{IsNext};
+ghost use Rattle.pim_timers.specs.Next.{OneIsNext};
 
 use pim_types::Timer;
 
 /// At most one timer is next.
 #[tactic(auto, using(crate::proofs::Least::next_is_one))]
 pub fn one_timer_is_next()
-    ensures { (end_of : TimerValue → Option ℕ) (first second : Option (ℕ × TimerValue)) → IsNext end_of first → IsNext end_of second → first ≡ second }
+    ensures { OneIsNext }
 {}
 
 /// Timers compare by the ranks of their kinds, and those of one kind by their keys.

@@ -2,16 +2,15 @@
 //! of their kinds, and those of one kind in the order of their keys.
 #![tactic(auto)]
 
-mod heaps;
+mod dues;
+pub mod index;
 pub mod law;
-mod marks;
+mod moments;
 mod order;
-mod places;
+mod queue;
+mod ring;
 mod slots;
-pub mod sorted;
 pub mod timers;
-pub mod wheel;
 
-pub use sorted::SortedTimers;
+pub use index::{SortedTimers, Wheel};
 pub use timers::Timers;
-pub use wheel::Wheel;

@@ -1,7 +1,6 @@
-ghost use Rattle.std.specs.Prelude.{◌≡◌, ◌<◌, ◌≤◌, ◌+◌, ℕ, Some, OnOk, IfSome, IfNone};
+ghost use Rattle.std.specs.Prelude.{◌≡◌, ◌≤◌, ◌==◌, OnOk, OnErr, IfSome, IfNone};
 ghost use Rattle.std.specs.FinMap as map;
-ghost use Rattle.pim_types.specs.declared.timer.Timer.{Timer as TimerValue};
-ghost use Rattle.pim_timers.specs.Next.{IsLeast, IsNext};
+ghost use Rattle.pim_timers.specs.Next.{EndAfter, IsLeast, IsNext};
 ghost use Rattle.pim_timers.specs.Schedule.{Contents};
 
 use pim_types::Timer;
@@ -13,27 +12,29 @@ pub trait Timers {
     /// The timers that are set, each with the moment of its end.
     ghost contents: { Self → Contents };
 
-    /// How many more timers can be set with no memory.
-    ghost room: { Self → ℕ };
+    /// How many timers are set.
+    fn len(&self) -> usize
+        ensures { result ≡ map.len (contents self.now) };
 
-    /// Takes memory for so many more timers. Where it is refused the timers stay as they are.
-    fn reserve(&mut self, more: usize) -> Result<(), AllocError>
-        ensures ok { OnOk result (more ≤ room self.new) }
-        ensures room { room self.old ≤ room self.new }
-        ensures contents { contents self.new ≡ contents self.old };
+    /// Whether no timer is set.
+    fn is_empty(&self) -> bool
+        ensures { result ≡ (map.len (contents self.now) == 0) };
 
-    /// Sets the timer to end at the moment, or moves it there.
-    fn set(&mut self, timer: Timer, moment: u64)
-        requires { 0 < room self.old }
-        ensures contents { contents self.new ≡ map.insert (contents self.old) timer moment }
-        ensures room { room self.old ≤ room self.new + 1 };
+    /// When the timer ends, if it is set.
+    fn get(&self, timer: Timer) -> Option<u64>
+        ensures { result ≡ map.get (contents self.now) timer };
+
+    /// Sets the timer to end at the moment, or moves it there. An error is want of memory, and then
+    /// the timers are as they were.
+    fn set(&mut self, timer: Timer, moment: u64) -> Result<(), AllocError>
+        ensures ok { OnOk result (contents self.new ≡ map.insert (contents self.old) timer moment) }
+        ensures err { OnErr result (contents self.new ≡ contents self.old) };
 
     /// Takes the timer out, where it is set.
     fn cancel(&mut self, timer: Timer)
-        ensures contents { contents self.new ≡ map.remove (contents self.old) timer }
-        ensures room { room self.old ≤ room self.new };
+        ensures { contents self.new ≡ map.remove (contents self.old) timer };
 
-    /// The timer that ends first: the least by its moment, its kind and its key.
+    /// The timer that ends first, with its moment: the least by its moment, its kind and its key.
     fn next(&self) -> Option<(u64, Timer)>
         ensures { IsNext (map.get (contents self.now)) result };
 
@@ -44,7 +45,6 @@ pub trait Timers {
         ensures taken { IfSome result (λ due. contents self.new ≡ map.remove (contents self.old) due.1) }
 
         // With nothing to take, each timer that is set ends later.
-        ensures later { IfNone result ((timer : TimerValue) (end : ℕ) → map.get (contents self.old) timer ≡ Some end → moment < end) }
-        ensures kept { IfNone result (contents self.new ≡ contents self.old) }
-        ensures room { room self.old ≤ room self.new };
+        ensures later { IfNone result (EndAfter (map.get (contents self.old)) moment) }
+        ensures kept { IfNone result (contents self.new ≡ contents self.old) };
 }

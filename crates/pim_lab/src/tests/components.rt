@@ -21,13 +21,18 @@ fn timer(kind: TimerKind) -> Timer {
 }
 
 fn fires_in_order<T: Timers>(rt: &impl Abort, timers: &mut T) -> Result<(), Fail> {
-    timers.reserve(2)?;
-    timers.set(timer(TimerKind::Join), 5);
-    timers.set(timer(TimerKind::GroupRecord), 5);
+    timers.set(timer(TimerKind::Join), 5)?;
+    timers.set(timer(TimerKind::GroupRecord), 5)?;
+    timers.set(timer(TimerKind::Neighbour), 1 << 62)?;
+    assert_eq!(rt; timers.len(), 3);
+    assert_eq!(rt; timers.get(timer(TimerKind::Join)), Some(5));
     assert!(rt; timers.pop_due(4).is_none());
     assert!(rt; timers.pop_due(5) == Some((5, timer(TimerKind::GroupRecord))));
     assert!(rt; timers.pop_due(5) == Some((5, timer(TimerKind::Join))));
-    assert!(rt; timers.next().is_none());
+    assert!(rt; timers.pop_due(5).is_none());
+    assert!(rt; timers.next() == Some((1 << 62, timer(TimerKind::Neighbour))));
+    timers.cancel(timer(TimerKind::Neighbour));
+    assert!(rt; timers.is_empty());
     Ok(())
 }
 

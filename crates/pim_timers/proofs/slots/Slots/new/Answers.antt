@@ -1,6 +1,11 @@
-use Rattle.std.proofs.Common.{rules}
-use Rattle.pim_timers.proofs.Rooted.{kept_new}
+use Rattle.std.proofs.Common.{arith}
+use Rattle.pim_timers.proofs.Beginning.{ring_begun, none_held}
 use Rattle.pim_timers.proofs.slots.Slots.new.Goals as goal
 
 pub invariant_of-result : goal.invariant_of-result
-invariant_of-result c = kept_new _ _ (c.in_ok-vec.ensures.items_if_clones_equal (λ y h. search rules)) c.new.ensures.empty
+invariant_of-result c =
+    ring_begun c.loop.keys.items c.loop.sets.slots c.loop.counter c.loop.invariant
+    (omega (arith, c.loop-test.false, c.loop.auto.counter-end))
+
+pub returns : goal.returns
+returns c = none_held c.loop.keys.items c.loop.sets.slots c.loop.counter c.loop.invariant

@@ -1,0 +1,68 @@
+ghost use Rattle.std.specs.Prelude.{◌≡◌, None, IfOk, OnOk, OnErr};
+ghost use Rattle.std.specs.FinMap as map;
+
+use pim_types::Timer;
+use std::alloc::{AllocError, Global};
+use std::collections::BTreeMap;
+use std::marker::Model;
+
+/// When each timer ends, in milliseconds.
+#[derive(Drop)]
+pub struct Moments {
+    moments: BTreeMap<Timer, u64>,
+}
+
+impl Model for Moments {
+    ghost use Rattle.std.specs.FinMap.{from_entries};
+    ghost use Rattle.pim_timers.specs.Schedule.{Contents, contents_code};
+
+    ghost Value = { Contents };
+
+    ghost coded = { contents_code };
+
+    ghost view = { λ a. from_entries a.moments.entries };
+}
+
+impl Moments {
+    /// No timers; it takes no memory.
+    pub fn new(alloc: Global) -> Self
+        ensures { result ≡ map.empty }
+    {
+        Moments {
+            moments: BTreeMap::new(alloc),
+        }
+    }
+
+    /// How many timers there are.
+    pub fn len(&self) -> usize
+        ensures { result ≡ map.len self.now }
+    {
+        self.moments.len()
+    }
+
+    /// When the timer ends.
+    pub fn get(&self, timer: Timer) -> Option<u64>
+        ensures { result ≡ map.get self.now timer }
+    {
+        self.moments.get(&timer).copied()
+    }
+
+    /// Keeps the moment of the timer, and gives the one that it had. Only a further timer wants
+    /// memory; where it is refused, all is as it was.
+    pub fn insert(&mut self, timer: Timer, moment: u64) -> Result<Option<u64>, AllocError>
+        ensures before { IfOk result (λ before. before ≡ map.get self.old timer) }
+        ensures ok { OnOk result (self.new ≡ map.insert self.old timer moment) }
+        ensures absent { OnErr result (map.get self.old timer ≡ None) }
+        ensures err { OnErr result (self.new ≡ self.old) }
+    {
+        Ok(self.moments.insert(timer, moment)?)
+    }
+
+    /// Forgets the timer, and gives the moment that it had.
+    pub fn remove(&mut self, timer: Timer) -> Option<u64>
+        ensures before { result ≡ map.get self.old timer }
+        ensures contents { self.new ≡ map.remove self.old timer }
+    {
+        self.moments.remove(&timer)
+    }
+}
