@@ -97,7 +97,8 @@ module _ (m : ℕ) (s : State) (sound : IsSound s) (now : s.present ≡ m) (k : 
   iface_form end_of t e faultless =
       equal_keys (iface_key (iface_in k)) k
       (key_of_kind end_of is_querier_entry is_iface_key
-      (λ e f. first_so (is_iface_key e.0) (nat_lt 0 (e.1).query_interval) f) k x t e faultless)
+      (λ e f. first_so (is_iface_key e.0) (nat_lt 0 (e.1).robustness && nat_lt 0 (e.1).query_interval) f) k x t e
+      faultless)
 
   fires : (kind : TimerKind) → shows kind (Ends k x) s ≡ true → Fires m kind k s (fired s kind k).0
   unfolding fired fire_row
@@ -165,6 +166,7 @@ same_at _ mark s p = refl
 
 pub sound_at : (s : State) (p : ℕ) → IsSound s → IsSound (record s { present = p })
 sound_at s p sound = record {
+  robustness = sound.robustness;
   query_interval = sound.query_interval;
   last_member_query_interval = sound.last_member_query_interval;
   faultless = λ kind e. sound.faultless kind (sym (same_at kind Faulty s p) ∙ e);
@@ -539,6 +541,7 @@ none_faulty (x ∷ xs) e = none_faulty xs e
 
 pub sound_of : (s : State) → IsFirable s → IsSound s
 sound_of s f = record {
+  robustness = f.robustness;
   query_interval = f.query_interval;
   last_member_query_interval = f.last_member_query_interval;
   faultless = faultless;
@@ -563,6 +566,7 @@ sound_of s f = record {
 
 pub firable_of : (s : State) → IsSound s → IsFirable s
 firable_of s f = record {
+  robustness = f.robustness;
   query_interval = f.query_interval;
   last_member_query_interval = f.last_member_query_interval;
   queriers = all_good is_querier_entry s.queriers (f.faultless TimerKind.GeneralQuery);
@@ -688,11 +692,11 @@ querier_accepted c e =
     (are_routes c.interfaces c.routes) Refusal.ConfiguredRoutes
     >> expect (are_rps c.rps) Refusal.ConfiguredRps) e
 
-second_test : (a b c d e : Bool) → (a && b && c && d && e) ≡ true → b ≡ true
-second_test a b c d e h =
-    second_so a b (first_so (a && b) c (first_so (a && b && c) d (first_so (a && b && c && d) e h)))
+two_tests : (a b c d e : Bool) → (a && b && c && d && e) ≡ true → (a && b) ≡ true
+two_tests a b c d e h = first_so (a && b) c (first_so (a && b && c) d (first_so (a && b && c && d) e h))
 
 record Intervals (c : Config) : Type 0 where
+  robustness : nat_lt 0 c.robustness ≡ true
   query : nat_lt 0 c.query_interval ≡ true
   last_member : nat_lt 0 c.last_member_query_interval ≡ true
 
@@ -700,13 +704,21 @@ some_between : (low high n : ℕ) → 1 ≤ low → is_between low high n ≡ tr
 some_between low high n some e =
     let above : low ≤ n = leb-true low n (first_so (nat_le low n) (nat_le n high) e) in lt-ltb 0 n (omega arith)
 
+robustness_and_interval : (c : Config) → is_querier_config c ≡ true
+    → (is_between 2 7 c.robustness && is_between 1 31744 c.query_interval) ≡ true
+unfolding is_querier_config
+robustness_and_interval c e =
+    two_tests (is_between 2 7 c.robustness) (is_between 1 31744 c.query_interval)
+    (is_between 1 31744 c.query_response_interval)
+    (nat_lt c.query_response_interval (10 * c.query_interval)) (is_between 1 255 c.last_member_query_interval) e
+
 intervals : (c : Config) → is_querier_config c ≡ true → Intervals c
 unfolding is_querier_config
 intervals c e = record {
+  robustness = some_between 2 7 c.robustness (omega arith)
+      (first_so (is_between 2 7 c.robustness) (is_between 1 31744 c.query_interval) (robustness_and_interval c e));
   query = some_between 1 31744 c.query_interval (omega arith)
-      (second_test (is_between 2 7 c.robustness) (is_between 1 31744 c.query_interval)
-      (is_between 1 31744 c.query_response_interval)
-      (nat_lt c.query_response_interval (10 * c.query_interval)) (is_between 1 255 c.last_member_query_interval) e);
+      (second_so (is_between 2 7 c.robustness) (is_between 1 31744 c.query_interval) (robustness_and_interval c e));
   last_member = some_between 1 255 c.last_member_query_interval (omega arith)
       (second_so (is_between 2 7 c.robustness && is_between 1 31744 c.query_interval
       && is_between 1 31744 c.query_response_interval
@@ -719,6 +731,7 @@ opening_is_ahead c e =
     let long : Intervals c = intervals c (querier_accepted c e) in
     record {
       firable = record {
+        robustness = long.robustness;
         query_interval = long.query;
         last_member_query_interval = long.last_member;
         queriers = refl;

@@ -1,5 +1,6 @@
 -- The same of IGMP's timers: the queriers, the repeats of queries, the records.
 use Rattle.std.proofs.Common.{◌≡◌, ℕ, ◌<◌, ◌≤◌, ◌+◌, ◌*◌, ◌/◌, ◌-◌, nat_lt, Bool, true, false, not, cond, ◌&&◌, filter_map, Option, Some, None, refl, sym, ap, ◌∙◌, arith, ltb-true}
+use Rattle.std.specs.Cmp.Derive.{both_true}
 use Rattle.std.specs.Option.{option_map_or}
 use Rattle.pim_types.specs.declared.fact.GroupRepeatRow.{GroupRepeatRow}
 use Rattle.pim_types.specs.declared.fact.Key.{Key}
@@ -18,14 +19,16 @@ use Rattle.pim_laws.proofs.TableLaws.{row_is_there}
 use Rattle.pim_laws.proofs.Ends.{Ends, Faulty, is_later, shows_row, TableKeeps, shows, Keeps, kept_then, replaced_kept, removed_kept, later_is_gone, removed_is_gone, queriers_kept, group_repeats_kept, source_repeats_kept, sendings_kept}
 use Rattle.pim_laws.proofs.DueKept.{Gone, Fires, later_than}
 
--- the intervals aren't 0, and no row is under a key of another kind
+-- the robustness and the intervals aren't 0, and no row is under a key of another kind
 pub record IsSound (s : State) : Type 0 where
+  pub robustness : nat_lt 0 s.settings.robustness ≡ true
   pub query_interval : nat_lt 0 s.settings.query_interval ≡ true
   pub last_member_query_interval : nat_lt 0 s.settings.last_member_query_interval ≡ true
   pub faultless : (kind : TimerKind) → shows kind Faulty s ≡ true → ⊥
 
 pub still_sound : (m : ℕ) (s t : State) → Keeps m s t → IsSound s → IsSound t
 still_sound m s t f sound = record {
+  robustness = ap (λ c. nat_lt 0 c.robustness) f.settings ∙ sound.robustness;
   query_interval = ap (λ c. nat_lt 0 c.query_interval) f.settings ∙ sound.query_interval;
   last_member_query_interval =
       ap (λ c. nat_lt 0 c.last_member_query_interval) f.settings ∙ sound.last_member_query_interval;
@@ -37,14 +40,11 @@ still_gone m kind k s t f gone = λ x by e. gone x by (f.shown kind (Ends k x) b
 
 -- ---- queriers
 
-both_true : (a b : Bool) → a ≡ true → b ≡ true → (a && b) ≡ true
-both_true true b e f = f
-both_true false b e f = e
-
-not_both : (a b : Bool) → b ≡ false → not (a && b) ≡ true
-not_both true true e = sym e
-not_both true false e = refl
-not_both false b e = refl
+not_all : (a b c : Bool) → c ≡ false → not (a && (b && c)) ≡ true
+not_all true true true e = sym e
+not_all true true false e = refl
+not_all true false c e = refl
+not_all false b c e = refl
 
 long_interval : (s : State) → nat_lt 0 s.settings.query_interval ≡ true
     → (shows TimerKind.OtherQuerier Faulty s ≡ true → ⊥) → (i : ℕ)
@@ -58,7 +58,8 @@ long_interval s positive faultless i = go (row_at s.queriers (iface_key i)) refl
     of_row r there false e =
         absurd (faultless (row_is_there
         (shows_row (λ (r : QuerierRow). other_querier_end r.role) is_querier_entry Faulty) (iface_key i)
-        s.queriers r (not_both (same_key (iface_key i) (iface_key i)) (nat_lt 0 r.query_interval) e) there))
+        s.queriers r (not_all (same_key (iface_key i) (iface_key i)) (nat_lt 0 r.robustness)
+        (nat_lt 0 r.query_interval) e) there))
 
     go : (o : Option QuerierRow) → row_at s.queriers (iface_key i) ≡ o
         → 1000 ≤ 1000 * option_map_or (λ (q : QuerierRow). q.query_interval) o s.settings.query_interval
@@ -69,8 +70,8 @@ module _ (m : ℕ) (s : State) (sound : IsSound s) (i : ℕ) where
   good_querier : (next left : ℕ) → is_querier_entry (iface_key i, querier_row s next left) ≡ true
   unfolding querier_row
   good_querier next left =
-      both_true (same_key (iface_key i) (iface_key i)) (nat_lt 0 s.settings.query_interval)
-      (same_key_same (iface_key i)) sound.query_interval
+      both_true (same_key_same (iface_key i))
+      (both_true sound.robustness sound.query_interval)
 
   no_other_end : (next left : ℕ) → is_later m (other_querier_end (querier_row s next left).role) ≡ true
   unfolding querier_row

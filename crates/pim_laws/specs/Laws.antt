@@ -50,12 +50,14 @@ is_under_star e = same_key (star_key (iface_in e.0) (group_in e.0)) e.0
 abbrev pub is_under_source : {R : Type 0} → Key × R → Bool
 is_under_source e = same_key (source_key (iface_in e.0) (group_in e.0) (source_in e.0)) e.0
 
--- a querier with a query interval
+-- a querier whose robustness and query interval aren't 0
 abbrev pub is_querier_entry : Key × QuerierRow → Bool
-is_querier_entry e = same_key (iface_key (iface_in e.0)) e.0 && nat_lt 0 (e.1).query_interval
+is_querier_entry e =
+    same_key (iface_key (iface_in e.0)) e.0 && (nat_lt 0 (e.1).robustness && nat_lt 0 (e.1).query_interval)
 
--- what firing asks of a state: no interval is 0, and IGMP's facts are under keys of their kind
+-- what firing asks of a state: no robustness and no interval is 0, and IGMP's facts are under keys of their kind
 pub record IsFirable (s : State) : Type 0 where
+  pub robustness : nat_lt 0 s.settings.robustness ≡ true
   pub query_interval : nat_lt 0 s.settings.query_interval ≡ true
   pub last_member_query_interval : nat_lt 0 s.settings.last_member_query_interval ≡ true
   pub queriers : list_all is_querier_entry s.queriers ≡ true

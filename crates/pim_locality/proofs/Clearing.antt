@@ -1,0 +1,135 @@
+-- Where nothing had to go at the opening, and the state agrees with it on all groups but some, what must go is of
+-- those groups, and so is all that goes.
+use Rattle.std.proofs.Common.{◌≡◌, ◌||◌, Bool, true, false, not, cond, List, [], ◌∷◌, Some, option_map, refl, sym, ap, ◌∙◌}
+use Rattle.std.specs.Cmp.{first_so, second_so}
+use Rattle.std.specs.Cmp.Derive.{both_true}
+use Rattle.std.specs.List.{filter, find, list_all}
+use Rattle.std.specs.Option.{option_or}
+use Rattle.pim_types.specs.declared.fact.Key.{Key}
+use Rattle.pim_model.specs.Clearing.{ClearAssert, ClearSptBit, assert_must_go, assert_to_clear, first_by, is_assert_first, spt_must_go, spt_to_clear, to_clear}
+use Rattle.pim_model.specs.State.{State}
+use Rattle.pim_model.specs.Tables.{Table}
+use Rattle.pim_locality.specs.Locality.{AgreesBut, IsQuiet, of_touched, touched_assert, touched_spt, touched_to_clear}
+use Rattle.pim_locality.specs.Scopes.{reads, rows_where, scope}
+use Rattle.pim_locality.proofs.Asserts.{assert_must_go_local, reads_itself, spt_must_go_local}
+use Rattle.pim_locality.proofs.UntoldKeys.{same_by_scope}
+
+-- ---- a test that fails on the rows of each group beside some
+
+module _ {R : Type 0} (touches : Key → Bool) (p : Key × R → Bool) where
+  -- no row beside the touched groups passes
+  abbrev quiet_beside : Key × R → Bool
+  quiet_beside e = touches e.0 || not (p e)
+
+  narrowed_step : (x : Key × R) (xs : Table R) (b c : Bool) → p x ≡ b → (c || not b) ≡ true
+      → filter p xs ≡ filter p (filter (of_touched touches) xs)
+      → cond b (x ∷ filter p xs) (filter p xs) ≡ filter p
+      (cond c (x ∷ filter (of_touched touches) xs) (filter (of_touched touches) xs))
+  narrowed_step x xs true true e q ih = rw e (ap (λ (t : Table R). x ∷ t) ih)
+  narrowed_step x xs true false e q ih = cc
+  narrowed_step x xs false true e q ih = rw e ih
+  narrowed_step x xs false false e q ih = ih
+
+  pub narrowed : (t : Table R) → list_all quiet_beside t ≡ true → filter p t ≡ filter p (filter (of_touched touches) t)
+  narrowed [] e = refl
+  narrowed (x ∷ xs) e =
+      narrowed_step x xs (p x) (touches x.0) refl
+      (first_so (quiet_beside x) (list_all quiet_beside xs) e)
+      (narrowed xs (second_so (quiet_beside x) (list_all quiet_beside xs) e))
+
+  find_step : (x : Key × R) (xs : Table R) (b c : Bool) → p x ≡ b → (c || not b) ≡ true
+      → find p xs ≡ find p (filter (of_touched touches) xs)
+      → cond b (Some x) (find p xs) ≡ find p
+      (cond c (x ∷ filter (of_touched touches) xs) (filter (of_touched touches) xs))
+  find_step x xs true true e q ih = rw e refl
+  find_step x xs true false e q ih = cc
+  find_step x xs false true e q ih = rw e ih
+  find_step x xs false false e q ih = ih
+
+  pub found_narrowed : (t : Table R) → list_all quiet_beside t ≡ true
+      → find p t ≡ find p (filter (of_touched touches) t)
+  found_narrowed [] e = refl
+  found_narrowed (x ∷ xs) e =
+      find_step x xs (p x) (touches x.0) refl
+      (first_so (quiet_beside x) (list_all quiet_beside xs) e)
+      (found_narrowed xs (second_so (quiet_beside x) (list_all quiet_beside xs) e))
+
+-- ---- quiet beside the touched groups
+
+module _ {X : Type 0} (p : X → Bool) where
+  all_step : (f : X → Bool) (x : X) (xs : List X) (b : Bool) → p x ≡ true → list_all p (filter f xs) ≡ true
+      → list_all p (cond b (x ∷ filter f xs) (filter f xs)) ≡ true
+  all_step f x xs true e ih = both_true e ih
+  all_step f x xs false e ih = ih
+
+  pub all_filtered : (f : X → Bool) (t : List X) → list_all p t ≡ true → list_all p (filter f t) ≡ true
+  all_filtered f [] e = e
+  all_filtered f (x ∷ xs) e =
+      all_step f x xs (f x) (first_so (p x) (list_all p xs) e) (all_filtered f xs (second_so (p x) (list_all p xs) e))
+
+module _ {R : Type 0} (p : Key × R → Bool) where
+  tail_step : (sees : Key → Bool) (x : Key × R) (xs : Table R) (b : Bool)
+      → list_all p (cond b (x ∷ rows_where sees xs) (rows_where sees xs)) ≡ true
+      → list_all p (rows_where sees xs) ≡ true
+  tail_step sees x xs true e = second_so (p x) (list_all p (rows_where sees xs)) e
+  tail_step sees x xs false e = e
+
+  head_step : (sees : Key → Bool) (x : Key × R) (xs : Table R) (b : Bool) → b ≡ true
+      → list_all p (cond b (x ∷ rows_where sees xs) (rows_where sees xs)) ≡ true
+      → p x ≡ true
+  head_step sees x xs true f e = first_so (p x) (list_all p (rows_where sees xs)) e
+  head_step sees x xs false f e = cc
+
+  module _ (touches : Key → Bool) (q : Key × R → Bool)
+      (moves : (e : Key × R) → touches e.0 ≡ false → p e ≡ true → q e ≡ true) where
+    all_beside : (t : Table R) → ((k : Key) → touches k ≡ false → list_all p (rows_where (reads k) t) ≡ true)
+        → list_all (λ e. touches e.0 || q e) t ≡ true
+    unfolding rows_where
+    all_beside [] quiet = refl
+    all_beside (x ∷ xs) quiet =
+        both_true
+        (here (touches x.0) refl)
+        (all_beside xs (λ k e. tail_step (reads k) x xs (reads k x.0) (quiet k e)))
+      where
+        here : (b : Bool) → touches x.0 ≡ b → (b || q x) ≡ true
+        here true e = refl
+        here false e =
+            moves x e (head_step (reads x.0) x xs (reads x.0 x.0) (reads_itself x.0) (quiet x.0 e))
+
+-- what the opening's rows pass, those of a table that agrees with them pass
+pub all_agreed : {R : Type 0} (touches : Key → Bool) (p q : Key × R → Bool)
+    → ((e : Key × R) → touches e.0 ≡ false → p e ≡ true → q e ≡ true)
+    → (t u : Table R) → ((k : Key) → touches k ≡ false → rows_where (reads k) t ≡ rows_where (reads k) u)
+    → list_all p t ≡ true
+    → list_all (λ e. touches e.0 || q e) u ≡ true
+unfolding rows_where
+all_agreed touches p q moves t u same e =
+    all_beside p touches q moves u
+    (λ k f. ap (list_all p) (sym (same k f)) ∙ all_filtered p (λ x. reads k x.0) t e)
+
+module _ (touches : Key → Bool) (o : State) (quiet : IsQuiet o) where
+  asserts_quiet : (s : State) → AgreesBut touches o s
+      → list_all (λ e. touches e.0 || not (assert_must_go o s e)) s.asserts ≡ true
+  unfolding scope
+  asserts_quiet s agree =
+      all_agreed touches (λ e. not (assert_must_go o o e)) (λ e. not (assert_must_go o s e))
+      (λ e f h. ap not (sym (same_by_scope e.0 (λ t. assert_must_go o t e) (λ t. assert_must_go_local o t e)
+      o s (agree e.0 f))) ∙ h)
+      o.asserts s.asserts (λ h e. ap (λ (t : State). t.asserts) (agree h e)) quiet.clear.asserts
+
+  spts_quiet : (s : State) → AgreesBut touches o s
+      → list_all (λ e. touches e.0 || not (spt_must_go s e)) s.sources ≡ true
+  unfolding scope
+  spts_quiet s agree =
+      all_agreed touches (λ e. not (spt_must_go o e)) (λ e. not (spt_must_go s e))
+      (λ e f h. ap not (sym (same_by_scope e.0 (λ t. spt_must_go t e) (λ t. spt_must_go_local t e) o s
+      (agree e.0 f))) ∙ h)
+      o.sources s.sources (λ h e. ap (λ (t : State). t.sources) (agree h e)) quiet.clear.sources
+
+  pub to_clear_of_touched : (s : State) → AgreesBut touches o s → to_clear o s ≡ touched_to_clear touches o s
+  unfolding to_clear touched_to_clear assert_to_clear spt_to_clear touched_assert touched_spt
+  to_clear_of_touched s agree = λ j.
+      option_or
+      (option_map (λ e. ClearAssert e.0 e.1)
+      (first_by is_assert_first (narrowed touches (assert_must_go o s) s.asserts (asserts_quiet s agree) j)))
+      (option_map (λ e. ClearSptBit e.0) (found_narrowed touches (spt_must_go s) s.sources (spts_quiet s agree) j))

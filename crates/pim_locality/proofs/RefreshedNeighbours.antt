@@ -1,0 +1,75 @@
+-- A Hello that says again what it said touches nothing.
+use Rattle.std.proofs.Common.{◌≡◌, ◌==◌, ℕ, Bool, true, false, cond, List, [], ◌∷◌, map, Option, Some, None, is_some, refl, sym, ap, ◌∙◌}
+use Rattle.std.specs.BTreeMap.{insert_entry}
+use Rattle.std.specs.List.{AllByRecursion}
+use Rattle.std.specs.List.Sorted.{IsStrictlySortedBy}
+use Rattle.std.specs.Ordering.{is_eq, match_ordering}
+use Rattle.std.specs.declared.cmp.Ordering.{Ordering}
+use Rattle.std.specs.declared.cmp.Ordering.TheVariants.{Less, Equal, Greater}
+use Rattle.pim_types.specs.declared.fact.Key.{Key}
+use Rattle.pim_types.specs.declared.fact.NeighbourRow.{NeighbourRow}
+use Rattle.pim_wire.specs.declared.hello.Hello.{Hello as HelloValue}
+use Rattle.pim_model.specs.Downstream.{holdtime_end_from}
+use Rattle.pim_model.specs.Hellos.{hello_holdtime_of, hello_received, is_generation_changed, neighbour_replaced, neighbours_replaced}
+use Rattle.pim_model.specs.State.{State}
+use Rattle.pim_model.specs.Tables.{Table, has_row, keys_in, put, row_at, set_row}
+use Rattle.pim_types.specs.Keys.{key_cmp, neighbour_key}
+use Rattle.pim_locality.specs.Locality.{AgreesBut, touching}
+use Rattle.pim_locality.specs.Scopes.{only_priority, reads, scope}
+use Rattle.pim_types.proofs.Keys.{key_cmp_total}
+use Rattle.pim_locality.proofs.OwnKeys.{none_below}
+
+all_later : (k q : Key) (ks : List Key) → key_cmp k q ≡ Less → AllByRecursion (λ y. key_cmp q y ≡ Less) ks
+    → AllByRecursion (λ y. key_cmp k y ≡ Less) ks
+all_later k q [] e all = tt
+all_later k q (y ∷ ks) e all = (key_cmp_total.trans k q y e all.0, all_later k q ks e all.1)
+
+module _ (k : Key) (row old : NeighbourRow) (same : row.priority ≡ old.priority) where
+  refreshed_step : (x : Key × NeighbourRow) (xs : Table NeighbourRow) (o : Ordering) → key_cmp k x.0 ≡ o
+      → AllByRecursion (λ y. key_cmp x.0 y ≡ Less) (keys_in xs)
+      → cond (is_eq o) (Some x.1) (row_at xs k) ≡ Some old
+      → (row_at xs k ≡ Some old → map only_priority (insert_entry key_cmp xs k row) ≡ map only_priority xs)
+      → map only_priority (match_ordering o ((k, row) ∷ x ∷ xs) ((x.0, row) ∷ xs) (x ∷ insert_entry key_cmp xs k row))
+      ≡ only_priority x ∷ map only_priority xs
+  unfolding has_row
+  refreshed_step x xs Less e above f ih =
+      let gone : has_row xs k ≡ false = none_below k xs (all_later k x.0 (keys_in xs) e above) in
+      cc (f, gone)
+  refreshed_step x xs Equal e above f ih =
+      let here : x.1 ≡ old = cc in
+      let priority : row.priority ≡ (x.1).priority = same ∙ ap (λ (r : NeighbourRow). r.priority) (sym here) in
+      λ j. (x.0, record { end = None; lan_delay = None; priority = priority j; generation = None }) ∷ map only_priority
+      xs
+  refreshed_step x xs Greater e above f ih = ap (λ t. only_priority x ∷ t) (ih f)
+
+  refreshed : (t : Table NeighbourRow) → IsStrictlySortedBy key_cmp (keys_in t) → row_at t k ≡ Some old
+      → map only_priority (put t k row) ≡ map only_priority t
+  unfolding put row_at keys_in IsStrictlySortedBy
+  refreshed [] rises e = cc
+  refreshed (x ∷ xs) rises e = refreshed_step x xs (key_cmp k x.0) refl rises.0 e (refreshed xs rises.1)
+
+hello_if : (s t u v : State) (b c : Bool) → b ≡ false → c ≡ false → AgreesBut (touching []) s v
+    → AgreesBut (touching []) s (cond b t (cond c u v))
+hello_if s t u v true c e f g = cc
+hello_if s t u v false true e f g = cc
+hello_if s t u v false false e f g = g
+
+pub hello_again_touches_none : (s : State) (i address : ℕ) (h : HelloValue) (w : ℕ) (old : NeighbourRow)
+    → IsStrictlySortedBy key_cmp (keys_in s.neighbours) → row_at s.neighbours (neighbour_key i address) ≡ Some old
+    → h.priority ≡ old.priority → (hello_holdtime_of h == 0) ≡ false → is_generation_changed s i address h ≡ false
+    → AgreesBut (touching []) s (hello_received s i address h w)
+unfolding hello_received neighbour_replaced neighbours_replaced has_row set_row scope
+hello_again_touches_none s i address h w old rises there same lasts unchanged g e =
+    let known : has_row s.neighbours (neighbour_key i address) ≡ true =
+    ap (λ (o : Option NeighbourRow). is_some o) there in
+    rw (unchanged, known, lasts)
+    (sym (λ j. record (scope (reads g) s) {
+      neighbours = refreshed (neighbour_key i address)
+          (record {
+            end = holdtime_end_from s.present (hello_holdtime_of h);
+            lan_delay = h.lan_delay;
+            priority = h.priority;
+            generation = h.generation;
+          })
+          old same s.neighbours rises there j;
+    }))

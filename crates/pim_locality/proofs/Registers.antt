@@ -1,0 +1,159 @@
+-- Where all registers were settled at the opening, those of touched sources alone are to be settled.
+use Rattle.std.proofs.Common.{◌≡◌, ◌||◌, Bool, true, false, not, cond, List, [], ◌∷◌, ◌++◌, fold, Option, Some, is_some, refl, sym, ap, ◌∙◌}
+use Rattle.std.specs.Cmp.{first_so, second_so}
+use Rattle.std.specs.Cmp.Derive.{both_true}
+use Rattle.std.proofs.lemmas.List.Folds.{list_all-append, list_all-map}
+use Rattle.std.specs.List.{filter, list_all}
+use Rattle.std.specs.Map.{lookup}
+use Rattle.std.specs.BTreeMap.{is_at}
+use Rattle.pim_types.specs.declared.fact.Key.{Key}
+use Rattle.pim_types.specs.declared.fact.RegisterRow.{RegisterRow}
+use Rattle.pim_types.specs.declared.fact.RegisterState.{RegisterState}
+use Rattle.pim_model.specs.Registers.{could_register, settle_registers, settled_register}
+use Rattle.pim_model.specs.State.{State}
+use Rattle.pim_model.specs.Tables.{Table, drop_at, drop_where, has_row, keys_in, put, row_at, same_bool}
+use Rattle.pim_types.specs.Keys.{group_in, key_cmp, same_key, source_in}
+use Rattle.pim_locality.specs.Locality.{AgreesBut, IsClosed, IsQuiet, is_register_settled, touched_registers}
+use Rattle.pim_locality.specs.Scopes.{reads, rows_where, scope}
+use Rattle.pim_locality.proofs.Asserts.{could_register_here, reads_itself}
+use Rattle.pim_locality.proofs.RowChanges.{dropped_elsewhere, put_elsewhere}
+use Rattle.pim_locality.proofs.TouchedClearing.{unread}
+use Rattle.pim_locality.proofs.Clearing.{all_agreed}
+use Rattle.pim_locality.proofs.Rows.{has_row_in_scope}
+use Rattle.pim_locality.proofs.UntoldKeys.{same_by_scope}
+
+-- ---- lists
+
+all_keys : {R : Type 0} (q : Key → Bool) (t : Table R) → list_all q (keys_in t) ≡ list_all (λ e. q e.0) t
+unfolding keys_in
+all_keys q t = list_all-map q (λ e. e.0) t
+
+all_append : (q : Key → Bool) (xs ys : List Key) → list_all q xs ≡ true → list_all q ys ≡ true
+    → list_all q (xs ++ ys) ≡ true
+all_append q xs ys e f = list_all-append q xs ys ∙ both_true e f
+
+-- nothing goes where nothing is
+nothing_step : {R : Type 0} (x : Key × R) (xs ys : Table R) (b : Bool) (o : Option R)
+    → is_some (cond b (Some x.1) o) ≡ false
+    → (is_some o ≡ false → ys ≡ xs) → cond (not b) (x ∷ ys) ys ≡ x ∷ xs
+nothing_step x xs ys true o e ih = cc
+nothing_step x xs ys false o e ih = ap (λ t. x ∷ t) (ih e)
+
+pub nothing_dropped : {R : Type 0} (k : Key) (t : Table R) → has_row t k ≡ false → drop_at t k ≡ t
+unfolding has_row row_at drop_at drop_where
+nothing_dropped k [] e = refl
+nothing_dropped k (x ∷ xs) e =
+    nothing_step x xs (filter (λ y. not (same_key k y.0)) xs) (same_key k x.0) (lookup (is_at (key_cmp k)) xs) e
+    (nothing_dropped k xs)
+
+bools_same : (b c : Bool) → same_bool b c ≡ true → b ≡ c
+bools_same true true e = refl
+bools_same true false e = cc
+bools_same false true e = cc
+bools_same false false e = refl
+
+module _ (touches : Key → Bool) (closed : IsClosed touches) (o s : State) (agree : AgreesBut touches o s) where
+  -- the rows that untouched keys read are those of the opening
+  abbrev Stays : Table RegisterRow → Type 0
+  Stays t = (q : Key) → touches q ≡ false → rows_where (reads q) t ≡ rows_where (reads q) o.registers
+
+  settled_if : (k : Key) (t : Table RegisterRow) (b c : Bool) → could_register s (group_in k) (source_in k) ≡ b
+      → has_row t k ≡ c → b ≡ c
+      → settled_register s k t ≡ t
+  unfolding settled_register
+  settled_if k t true true e f same = rw (e, f) refl
+  settled_if k t true false e f same = cc
+  settled_if k t false true e f same = cc
+  settled_if k t false false e f same = rw e (nothing_dropped k t f)
+
+  idle : (k : Key) (t : Table RegisterRow) → Stays t → touches k ≡ false
+      → is_register_settled o k ≡ true
+      → settled_register s k t ≡ t
+  idle k t stays untouched held =
+      settled_if k t (could_register s (group_in k) (source_in k)) (has_row t k) refl refl
+      (sym (same_by_scope k (λ x. could_register x (group_in k) (source_in k)) (λ x. could_register_here k x) o s
+      (agree k untouched))
+      ∙ (bools_same _ _ held
+      ∙ (sym (has_row_in_scope (reads k) k (reads_itself k) o.registers)
+      ∙ (ap (λ u. has_row u k) (sym (stays k untouched)) ∙ has_row_in_scope (reads k) k (reads_itself k) t))))
+
+  goes_elsewhere : (k : Key) (t : Table RegisterRow) (sees : Key → Bool) → sees k ≡ false
+      → (b c : Bool) (row : RegisterRow)
+      → rows_where sees (cond b (cond c t (put t k row)) (drop_at t k)) ≡ rows_where sees t
+  goes_elsewhere k t sees e true true row = refl
+  goes_elsewhere k t sees e true false row = put_elsewhere sees k e t row
+  goes_elsewhere k t sees e false c row = dropped_elsewhere sees k e t
+
+  goes_on : (k : Key) (t : Table RegisterRow) → touches k ≡ true → Stays t
+      → Stays (settled_register s k t)
+  unfolding settled_register
+  goes_on k t is stays q e =
+      goes_elsewhere k t (reads q) (unread touches closed k q is e) (could_register s (group_in k) (source_in k))
+      (has_row t k)
+      (record { state = RegisterState.Join }) ∙ stays q e
+
+  abbrev all_settled : Table RegisterRow → List Key → Table RegisterRow
+  all_settled t ks = fold (λ t k. settled_register s k t) t ks
+
+  abbrev is_touched : Key → Bool
+  is_touched k = touches k
+
+  fold_step : (k : Key) (ks : List Key) (t : Table RegisterRow) (b : Bool) → is_touched k ≡ b
+      → (b || is_register_settled o k) ≡ true → Stays t
+      → ((u : Table RegisterRow) → Stays u → all_settled u ks ≡ all_settled u (filter is_touched ks))
+      → all_settled (settled_register s k t) ks ≡ all_settled t
+      (cond b (k ∷ filter is_touched ks) (filter is_touched ks))
+  fold_step k ks t true e f stays ih = ih (settled_register s k t) (goes_on k t e stays)
+  fold_step k ks t false e f stays ih = ap (λ u. all_settled u ks) (idle k t stays e f) ∙ ih t stays
+
+  settled_of_touched : (ks : List Key) (t : Table RegisterRow) → Stays t
+      → list_all (λ k. is_touched k || is_register_settled o k) ks ≡ true
+      → all_settled t ks ≡ all_settled t (filter is_touched ks)
+  settled_of_touched [] t stays e = refl
+  settled_of_touched (k ∷ ks) t stays e =
+      fold_step k ks t (is_touched k) refl
+      (first_so (is_touched k || is_register_settled o k) (list_all (λ k. is_touched k || is_register_settled o k) ks)
+      e) stays
+      (λ u stays. settled_of_touched ks u stays
+      (second_so (is_touched k || is_register_settled o k) (list_all (λ k. is_touched k || is_register_settled o k) ks)
+      e))
+
+  stays_step : (k : Key) (ks : List Key) (t : Table RegisterRow) (b : Bool) → is_touched k ≡ b → Stays t
+      → ((u : Table RegisterRow) → Stays u → Stays (all_settled u (filter is_touched ks)))
+      → Stays (all_settled t (cond b (k ∷ filter is_touched ks) (filter is_touched ks)))
+  stays_step k ks t true e stays ih = ih (settled_register s k t) (goes_on k t e stays)
+  stays_step k ks t false e stays ih = ih t stays
+
+  stays_all : (ks : List Key) (t : Table RegisterRow) → Stays t → Stays (all_settled t (filter is_touched ks))
+  stays_all [] t stays = stays
+  stays_all (k ∷ ks) t stays = stays_step k ks t (is_touched k) refl stays (stays_all ks)
+
+  same_registers : Stays s.registers
+  unfolding scope
+  same_registers h e = sym (ap (λ (t : State). t.registers) (agree h e))
+
+  -- the state after settling agrees as well
+  pub registers_agree : AgreesBut touches o (touched_registers touches s)
+  unfolding touched_registers scope
+  registers_agree h e =
+      agree h e
+      ∙ (λ j. record (scope (reads h) s) {
+        registers = (same_registers h e ∙ sym
+            (stays_all (keys_in s.sources ++ keys_in s.registers) s.registers same_registers h e)) j;
+      })
+
+pub registers_of_touched : (touches : Key → Bool) → IsClosed touches → (o : State) → IsQuiet o → (s : State)
+    → AgreesBut touches o s → settle_registers s ≡ touched_registers touches s
+unfolding settle_registers touched_registers scope
+registers_of_touched touches closed o quiet s agree = λ j. record s {
+  registers = settled_of_touched touches closed o s agree (keys_in s.sources ++ keys_in s.registers) s.registers
+      (same_registers touches closed o s agree)
+      (all_append (λ k. touches k || is_register_settled o k) (keys_in s.sources) (keys_in s.registers)
+      (all_keys (λ k. touches k || is_register_settled o k) s.sources
+      ∙ all_agreed touches (λ e. is_register_settled o e.0) (λ e. is_register_settled o e.0) (λ e f g. g) o.sources
+      s.sources
+      (λ h e. ap (λ (t : State). t.sources) (agree h e)) quiet.sources_settled)
+      (all_keys (λ k. touches k || is_register_settled o k) s.registers
+      ∙ all_agreed touches (λ e. is_register_settled o e.0) (λ e. is_register_settled o e.0) (λ e f g. g) o.registers
+      s.registers (λ h e. ap (λ (t : State). t.registers) (agree h e)) quiet.registers_settled)) j;
+}

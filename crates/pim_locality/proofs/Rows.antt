@@ -1,0 +1,89 @@
+-- Look-ups in the rows of some keys, and in tables whose rows were cut down.
+use Rattle.std.proofs.Common.{◌≡◌, ◌&&◌, ◌||◌, ℕ, Bool, true, false, cond, [], ◌∷◌, map, Option, Some, is_some, refl, ap}
+use Rattle.std.specs.declared.cmp.Ordering.TheVariants.{Less, Equal, Greater}
+use Rattle.std.specs.declared.cmp.Ordering.{Ordering}
+use Rattle.std.specs.Ordering.{match_ordering}
+use Rattle.std.specs.List.{list_all, list_any}
+use Rattle.std.specs.Map.{lookup}
+use Rattle.std.specs.BTreeMap.{is_at, insert_entry}
+use Rattle.pim_types.specs.declared.fact.Key.{Key}
+use Rattle.pim_model.specs.Tables.{Table, row_at, has_row, rows_on, put}
+use Rattle.pim_types.specs.Keys.{key_cmp, same_key, is_on}
+use Rattle.pim_types.proofs.Keys.{equal_keys, same_key_same}
+use Rattle.pim_locality.specs.Scopes.{rows_where}
+
+module _ {R : Type 0} (sees : Key → Bool) (k : Key) (seen : sees k ≡ true) where
+  step : (x : Key × R) (xs : Table R) (b : Bool) → sees x.0 ≡ b
+      → lookup (is_at (key_cmp k)) (rows_where sees xs) ≡ lookup (is_at (key_cmp k)) xs
+      → lookup (is_at (key_cmp k)) (cond b (x ∷ rows_where sees xs) (rows_where sees xs))
+      ≡ lookup (is_at (key_cmp k)) (x ∷ xs)
+  step x xs true e ih = ap (λ (o : Option R). cond (same_key k x.0) (Some x.1) o) ih
+  step x xs false e ih = go (same_key k x.0) refl
+    where
+      go : (c : Bool) → same_key k x.0 ≡ c
+          → lookup (is_at (key_cmp k)) (rows_where sees xs) ≡ cond c (Some x.1) (lookup (is_at (key_cmp k)) xs)
+      go true f = cc (ap sees (equal_keys k x.0 f), seen, e)
+      go false f = ih
+
+  pub row_in_scope : (t : Table R) → row_at (rows_where sees t) k ≡ row_at t k
+  unfolding row_at rows_where
+  row_in_scope [] = refl
+  row_in_scope (x ∷ xs) = step x xs (sees x.0) refl (row_in_scope xs)
+
+  pub has_row_in_scope : (t : Table R) → has_row (rows_where sees t) k ≡ has_row t k
+  unfolding has_row
+  has_row_in_scope t = ap (λ (o : Option R). is_some o) (row_in_scope t)
+
+-- ---- tables whose rows were cut down
+
+module _ {R : Type 0} (cut : R → R) where
+  abbrev cut_entry : Key × R → Key × R
+  cut_entry e = (e.0, cut e.1)
+
+  cut_step : (k : Key) (x : Key × R) (xs : Table R) (c : Bool)
+      → is_some (lookup (is_at (key_cmp k)) (map cut_entry xs)) ≡ is_some (lookup (is_at (key_cmp k)) xs)
+      → is_some (cond c (Some (cut x.1)) (lookup (is_at (key_cmp k)) (map cut_entry xs)))
+      ≡ is_some (cond c (Some x.1) (lookup (is_at (key_cmp k)) xs))
+  cut_step k x xs true ih = refl
+  cut_step k x xs false ih = ih
+
+  pub has_row_cut : (k : Key) (t : Table R) → has_row (map cut_entry t) k ≡ has_row t k
+  unfolding has_row row_at
+  has_row_cut k [] = refl
+  has_row_cut k (x ∷ xs) = cut_step k x xs (same_key k x.0) (has_row_cut k xs)
+
+  on_step : (i : ℕ) (x : Key × R) (xs : Table R) (b : Bool)
+      → rows_on i (map cut_entry xs) ≡ map cut_entry (rows_on i xs)
+      → cond b (cut_entry x ∷ rows_on i (map cut_entry xs)) (rows_on i (map cut_entry xs)) ≡ map cut_entry
+      (cond b (x ∷ rows_on i xs) (rows_on i xs))
+  on_step i x xs true ih = ap (λ (t : Table R). cut_entry x ∷ t) ih
+  on_step i x xs false ih = ih
+
+  pub rows_on_cut : (i : ℕ) (t : Table R) → rows_on i (map cut_entry t) ≡ map cut_entry (rows_on i t)
+  unfolding rows_on
+  rows_on_cut i [] = refl
+  rows_on_cut i (x ∷ xs) = on_step i x xs (is_on i x.0) (rows_on_cut i xs)
+
+  pub any_cut : (q : Key × R → Bool) (t : Table R) → list_any q (map cut_entry t) ≡ list_any (λ e. q (cut_entry e)) t
+  any_cut q [] = refl
+  any_cut q (x ∷ xs) = ap (λ (b : Bool). q (cut_entry x) || b) (any_cut q xs)
+
+  pub all_cut : (q : Key × R → Bool) (t : Table R) → list_all q (map cut_entry t) ≡ list_all (λ e. q (cut_entry e)) t
+  all_cut q [] = refl
+  all_cut q (x ∷ xs) = ap (λ (b : Bool). q (cut_entry x) && b) (all_cut q xs)
+
+-- ---- a row that is put
+
+module _ {R : Type 0} (k : Key) (r : R) where
+  put_step : (x : Key × R) (xs : Table R) (o : Ordering) → key_cmp k x.0 ≡ o
+      → row_at (insert_entry key_cmp xs k r) k ≡ Some r
+      → row_at (match_ordering o ((k, r) ∷ x ∷ xs) ((x.0, r) ∷ xs) (x ∷ insert_entry key_cmp xs k r)) k ≡ Some r
+  unfolding row_at
+  put_step x xs Less e ih = rw (same_key_same k) refl
+  put_step x xs Equal e ih = rw e refl
+  put_step x xs Greater e ih = rw e ih
+
+  pub row_put : (t : Table R) → row_at (put t k r) k ≡ Some r
+  unfolding put row_at
+  row_put [] = rw (same_key_same k) refl
+  row_put (x ∷ xs) = put_step x xs (key_cmp k x.0) refl (row_put xs)

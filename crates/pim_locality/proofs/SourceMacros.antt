@@ -1,0 +1,168 @@
+-- Each macro of a source, in a scope with the rows that it reads, is what it is in the state. Each line is the
+-- macro's own body, with the laws of its parts in the place of the parts.
+use Rattle.std.proofs.Common.{◌≡◌, ℕ, Bool, true, false, not, ◌||◌, ◌&&◌, cond, is_none, is_some, option_map, ap, ◌∙◌}
+use Rattle.std.specs.Option.{option_map_or, option_or}
+use Rattle.pim_types.specs.declared.fact.AssertRow.{AssertRow}
+use Rattle.pim_types.specs.declared.fact.DownstreamRow.{DownstreamRow}
+use Rattle.pim_types.specs.declared.fact.Key.{Key}
+use Rattle.pim_types.specs.declared.fact.RegisterRow.{RegisterRow}
+use Rattle.pim_types.specs.declared.fact.SourceRecordRow.{SourceRecordRow}
+use Rattle.pim_types.specs.declared.fact.SourceRow.{SourceRow}
+use Rattle.pim_types.specs.declared.upstream.TreeState.{TreeState}
+use Rattle.pim_model.specs.Desires.{is_immediate_empty, is_inherited_empty, join_desired, prune_desired, rpf_rpt, rpf_source, tree_state, winner_hop}
+use Rattle.pim_model.specs.Neighbours.{nbr}
+use Rattle.pim_model.specs.Receivers.{local_receiver_exclude, local_receiver_include, source_record}
+use Rattle.pim_model.specs.Sets.{assert_source, immediate_olist, inherited_olist, inherited_olist_rpt, is_better, is_empty, is_kept_alive, is_loser, is_register_join, is_winner, joins, lost_assert, lost_assert_rpt, pim_exclude, pim_include, prunes, route_metric, serves, spt_bit, spt_metric, tunnel, ◌∖◌, ◌∪◌}
+use Rattle.pim_model.specs.State.{State, is_own, my_address}
+use Rattle.pim_types.specs.Keys.{rpt_key, source_key, star_key}
+use Rattle.pim_model.specs.Tables.{same_hop}
+use Rattle.pim_model.specs.Unicast.{route}
+use Rattle.pim_locality.specs.Scopes.{scope}
+use Rattle.pim_locality.proofs.SharedMacros.{is_dr_local, nbr_local, route_local, rpf_interface_local, rpf_interface_rp_local}
+use Rattle.pim_locality.proofs.Rows.{row_in_scope, has_row_in_scope}
+use Rattle.pim_locality.proofs.StarMacros.{is_exclude_local, is_include_local, join_desired_star_local, joins_star_local, lost_assert_star_local, pim_include_star_local, rpf_at, rpf_rp_at, rpf_star_local, serves_star_local}
+
+-- the rows of (*,G), of (S,G) and of (S,G,rpt) are seen
+pub record ReadsSource (sees : Key → Bool) (g src : ℕ) : Type 0 where
+  pub stars : (i : ℕ) → sees (star_key i g) ≡ true
+  pub sources : (i : ℕ) → sees (source_key i g src) ≡ true
+  pub trees : (i : ℕ) → sees (rpt_key i g src) ≡ true
+
+module _ (sees : Key → Bool) (s : State) (g src : ℕ) (rows : ReadsSource sees g src) where
+  -- ---- facts
+
+  pub spt_bit_local : spt_bit (scope sees s) g src ≡ spt_bit s g src
+  unfolding spt_bit scope
+  spt_bit_local =
+      λ j. option_map_or (λ (r : SourceRow). r.spt)
+      (row_in_scope sees (source_key 0 g src) (rows.sources 0) s.sources j) false
+
+  pub is_kept_alive_local : is_kept_alive (scope sees s) g src ≡ is_kept_alive s g src
+  unfolding is_kept_alive scope
+  is_kept_alive_local =
+      λ j. option_map_or (λ (r : SourceRow). is_some r.keepalive)
+      (row_in_scope sees (source_key 0 g src) (rows.sources 0) s.sources j)
+      false
+
+  tunnel_local : tunnel (scope sees s) g src ≡ tunnel s g src
+  unfolding tunnel scope
+  tunnel_local =
+      λ j. is_register_join (option_map (λ (r : RegisterRow). r.state)
+      (row_in_scope sees (source_key 0 g src) (rows.sources 0) s.registers j))
+
+  pub joins_local : joins (scope sees s) g src ≡ joins s g src
+  unfolding joins scope
+  joins_local = λ j i. has_row_in_scope sees (source_key i g src) (rows.sources i) s.downstream j
+
+  pub prunes_local : prunes (scope sees s) g src ≡ prunes s g src
+  unfolding prunes scope
+  prunes_local =
+      λ j i. option_map_or (λ (r : DownstreamRow). is_none r.pending)
+      (row_in_scope sees (rpt_key i g src) (rows.trees i) s.downstream j) false
+
+  pub assert_source_local : assert_source (scope sees s) g src ≡ assert_source s g src
+  unfolding scope
+  assert_source_local = λ j i. row_in_scope sees (source_key i g src) (rows.sources i) s.asserts j
+
+  source_record_local : source_record (scope sees s) g src ≡ source_record s g src
+  unfolding scope
+  source_record_local = λ j i. row_in_scope sees (source_key i g src) (rows.sources i) s.source_records j
+
+  pub local_include_local : local_receiver_include (scope sees s) g src ≡ local_receiver_include s g src
+  unfolding local_receiver_include
+  local_include_local = λ j i. is_include_local sees s g rows.stars j i && is_some (source_record_local j i)
+
+  local_exclude_local : local_receiver_exclude (scope sees s) g src ≡ local_receiver_exclude s g src
+  unfolding local_receiver_exclude
+  local_exclude_local = λ j i.
+      is_exclude_local sees s g rows.stars j i && option_map_or (λ (r : SourceRecordRow). is_none r.end)
+      (source_record_local j i) false
+
+  -- ---- metrics and asserts
+
+  pub spt_metric_local : (i : ℕ) → spt_metric (scope sees s) src i ≡ spt_metric s src i
+  unfolding spt_metric scope
+  spt_metric_local i = λ j. route_metric false (my_address s i) (is_own s src) (route_local sees s src j)
+
+  lost_assert_local : lost_assert (scope sees s) g src ≡ lost_assert s g src
+  unfolding lost_assert
+  lost_assert_local = λ j i.
+      not (rpf_at sees s src i j) && is_loser (assert_source_local j i)
+      && option_map_or (λ (r : AssertRow). is_better r.winner (spt_metric_local i j)) (assert_source_local j i) false
+
+  lost_assert_rpt_local : lost_assert_rpt (scope sees s) g src ≡ lost_assert_rpt s g src
+  unfolding lost_assert_rpt
+  lost_assert_rpt_local = λ j i.
+      not (rpf_rp_at sees s g i j || (rpf_at sees s src i j && spt_bit_local j)) && is_loser (assert_source_local j i)
+
+  serves_local : serves (scope sees s) g src ≡ serves s g src
+  unfolding serves
+  serves_local = λ j i. (is_dr_local sees s i j && not (lost_assert_local j i)) || is_winner (assert_source_local j i)
+
+  pub pim_include_local : pim_include (scope sees s) g src ≡ pim_include s g src
+  unfolding pim_include
+  pim_include_local = λ j i. serves_local j i && local_include_local j i
+
+  pub pim_exclude_local : pim_exclude (scope sees s) g src ≡ pim_exclude s g src
+  unfolding pim_exclude
+  pim_exclude_local = λ j i. serves_star_local sees s g rows.stars j i && local_exclude_local j i
+
+  -- ---- lists of outgoing interfaces
+
+  immediate_olist_local : immediate_olist (scope sees s) g src ≡ immediate_olist s g src
+  unfolding immediate_olist
+  immediate_olist_local = λ j. joins_local j ∪ pim_include_local j ∖ lost_assert_local j
+
+  pub inherited_olist_rpt_local : inherited_olist_rpt (scope sees s) g src ≡ inherited_olist_rpt s g src
+  unfolding inherited_olist_rpt
+  inherited_olist_rpt_local = λ j.
+      (joins_star_local sees s g rows.stars j ∖ prunes_local j)
+      ∪ (pim_include_star_local sees s g rows.stars j ∖ pim_exclude_local j)
+      ∖ (lost_assert_star_local sees s g rows.stars j ∪ lost_assert_rpt_local j)
+
+  pub inherited_olist_local : inherited_olist (scope sees s) g src ≡ inherited_olist s g src
+  unfolding inherited_olist
+  inherited_olist_local = λ j. inherited_olist_rpt_local j ∪ joins_local j ∪ pim_include_local j ∖ lost_assert_local j
+
+  -- ---- desires and neighbours
+
+  is_immediate_empty_local : is_immediate_empty (scope sees s) g src ≡ is_immediate_empty s g src
+  unfolding is_immediate_empty is_empty scope
+  is_immediate_empty_local = λ j. is_empty s (immediate_olist_local j) && not (tunnel_local j)
+
+  is_inherited_empty_local : is_inherited_empty (scope sees s) g src ≡ is_inherited_empty s g src
+  unfolding is_inherited_empty is_empty scope
+  is_inherited_empty_local = λ j. is_empty s (inherited_olist_local j) && not (tunnel_local j)
+
+  pub join_desired_local : join_desired (scope sees s) g src ≡ join_desired s g src
+  unfolding join_desired
+  join_desired_local =
+      λ j. not (is_immediate_empty_local j) || (is_kept_alive_local j && not (is_inherited_empty_local j))
+
+  pub nbr_route_local : nbr (scope sees s) (route (scope sees s) src) ≡ nbr s (route s src)
+  nbr_route_local = nbr_local sees s (route (scope sees s) src) ∙ ap (nbr s) (route_local sees s src)
+
+  pub rpf_source_local : rpf_source (scope sees s) g src ≡ rpf_source s g src
+  unfolding rpf_source
+  rpf_source_local =
+      λ j. option_or (winner_hop (rpf_interface_local sees s src j) (assert_source_local j)) (nbr_route_local j)
+
+  pub rpf_rpt_local : rpf_rpt (scope sees s) g src ≡ rpf_rpt s g src
+  unfolding rpf_rpt
+  rpf_rpt_local =
+      λ j. option_or (winner_hop (rpf_interface_rp_local sees s g j) (assert_source_local j))
+      (rpf_star_local sees s g rows.stars j)
+
+  prune_desired_local : prune_desired (scope sees s) g src ≡ prune_desired s g src
+  unfolding prune_desired is_empty scope
+  prune_desired_local = λ j.
+      join_desired_star_local sees s g rows.stars j
+      && (is_empty s (inherited_olist_rpt_local j)
+      || (spt_bit_local j && not (same_hop (rpf_star_local sees s g rows.stars j) (rpf_source_local j))))
+
+  pub tree_state_local : tree_state (scope sees s) g src ≡ tree_state s g src
+  unfolding tree_state
+  tree_state_local =
+      λ j. cond (join_desired_star_local sees s g rows.stars j)
+      (cond (prune_desired_local j) TreeState.Pruned TreeState.NotPruned)
+      TreeState.NotJoined

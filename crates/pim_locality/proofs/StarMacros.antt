@@ -1,0 +1,78 @@
+-- Each macro of (*,G), in a scope with the rows of (*,G), is what it is in the state. Each line is the macro's own
+-- body,
+-- with the laws of its parts in the place of the parts.
+use Rattle.std.proofs.Common.{◌≡◌, ℕ, Bool, true, false, not, ◌||◌, ◌&&◌, Some, is_some, ap, ◌∙◌}
+use Rattle.std.specs.Option.{option_map_or, option_or}
+use Rattle.pim_types.specs.declared.fact.GroupRecordRow.{GroupRecordRow}
+use Rattle.pim_types.specs.declared.fact.Key.{Key}
+use Rattle.pim_model.specs.Desires.{join_desired_star, rpf_star, winner_hop}
+use Rattle.pim_model.specs.Neighbours.{nbr}
+use Rattle.pim_model.specs.Receivers.{is_exclude, is_include}
+use Rattle.pim_model.specs.Sets.{assert_star, immediate_olist_star, is_empty, is_loser, is_winner, joins_star, lost_assert_star, pim_include_star, serves_star, ◌∖◌, ◌∪◌}
+use Rattle.pim_model.specs.State.{State}
+use Rattle.pim_model.specs.Tables.{same_option}
+use Rattle.pim_types.specs.Keys.{star_key}
+use Rattle.pim_model.specs.Unicast.{is_rpf_interface, is_rpf_interface_rp, rp_route}
+use Rattle.pim_locality.specs.Scopes.{scope}
+use Rattle.pim_locality.proofs.SharedMacros.{is_dr_local, nbr_local, rp_route_local, rpf_interface_local, rpf_interface_rp_local}
+use Rattle.pim_locality.proofs.Rows.{row_in_scope, has_row_in_scope}
+
+module _ (sees : Key → Bool) (s : State) where
+  pub rpf_at : (address : ℕ) (i : ℕ) → is_rpf_interface (scope sees s) address i ≡ is_rpf_interface s address i
+  rpf_at address i = λ j. same_option (rpf_interface_local sees s address j) (Some i)
+
+  pub rpf_rp_at : (g i : ℕ) → is_rpf_interface_rp (scope sees s) g i ≡ is_rpf_interface_rp s g i
+  rpf_rp_at g i = λ j. same_option (rpf_interface_rp_local sees s g j) (Some i)
+
+-- ---- facts
+
+module _ (sees : Key → Bool) (s : State) (g : ℕ) (stars : (i : ℕ) → sees (star_key i g) ≡ true) where
+  pub joins_star_local : joins_star (scope sees s) g ≡ joins_star s g
+  unfolding joins_star scope
+  joins_star_local = λ j i. has_row_in_scope sees (star_key i g) (stars i) s.downstream j
+
+  pub assert_star_local : assert_star (scope sees s) g ≡ assert_star s g
+  unfolding scope
+  assert_star_local = λ j i. row_in_scope sees (star_key i g) (stars i) s.asserts j
+
+  pub is_exclude_local : is_exclude (scope sees s) g ≡ is_exclude s g
+  unfolding is_exclude scope
+  is_exclude_local =
+      λ j i. option_map_or (λ (r : GroupRecordRow). is_some r.end)
+      (row_in_scope sees (star_key i g) (stars i) s.group_records j) false
+
+  pub is_include_local : is_include (scope sees s) g ≡ is_include s g
+  unfolding scope
+  is_include_local =
+      λ j i. has_row_in_scope sees (star_key i g) (stars i) s.group_records j && not (is_exclude_local j i)
+
+  -- ---- (*,G)
+
+  pub lost_assert_star_local : lost_assert_star (scope sees s) g ≡ lost_assert_star s g
+  unfolding lost_assert_star
+  lost_assert_star_local = λ j i. not (rpf_rp_at sees s g i j) && is_loser (assert_star_local j i)
+
+  pub serves_star_local : serves_star (scope sees s) g ≡ serves_star s g
+  unfolding serves_star
+  serves_star_local =
+      λ j i. (is_dr_local sees s i j && not (lost_assert_star_local j i)) || is_winner (assert_star_local j i)
+
+  pub pim_include_star_local : pim_include_star (scope sees s) g ≡ pim_include_star s g
+  unfolding pim_include_star
+  pim_include_star_local = λ j i. serves_star_local j i && is_exclude_local j i
+
+  immediate_olist_star_local : immediate_olist_star (scope sees s) g ≡ immediate_olist_star s g
+  unfolding immediate_olist_star
+  immediate_olist_star_local = λ j. joins_star_local j ∪ pim_include_star_local j ∖ lost_assert_star_local j
+
+  pub join_desired_star_local : join_desired_star (scope sees s) g ≡ join_desired_star s g
+  unfolding join_desired_star is_empty scope
+  join_desired_star_local = λ j. not (is_empty s (immediate_olist_star_local j))
+
+  pub nbr_rp_local : nbr (scope sees s) (rp_route (scope sees s) g) ≡ nbr s (rp_route s g)
+  nbr_rp_local = nbr_local sees s (rp_route (scope sees s) g) ∙ ap (nbr s) (rp_route_local sees s g)
+
+  pub rpf_star_local : rpf_star (scope sees s) g ≡ rpf_star s g
+  unfolding rpf_star
+  rpf_star_local =
+      λ j. option_or (winner_hop (rpf_interface_rp_local sees s g j) (assert_star_local j)) (nbr_rp_local j)

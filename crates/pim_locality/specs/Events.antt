@@ -1,0 +1,48 @@
+-- An event costs what it concerns: what follows of it is found by the keys that it touches.
+use Rattle.std.specs.Prelude.{List, None, Option, Some, [], true, ℕ, ◌++◌, ◌∷◌, ◌≡◌}
+use Rattle.pim_types.specs.Keys.{source_key, star_key}
+use Rattle.pim_types.specs.declared.fact.Key.{Key}
+use Rattle.pim_model.specs.declared.accepted.Accepted.{Accepted}
+use Rattle.pim_model.specs.Downstream.{joined_keys, pruned_keys}
+use Rattle.pim_model.specs.Firing.{fire_once, fired, settled}
+use Rattle.pim_model.specs.Full.{asserted_keys, reported_groups}
+use Rattle.pim_model.specs.Messages.{Message}
+use Rattle.pim_model.specs.Registers.{registered_group, registered_source}
+use Rattle.pim_model.specs.State.{State}
+use Rattle.pim_model.specs.Step.{change}
+use Rattle.pim_model.specs.Timers.{Ending}
+use Rattle.pim_locality.specs.Locality.{AgreesBut, IsQuiet, own_settled, touching}
+use Rattle.pim_locality.specs.Touches.{isnt_neighbour, touched_by, packet_keys}
+
+-- the keys that an event's own change touches; none are named where it is for all groups
+unfoldable pub touched_by_event : State → Accepted → Option (List Key)
+touched_by_event s (Accepted.JoinPruneToMe i m) = Some (joined_keys s i.number m ++ pruned_keys i.number m)
+touched_by_event s (Accepted.JoinPruneSeen i m) = Some []
+touched_by_event s (Accepted.Assert i from a) = Some (asserted_keys i.number a)
+touched_by_event s (Accepted.Query i from q) = Some (star_key 0 q.group ∷ [])
+touched_by_event s (Accepted.Report i records) = Some (reported_groups i.number records)
+touched_by_event s (Accepted.Data i p) = Some (packet_keys s p.destination p.source i.number)
+touched_by_event s (Accepted.Register p r) = Some (source_key 0 (registered_group r) (registered_source r) ∷ [])
+touched_by_event s (Accepted.RegisterStop from r) = Some (source_key 0 r.group.bits r.source.bits ∷ [])
+touched_by_event s _ = None
+
+-- it touches no others
+abbrev pub ChangeTouches : Type 0
+ChangeTouches = (s : State) (w : ℕ) (a : Accepted) (keys : List Key) → touched_by_event s a ≡ Some keys
+    → AgreesBut (touching keys) s (change s w a).state
+
+-- the own change of what was accepted, with its messages
+abbrev pub own_change : State → ℕ → Accepted → State × List Message
+own_change s w a = ((change s w a).state, (change s w a).messages)
+
+-- from a quiet state all that follows of an event follows of the keys that it touches
+abbrev pub EventIsLocal : Type 0
+EventIsLocal = (s : State) → IsQuiet s → (w : ℕ) (a : Accepted) (keys : List Key) → touched_by_event s a ≡ Some keys
+    → settled s (own_change s w a) w ≡ own_settled keys s (own_change s w a) w
+
+-- likewise of a timer's end
+abbrev pub FiringIsLocal : Type 0
+FiringIsLocal = (s : State) → IsQuiet s → (w : ℕ) (e : Ending) → isnt_neighbour e.timer.kind ≡ true
+    → fire_once w s e
+    ≡ own_settled (touched_by e.timer.kind e.timer.key) s
+    (fired (record s { present = e.end }) e.timer.kind e.timer.key) w

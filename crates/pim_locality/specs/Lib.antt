@@ -1,0 +1,5 @@
+pub mod Scopes
+pub mod Locality
+pub mod Touches
+pub mod Sees
+pub mod Events

@@ -1,0 +1,54 @@
+-- What the machines of a key see of a state: the rows that they read, and what all groups share.
+use Rattle.std.specs.Prelude.{Bool, None, [], filter, map, false, ℕ, ◌&&◌, ◌==◌, ◌||◌}
+use Rattle.pim_types.specs.declared.fact.InterfaceRow.{InterfaceRow}
+use Rattle.pim_types.specs.declared.fact.NeighbourRow.{NeighbourRow}
+use Rattle.pim_types.specs.declared.fact.Key.{Key}
+use Rattle.pim_model.specs.State.{State}
+use Rattle.pim_model.specs.Tables.{Table}
+use Rattle.pim_types.specs.Keys.{group_in, is_of_group, source_in}
+
+-- The machines of a key are that of (*,G), or those of (S,G) and (S,G,rpt). They read the rows of (*,G), and those of
+-- their own source: the rows of its group that have no source, or the same.
+unfoldable pub reads : Key → Key → Bool
+reads k q = (group_in q == group_in k) && ((source_in q == 0) || (source_in q == source_in k))
+
+-- the rows whose key passes
+unfoldable pub rows_where : {R : Type 0} → (Key → Bool) → Table R → Table R
+rows_where sees t = filter (λ e. sees e.0) t
+
+-- the rows of a group
+abbrev pub rows_of : {R : Type 0} → ℕ → Table R → Table R
+rows_of g t = rows_where (is_of_group g) t
+
+-- which interfaces are up, without their Hellos
+abbrev pub only_up : Key × InterfaceRow → Key × InterfaceRow
+only_up e = (e.0, record { generation = 0; hello_end = 0; is_hello_owed = false })
+
+-- a neighbour with its priority alone
+abbrev pub only_priority : Key × NeighbourRow → Key × NeighbourRow
+only_priority e = (e.0, record e.1 { end = None; lan_delay = None; generation = None })
+
+-- the state as macros see it that read these keys alone; they read no present, no timer of an upstream state, and
+-- nothing of queriers
+unfoldable pub scope : (Key → Bool) → State → State
+scope sees s = record {
+  settings = s.settings;
+  configured = s.configured;
+  present = 0;
+  routes = s.routes;
+  ranges = s.ranges;
+  interfaces = map only_up s.interfaces;
+  neighbours = map only_priority s.neighbours;
+  queriers = [];
+  group_records = rows_where sees s.group_records;
+  source_records = rows_where sees s.source_records;
+  group_repeats = [];
+  source_repeats = [];
+  sendings = [];
+  downstream = rows_where sees s.downstream;
+  asserts = rows_where sees s.asserts;
+  join_timers = [];
+  override_timers = [];
+  sources = rows_where sees s.sources;
+  registers = rows_where sees s.registers;
+}

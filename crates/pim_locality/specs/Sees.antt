@@ -1,0 +1,80 @@
+-- What the macros of a source of a group read: two states in which they read the same.
+use Rattle.std.specs.Option.{option_map_or}
+use Rattle.std.specs.Prelude.{Bool, Option, Some, false, is_none, is_some, option_map, ℕ, ◌≡◌}
+use Rattle.pim_types.specs.declared.fact.AssertRow.{AssertRow}
+use Rattle.pim_types.specs.declared.fact.SourceRecordRow.{SourceRecordRow}
+use Rattle.pim_model.specs.AssertMacros.{is_tracking_desired, is_tracking_desired_star, my_metric}
+use Rattle.pim_model.specs.Desires.{join_desired, rpf_rpt, tree_state, winner_hop}
+use Rattle.pim_model.specs.Neighbours.{is_dr, is_neighbour, nbr}
+use Rattle.pim_model.specs.Receivers.{is_exclude, is_include, source_record}
+use Rattle.pim_model.specs.Sets.{assert_source, assert_star, is_kept_alive, is_loser, is_winner, joins, joins_star, prunes, spt_bit, tunnel}
+use Rattle.pim_model.specs.Registers.{could_register}
+use Rattle.pim_model.specs.State.{State}
+use Rattle.pim_model.specs.Unicast.{is_connected, route, rp_of, rp_route}
+
+-- a source without an end
+abbrev pub is_excluded_row : Option SourceRecordRow → Bool
+is_excluded_row o = option_map_or (λ (r : SourceRecordRow). is_none r.end) o false
+
+-- of (*,G), but for the neighbours
+pub record SeesStar (g : ℕ) (s t : State) : Type 0 where
+  pub settings : s.settings ≡ t.settings
+  pub configured : s.configured ≡ t.configured
+  pub dr : is_dr s ≡ is_dr t
+  pub neighbour : is_neighbour s ≡ is_neighbour t
+  pub rp : rp_of s g ≡ rp_of t g
+  pub rp_path : rp_route s g ≡ rp_route t g
+  pub joined : joins_star s g ≡ joins_star t g
+  pub losers : (i : ℕ) → is_loser (assert_star s g i) ≡ is_loser (assert_star t g i)
+  pub winners : (i : ℕ) → is_winner (assert_star s g i) ≡ is_winner (assert_star t g i)
+  pub won_by : (i : ℕ) → winner_hop (Some i) (assert_star s g) ≡ winner_hop (Some i) (assert_star t g)
+  pub excluding : is_exclude s g ≡ is_exclude t g
+  pub including : is_include s g ≡ is_include t g
+  pub rp_nbr : nbr s (rp_route s g) ≡ nbr t (rp_route t g)
+
+-- of (S,G) and (S,G,rpt)
+pub record SeesSource (g src : ℕ) (s t : State) : Type 0 where
+  pub star : SeesStar g s t
+  pub path : route s src ≡ route t src
+  pub nbr : nbr s (route s src) ≡ nbr t (route t src)
+  pub joined : joins s g src ≡ joins t g src
+  pub pruned : prunes s g src ≡ prunes t g src
+  pub losers : (i : ℕ) → is_loser (assert_source s g src i) ≡ is_loser (assert_source t g src i)
+  pub winners : (i : ℕ) → is_winner (assert_source s g src i) ≡ is_winner (assert_source t g src i)
+  pub won_by : (i : ℕ) → winner_hop (Some i) (assert_source s g src) ≡ winner_hop (Some i) (assert_source t g src)
+  pub metrics : (i : ℕ) → option_map (λ (r : AssertRow). r.winner) (assert_source s g src i) ≡ option_map
+      (λ (r : AssertRow). r.winner) (assert_source t g src i)
+  pub listed : (i : ℕ) → is_some (source_record s g src i) ≡ is_some (source_record t g src i)
+  pub excluded : (i : ℕ) → is_excluded_row (source_record s g src i) ≡ is_excluded_row (source_record t g src i)
+  pub spt : spt_bit s g src ≡ spt_bit t g src
+  pub to_rp : tunnel s g src ≡ tunnel t g src
+
+-- ---- where they read the same, they are the same
+
+abbrev pub DesiresOfSame : Type 0
+DesiresOfSame = (g src : ℕ) (s t : State) → SeesSource g src s t
+    → is_kept_alive s g src ≡ is_kept_alive t g src → join_desired s g src ≡ join_desired t g src
+
+abbrev pub TreeStatesOfSame : Type 0
+TreeStatesOfSame = (g src : ℕ) (s t : State) → SeesSource g src s t → tree_state s g src ≡ tree_state t g src
+
+abbrev pub TreeNeighboursOfSame : Type 0
+TreeNeighboursOfSame = (g src : ℕ) (s t : State) → SeesSource g src s t → rpf_rpt s g src ≡ rpf_rpt t g src
+
+abbrev pub ConnectionsOfSame : Type 0
+ConnectionsOfSame = (g src : ℕ) (s t : State) → SeesSource g src s t → is_connected s src ≡ is_connected t src
+
+abbrev pub MetricsOfSame : Type 0
+MetricsOfSame = (g src : ℕ) (s t : State) → SeesSource g src s t → (i : ℕ) → my_metric s g src i ≡ my_metric t g src i
+
+abbrev pub TrackingOfSame : Type 0
+TrackingOfSame = (g src : ℕ) (s t : State) → SeesSource g src s t → join_desired s g src ≡ join_desired t g src
+    → (i : ℕ) → is_tracking_desired s g src i ≡ is_tracking_desired t g src i
+
+abbrev pub StarTrackingOfSame : Type 0
+StarTrackingOfSame = (g : ℕ) (s t : State) → SeesStar g s t
+    → (i : ℕ) → is_tracking_desired_star s g i ≡ is_tracking_desired_star t g i
+
+abbrev pub RegistersOfSame : Type 0
+RegistersOfSame = (g src : ℕ) (s t : State) → SeesSource g src s t
+    → is_kept_alive s g src ≡ is_kept_alive t g src → could_register s g src ≡ could_register t g src

@@ -1,0 +1,314 @@
+//! Laws of the definitions, each the contract of a function with nothing to do.
+
+ghost use Rattle.pim_locality.specs.Events.{ChangeTouches, EventIsLocal, FiringIsLocal};
+ghost use Rattle.pim_locality.specs.Locality.{AbsentIsUndesired, AgreedSourceIsUntold, AgreedStarIsUntold, AscendingAgain, AssertsAreLocal, ClearingIsLocal, CouldRegisterIsLocal, MembersTell, NextToClearIsLocal, OpeningIsQuiet, PresentTouchesNone, QuietGoesOn, RegistersAreLocal, RowsElsewhereStay, SettlingClears, SettlingIsLocal, SettlingIsOwn, SettlingQuiets, SourceDesiresAreLocal, SourceViewsAreLocal, SourcesAreOwn, SourcesStandOnce, StarDesiresAreLocal, StarViewsAreLocal, TouchingIsClosed, TreeStatesAreLocal, UpstreamIsLocal, UpstreamIsOwn};
+ghost use Rattle.pim_locality.specs.Sees.{ConnectionsOfSame, DesiresOfSame, MetricsOfSame, RegistersOfSame, StarTrackingOfSame, TrackingOfSame, TreeNeighboursOfSame, TreeStatesOfSame};
+ghost use Rattle.pim_locality.specs.Touches.{AssertDueTouches, AssertTouches, GroupEndTouches, HelloAgainTouchesNone, JoinPruneTouches, PacketTouches, QueryTouches, RegisterStopTouches, RegisterTouches, ReportTouches, SeenTouchesNone, SourceEndTouches, TimerTouches};
+
+/// JoinDesired(*,G) reads the rows of (*,G) alone.
+#[tactic(auto, using(crate::proofs::UntoldKeys::join_desired_star_at))]
+pub fn star_desires_are_local()
+    ensures { StarDesiresAreLocal }
+{}
+
+/// The upstream state of (S,G,rpt) reads the rows of (*,G) and of the source alone.
+#[tactic(auto, using(crate::proofs::UntoldKeys::tree_state_at))]
+pub fn tree_states_are_local()
+    ensures { TreeStatesAreLocal }
+{}
+
+/// JoinDesired(S,G) reads the rows of (*,G) and of the source alone.
+#[tactic(auto, using(crate::proofs::UntoldKeys::join_desired_at))]
+pub fn source_desires_are_local()
+    ensures { SourceDesiresAreLocal }
+{}
+
+/// What is compared of (*,G) before and after a change reads the rows of (*,G) alone.
+#[tactic(auto, using(crate::proofs::UntoldKeys::star_view_at))]
+pub fn star_views_are_local()
+    ensures { StarViewsAreLocal }
+{}
+
+/// What is compared of a source reads the rows of (*,G) and of the source alone.
+#[tactic(auto, using(crate::proofs::UntoldKeys::source_view_at))]
+pub fn source_views_are_local()
+    ensures { SourceViewsAreLocal }
+{}
+
+/// Whether a source can be registered depends on the rows that its key reads.
+#[tactic(auto, using(crate::proofs::Asserts::could_register_here))]
+pub fn could_register_is_local()
+    ensures { CouldRegisterIsLocal }
+{}
+
+/// Nothing is told upstream of (*,G) where the states agree on it.
+#[tactic(auto, using(crate::proofs::UntoldKeys::star_untold_where_agreed))]
+pub fn agreed_star_is_untold()
+    ensures { AgreedStarIsUntold }
+{}
+
+/// Nothing is told upstream of a source where the states agree on it.
+#[tactic(auto, using(crate::proofs::UntoldKeys::source_untold_where_agreed))]
+pub fn agreed_source_is_untold()
+    ensures { AgreedSourceIsUntold }
+{}
+
+/// Who reads the rows of a touched key is touched.
+#[tactic(auto, using(crate::proofs::Touches::touching_is_closed))]
+pub fn touching_is_closed()
+    ensures { TouchingIsClosed }
+{}
+
+/// Ascending numbers are told by their members.
+#[tactic(auto, using(crate::proofs::Members::members_tell))]
+pub fn members_tell()
+    ensures { MembersTell }
+{}
+
+/// A group without facts isn't desired.
+#[tactic(auto, using(crate::proofs::AbsentGroups::absent_is_undesired))]
+pub fn absent_is_undesired()
+    ensures { AbsentIsUndesired }
+{}
+
+/// Where the opening and the state agree on all keys but the touched ones, what is told upstream is told of those.
+#[tactic(auto, using(crate::proofs::TouchedUpstream::upstream_is_local))]
+pub fn upstream_is_local()
+    ensures { UpstreamIsLocal }
+{}
+
+/// Whether an assert must go depends on the rows that its key reads.
+#[tactic(auto, using(crate::proofs::Asserts::assert_must_go_local))]
+pub fn asserts_are_local()
+    ensures { AssertsAreLocal }
+{}
+
+/// A row set under a key leaves the rows that are seen without it.
+#[tactic(auto, using(crate::proofs::RowChanges::set_elsewhere))]
+pub fn rows_elsewhere_stay()
+    ensures { RowsElsewhereStay }
+{}
+
+/// Where nothing had to go at the opening, the next fact that must go is a touched one.
+#[tactic(auto, using(crate::proofs::Clearing::to_clear_of_touched))]
+pub fn next_to_clear_is_local()
+    ensures { NextToClearIsLocal }
+{}
+
+/// Where nothing had to go at the opening, all that goes is touched.
+#[tactic(auto, using(crate::proofs::TouchedClearing::clearing_is_local))]
+pub fn clearing_is_local()
+    ensures { ClearingIsLocal }
+{}
+
+/// Where all registers were settled at the opening, those of touched sources are to be settled.
+#[tactic(auto, using(crate::proofs::Registers::registers_of_touched))]
+pub fn registers_are_local()
+    ensures { RegistersAreLocal }
+{}
+
+/// What follows of a change of touched keys follows of those alone.
+#[tactic(auto, using(crate::proofs::Settling::settling_is_local))]
+pub fn settling_is_local()
+    ensures { SettlingIsLocal }
+{}
+
+/// A Join/Prune to the router touches the keys that it names.
+#[tactic(auto, using(crate::proofs::Touches::join_prune_touches))]
+pub fn join_prune_touches()
+    ensures { JoinPruneTouches }
+{}
+
+/// The end of an assert's timer touches its key.
+#[tactic(auto, using(crate::proofs::Events::assert_due_touches))]
+pub fn assert_due_touches()
+    ensures { AssertDueTouches }
+{}
+
+/// An Assert touches the keys that it names.
+#[tactic(auto, using(crate::proofs::Events::assert_touches))]
+pub fn assert_touches()
+    ensures { AssertTouches }
+{}
+
+/// The end of a timer touches its key or group, the end of an upstream timer nothing.
+#[tactic(auto, using(crate::proofs::SilentEvents::timer_touches))]
+pub fn timer_touches()
+    ensures { TimerTouches }
+{}
+
+/// What is quiet stays quiet where all keys agree.
+pub fn quiet_goes_on()
+    ensures { QuietGoesOn }
+{}
+
+/// After settling no fact must go.
+pub fn settling_clears()
+    ensures { SettlingClears }
+{}
+
+/// After settling a change whose sources stand once all is quiet.
+pub fn settling_quiets()
+    ensures { SettlingQuiets }
+{}
+
+/// A packet touches its source, and its group where it may make an assert of (*,G).
+#[tactic(auto, using(crate::proofs::Packets::packet_touches))]
+pub fn packet_touches()
+    ensures { PacketTouches }
+{}
+
+/// The end of a group timer touches its group.
+#[tactic(auto, using(crate::proofs::Membership::group_end_here))]
+pub fn group_end_touches()
+    ensures { GroupEndTouches }
+{}
+
+/// The end of a source timer touches its group.
+#[tactic(auto, using(crate::proofs::Membership::source_end_here))]
+pub fn source_end_touches()
+    ensures { SourceEndTouches }
+{}
+
+/// A report touches the groups that it names.
+#[tactic(auto, using(crate::proofs::Membership::report_touches))]
+pub fn report_touches()
+    ensures { ReportTouches }
+{}
+
+/// A Join/Prune to another router touches nothing.
+#[tactic(auto, using(crate::proofs::SilentEvents::seen_touches_none))]
+pub fn seen_touches_none()
+    ensures { SeenTouchesNone }
+{}
+
+/// The rows of a group name all its sources.
+#[tactic(auto, using(crate::proofs::OwnKeys::own_sources))]
+pub fn sources_are_own()
+    ensures { SourcesAreOwn }
+{}
+
+/// Numbers that are put in order once more stay as they are.
+#[tactic(auto, using(crate::proofs::OwnKeys::ascending_again))]
+pub fn ascending_again()
+    ensures { AscendingAgain }
+{}
+
+/// At the opening all is quiet.
+pub fn opening_is_quiet()
+    ensures { OpeningIsQuiet }
+{}
+
+/// Time alone touches nothing.
+#[tactic(auto, using(crate::proofs::OwnKeys::present_touches_none))]
+pub fn present_touches_none()
+    ensures { PresentTouchesNone }
+{}
+
+/// Sources whose keys rise stand once.
+pub fn sources_stand_once()
+    ensures { SourcesStandOnce }
+{}
+
+/// Where the opening and the state agree on all keys but those that some touch, what is told upstream is found by the
+/// rows of their groups.
+#[tactic(auto, using(crate::proofs::OwnKeys::upstream_is_own))]
+pub fn upstream_is_own()
+    ensures { UpstreamIsOwn }
+{}
+
+/// A Hello of a neighbour with the priority and the generation that it had touches nothing.
+#[tactic(auto, using(crate::proofs::RefreshedNeighbours::hello_again_touches_none))]
+pub fn hello_again_touches_none()
+    ensures { HelloAgainTouchesNone }
+{}
+
+/// A query touches its group.
+#[tactic(auto, using(crate::proofs::OtherEvents::query_touches))]
+pub fn query_touches()
+    ensures { QueryTouches }
+{}
+
+/// A Register-Stop touches its source, or its group where it names none.
+#[tactic(auto, using(crate::proofs::OtherEvents::register_stop_touches))]
+pub fn register_stop_touches()
+    ensures { RegisterStopTouches }
+{}
+
+/// A Register touches its source.
+#[tactic(auto, using(crate::proofs::OtherEvents::register_received_touches))]
+pub fn register_touches()
+    ensures { RegisterTouches }
+{}
+
+/// JoinDesired(S,G) is the same where it reads the same.
+#[tactic(auto, using(crate::proofs::SameMacros::join_desired_same))]
+pub fn desires_of_same()
+    ensures { DesiresOfSame }
+{}
+
+/// So is the upstream state of (S,G,rpt).
+#[tactic(auto, using(crate::proofs::SameMacros::tree_state_same))]
+pub fn tree_states_of_same()
+    ensures { TreeStatesOfSame }
+{}
+
+/// So is RPF'(S,G,rpt).
+#[tactic(auto, using(crate::proofs::SameMacros::rpf_rpt_same))]
+pub fn tree_neighbours_of_same()
+    ensures { TreeNeighboursOfSame }
+{}
+
+/// So is whether the source is connected.
+#[tactic(auto, using(crate::proofs::SameMacros::is_connected_same))]
+pub fn connections_of_same()
+    ensures { ConnectionsOfSame }
+{}
+
+/// So is my_assert_metric(S,G,I).
+#[tactic(auto, using(crate::proofs::SameMacros::my_metric_same))]
+pub fn metrics_of_same()
+    ensures { MetricsOfSame }
+{}
+
+/// So is AssertTrackingDesired(S,G,I).
+#[tactic(auto, using(crate::proofs::SameMacros::is_tracking_same))]
+pub fn tracking_of_same()
+    ensures { TrackingOfSame }
+{}
+
+/// So is AssertTrackingDesired(*,G,I).
+#[tactic(auto, using(crate::proofs::SameMacros::is_tracking_star_same))]
+pub fn star_tracking_of_same()
+    ensures { StarTrackingOfSame }
+{}
+
+/// So is CouldRegister(S,G).
+#[tactic(auto, using(crate::proofs::SameMacros::could_register_same))]
+pub fn registers_of_same()
+    ensures { RegistersOfSame }
+{}
+
+/// What follows of a change that touches some keys is found by the rows of their groups.
+#[tactic(auto, using(crate::proofs::Settling::settling_is_own))]
+pub fn settling_is_own()
+    ensures { SettlingIsOwn }
+{}
+
+/// An event's own change touches no other keys than those that it is known by.
+#[tactic(auto, using(crate::proofs::EventLaws::change_touches))]
+pub fn change_touches()
+    ensures { ChangeTouches }
+{}
+
+/// From a quiet state all that follows of an event follows of the keys that it touches.
+#[tactic(auto, using(crate::proofs::EventLaws::event_is_local))]
+pub fn event_is_local()
+    ensures { EventIsLocal }
+{}
+
+/// From a quiet state all that follows of a timer's end follows of the keys that it touches.
+#[tactic(auto, using(crate::proofs::EventLaws::firing_is_local))]
+pub fn firing_is_local()
+    ensures { FiringIsLocal }
+{}

@@ -1,0 +1,163 @@
+-- Tables whose keys rise, and what holds of each entry, through what changes a table.
+use Rattle.std.proofs.Common.{◌≡◌, Bool, true, false, cond, List, [], ◌∷◌, map, Option, Some, None, refl, ap, ◌∙◌, subst}
+use Rattle.std.specs.List.{filter, filter_map, cons_option, AllByRecursion}
+use Rattle.std.specs.List.Sorted.{IsStrictlySortedBy}
+use Rattle.std.specs.BTreeMap.{insert_entry}
+use Rattle.std.specs.Ordering.{is_eq, match_ordering, ordering_reverse}
+use Rattle.std.specs.declared.cmp.Ordering.{Ordering}
+use Rattle.std.specs.declared.cmp.Ordering.TheVariants.{Less, Equal, Greater}
+use Rattle.pim_types.specs.declared.fact.Key.{Key}
+use Rattle.pim_model.specs.Tables.{Table, keys_in, put}
+use Rattle.pim_types.specs.Keys.{key_cmp}
+use Rattle.pim_types.proofs.Keys.{equal_keys, key_cmp_total}
+
+-- ---- each entry
+
+module _ {X : Type 0} (P : X → Type 0) where
+  each_cond : (x : X) (ys : List X) (b : Bool) → P x → AllByRecursion P ys → AllByRecursion P (cond b (x ∷ ys) ys)
+  each_cond x ys true h e = (h, e)
+  each_cond x ys false h e = e
+
+  pub each_filter : (test : X → Bool) (xs : List X) → AllByRecursion P xs → AllByRecursion P (filter test xs)
+  each_filter test [] e = tt
+  each_filter test (x ∷ xs) e = each_cond x (filter test xs) (test x) e.0 (each_filter test xs e.1)
+
+  pub each_option : (o : Option X) (ys : List X) → ((y : X) → o ≡ Some y → P y) → AllByRecursion P ys
+      → AllByRecursion P (cons_option o ys)
+  each_option None ys h e = e
+  each_option (Some y) ys h e = (h y refl, e)
+
+module _ {X Y : Type 0} (P : X → Type 0) (Q : Y → Type 0) where
+  pub each_filter_map : (h : X → Option Y) → ((x : X) (y : Y) → h x ≡ Some y → P x → Q y) → (xs : List X)
+      → AllByRecursion P xs → AllByRecursion Q (filter_map h xs)
+  each_filter_map h keeps [] e = tt
+  each_filter_map h keeps (x ∷ xs) e =
+      each_option Q (h x) (filter_map h xs) (λ y f. keeps x y f e.0) (each_filter_map h keeps xs e.1)
+
+  pub each_map : (f : X → Y) → ((x : X) → P x → Q (f x)) → (xs : List X) → AllByRecursion P xs
+      → AllByRecursion Q (map f xs)
+  each_map f keeps [] e = tt
+  each_map f keeps (x ∷ xs) e = (keeps x e.0, each_map f keeps xs e.1)
+
+pub each_more : {X : Type 0} (P Q : X → Type 0) → ((x : X) → P x → Q x) → (xs : List X) → AllByRecursion P xs
+    → AllByRecursion Q xs
+each_more P Q more [] e = tt
+each_more P Q more (x ∷ xs) e = (more x e.0, each_more P Q more xs e.1)
+
+module _ {R : Type 0} (P : Key × R → Type 0) (k : Key) (r : R) (new : P (k, r)) where
+  each_put_step : (x : Key × R) (xs ys : Table R) (o : Ordering) → key_cmp k x.0 ≡ o → P x → AllByRecursion P xs
+      → AllByRecursion P ys
+      → AllByRecursion P (match_ordering o ((k, r) ∷ x ∷ xs) ((x.0, r) ∷ xs) (x ∷ ys))
+  each_put_step x xs ys Less e h g f = (new, (h, g))
+  each_put_step x xs ys Equal e h g f =
+      (subst (λ (q : Key). P (q, r)) (equal_keys k x.0 (ap is_eq e)) new, g)
+  each_put_step x xs ys Greater e h g f = (h, f)
+
+  each_inserted : (t : Table R) → AllByRecursion P t → AllByRecursion P (insert_entry key_cmp t k r)
+  each_inserted [] e = (new, tt)
+  each_inserted (x ∷ xs) e =
+      each_put_step x xs (insert_entry key_cmp xs k r) (key_cmp k x.0) refl e.0 e.1 (each_inserted xs e.1)
+
+  pub each_put : (t : Table R) → AllByRecursion P t → AllByRecursion P (put t k r)
+  unfolding put
+  each_put t e = each_inserted t e
+
+-- what a filter leaves passes its test
+pub each_passing : {X : Type 0} (P : X → Type 0) (test : X → Bool) (xs : List X) → AllByRecursion P xs
+    → AllByRecursion (λ x. P x × (test x ≡ true)) (filter test xs)
+each_passing P test [] e = tt
+each_passing P test (x ∷ xs) e = go (test x) refl (each_passing P test xs e.1)
+  where
+    go : (b : Bool) → test x ≡ b → AllByRecursion (λ x. P x × (test x ≡ true)) (filter test xs)
+        → AllByRecursion (λ x. P x × (test x ≡ true)) (cond b (x ∷ filter test xs) (filter test xs))
+    go true h rest = ((e.0, h), rest)
+    go false h rest = rest
+
+-- ---- keys that rise
+
+abbrev pub IsBelow : {R : Type 0} → Key → Key × R → Type 0
+IsBelow k e = key_cmp k e.0 ≡ Less
+
+module _ {R : Type 0} where
+  abbrev pub Up : Table R → Type 0
+  Up [] = Unit {0}
+  Up (x ∷ xs) = AllByRecursion (IsBelow x.0) xs × Up xs
+
+  keys_above : (k : Key) (t : Table R) → AllByRecursion (λ q. key_cmp k q ≡ Less) (keys_in t)
+      → AllByRecursion (IsBelow k) t
+  unfolding keys_in
+  keys_above k [] e = tt
+  keys_above k (x ∷ xs) e = (e.0, keys_above k xs e.1)
+
+  above_keys : (k : Key) (t : Table R) → AllByRecursion (IsBelow k) t
+      → AllByRecursion (λ q. key_cmp k q ≡ Less) (keys_in t)
+  unfolding keys_in
+  above_keys k [] e = tt
+  above_keys k (x ∷ xs) e = (e.0, above_keys k xs e.1)
+
+  pub up_of_sorted : (t : Table R) → IsStrictlySortedBy key_cmp (keys_in t) → Up t
+  unfolding keys_in IsStrictlySortedBy
+  up_of_sorted [] e = tt
+  up_of_sorted (x ∷ xs) e = (keys_above x.0 xs e.0, up_of_sorted xs e.1)
+
+  pub sorted_of_up : (t : Table R) → Up t → IsStrictlySortedBy key_cmp (keys_in t)
+  unfolding keys_in IsStrictlySortedBy
+  sorted_of_up [] e = tt
+  sorted_of_up (x ∷ xs) e = (above_keys x.0 xs e.0, sorted_of_up xs e.1)
+
+  up_cond : (x : Key × R) (ys : Table R) (b : Bool) → AllByRecursion (IsBelow x.0) ys → Up ys → Up (cond b (x ∷ ys) ys)
+  up_cond x ys true h e = (h, e)
+  up_cond x ys false h e = e
+
+  pub up_filter : (test : Key × R → Bool) (t : Table R) → Up t → Up (filter test t)
+  up_filter test [] e = tt
+  up_filter test (x ∷ xs) e =
+      up_cond x (filter test xs) (test x) (each_filter (IsBelow x.0) test xs e.0) (up_filter test xs e.1)
+
+below_same : (a b c d : Key) → b ≡ a → d ≡ c → key_cmp a c ≡ Less → key_cmp b d ≡ Less
+below_same a b c d e f h = ap (λ q. key_cmp q d) e ∙ (ap (λ q. key_cmp a q) f ∙ h)
+
+module _ {R : Type 0} (h : Key × R → Option (Key × R)) (keys : (x y : Key × R) → h x ≡ Some y → y.0 ≡ x.0) where
+  up_option : (x : Key × R) (xs : Table R) (o : Option (Key × R)) → h x ≡ o → AllByRecursion (IsBelow x.0) xs
+      → Up (filter_map h xs)
+      → Up (cons_option o (filter_map h xs))
+  up_option x xs None e above up = up
+  up_option x xs (Some y) e above up = (
+    each_filter_map (IsBelow x.0) (IsBelow y.0) h (λ z w f g. below_same x.0 y.0 z.0 w.0 (keys x y e) (keys z w f) g)
+        xs above,
+    up,
+  )
+
+  pub up_filter_map : (t : Table R) → Up t → Up (filter_map h t)
+  up_filter_map [] e = tt
+  up_filter_map (x ∷ xs) e = up_option x xs (h x) refl e.0 (up_filter_map xs e.1)
+
+pub up_map : {R : Type 0} (f : Key × R → Key × R) → ((e : Key × R) → (f e).0 ≡ e.0) → (t : Table R) → Up t
+    → Up (map f t)
+up_map f keys [] e = tt
+up_map f keys (x ∷ xs) e = (
+  each_map (IsBelow x.0) (IsBelow (f x).0) f (λ z g. below_same x.0 (f x).0 z.0 (f z).0 (keys x) (keys z) g) xs e.0,
+  up_map f keys xs e.1,
+)
+
+module _ {R : Type 0} (k : Key) (r : R) where
+  up_put_step : (x : Key × R) (xs : Table R) (o : Ordering) → key_cmp k x.0 ≡ o → AllByRecursion (IsBelow x.0) xs
+      → Up xs
+      → Up (insert_entry key_cmp xs k r)
+      → Up (match_ordering o ((k, r) ∷ x ∷ xs) ((x.0, r) ∷ xs) (x ∷ insert_entry key_cmp xs k r))
+  up_put_step x xs Less e above up ih =
+      ((e, each_more (IsBelow x.0) (IsBelow k) (λ y h. key_cmp_total.trans k x.0 y.0 e h) xs above), (above, up))
+  up_put_step x xs Equal e above up ih = (above, up)
+  up_put_step x xs Greater e above up ih =
+      (put_above, ih)
+    where
+      less : key_cmp x.0 k ≡ Less
+      less = key_cmp_total.antisymm x.0 k ∙ ap ordering_reverse e
+
+      put_above : AllByRecursion (IsBelow x.0) (insert_entry key_cmp xs k r)
+      put_above = each_inserted (IsBelow x.0) k r less xs above
+
+  pub up_put : (t : Table R) → Up t → Up (put t k r)
+  unfolding put
+  up_put [] e = (tt, tt)
+  up_put (x ∷ xs) e = up_put_step x xs (key_cmp k x.0) refl e.0 e.1 (up_put xs e.1)

@@ -1,0 +1,109 @@
+-- What every event keeps: tables whose keys rise, ends that are later than the present.
+use Rattle.std.specs.List.{list_all}
+use Rattle.std.specs.List.Sorted.{IsStrictlySortedBy}
+use Rattle.std.specs.Prelude.{List, Ok, is_some, true, ◌||◌, ℕ, ◌≡◌}
+use Rattle.pim_types.specs.declared.config.Config.{Config}
+use Rattle.pim_types.specs.declared.event.Event.{Event}
+use Rattle.pim_types.specs.declared.event.EventKind.{EventKind}
+use Rattle.pim_types.specs.declared.fact.AssertRow.{AssertRow}
+use Rattle.pim_types.specs.declared.fact.DownstreamRow.{DownstreamRow}
+use Rattle.pim_types.specs.declared.fact.GroupRecordRow.{GroupRecordRow}
+use Rattle.pim_types.specs.declared.fact.GroupRepeatRow.{GroupRepeatRow}
+use Rattle.pim_types.specs.declared.fact.NeighbourRow.{NeighbourRow}
+use Rattle.pim_types.specs.declared.fact.SendingRow.{SendingRow}
+use Rattle.pim_types.specs.declared.fact.SourceRecordRow.{SourceRecordRow}
+use Rattle.pim_types.specs.declared.fact.SourceRepeatRow.{SourceRepeatRow}
+use Rattle.pim_types.specs.declared.fact.SourceRow.{SourceRow}
+use Rattle.pim_types.specs.declared.fact.Key.{Key}
+use Rattle.pim_types.specs.declared.fact.QuerierRow.{QuerierRow}
+use Rattle.pim_model.specs.Firing.{fire_all, fire_instant, fire_once, settled}
+use Rattle.pim_laws.specs.Laws.{IsAhead, IsFirable}
+use Rattle.pim_model.specs.Limits.{config_test}
+use Rattle.pim_model.specs.Messages.{Message}
+use Rattle.pim_model.specs.State.{State, is_up, opening}
+use Rattle.pim_model.specs.Step.{state_after, step}
+use Rattle.pim_model.specs.Tables.{Table, keys_in}
+use Rattle.pim_types.specs.Keys.{iface_in, key_cmp}
+use Rattle.pim_model.specs.Timers.{Ending}
+
+-- one row a key, the keys rising
+abbrev pub Rises : {R : Type 0} → Table R → Type 0
+Rises t = IsStrictlySortedBy key_cmp (keys_in t)
+
+pub record IsOrdered (s : State) : Type 0 where
+  pub interfaces : Rises s.interfaces
+  pub neighbours : Rises s.neighbours
+  pub queriers : Rises s.queriers
+  pub group_records : Rises s.group_records
+  pub source_records : Rises s.source_records
+  pub group_repeats : Rises s.group_repeats
+  pub source_repeats : Rises s.source_repeats
+  pub sendings : Rises s.sendings
+  pub downstream : Rises s.downstream
+  pub asserts : Rises s.asserts
+  pub join_timers : Rises s.join_timers
+  pub override_timers : Rises s.override_timers
+  pub sources : Rises s.sources
+  pub registers : Rises s.registers
+
+-- no row is of an interface that is down, and a source runs or has SPTbit set
+pub record IsTidy (s : State) : Type 0 where
+  pub neighbours : list_all (λ (e : Key × NeighbourRow). is_up s (iface_in e.0)) s.neighbours ≡ true
+  pub queriers : list_all (λ (e : Key × QuerierRow). is_up s (iface_in e.0)) s.queriers ≡ true
+  pub group_records : list_all (λ (e : Key × GroupRecordRow). is_up s (iface_in e.0)) s.group_records ≡ true
+  pub source_records : list_all (λ (e : Key × SourceRecordRow). is_up s (iface_in e.0)) s.source_records ≡ true
+  pub group_repeats : list_all (λ (e : Key × GroupRepeatRow). is_up s (iface_in e.0)) s.group_repeats ≡ true
+  pub source_repeats : list_all (λ (e : Key × SourceRepeatRow). is_up s (iface_in e.0)) s.source_repeats ≡ true
+  pub sendings : list_all (λ (e : Key × SendingRow). is_up s (iface_in e.0)) s.sendings ≡ true
+  pub downstream : list_all (λ (e : Key × DownstreamRow). is_up s (iface_in e.0)) s.downstream ≡ true
+  pub asserts : list_all (λ (e : Key × AssertRow). is_up s (iface_in e.0)) s.asserts ≡ true
+  pub sources : list_all (λ (e : Key × SourceRow). is_some (e.1).keepalive || (e.1).spt) s.sources ≡ true
+
+-- in order, with no robustness and no interval that is 0, and IGMP's facts under keys of their kind, whatever is due
+pub record IsLawful (s : State) : Type 0 where
+  pub ordered : IsOrdered s
+  pub firable : IsFirable s
+  pub tidy : IsTidy s
+
+-- between two events: in order, and with all that is due by the present fired
+pub record IsSettled (s : State) : Type 0 where
+  pub ordered : IsOrdered s
+  pub ahead : IsAhead s.present s
+  pub tidy : IsTidy s
+
+abbrev pub SettledIsLawful : Type 0
+SettledIsLawful = (s : State) → IsSettled s → IsLawful s
+
+abbrev pub OpeningIsSettled : Type 0
+OpeningIsSettled = (c : Config) → config_test c ≡ Ok tt → IsSettled (opening c)
+
+-- every event keeps it
+abbrev pub StepIsSettled : Type 0
+StepIsSettled = (s : State) (e : Event) → IsSettled s → IsSettled (step s e).state
+
+-- time moves by Advance alone
+abbrev pub IsTimeless : EventKind → Type 0
+IsTimeless (EventKind.Advance moment) = ⊥
+IsTimeless kind = Unit {0}
+
+-- after any other event all ends are still later than the same present
+abbrev pub StepStaysAhead : Type 0
+StepStaysAhead = (s : State) (e : Event) → IsTimeless e.kind → IsSettled s → IsAhead s.present (step s e).state
+
+-- a router is settled after any events
+abbrev pub RunIsSettled : Type 0
+RunIsSettled = (c : Config) (events : List Event) → config_test c ≡ Ok tt → IsSettled (state_after (opening c) events)
+
+-- what follows from a change, and each firing, leaves a lawful state
+abbrev pub SettlingIsLawful : Type 0
+SettlingIsLawful =
+    (o : State) (change : State × List Message) (w : ℕ) → IsLawful change.0 → IsLawful (settled o change w).0
+
+abbrev pub OneFiringIsLawful : Type 0
+OneFiringIsLawful = (w : ℕ) (s : State) (e : Ending) → IsLawful s → IsLawful (fire_once w s e).0
+
+abbrev pub InstantIsLawful : Type 0
+InstantIsLawful = (w : ℕ) (s : State) (e : Ending) → IsLawful s → IsLawful (fire_instant w s e).0
+
+abbrev pub FiringIsLawful : Type 0
+FiringIsLawful = (w m : ℕ) (s : State) → IsLawful s → IsLawful (fire_all w m s).0
