@@ -39,7 +39,8 @@ RefusedEventChangesNothing =
 -- an ignored event
 abbrev pub IgnoredEventChangesNothing : Type 0
 IgnoredEventChangesNothing =
-    (s : State) (e : Event) (reason : Ignored) → (step s e).answer ≡ Ok (Verdict.Ignored reason) → IsUnchanged s (step s e)
+    (s : State) (e : Event) (reason : Ignored) → (step s e).answer ≡ Ok (Verdict.Ignored reason)
+    → IsUnchanged s (step s e)
 
 -- ---- firing
 
@@ -120,7 +121,8 @@ InstantStops = (w : ℕ) (s : State) (e : Ending) → next_due e.end s ≡ None 
 
 -- after that of the next timer all ends are later
 abbrev pub InstantIsComplete : Type 0
-InstantIsComplete = (w m : ℕ) (s : State) (e : Ending) → IsFirable s → next_due m s ≡ Some e → IsAhead e.end (fire_instant w s e).0
+InstantIsComplete = (w m : ℕ) (s : State) (e : Ending) → IsFirable s → next_due m s ≡ Some e
+    → IsAhead e.end (fire_instant w s e).0
 
 -- ---- all that is due
 

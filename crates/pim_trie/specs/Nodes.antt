@@ -65,11 +65,13 @@ module _ {V : Type 0} where
 
   -- each node whose prefix does not begin with the path is as before
   abbrev pub KeepsOthers : Path → Slab (Node V) → Slab (Node V) → Type 0
-  KeepsOthers path old new = (key : ℕ) (node : Node V) → get old key ≡ Some node → begins path (path_of node.prefix) ≡ false
+  KeepsOthers path old new = (key : ℕ) (node : Node V) → get old key ≡ Some node
+      → begins path (path_of node.prefix) ≡ false
       → get new key ≡ Some node
 
   -- the nodes behind a link for the path make the new tree, and the others are as before
-  pub record Rebuilds (n : ℕ) (path : Path) (old new : Slab (Node V)) (was link : Option ℕ) (tree : Tree V) : Type 0 where
+  pub record Rebuilds (n : ℕ) (path : Path) (old new : Slab (Node V)) (was link : Option ℕ) (tree : Tree V)
+      : Type 0 where
     pub held : IsHeld n new path link
     pub made : tree_at n new link ≡ tree
     pub others : KeepsOthers path old new
@@ -81,8 +83,10 @@ module _ {V : Type 0} where
 
   -- whatever change has come to the node of the key, it goes on with the tree trimmed
   abbrev pub Prunes : Slab (Node V) → Slab (Node V) → ℕ → Option ℕ → Type 0
-  Prunes old new key link = (n : ℕ) (path : Path) (first : Slab (Node V)) (was : Option ℕ) (tree : Tree V) → suc n + length path ≤ 33
-      → Rebuilds (suc n) path first old was (Some key) tree → Rebuilds (suc n) path first new was link (trimmed_tree tree)
+  Prunes old new key link = (n : ℕ) (path : Path) (first : Slab (Node V)) (was : Option ℕ) (tree : Tree V)
+      → suc n + length path ≤ 33
+      → Rebuilds (suc n) path first old was (Some key) tree
+      → Rebuilds (suc n) path first new was link (trimmed_tree tree)
 
   -- the nodes make one tree and nothing else, no node leads nowhere, and the values are counted
   pub record IsTrie (nodes : Slab (Node V)) (root : Option ℕ) (len : ℕ) : Type 0 where
@@ -117,5 +121,6 @@ module _ {V : Type 0} where
   -- at each key stands a node, and below n others one of n bits at least
   abbrev pub IsPending : Slab (Node V) → List ℕ → Type 0
   IsPending nodes [] = Unit {0}
-  IsPending nodes (key ∷ keys) = (path : Path) × (length keys ≤ length path) × IsHeld (33 - length path) nodes path (Some key)
+  IsPending nodes (key ∷ keys) =
+      (path : Path) × (length keys ≤ length path) × IsHeld (33 - length path) nodes path (Some key)
       × IsPending nodes keys

@@ -151,7 +151,8 @@ module _ {V : Type 0} where
   -- the last value on the way of a path
   abbrev pub deepest : Tree V → Path → Option (Path × V)
   deepest t [] = own_entry (value_of t)
-  deepest t (bit ∷ path) = option_or (option_map (past (bit ∷ [])) (deepest (child_of bit t) path)) (own_entry (value_of t))
+  deepest t (bit ∷ path) =
+      option_or (option_map (past (bit ∷ [])) (deepest (child_of bit t) path)) (own_entry (value_of t))
 
   -- each fork holds a value, or leads to one
   abbrev pub IsTrim : Tree V → Type 0
