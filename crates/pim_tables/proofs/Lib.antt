@@ -1,2 +1,8 @@
 mod Counting
+mod Firsts
+mod Lookups
+mod Losses
+mod Orders
 mod Rows
+mod Steps
+mod Stops

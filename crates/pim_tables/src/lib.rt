@@ -1,8 +1,15 @@
-//! A table of facts: each under its key, in the order of the keys.
+//! Tables of facts, each under its key, in the order of the keys; where the facts end, a table tells
+//! which of them ends first.
 #![tactic(auto, unfolding(pim_types::specs::Keys::key_cmp, pim_types::specs::Keys::addr_cmp, pim_model::specs::Tables::row_at, pim_model::specs::Tables::has_row, pim_model::specs::Tables::put, pim_model::specs::Tables::drop_at, pim_model::specs::Tables::drop_where, pim_model::specs::Tables::set_row, pim_model::specs::Tables::change_row, pim_model::specs::Tables::changed_entry, pim_model::specs::Tables::rows_on, pim_model::specs::Tables::keys_in))]
 
+pub mod ends;
 pub mod facts;
+pub mod law;
 pub mod named;
+mod row_ends;
+pub mod timed;
 
+pub use ends::Ends;
 pub use facts::Facts;
 pub use named::is_named;
+pub use timed::Timed;

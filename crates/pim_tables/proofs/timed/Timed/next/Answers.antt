@@ -1,0 +1,7 @@
+use Rattle.pim_tables.proofs.Firsts.{next_is_first}
+use Rattle.pim_tables.proofs.timed.Timed.next.Goals as goal
+
+pub returns : goal.returns
+returns g c = rw (← c.self.view_is)
+    (next_is_first g.R.Ends.kinds g.R.Ends.ends c.self.inside.rows g.met.R.Ends.apart c.len.ensures.ascending _ _
+    c.self.invariant c.next.ensures)

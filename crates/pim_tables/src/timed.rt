@@ -1,0 +1,235 @@
+//! A table whose rows end. The timers of the ends are kept beside the rows, so that no caller sets one.
+ghost use Rattle.std.specs.Prelude.{◌≡◌, ◌↔◌, [], length, IsTrue, IfSome, OnOk, OnErr, Option, Some, None, cond, option_map};
+ghost use Rattle.std.specs.FinMap as map;
+ghost use Rattle.std.specs.List.Sorted.{IsStrictlySortedBy};
+ghost use Rattle.pim_model.specs.Clearing.{first_by};
+ghost use Rattle.pim_model.specs.Tables.{keys_in, row_at, has_row, put, drop_at, drop_where, set_row, change_row, rows_on};
+ghost use Rattle.pim_model.specs.Timers.{is_ending_first};
+ghost use Rattle.pim_timers.specs.Ends.{same_timer};
+ghost use Rattle.pim_types.specs.declared.timer.Timer.{Timer as TimerValue};
+ghost use Rattle.pim_types.specs.Keys.{key_cmp, is_on};
+ghost use Rattle.pim_tables.specs.Ends.{InStep, KeepsOthers, SetsRow, due_of, row_endings};
+
+use crate::ends::Ends;
+use crate::facts::Facts;
+use pim_timers::Timers;
+use pim_types::{IfaceId, Key, Timer};
+use std::alloc::{AllocError, Global};
+use std::collections::btree_map::Iter;
+use std::marker::Model;
+
+/// The facts of one kind, which end.
+#[derive(Drop)]
+pub struct Timed<R: Ends, T: Timers> {
+    rows: Facts<R>,
+    timers: T,
+}
+
+impl<R: Ends, T: Timers> Model for Timed<R, T> {
+    ghost use Rattle.pim_model.specs.Tables.{Table};
+    ghost use Rattle.pim_tables.specs.Ends.{InStep};
+
+    ghost Value = { Table R };
+
+    ghost view = { λ a. a.rows };
+
+    ghost invariant = { λ a. InStep R.kinds R.ends (T.contents a.timers) a.rows };
+}
+
+// Sets the timer to the end (ms), or takes it out where there is none.
+fn set_end<T: Timers>(timers: &mut T, timer: Timer, end: Option<u64>) -> Result<(), AllocError>
+    ensures ok { OnOk result ((t : TimerValue)
+        → map.get (T.contents timers.new) t ≡ cond (same_timer t timer) end (map.get (T.contents timers.old) t)) }
+    ensures err { OnErr result (T.contents timers.new ≡ T.contents timers.old) }
+{
+    match end {
+        Some(end) => timers.set(timer, end)?,
+        None => timers.cancel(timer),
+    }
+    Ok(())
+}
+
+// Sets the timers of the row under the key.
+fn set_ends<R: Ends, T: Timers>(timers: &mut T, key: Key, row: R) -> Result<(), AllocError>
+    ensures ok { OnOk result (SetsRow R.kinds R.ends (T.contents timers.old) (T.contents timers.new) key (Some row)) }
+    ensures err { OnErr result (KeepsOthers R.kinds (T.contents timers.old) (T.contents timers.new) key) }
+{
+    let kinds = R::kinds();
+    let ends = row.ends();
+    set_end(timers, Timer { kind: kinds.0, key }, ends.0)?;
+    if let Some(kind) = kinds.1 {
+        set_end(timers, Timer { kind, key }, ends.1)?;
+    }
+    Ok(())
+}
+
+// Takes the timers of the row under the key out.
+fn cancel_ends<R: Ends, T: Timers>(timers: &mut T, key: Key)
+    ensures { SetsRow R.kinds R.ends (T.contents timers.old) (T.contents timers.new) key None }
+{
+    let kinds = R::kinds();
+    timers.cancel(Timer { kind: kinds.0, key });
+    if let Some(kind) = kinds.1 {
+        timers.cancel(Timer { kind, key });
+    }
+}
+
+// Sets the timers of the row, and then puts it under the key.
+fn put_in_step<R: Ends, T: Timers>(
+    rows: &mut Facts<R>,
+    timers: &mut T,
+    key: Key,
+    row: R,
+) -> Result<(), AllocError>
+    ensures put { OnOk result (rows.new ≡ put rows.old key row) }
+    ensures set { OnOk result (SetsRow R.kinds R.ends (T.contents timers.old) (T.contents timers.new) key (Some row)) }
+    ensures err { OnErr result (rows.new ≡ rows.old) }
+    ensures others { OnErr result (KeepsOthers R.kinds (T.contents timers.old) (T.contents timers.new) key) }
+{
+    set_ends(timers, key, row)?;
+    rows.put(key, row)?;
+    Ok(())
+}
+
+// Takes the timers of the interface's rows out.
+fn cancel_on<R: Ends, T: Timers>(rows: &Facts<R>, timers: &mut T, iface: IfaceId)
+    requires { InStep R.kinds R.ends (T.contents timers.old) rows.now }
+    ensures { InStep R.kinds R.ends (T.contents timers.new) (drop_where (is_on iface.number) rows.now) }
+{
+    for (key, _) in rows.iter() {
+        if key.iface == iface {
+            cancel_ends::<R, T>(timers, *key);
+        }
+    }
+}
+
+impl<R: Ends, T: Timers> Timed<R, T> {
+    /// No facts, beside timers of which none is set.
+    pub fn new(alloc: Global, timers: T) -> Self
+        requires { T.contents timers ≡ map.empty }
+        ensures { result ≡ [] }
+    {
+        Timed {
+            rows: Facts::new(alloc),
+            timers,
+        }
+    }
+
+    /// How many facts there are.
+    pub fn len(&self) -> usize
+        ensures count { result ≡ length self.now }
+
+        // Of every table: the keys rise.
+        ensures ascending { IsStrictlySortedBy key_cmp (keys_in self.now) }
+    {
+        self.rows.len()
+    }
+
+    /// Whether there is no fact.
+    pub fn is_empty(&self) -> bool
+        ensures { IsTrue result ↔ (self.now ≡ []) }
+    {
+        self.rows.is_empty()
+    }
+
+    /// Whether there is a fact under the key.
+    pub fn contains(&self, key: Key) -> bool
+        ensures { result ≡ has_row self.now key }
+    {
+        self.rows.contains(key)
+    }
+
+    /// The facts, by rising key.
+    pub fn iter(&self) -> Iter<'_, Key, R>
+        ensures { result ≡ self.now }
+    {
+        self.rows.iter()
+    }
+
+    /// The fact under the key.
+    pub fn get(&self, key: Key) -> Option<R>
+        ensures { result ≡ row_at self.now key }
+    {
+        self.rows.get(key)
+    }
+
+    /// How many facts are of the interface.
+    pub fn count_on(&self, iface: IfaceId) -> usize
+        ensures { result ≡ length (rows_on iface.number self.now) }
+    {
+        self.rows.count_on(iface)
+    }
+
+    /// Which fact ends first, and when (ms): the least end by its moment, its kind and its key. `None`
+    /// where no fact ever ends.
+    pub fn next(&self) -> Option<(u64, Timer)>
+        ensures { result ≡ option_map due_of (first_by is_ending_first (row_endings R.kinds R.ends self.now)) }
+    {
+        // It tells that the keys rise: a key stands once, so that the timers are all the ends.
+        let _ = self.rows.len();
+        self.timers.next()
+    }
+
+    /// Puts the fact under the key, in place of one that is there. An error is want of memory, and
+    /// then no fact is under the key.
+    pub fn put(&mut self, key: Key, row: R) -> Result<(), AllocError>
+        ensures ok { OnOk result (self.new ≡ put self.old key row) }
+        ensures err { OnErr result (self.new ≡ drop_at self.old key) }
+    {
+        if let Err(refused) = put_in_step(&mut self.rows, &mut self.timers, key, row) {
+            // One of the timers may be set by now, and none can be set back without memory.
+            self.rows.remove(key);
+            cancel_ends::<R, T>(&mut self.timers, key);
+            return Err(refused);
+        }
+        Ok(())
+    }
+
+    /// Takes the fact under the key away.
+    pub fn remove(&mut self, key: Key)
+        ensures { self.new ≡ drop_at self.old key }
+    {
+        self.rows.remove(key);
+        cancel_ends::<R, T>(&mut self.timers, key);
+    }
+
+    /// Puts the fact under the key, or takes away the one that is there. An error is want of memory,
+    /// and then no fact is under the key.
+    pub fn set(&mut self, key: Key, row: Option<R>) -> Result<(), AllocError>
+        ensures ok { OnOk result (self.new ≡ set_row self.old key row) }
+        ensures err { OnErr result (self.new ≡ drop_at self.old key) }
+    {
+        match row {
+            Some(row) => self.put(key, row),
+            None => {
+                self.remove(key);
+                Ok(())
+            }
+        }
+    }
+
+    /// Changes the fact under the key, where there is one, to this one. An error is want of memory,
+    /// and then no fact is under the key.
+    pub fn change(&mut self, key: Key, row: R) -> Result<(), AllocError>
+        ensures to { OnOk result (self.new ≡ change_row (λ _. Some row) key self.old) }
+        ensures by { OnOk result ((change : R → Option R)
+            → IfSome (row_at self.old key) (λ before. change before ≡ Some row)
+            → self.new ≡ change_row change key self.old) }
+        ensures err { OnErr result (self.new ≡ drop_at self.old key) }
+    {
+        // It tells that the keys rise: what is put under a key that is there stands in its place.
+        let _ = self.len();
+        if self.contains(key) {
+            self.put(key, row)?;
+        }
+        Ok(())
+    }
+
+    /// Takes the facts of the interface away.
+    pub fn drop_on(&mut self, iface: IfaceId)
+        ensures { self.new ≡ drop_where (is_on iface.number) self.old }
+    {
+        cancel_on(&self.rows, &mut self.timers, iface);
+        self.rows.drop_on(iface);
+    }
+}
