@@ -8,6 +8,7 @@ pub mod ListLaws
 pub mod RecordsKept
 pub mod RepeatLaws
 pub mod SettledKept
+pub mod StepLaws
 pub mod TableLaws
 pub mod TimerLaws
 pub mod TurnLaws

@@ -25,3 +25,4 @@ pub mod QuietStates
 pub mod SettledRegisters
 pub mod SameMacros
 pub mod EventLaws
+pub mod Rest

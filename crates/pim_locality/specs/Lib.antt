@@ -3,3 +3,4 @@ pub mod Locality
 pub mod Touches
 pub mod Sees
 pub mod Events
+pub mod Rest

@@ -2,6 +2,7 @@
 
 ghost use Rattle.pim_locality.specs.Events.{ChangeTouches, EventIsLocal, FiringIsLocal};
 ghost use Rattle.pim_locality.specs.Locality.{AbsentIsUndesired, AgreedSourceIsUntold, AgreedStarIsUntold, AscendingAgain, AssertsAreLocal, ClearingIsLocal, CouldRegisterIsLocal, MembersTell, NextToClearIsLocal, OpeningIsQuiet, PresentTouchesNone, QuietGoesOn, RegistersAreLocal, RowsElsewhereStay, SettlingClears, SettlingIsLocal, SettlingIsOwn, SettlingQuiets, SourceDesiresAreLocal, SourceViewsAreLocal, SourcesAreOwn, SourcesStandOnce, StarDesiresAreLocal, StarViewsAreLocal, TouchingIsClosed, TreeStatesAreLocal, UpstreamIsLocal, UpstreamIsOwn};
+ghost use Rattle.pim_locality.specs.Rest.{BuiltRunIsAtRest, BuiltStepIsAtRest, BuiltStepIsQuiet, FiringIsQuiet, InstantIsQuiet, OneFiringQuiets, OpeningIsAtRest, RunIsAtRest, StepIsAtRest, StepIsQuiet};
 ghost use Rattle.pim_locality.specs.Sees.{ConnectionsOfSame, DesiresOfSame, MetricsOfSame, RegistersOfSame, StarTrackingOfSame, TrackingOfSame, TreeNeighboursOfSame, TreeStatesOfSame};
 ghost use Rattle.pim_locality.specs.Touches.{AssertDueTouches, AssertTouches, GroupEndTouches, HelloAgainTouchesNone, JoinPruneTouches, PacketTouches, QueryTouches, RegisterStopTouches, RegisterTouches, ReportTouches, SeenTouchesNone, SourceEndTouches, TimerTouches};
 
@@ -311,4 +312,54 @@ pub fn event_is_local()
 #[tactic(auto, using(crate::proofs::EventLaws::firing_is_local))]
 pub fn firing_is_local()
     ensures { FiringIsLocal }
+{}
+
+/// After a firing in a lawful state all is quiet.
+pub fn one_firing_quiets()
+    ensures { OneFiringQuiets }
+{}
+
+/// After an instant in a lawful, quiet state all is quiet.
+pub fn instant_is_quiet()
+    ensures { InstantIsQuiet }
+{}
+
+/// So it is after all that fires by a moment.
+pub fn firing_is_quiet()
+    ensures { FiringIsQuiet }
+{}
+
+/// Every event leaves a settled, quiet state quiet.
+pub fn step_is_quiet()
+    ensures { StepIsQuiet }
+{}
+
+/// So does every event of what is built.
+pub fn built_step_is_quiet()
+    ensures { BuiltStepIsQuiet }
+{}
+
+/// With an accepted configuration the router begins at rest: quiet and settled.
+pub fn opening_is_at_rest()
+    ensures { OpeningIsAtRest }
+{}
+
+/// Every event leaves it at rest.
+pub fn step_is_at_rest()
+    ensures { StepIsAtRest }
+{}
+
+/// So do any events.
+pub fn run_is_at_rest()
+    ensures { RunIsAtRest }
+{}
+
+/// So does every event of what is built.
+pub fn built_step_is_at_rest()
+    ensures { BuiltStepIsAtRest }
+{}
+
+/// So do any events of what is built.
+pub fn built_run_is_at_rest()
+    ensures { BuiltRunIsAtRest }
 {}

@@ -1,5 +1,5 @@
 -- Every event leaves a settled state, and so do any events from the opening.
-use Rattle.std.proofs.Common.{◌≡◌, ℕ, ◌<◌, nat_lt, Bool, true, false, List, [], ◌∷◌, Ok, Err, refl, sym, subst, arith, lt-ltb, ltb-true}
+use Rattle.std.proofs.Common.{◌≡◌, ℕ, ◌<◌, nat_lt, Bool, true, false, List, Ok, Err, refl, sym, subst, arith, lt-ltb, ltb-true}
 use Rattle.std.specs.List.Sorted.{IsStrictlySortedBy}
 use Rattle.pim_ip.specs.declared.refusal.Refusal.{Refusal}
 use Rattle.pim_types.specs.declared.config.Config.{Config}
@@ -7,14 +7,16 @@ use Rattle.pim_types.specs.declared.event.Event.{Event}
 use Rattle.pim_types.specs.declared.event.EventKind.{EventKind}
 use Rattle.pim_types.specs.declared.outcome.Stop.{Stop}
 use Rattle.pim_model.specs.declared.accepted.Accepted.{Accepted}
+use Rattle.pim_model.specs.Built.{built_step}
 use Rattle.pim_model.specs.Full.{is_full}
 use Rattle.pim_model.specs.Judging.{Judged, advance_judged, judged, last_moment, refuse_if, ◌>>◌}
 use Rattle.pim_model.specs.Limits.{config_test}
 use Rattle.pim_model.specs.State.{State, is_up, opening}
-use Rattle.pim_model.specs.Step.{Answered, advanced, change, concluded, done, ran, state_after, step, stopped, taken, taken_unless_full}
+use Rattle.pim_model.specs.Step.{Answered, advanced, change, concluded, done, state_after, step, stopped, taken, taken_unless_full}
 use Rattle.pim_model.specs.Tables.{keys_in}
 use Rattle.pim_laws.specs.Laws.{IsAhead}
 use Rattle.pim_laws.proofs.FiringLaws.{advanced_is_ahead, ahead_is_ready, opening_is_ahead}
+use Rattle.pim_laws.proofs.StepLaws.{kept_by_run, kept_if_built}
 use Rattle.pim_ready.specs.Ready.{IsOrdered, IsSettled, IsTidy, IsTimeless}
 use Rattle.pim_ready.proofs.Changes.{change_fine, done_fine}
 use Rattle.pim_ready.proofs.Firing.{any, advanced_sound, IsSound}
@@ -30,14 +32,77 @@ later_is_late m = record {
   up = λ a b h e. let before : m < a = ltb-true m a e in lt-ltb m b (omega arith);
 }
 
+-- ---- what holds after an event
+
+-- of the state as it was, after time that passes, and after a change with what follows from it
+module _ (P : State → Type 0) (s : State) (w : ℕ) (stays : P s)
+    (changes : (a : Accepted) → IsHere (is_up s) a → P (done s w (change s w a)).state) where
+  abbrev Holds : Answered → Type 0
+  Holds a = P a.state
+
+  stopped_holds : (stop : Stop) → Holds (stopped s stop)
+  stopped_holds (Stop.Refuse refusal) = stays
+  stopped_holds (Stop.Ignore reason) = stays
+
+  taken_holds : (a : Accepted) → IsHere (is_up s) a → Holds (taken s w a)
+  unfolding taken
+  taken_holds (Accepted.Advance moment) none = absurd none
+  taken_holds a here = changes a here
+
+  -- where a test says whether it is full
+  unless_full : (b : Bool) (a : Answered) → Holds a
+      → Holds (elim b [ true ↦ stopped s (Stop.Refuse Refusal.Full) | false ↦ a ])
+  unless_full true a next = stays
+  unless_full false a next = next
+
+  concluded_holds : (r : Judged) → IsJudged (is_up s) r → Holds (concluded s (taken_unless_full s w) r)
+  unfolding taken_unless_full
+  concluded_holds (Err stop) here = stopped_holds stop
+  concluded_holds (Ok a) here = unless_full (is_full s a) (taken s w a) (taken_holds a here.accepts)
+
+  pub after_timeless : (kind : EventKind) → IsTimeless kind → Holds (concluded s (taken_unless_full s w) (judged s kind))
+  after_timeless kind none = concluded_holds (judged s kind) (kind_is_judged s kind none)
+
+  module _ (passes : (moment : ℕ) → Holds (advanced s w moment)) where
+    moment_tested : (moment : ℕ) (back far : Bool)
+        → Holds (concluded s (taken_unless_full s w)
+        (refuse_if back Refusal.MomentBack >> refuse_if far Refusal.MomentFar >> Ok (Accepted.Advance moment)))
+    unfolding taken_unless_full taken
+    moment_tested moment true far = stays
+    moment_tested moment false true = stays
+    moment_tested moment false false =
+        unless_full (is_full s (Accepted.Advance moment)) (advanced s w moment) (passes moment)
+
+    after_kind : (kind : EventKind) → Holds (concluded s (taken_unless_full s w) (judged s kind))
+    unfolding judged advance_judged
+    after_kind (EventKind.Advance moment) =
+        moment_tested moment (nat_lt moment s.present) (nat_lt last_moment moment)
+    after_kind kind = after_timeless kind tt
+
+pub after_event : (P : State → Type 0) (s : State) (e : Event) → P s
+    → ((moment : ℕ) → P (advanced s e.draw moment).state)
+    → ((a : Accepted) → IsHere (is_up s) a → P (done s e.draw (change s e.draw a)).state) → P (step s e).state
+unfolding step
+after_event P s e stays passes changes = after_kind P s e.draw stays changes passes e.kind
+
+-- ---- what is settled
+
 module _ (s : State) (f : IsSettled s) (w : ℕ) where
   fine : IsFine s.present (nat_lt s.present) (is_up s) s
   fine = settled_is_fine s f
 
-  lateness : Lateness s.present (nat_lt s.present)
-  lateness = later_is_late s.present
+  done_ups : (a : Accepted) → IsHere (is_up s) a → Anyhow s.present (nat_lt s.present) (done s w (change s w a)).state
+  done_ups a here =
+      let late : Lateness s.present (nat_lt s.present) = later_is_late s.present in
+      done_fine s.present (nat_lt s.present) (is_up s) late s fine w (change s w a)
+      (change_fine s.present (nat_lt s.present) (is_up s) late s fine w a here)
 
-  -- ---- Advance
+  done_settled : (a : Accepted) → IsHere (is_up s) a → IsSettled (done s w (change s w a)).state
+  done_settled a here =
+      fine_is_settled s.present (done_ups a here).ups (done s w (change s w a)).state (done_ups a here).fine
+
+  done_ahead : (a : Accepted) → IsHere (is_up s) a → IsAhead s.present (done s w (change s w a)).state
+  done_ahead a here = its_ahead s.present (done_ups a here).ups (done s w (change s w a)).state (done_ups a here).fine
 
   advanced_settled : (moment : ℕ) → IsSettled (advanced s w moment).state
   unfolding advanced
@@ -50,102 +115,15 @@ module _ (s : State) (f : IsSettled s) (w : ℕ) where
         ahead = advanced_is_ahead w moment s (ahead_is_ready s.present s f.ahead);
       }
 
-  -- ---- every other event
-
-  taken_fine : (a : Accepted) → IsHere (is_up s) a → Anyhow s.present (nat_lt s.present) (done s w (change s w a)).state
-  taken_fine a here =
-      done_fine s.present (nat_lt s.present) (is_up s) lateness s fine w (change s w a)
-      (change_fine s.present (nat_lt s.present) (is_up s) lateness s fine w a here)
-
-  abbrev Fine : Answered → Type 0
-  Fine a = Anyhow s.present (nat_lt s.present) a.state
-
-  stopped_fine : (stop : Stop) → Fine (stopped s stop)
-  stopped_fine (Stop.Refuse refusal) = record { ups = is_up s; fine = fine }
-  stopped_fine (Stop.Ignore reason) = record { ups = is_up s; fine = fine }
-
-  accepted_fine : (a : Accepted) → IsHere (is_up s) a → Fine (taken s w a)
-  unfolding taken
-  accepted_fine (Accepted.Advance moment) none = absurd none
-  accepted_fine (Accepted.Up i) here = taken_fine (Accepted.Up i) here
-  accepted_fine (Accepted.Down i) here = taken_fine (Accepted.Down i) here
-  accepted_fine (Accepted.Routes routes) here = taken_fine (Accepted.Routes routes) here
-  accepted_fine (Accepted.Rps ranges) here = taken_fine (Accepted.Rps ranges) here
-  accepted_fine (Accepted.Hello i from h) here = taken_fine (Accepted.Hello i from h) here
-  accepted_fine (Accepted.JoinPruneToMe i m) here = taken_fine (Accepted.JoinPruneToMe i m) here
-  accepted_fine (Accepted.JoinPruneSeen i m) here = taken_fine (Accepted.JoinPruneSeen i m) here
-  accepted_fine (Accepted.Assert i from a) here = taken_fine (Accepted.Assert i from a) here
-  accepted_fine (Accepted.Query i from q) here = taken_fine (Accepted.Query i from q) here
-  accepted_fine (Accepted.Report i records) here = taken_fine (Accepted.Report i records) here
-  accepted_fine (Accepted.Data i p) here = taken_fine (Accepted.Data i p) here
-  accepted_fine (Accepted.Register p r) here = taken_fine (Accepted.Register p r) here
-  accepted_fine (Accepted.RegisterStop from r) here = taken_fine (Accepted.RegisterStop from r) here
-
-  -- where a test says whether it is full
-  unless_full : (P : Answered → Type 0) (b : Bool) (a : Answered) → P (stopped s (Stop.Refuse Refusal.Full)) → P a
-      → P (elim b [ true ↦ stopped s (Stop.Refuse Refusal.Full) | false ↦ a ])
-  unless_full P true a full next = full
-  unless_full P false a full next = next
-
-  concluded_fine : (r : Judged) → IsJudged (is_up s) r → Fine (concluded s (taken_unless_full s w) r)
-  unfolding taken_unless_full
-  concluded_fine (Err stop) here = stopped_fine stop
-  concluded_fine (Ok a) here =
-      unless_full Fine (is_full s a) (taken s w a) (stopped_fine (Stop.Refuse Refusal.Full))
-      (accepted_fine a here.accepts)
-
-  kind_fine : (kind : EventKind) → IsTimeless kind → Fine (concluded s (taken_unless_full s w) (judged s kind))
-  kind_fine kind none = concluded_fine (judged s kind) (kind_is_judged s kind none)
-
-  kind_ahead : (kind : EventKind) → IsTimeless kind
-      → IsAhead s.present (concluded s (taken_unless_full s w) (judged s kind)).state
-  kind_ahead kind none =
-      let after : Fine (concluded s (taken_unless_full s w) (judged s kind)) = kind_fine kind none in
-      its_ahead s.present after.ups (concluded s (taken_unless_full s w) (judged s kind)).state after.fine
-
-  abbrev Leaves : Answered → Type 0
-  Leaves a = IsSettled a.state
-
-  timeless_settled : (kind : EventKind) → IsTimeless kind → Leaves (concluded s (taken_unless_full s w) (judged s kind))
-  timeless_settled kind none =
-      let after : Fine (concluded s (taken_unless_full s w) (judged s kind)) = kind_fine kind none in
-      fine_is_settled s.present after.ups (concluded s (taken_unless_full s w) (judged s kind)).state after.fine
-
-  moment_tested : (moment : ℕ) (back far : Bool)
-      → Leaves (concluded s (taken_unless_full s w)
-      (refuse_if back Refusal.MomentBack >> refuse_if far Refusal.MomentFar >> Ok (Accepted.Advance moment)))
-  unfolding taken_unless_full taken
-  moment_tested moment true far = f
-  moment_tested moment false true = f
-  moment_tested moment false false =
-      unless_full Leaves (is_full s (Accepted.Advance moment)) (advanced s w moment) f (advanced_settled moment)
-
-  kind_settled : (kind : EventKind) → Leaves (concluded s (taken_unless_full s w) (judged s kind))
-  unfolding judged advance_judged
-  kind_settled (EventKind.Advance moment) = moment_tested moment (nat_lt moment s.present) (nat_lt last_moment moment)
-  kind_settled (EventKind.Frame i bytes) = timeless_settled (EventKind.Frame i bytes) tt
-  kind_settled (EventKind.Unicast bytes) = timeless_settled (EventKind.Unicast bytes) tt
-  kind_settled (EventKind.Up i) = timeless_settled (EventKind.Up i) tt
-  kind_settled (EventKind.Down i) = timeless_settled (EventKind.Down i) tt
-  kind_settled (EventKind.Routes routes) = timeless_settled (EventKind.Routes routes) tt
-  kind_settled (EventKind.Rps rps) = timeless_settled (EventKind.Rps rps) tt
-
 pub step_stays_ahead : (s : State) (e : Event) → IsTimeless e.kind → IsSettled s → IsAhead s.present (step s e).state
 unfolding step
-step_stays_ahead s e none f = kind_ahead s f e.draw e.kind none
+step_stays_ahead s e none f = after_timeless (IsAhead s.present) s e.draw f.ahead (done_ahead s f e.draw) e.kind none
 
 pub step_is_settled : (s : State) (e : Event) → IsSettled s → IsSettled (step s e).state
-unfolding step
-step_is_settled s e f = kind_settled s f e.draw e.kind
+step_is_settled s e f = after_event IsSettled s e f (advanced_settled s f e.draw) (done_settled s f e.draw)
 
-ran_is_settled : (events : List Event) (s : State) → IsSettled s → IsSettled (ran s events).1
-unfolding ran
-ran_is_settled [] s f = f
-ran_is_settled (e ∷ es) s f = ran_is_settled es (step s e).state (step_is_settled s e f)
-
-pub state_after_is_settled : (s : State) (events : List Event) → IsSettled s → IsSettled (state_after s events)
-unfolding state_after
-state_after_is_settled s events f = ran_is_settled events s f
+pub built_step_is_settled : (s : State) (e : Event) → IsSettled s → IsSettled (built_step s e).state
+built_step_is_settled s e f = kept_if_built IsSettled s e f (step_is_settled s e f)
 
 -- ---- the opening
 
@@ -196,4 +174,4 @@ opening_is_settled c e = record {
 
 pub run_is_settled : (c : Config) (events : List Event) → config_test c ≡ Ok tt
     → IsSettled (state_after (opening c) events)
-run_is_settled c events e = state_after_is_settled (opening c) events (opening_is_settled c e)
+run_is_settled c events e = kept_by_run IsSettled step_is_settled (opening c) events (opening_is_settled c e)

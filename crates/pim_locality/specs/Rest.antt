@@ -1,0 +1,54 @@
+-- Between two events the router is at rest: its state is quiet and settled, and every event leaves it so.
+use Rattle.std.specs.Prelude.{List, Ok, ℕ, ◌≡◌}
+use Rattle.pim_types.specs.declared.config.Config.{Config}
+use Rattle.pim_types.specs.declared.event.Event.{Event}
+use Rattle.pim_model.specs.Built.{built_state_after, built_step}
+use Rattle.pim_model.specs.Firing.{fire_all, fire_instant, fire_once}
+use Rattle.pim_model.specs.Limits.{config_test}
+use Rattle.pim_model.specs.State.{State, opening}
+use Rattle.pim_model.specs.Step.{state_after, step}
+use Rattle.pim_model.specs.Timers.{Ending}
+use Rattle.pim_ready.specs.Ready.{IsLawful, IsSettled}
+use Rattle.pim_locality.specs.Locality.{IsQuiet}
+
+-- no fact must go, all registers are settled, tables are in order, and all that is due by the present has fired
+pub record IsAtRest (s : State) : Type 0 where
+  pub quiet : IsQuiet s
+  pub settled : IsSettled s
+
+-- ---- quiet
+
+-- after a firing in a lawful state all is quiet, whatever is still due
+abbrev pub OneFiringQuiets : Type 0
+OneFiringQuiets = (w : ℕ) (s : State) (e : Ending) → IsLawful s → IsQuiet (fire_once w s e).0
+
+abbrev pub InstantIsQuiet : Type 0
+InstantIsQuiet = (w : ℕ) (s : State) (e : Ending) → IsLawful s → IsQuiet s → IsQuiet (fire_instant w s e).0
+
+abbrev pub FiringIsQuiet : Type 0
+FiringIsQuiet = (w m : ℕ) (s : State) → IsLawful s → IsQuiet s → IsQuiet (fire_all w m s).0
+
+-- every event leaves it quiet
+abbrev pub StepIsQuiet : Type 0
+StepIsQuiet = (s : State) (e : Event) → IsSettled s → IsQuiet s → IsQuiet (step s e).state
+
+-- what isn't built leaves it
+abbrev pub BuiltStepIsQuiet : Type 0
+BuiltStepIsQuiet = (s : State) (e : Event) → IsSettled s → IsQuiet s → IsQuiet (built_step s e).state
+
+-- ---- at rest
+
+abbrev pub OpeningIsAtRest : Type 0
+OpeningIsAtRest = (c : Config) → config_test c ≡ Ok tt → IsAtRest (opening c)
+
+abbrev pub StepIsAtRest : Type 0
+StepIsAtRest = (s : State) (e : Event) → IsAtRest s → IsAtRest (step s e).state
+
+abbrev pub RunIsAtRest : Type 0
+RunIsAtRest = (s : State) (events : List Event) → IsAtRest s → IsAtRest (state_after s events)
+
+abbrev pub BuiltStepIsAtRest : Type 0
+BuiltStepIsAtRest = (s : State) (e : Event) → IsAtRest s → IsAtRest (built_step s e).state
+
+abbrev pub BuiltRunIsAtRest : Type 0
+BuiltRunIsAtRest = (s : State) (events : List Event) → IsAtRest s → IsAtRest (built_state_after s events)
