@@ -5,9 +5,9 @@ ghost use Rattle.pim_model.specs.Downstream.{is_used, joined_keys, key_by, prune
 
 use crate::entry::{is_counted, is_used};
 use pim_macros::{Turn, World};
-use pim_types::{Addr, IfaceId, Key};
+use pim_types::{Addr, IfaceId, Key, Series};
 use pim_wire::{Entry, EntryKind, GroupView, JoinPruneView};
-use std::alloc::AllocError;
+use std::alloc::{AllocError, Global};
 
 /// The keys that the entries of a message name, in its order: those that it joins, and those that it prunes. Entries
 /// that don't count aren't among them.
@@ -82,5 +82,15 @@ impl Named {
             push_pruned(iface, &group, &mut pruned)?;
         }
         Ok(Named { joined, pruned })
+    }
+
+    /// All the keys: those that the message joins, and then those that it prunes.
+    pub fn keys(&self, alloc: Global) -> Result<Series<Key>, AllocError>
+        ensures { IfOk result (λ keys. keys ≡ self.now.joined.items ++ self.now.pruned.items) }
+    {
+        let mut keys = Vec::new(alloc);
+        keys.extend_from_slice(&self.joined)?;
+        keys.extend_from_slice(&self.pruned)?;
+        Ok(Series::from_vec(keys))
     }
 }

@@ -35,7 +35,7 @@ module _ {X : Type 0} (p q : X → Bool) where
   swap_step x xs false true e f ih = rw e ih
   swap_step x xs false false e f ih = ih
 
-  filters_swap : (xs : List X) → filter p (filter q xs) ≡ filter q (filter p xs)
+  pub filters_swap : (xs : List X) → filter p (filter q xs) ≡ filter q (filter p xs)
   filters_swap [] = refl
   filters_swap (x ∷ xs) = swap_step x xs (p x) (q x) refl refl (filters_swap xs)
 

@@ -1,19 +1,36 @@
-//! The groups that have any fact.
+//! The groups that have any fact, and those that a change touches.
 ghost use Rattle.std.specs.Prelude.{◌≡◌, map, OnOk};
 ghost use Rattle.pim_model.specs.Upstream.{fact_keys};
 ghost use Rattle.pim_model.specs.Tables.{keys_in};
 ghost use Rattle.pim_types.specs.Keys.{group_in};
 ghost use Rattle.pim_macros.specs.Groups.{numbers_of, gathered};
+ghost use Rattle.pim_macros.specs.Touches.{touched_keys};
 
+use crate::touched::Touched;
 use crate::world::World;
 use pim_tables::Facts;
-use pim_types::Addr;
+use pim_types::{Addr, Key};
 use std::alloc::{AllocError, Global};
 use std::collections::BTreeMap;
 
 impl World {
-    /// Puts the groups that have any fact into a set of groups.
-    pub fn gather_groups(&self, found: &mut BTreeMap<Addr, (), Global>) -> Result<(), AllocError>
+    /// Puts the groups that are touched into a set of groups.
+    pub fn gather_touched(
+        &self,
+        touched: &Touched,
+        found: &mut BTreeMap<Addr, (), Global>,
+    ) -> Result<(), AllocError>
+        ensures { OnOk result (numbers_of found.new.entries
+            ≡ gathered (map group_in (touched_keys self.now touched.now)) (numbers_of found.old.entries)) }
+    {
+        match touched {
+            Touched::All => self.gather_groups(found),
+            Touched::Keys(keys) => gather_named(keys.as_slice(), found),
+        }
+    }
+
+    // Puts the groups that have any fact into a set of groups.
+    fn gather_groups(&self, found: &mut BTreeMap<Addr, (), Global>) -> Result<(), AllocError>
         ensures { OnOk result (numbers_of found.new.entries ≡ gathered (map group_in (fact_keys self.now)) (numbers_of found.old.entries)) }
     {
         gather(&self.group_records, found)?;
@@ -35,6 +52,16 @@ fn gather<R>(facts: &Facts<R>, found: &mut BTreeMap<Addr, (), Global>) -> Result
     ensures { OnOk result (numbers_of found.new.entries ≡ gathered (map group_in (keys_in facts.now)) (numbers_of found.old.entries)) }
 {
     for (key, _) in facts.iter() {
+        found.insert(key.group, ())?;
+    }
+    Ok(())
+}
+
+// Puts the groups of keys into a set of groups.
+fn gather_named(keys: &[Key], found: &mut BTreeMap<Addr, (), Global>) -> Result<(), AllocError>
+    ensures { OnOk result (numbers_of found.new.entries ≡ gathered (map group_in keys.now) (numbers_of found.old.entries)) }
+{
+    for key in keys {
         found.insert(key.group, ())?;
     }
     Ok(())

@@ -4,6 +4,7 @@ ghost use Rattle.pim_model.specs.Downstream.{prune_pending_end};
 ghost use Rattle.pim_model.specs.Hellos.{hellos_triggered, is_generation_changed, neighbour_replaced};
 ghost use Rattle.pim_model.specs.Neighbours.{t_override};
 ghost use Rattle.pim_model.specs.State.{my_override_interval, my_propagation_delay};
+ghost use Rattle.pim_neighbours.specs.Refreshed.{is_refreshed};
 
 use crate::world::World;
 use pim_types::{Addr, IfaceId, InterfaceConfig};
@@ -17,6 +18,13 @@ impl World {
         ensures { result ≡ is_generation_changed self.now iface.number from.bits hello.now }
     {
         self.neighbours.is_generation_changed(iface, from, hello)
+    }
+
+    /// Whether the Hello says no more of its neighbour than that it lasts.
+    pub fn is_refreshed(&self, iface: IfaceId, from: Addr, hello: &Hello) -> bool
+        ensures { result ≡ is_refreshed self.now.neighbours iface.number from.bits hello.now }
+    {
+        self.neighbours.is_refreshed(iface, from, hello)
     }
 
     // What is configured of the interface.

@@ -8,9 +8,11 @@ pub mod macros;
 pub mod routes;
 pub mod sending;
 pub mod settings;
+pub mod touched;
 pub mod turn;
 pub mod world;
 
 pub use routes::test_rps;
+pub use touched::Touched;
 pub use turn::Turn;
 pub use world::World;

@@ -4,7 +4,8 @@ ghost use Rattle.std.specs.List.Sorted.{IsStrictlySortedBy};
 ghost use Rattle.pim_model.specs.Downstream.{holdtime_end_from};
 ghost use Rattle.pim_model.specs.Hellos.{is_generation_changed_among, neighbours_replaced};
 ghost use Rattle.pim_model.specs.Neighbours.{all_have_priority, is_better_dr, is_dr_among, is_suppression_among, nbr_among, override_interval_among, propagation_delay_among, t_override_among, t_suppressed_among};
-ghost use Rattle.pim_model.specs.Tables.{drop_at, drop_where, has_row, keys_in, row_at, rows_on};
+ghost use Rattle.pim_model.specs.Tables.{drop_at, drop_where, has_row, keys_in, row_at, rows_on, same_option};
+ghost use Rattle.pim_neighbours.specs.Refreshed.{is_refreshed};
 ghost use Rattle.pim_types.specs.Keys.{is_on, key_cmp, neighbour_key};
 
 use crate::delays::{Delays, delay_in};
@@ -22,6 +23,17 @@ const LEAST_SUPPRESSED: u32 = 66_000;
 
 /// The greatest `t_suppressed`, in ms: 1.4 times the period of Joins.
 const MOST_SUPPRESSED: u32 = 84_000;
+
+// Whether both are the same priority, or none.
+fn is_same_priority(first: Option<u32>, second: Option<u32>) -> bool
+    ensures { result ≡ same_option first second }
+{
+    match (first, second) {
+        (None, None) => true,
+        (Some(first), Some(second)) => first == second,
+        _ => false,
+    }
+}
 
 /// The PIM neighbours on all interfaces, each as its last Hello said.
 #[derive(Drop)]
@@ -295,6 +307,20 @@ impl Neighbours {
             (Some(before), Some(after)) => before != after,
             _ => false,
         }
+    }
+
+    /// Whether the Hello says no more of its neighbour than that it lasts: the neighbour is known with
+    /// this priority, and didn't start anew.
+    #[tactic(auto, unfolding(crate::specs::Refreshed::is_refreshed))]
+    pub fn is_refreshed(&self, iface: IfaceId, address: Addr, hello: &Hello) -> bool
+        ensures { result ≡ is_refreshed self.now iface.number address.bits hello.now }
+    {
+        let Some(row) = self.get(iface, address) else {
+            return false;
+        };
+        is_same_priority(row.priority, hello.priority)
+            && hello.holdtime.unwrap_or(DEFAULT_HOLDTIME) != 0
+            && !self.is_generation_changed(iface, address, hello)
     }
 
     /// Makes the neighbour what its Hello says, which came at the present moment, in ms. Without a

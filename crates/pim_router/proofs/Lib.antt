@@ -3,3 +3,4 @@ mod PlainLaws
 mod Runs
 mod Settling
 mod Taking
+mod Touching

@@ -3,8 +3,7 @@ use Rattle.std.proofs.Common.{◌≡◌, ℕ, Bool, true, false, List, [], ◌�
 use Rattle.std.specs.Cmp.{first_so, second_so}
 use Rattle.std.specs.Prelude.{if◌then◌else◌}
 use Rattle.pim_types.specs.declared.config.Config.{Config}
-use Rattle.pim_ip.specs.declared.addr.Addr.{Addr}
-use Rattle.pim_types.specs.declared.upstream.StarView.{StarView}
+use Rattle.pim_upstream.specs.declared.opening.GroupView.{GroupView}
 use Rattle.pim_types.specs.declared.fact.InterfaceRow.{InterfaceRow}
 use Rattle.pim_types.specs.declared.fact.JoinTimerRow.{JoinTimerRow}
 use Rattle.pim_types.specs.declared.fact.Key.{Key}
@@ -144,9 +143,9 @@ written : (s : State) (messages : List Message) → IsPlain s → IsPlain (write
 unfolding write_all
 written s messages p = besides s _ s.neighbours s.queriers s.join_timers p p.join_timers
 
-pub settled : (kept : List (Addr × StarView)) (a : State) (messages : List Message) (w : ℕ) → IsPlain a
-    → IsPlain (settled_by kept a messages w).0
+pub settled : (opening : List GroupView) (a : State) (messages : List Message) (w : ℕ) → IsPlain a
+    → IsPlain (settled_by opening a messages w).0
 unfolding settled_by
-settled kept a messages w p =
-    let told : State × List Message = upstream_by kept a w in
-    written told.0 (messages ++ told.1) (plain_after_views kept a w p)
+settled opening a messages w p =
+    let told : State × List Message = upstream_by opening a w in
+    written told.0 (messages ++ told.1) (plain_after_views opening a w p)

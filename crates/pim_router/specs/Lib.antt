@@ -1,3 +1,4 @@
+pub mod Kept
 pub mod Naming
 pub mod Settling
 pub mod Stops

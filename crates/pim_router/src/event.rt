@@ -5,6 +5,7 @@ ghost use Rattle.pim_macros.specs.Plain.{IsPlain};
 ghost use Rattle.pim_model.specs.Built.{built_step, is_built, taken_if_built};
 ghost use Rattle.pim_model.specs.Step.{outcome_of, taken, taken_unless_full};
 ghost use Rattle.pim_model.specs.Sure.{is_sure, needs_no_memory};
+ghost use Rattle.pim_router.specs.Kept.{IsKept};
 ghost use Rattle.pim_router.specs.Naming.{AreNamedBy, IsConfigured};
 ghost use Rattle.pim_router.specs.Stops.{stop_outcome};
 
@@ -12,6 +13,7 @@ use crate::built::is_built;
 use crate::change::apply;
 use crate::named::{is_full, named_by};
 use crate::settle::settle;
+use crate::touched::touched_by;
 use pim_downstream::Named;
 use pim_intake::judge;
 use pim_macros::{Turn, World};
@@ -44,7 +46,7 @@ fn take(
     accepted: &Accepted<'_>,
     named: &Named,
 ) -> Result<Outcome, Fault>
-    requires plain { IsPlain world.old }
+    requires kept { IsKept world.old }
     requires begun { turn.old.messages ≡ [] }
     requires built { is_built accepted.now ≡ true }
     requires configured { IsConfigured world.old accepted.now }
@@ -54,7 +56,8 @@ fn take(
     ensures plain { OnOk result (IsPlain world.new) }
     ensures fault { IsOkUnless result Fault.Memory }
 {
-    let opening = Opening::of(world, turn)?;
+    let touched = touched_by(world, turn, accepted, named)?;
+    let opening = Opening::of(world, turn, &touched)?;
     apply(world, turn, accepted, named)?;
     let emissions = settle(world, turn, &opening)?;
     Ok(Outcome {
@@ -71,7 +74,7 @@ fn take_unless_full(
     turn: &mut Turn,
     accepted: &Accepted<'_>,
 ) -> Result<Outcome, Fault>
-    requires plain { IsPlain world.old }
+    requires kept { IsKept world.old }
     requires begun { turn.old.messages ≡ [] }
     requires built { is_built accepted.now ≡ true }
     requires configured { IsConfigured world.old accepted.now }
@@ -94,7 +97,7 @@ fn take_if_built(
     turn: &mut Turn,
     accepted: &Accepted<'_>,
 ) -> Result<Outcome, Fault>
-    requires plain { IsPlain world.old }
+    requires kept { IsKept world.old }
     requires begun { turn.old.messages ≡ [] }
     requires configured { IsConfigured world.old accepted.now }
     ensures outcome { IfOk result (λ outcome. outcome ≡ outcome_of (taken_if_built world.old turn.old.draw accepted.now)) }
@@ -112,7 +115,7 @@ fn take_if_built(
 // An event in its turn.
 #[tactic(auto, unfolding(pim_model::specs::Built::built_step))]
 fn take_turn(world: &mut World, turn: &mut Turn, event: &Event) -> Result<Outcome, Fault>
-    requires plain { IsPlain world.old }
+    requires kept { IsKept world.old }
     requires begun { turn.old ≡ record { draw = event.now.draw; messages = [] } }
     ensures outcome { IfOk result (λ outcome. outcome ≡ outcome_of (built_step world.old event.now)) }
     ensures state { OnOk result (world.new ≡ (built_step world.old event.now).state) }
@@ -133,10 +136,10 @@ pub(crate) fn take_in(
     event: &Event,
     meter: &mut Meter,
 ) -> Result<Outcome, Fault>
-    requires { IsPlain world.old }
+    requires { IsKept world.old }
     ensures outcome { IfOk result (λ outcome. outcome ≡ outcome_of (built_step world.old event.now)) }
     ensures state { OnOk result (world.new ≡ (built_step world.old event.now).state) }
-    ensures plain { OnOk result (IsPlain world.new) }
+    ensures kept { OnOk result (IsKept world.new) }
     ensures fault { IsOkUnless result Fault.Memory }
     ensures sure { IsTrue (is_sure event.now.kind (built_step world.old event.now).answer) → IsOk result }
 {

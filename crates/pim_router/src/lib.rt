@@ -7,5 +7,6 @@ pub mod event;
 pub mod named;
 pub mod router;
 pub mod settle;
+pub mod touched;
 
 pub use router::Router;

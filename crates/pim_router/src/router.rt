@@ -1,11 +1,11 @@
 //! The router.
 ghost use Rattle.std.specs.Prelude.{◌≡◌, ◌++◌, ◌↔◌, [], Err, IfErr, IfOk, IfSome, IsOk, IsOkUnless, IsTrue, None, Ok, OnErr, OnOk, Some};
 ghost use Rattle.pim_ip.specs.declared.fault.Fault.{Fault};
-ghost use Rattle.pim_macros.specs.Plain.{IsPlain};
 ghost use Rattle.pim_model.specs.Built.{built_run, built_state_after, built_step};
 ghost use Rattle.pim_model.specs.Limits.{config_test};
 ghost use Rattle.pim_model.specs.State.{opening};
 ghost use Rattle.pim_model.specs.Sure.{is_sure};
+ghost use Rattle.pim_router.specs.Kept.{IsKept};
 
 use crate::event::take_in;
 use pim_macros::World;
@@ -26,15 +26,14 @@ pub struct Router {
 
 impl Model for Router {
     ghost use Rattle.std.specs.Prelude.{None, Option, Some, false, if◌then◌else◌, ◌≡◌};
-    ghost use Rattle.pim_macros.specs.Plain.{IsPlain};
     ghost use Rattle.pim_model.specs.State.{State};
+    ghost use Rattle.pim_router.specs.Kept.{IsKept};
 
     ghost Value = { Option State };
 
     ghost view = { λ r. if r.failed then None else Some r.world };
 
-    // What isn't built isn't there.
-    ghost invariant = { λ r. r.failed ≡ false → IsPlain r.world };
+    ghost invariant = { λ r. r.failed ≡ false → IsKept r.world };
 }
 
 impl Router {
@@ -114,10 +113,10 @@ fn run_world(
     events: &[Event],
     meter: &mut Meter,
 ) -> Result<Vec<Outcome>, Fault>
-    requires { IsPlain world.old }
+    requires { IsKept world.old }
     ensures outcomes { IfOk result (λ outcomes. outcomes.items ≡ built_run world.old events.now) }
     ensures state { OnOk result (world.new ≡ built_state_after world.old events.now) }
-    ensures plain { OnOk result (IsPlain world.new) }
+    ensures kept { OnOk result (IsKept world.new) }
     ensures fault { IsOkUnless result Fault.Memory }
     ensures sure { events.now ≡ [] → IsOk result }
 {

@@ -9,6 +9,8 @@ use Rattle.pim_types.specs.Keys.{is_of_group, is_star, source_in}
 use Rattle.pim_model.specs.State.{State}
 use Rattle.pim_model.specs.Tables.{Table, ascending, keys_in}
 use Rattle.pim_model.specs.Upstream.{fact_keys, join_star_to, pruned_with_star, sources_of}
+use Rattle.pim_locality.specs.Locality.{own_keys}
+use Rattle.pim_locality.proofs.OwnKeys.{filters_swap, own_touched}
 use Rattle.pim_macros.specs.Plain.{IsPlain, are_stars}
 use Rattle.pim_upstream.specs.Stars.{joined}
 
@@ -64,6 +66,18 @@ no_sources_of_both o a p q g =
     ap (λ ks. ascending (map source_in ks))
     (none_of_both (λ k. is_of_group g k && is_some k.source) (fact_keys o) (fact_keys a) (plain_has_none o p g)
     (plain_has_none a q g))
+
+-- nor do those facts of a group that pass a test
+pub no_own_sources : (test : Key → Bool) (o a : State) → IsPlain o → IsPlain a → (g : ℕ)
+    → sources_of g (filter test (own_keys g o ++ own_keys g a)) ≡ []
+unfolding sources_of ascending
+no_own_sources test o a p q g =
+    own_touched g test o a
+    ∙ ap (λ ks. ascending (map source_in ks))
+    (filters_swap (λ k. is_of_group g k && is_some k.source) test (fact_keys o ++ fact_keys a)
+    ∙ ap (filter test)
+    (none_of_both (λ k. is_of_group g k && is_some k.source) (fact_keys o) (fact_keys a) (plain_has_none o p g)
+    (plain_has_none a q g)))
 
 pub no_prunes : (s : State) → IsPlain s → (g : ℕ) → pruned_with_star s g ≡ []
 unfolding pruned_with_star

@@ -7,5 +7,5 @@ mod star;
 mod timer;
 pub mod turns;
 
-pub use opening::Opening;
+pub use opening::{GroupView, Opening};
 pub use turns::changed;

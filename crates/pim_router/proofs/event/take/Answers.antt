@@ -12,7 +12,7 @@ use Rattle.pim_router.proofs.event.take.Goals as goal
 pub settle-requires : goal.settle-requires
 settle-requires c =
     subst (λ (x : State). IsPlain x) (sym c.in_ok-apply.ensures.state)
-    (changed c.args.world.now c.of.new.turn.draw c.args.accepted.now c.requires.plain c.requires.built)
+    (changed c.args.world.now c.of.new.turn.draw c.args.accepted.now c.requires.kept.plain c.requires.built)
 
 pub returns-clause-outcome : goal.returns-clause-outcome
 returns-clause-outcome c =
@@ -20,18 +20,18 @@ returns-clause-outcome c =
     in o)
     (c.from_vec.ensures ∙ c.in_ok-emissions.ensures.sent)
     ∙ ap (λ (x : Answered). outcome_of x)
-    (taken_in_turn c.args.world.now c.apply.new.world c.args.accepted.now c.in_ok-opening.opening c.args.turn.now
+    (taken_in_turn c.args.world.now c.apply.new.world c.args.accepted.now c.in_ok-touched.touched c.in_ok-opening.opening c.args.turn.now
     c.of.new.turn c.apply.new.turn
-    c.requires.plain c.requires.built c.in_ok-opening.ensures.opening c.requires.begun c.of.ensures.silent
+    c.requires.kept.plain c.requires.built c.in_ok-touched.ensures c.in_ok-opening.ensures.opening c.requires.begun c.of.ensures.silent
     c.in_ok-apply.ensures.state c.in_ok-apply.ensures.messages)
 
 pub returns-clause-state : goal.returns-clause-state
 returns-clause-state c =
     c.in_ok-emissions.ensures.state
     ∙ ap (λ (x : Answered). x.state)
-    (taken_in_turn c.args.world.now c.apply.new.world c.args.accepted.now c.in_ok-opening.opening c.args.turn.now
+    (taken_in_turn c.args.world.now c.apply.new.world c.args.accepted.now c.in_ok-touched.touched c.in_ok-opening.opening c.args.turn.now
     c.of.new.turn c.apply.new.turn
-    c.requires.plain c.requires.built c.in_ok-opening.ensures.opening c.requires.begun c.of.ensures.silent
+    c.requires.kept.plain c.requires.built c.in_ok-touched.ensures c.in_ok-opening.ensures.opening c.requires.begun c.of.ensures.silent
     c.in_ok-apply.ensures.state c.in_ok-apply.ensures.messages)
 
 pub returns-clause-plain : goal.returns-clause-plain
@@ -39,4 +39,4 @@ returns-clause-plain c =
     subst (λ (x : State). IsPlain x) (sym c.in_ok-emissions.ensures.state)
     (settled c.in_ok-opening.opening c.apply.new.world c.apply.new.turn.messages c.apply.new.turn.draw
     (subst (λ (x : State). IsPlain x) (sym c.in_ok-apply.ensures.state)
-    (changed c.args.world.now c.of.new.turn.draw c.args.accepted.now c.requires.plain c.requires.built)))
+    (changed c.args.world.now c.of.new.turn.draw c.args.accepted.now c.requires.kept.plain c.requires.built)))
