@@ -1,5 +1,5 @@
--- Of all that is judged only an interface that is to go up names one, and it is one of the router's.
-use Rattle.std.proofs.Common.{◌≡◌, ℕ, Bool, true, false, not, nat_le, nat_lt, Result, Ok, Err, List, length, arith, refl, subst, sym, ◌∙◌, ◌==◌, ◌&&◌}
+-- Where what is accepted is about an interface, that is one of the router's.
+use Rattle.std.proofs.Common.{◌≡◌, ◌<◌, ℕ, Bool, true, false, not, nat_le, nat_lt, Result, Ok, Err, List, length, arith, refl, subst, sym, ◌∙◌, ◌==◌, ◌&&◌}
 use Rattle.std.proofs.lemmas.Bool.Decides.{nat_tests}
 use Rattle.std.specs.Prelude.{if◌then◌else◌}
 use Rattle.pim_ip.specs.Addr.{addr}
@@ -36,9 +36,10 @@ module _ (s : State) where
   ignoring true reason next f = record { says = tt }
   ignoring false reason next f = f
 
-  refusing : (b : Bool) (refusal : Refusal) (next : Judged) → Fits next → Fits (refuse_if b refusal >> next)
+  -- what the test showed holds of what comes next
+  refusing : (b : Bool) (refusal : Refusal) (next : Judged) → (b ≡ false → Fits next) → Fits (refuse_if b refusal >> next)
   refusing true refusal next f = record { says = tt }
-  refusing false refusal next f = f
+  refusing false refusal next f = f refl
 
   reading : {A : Type 0} (r : Result A Refusal) (next : A → Judged) → ((a : A) → Fits (next a)) → Fits (of_read r next)
   reading (Ok a) next f = f a
@@ -47,11 +48,6 @@ module _ (s : State) where
   choosing : (b : Bool) (x y : Judged) → Fits x → Fits y → Fits (if b then x else y)
   choosing true x y f g = f
   choosing false x y f g = g
-
-  join_prune : (i : IfaceId) (m : JoinPrune) (b : Bool)
-      → Fits (Ok (if b then Accepted.JoinPruneToMe i m else Accepted.JoinPruneSeen i m))
-  join_prune i m true = record { says = tt }
-  join_prune i m false = record { says = tt }
 
   two : (a b : Bool) (first second : Ignored) (next : Judged) → Fits next
       → Fits (ignore_if a first >> ignore_if b second >> next)
@@ -62,42 +58,54 @@ module _ (s : State) where
   three a b c first second third next f =
       ignoring a first (ignore_if b second >> ignore_if c third >> next) (two b c second third next f)
 
-  pim : (i : IfaceId) (from : ℕ) (v : PimView) → Fits (pim_judged s i from v)
-  unfolding pim_judged hello_judged join_prune_judged assert_judged
-  pim i from (PimView.Hello h) =
-      ignoring ((hello_holdtime_of h == 0) && not (is_neighbour s i.number from)) Ignored.NoNeighbour
-      (Ok (Accepted.Hello i (addr from) h)) (record { says = tt })
-  pim i from (PimView.JoinPrune m) =
-      ignoring (not (is_neighbour s i.number from)) Ignored.NoNeighbour _
-      (join_prune i m (m.upstream == my_address s i.number))
-  pim i from (PimView.Assert a) =
-      three (not (a.mask_length == 32)) (is_link_local a.group.bits) (not (is_neighbour s i.number from))
-      Ignored.Mask Ignored.LinkLocal Ignored.NoNeighbour (Ok (Accepted.Assert i (addr from) a)) (record { says = tt })
-  pim i from PimView.Other = record { says = tt }
-  pim i from (PimView.Register r) = record { says = tt }
-  pim i from (PimView.RegisterStop r) = record { says = tt }
+  -- ---- a frame on an interface of the router
 
-  igmp : (i : IfaceId) (from : ℕ) (v : IgmpView) → Fits (Ok (igmp_accepted i from v))
-  igmp i from (IgmpView.Query q) = record { says = tt }
-  igmp i from (IgmpView.Report records) = record { says = tt }
+  below : (i n : ℕ) → nat_le n i ≡ false → i < n
+  below i n e = grind (arith, nat_tests, e)
 
-  of_data : (i : IfaceId) (p : Packet) → Fits (data_judged s i p)
-  unfolding data_judged
-  of_data i p =
-      three (is_own s p.source) (not (is_multicast p.destination)) (is_link_local p.destination)
-      Ignored.Own Ignored.NotForMe Ignored.LinkLocal (Ok (Accepted.Data i p)) (record { says = tt })
+  module _ (i : IfaceId) (known : i.number < iface_count s) where
+    join_prune : (m : JoinPrune) (b : Bool)
+        → Fits (Ok (if b then Accepted.JoinPruneToMe i m else Accepted.JoinPruneSeen i m))
+    join_prune m true = record { says = known }
+    join_prune m false = record { says = known }
 
-  packet : (i : IfaceId) (p : Packet) → Fits (packet_judged s i p)
-  unfolding packet_judged pim_message_judged igmp_message_judged igmp_judged
-  packet i p =
-      choosing ((p.protocol == protocol_pim) && (p.destination == all_pim_routers)) (pim_message_judged s i p) _
-      (reading (pim_reading p.payload) (λ m. ignore_if (is_own s p.source) Ignored.Own >> pim_judged s i p.source m)
-      (λ m. ignoring (is_own s p.source) Ignored.Own (pim_judged s i p.source m) (pim i p.source m)))
-      (choosing (p.protocol == protocol_igmp) (igmp_message_judged s i p) (data_judged s i p)
-      (reading (igmp_reading p.payload) (igmp_judged s i p)
-      (λ m. two (is_own s p.source) (not (is_multicast p.destination)) Ignored.Own Ignored.NotForMe
-      (Ok (igmp_accepted i p.source m)) (igmp i p.source m)))
-      (of_data i p))
+    pim : (from : ℕ) (v : PimView) → Fits (pim_judged s i from v)
+    unfolding pim_judged hello_judged join_prune_judged assert_judged
+    pim from (PimView.Hello h) =
+        ignoring ((hello_holdtime_of h == 0) && not (is_neighbour s i.number from)) Ignored.NoNeighbour
+        (Ok (Accepted.Hello i (addr from) h)) (record { says = known })
+    pim from (PimView.JoinPrune m) =
+        ignoring (not (is_neighbour s i.number from)) Ignored.NoNeighbour _
+        (join_prune m (m.upstream == my_address s i.number))
+    pim from (PimView.Assert a) =
+        three (not (a.mask_length == 32)) (is_link_local a.group.bits) (not (is_neighbour s i.number from))
+        Ignored.Mask Ignored.LinkLocal Ignored.NoNeighbour (Ok (Accepted.Assert i (addr from) a))
+        (record { says = known })
+    pim from PimView.Other = record { says = tt }
+    pim from (PimView.Register r) = record { says = tt }
+    pim from (PimView.RegisterStop r) = record { says = tt }
+
+    igmp : (from : ℕ) (v : IgmpView) → Fits (Ok (igmp_accepted i from v))
+    igmp from (IgmpView.Query q) = record { says = known }
+    igmp from (IgmpView.Report records) = record { says = known }
+
+    of_data : (p : Packet) → Fits (data_judged s i p)
+    unfolding data_judged
+    of_data p =
+        three (is_own s p.source) (not (is_multicast p.destination)) (is_link_local p.destination)
+        Ignored.Own Ignored.NotForMe Ignored.LinkLocal (Ok (Accepted.Data i p)) (record { says = known })
+
+    packet : (p : Packet) → Fits (packet_judged s i p)
+    unfolding packet_judged pim_message_judged igmp_message_judged igmp_judged
+    packet p =
+        choosing ((p.protocol == protocol_pim) && (p.destination == all_pim_routers)) (pim_message_judged s i p) _
+        (reading (pim_reading p.payload) (λ m. ignore_if (is_own s p.source) Ignored.Own >> pim_judged s i p.source m)
+        (λ m. ignoring (is_own s p.source) Ignored.Own (pim_judged s i p.source m) (pim p.source m)))
+        (choosing (p.protocol == protocol_igmp) (igmp_message_judged s i p) (data_judged s i p)
+        (reading (igmp_reading p.payload) (igmp_judged s i p)
+        (λ m. two (is_own s p.source) (not (is_multicast p.destination)) Ignored.Own Ignored.NotForMe
+        (Ok (igmp_accepted i p.source m)) (igmp p.source m)))
+        (of_data p))
 
   frame : (i : IfaceId) (bytes : List ℕ) → Fits (frame_judged s i bytes)
   unfolding frame_judged
@@ -106,9 +114,11 @@ module _ (s : State) where
       let short : Judged = refuse_if (nat_lt frame_limit (length bytes)) Refusal.BadLength >> read in
       let up : Judged = refuse_if (not (is_up s i.number)) Refusal.InterfaceDown >> short in
       refusing (nat_le (iface_count s) i.number) Refusal.NoInterface up
-      (refusing (not (is_up s i.number)) Refusal.InterfaceDown short
-      (refusing (nat_lt frame_limit (length bytes)) Refusal.BadLength read
-      (reading (ipv4_reading bytes) (packet_judged s i) (λ p. packet i p))))
+      (λ e. refusing (not (is_up s i.number)) Refusal.InterfaceDown short
+      (λ _. refusing (nat_lt frame_limit (length bytes)) Refusal.BadLength read
+      (λ _. reading (ipv4_reading bytes) (packet_judged s i) (packet i (below i.number (iface_count s) e)))))
+
+  -- ---- other events
 
   to_me : (p : Packet) (v : PimView) → Fits (pim_to_me_judged s p v)
   unfolding pim_to_me_judged register_judged register_stop_judged
@@ -133,30 +143,28 @@ module _ (s : State) where
       (λ m. ignoring (not (is_own s p.destination)) Ignored.NotForMe (pim_to_me_judged s p m) (to_me p m)))
       (record { says = tt }))
 
-  tested : (i : IfaceId) (b c : Bool) → b ≡ nat_le (iface_count s) i.number
-      → Fits (refuse_if b Refusal.NoInterface >> ignore_if c Ignored.Already >> Ok (Accepted.Up i))
-  tested i true c e = record { says = tt }
-  tested i false true e = record { says = tt }
-  tested i false false e = record { says = grind (arith, nat_tests, e) }
-
   any : (kind : EventKind) → Fits (judged s kind)
   unfolding judged up_judged down_judged advance_judged routes_judged rps_judged
   any (EventKind.Advance moment) =
       refusing (nat_lt moment s.present) Refusal.MomentBack
       (refuse_if (nat_lt last_moment moment) Refusal.MomentFar >> Ok (Accepted.Advance moment))
-      (refusing (nat_lt last_moment moment) Refusal.MomentFar (Ok (Accepted.Advance moment)) (record { says = tt }))
+      (λ _. refusing (nat_lt last_moment moment) Refusal.MomentFar (Ok (Accepted.Advance moment))
+      (λ _. record { says = tt }))
   any (EventKind.Frame i bytes) = frame i bytes
   any (EventKind.Unicast bytes) = unicast bytes
-  any (EventKind.Up i) = tested i (nat_le (iface_count s) i.number) (is_up s i.number) refl
+  any (EventKind.Up i) =
+      refusing (nat_le (iface_count s) i.number) Refusal.NoInterface _
+      (λ e. ignoring (is_up s i.number) Ignored.Already (Ok (Accepted.Up i))
+      (record { says = below i.number (iface_count s) e }))
   any (EventKind.Down i) =
-      refusing (nat_le (iface_count s) i.number) Refusal.NoInterface
-      (ignore_if (not (is_up s i.number)) Ignored.Already >> Ok (Accepted.Down i))
-      (ignoring (not (is_up s i.number)) Ignored.Already (Ok (Accepted.Down i)) (record { says = tt }))
+      refusing (nat_le (iface_count s) i.number) Refusal.NoInterface _
+      (λ e. ignoring (not (is_up s i.number)) Ignored.Already (Ok (Accepted.Down i))
+      (record { says = below i.number (iface_count s) e }))
   any (EventKind.Routes routes) =
       refusing (not (are_routes s.configured routes)) Refusal.BadRoutes (Ok (Accepted.Routes routes))
-      (record { says = tt })
+      (λ _. record { says = tt })
   any (EventKind.Rps ranges) =
-      refusing (not (are_rps ranges)) Refusal.BadRps (Ok (Accepted.Rps ranges)) (record { says = tt })
+      refusing (not (are_rps ranges)) Refusal.BadRps (Ok (Accepted.Rps ranges)) (λ _. record { says = tt })
 
   pub configured : (kind : EventKind) (j : Judged) (a : Accepted) → j ≡ judged s kind → j ≡ Ok a → IsConfigured s a
   configured kind j a e f = subst (λ (x : Judged). Says x) (sym e ∙ f) (any kind).says

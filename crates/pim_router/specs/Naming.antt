@@ -10,7 +10,15 @@ abbrev pub AreNamedBy : State → Accepted → List Key → List Key → Type 0
 AreNamedBy s (Accepted.JoinPruneToMe i m) joined pruned = (joined ≡ joined_keys s i.number m) × (pruned ≡ pruned_keys i.number m)
 AreNamedBy s _ joined pruned = Unit {0}
 
--- an interface that is to go up is one of the router's
+-- the interface of an event is one of the router's
 abbrev pub IsConfigured : State → Accepted → Type 0
 IsConfigured s (Accepted.Up i) = i.number < iface_count s
+IsConfigured s (Accepted.Down i) = i.number < iface_count s
+IsConfigured s (Accepted.Hello i from h) = i.number < iface_count s
+IsConfigured s (Accepted.JoinPruneToMe i m) = i.number < iface_count s
+IsConfigured s (Accepted.JoinPruneSeen i m) = i.number < iface_count s
+IsConfigured s (Accepted.Assert i from a) = i.number < iface_count s
+IsConfigured s (Accepted.Query i from q) = i.number < iface_count s
+IsConfigured s (Accepted.Report i records) = i.number < iface_count s
+IsConfigured s (Accepted.Data i packet) = i.number < iface_count s
 IsConfigured s _ = Unit {0}
