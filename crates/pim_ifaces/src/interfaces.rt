@@ -116,7 +116,7 @@ impl Interfaces {
         ensures { result ≡ is_on_link_among self.now.configured self.now.rows address.bits iface.number }
     {
         match self.config(iface) {
-            Some(interface) => self.is_up(iface) && subnet(interface).contains(address),
+            Some(interface) => subnet(interface).contains(address) && self.is_up(iface),
             None => false,
         }
     }

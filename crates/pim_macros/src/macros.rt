@@ -53,13 +53,22 @@ impl World {
         self.neighbours.nbr(path)
     }
 
+    // RPF'(*,G), by the route to the RP.
+    fn rpf_star_along(&self, group: Addr, path: Option<Path>) -> Option<Hop>
+        requires plain { IsPlain self.now }
+        requires path { path ≡ rp_route self.now group.bits }
+        ensures { result ≡ rpf_star self.now group.bits }
+    {
+        self.nbr(path)
+    }
+
     /// RPF'(*,G).
     pub fn rpf_star(&self, group: Addr, meter: &mut Meter) -> Option<Hop>
         requires { IsPlain self.now }
         ensures { result ≡ rpf_star self.now group.bits }
     {
         let path = self.rp_route(group, meter);
-        self.nbr(path)
+        self.rpf_star_along(group, path)
     }
 
     /// Whether RPF'(*,G) is this neighbour.
@@ -113,7 +122,7 @@ impl World {
             rp: self.rp(group, meter),
             iface: path.map(|path| path.iface),
             next_hop: self.nbr(path),
-            upstream: self.rpf_star(group, meter),
+            upstream: self.rpf_star_along(group, path),
         }
     }
 
