@@ -1,10 +1,12 @@
 pub mod BuiltLaws
 pub mod ClearingLaws
 pub mod DueKept
+pub mod EachLaws
 pub mod Ends
 pub mod FiringLaws
 pub mod IgmpKept
 pub mod ListLaws
+pub mod RecordLaws
 pub mod RecordsKept
 pub mod RepeatLaws
 pub mod SettledKept

@@ -3,14 +3,15 @@ use Rattle.std.proofs.Common.{◌≡◌, Bool, true, false, not, cond, ◌&&◌,
 use Rattle.std.specs.List.{filter, filter_map, cons_option, list_any}
 use Rattle.std.specs.Option.{option_map_or}
 use Rattle.std.specs.Map.{lookup}
+use Rattle.std.proofs.lemmas.Map.Entries.{lookup-filter-keys}
 use Rattle.std.specs.BTreeMap.{insert_entry, is_at}
 use Rattle.std.specs.declared.cmp.Ordering.{Ordering}
 use Rattle.std.specs.declared.cmp.Ordering.TheVariants.{Less, Equal, Greater}
 use Rattle.std.specs.Ordering.{is_eq, match_ordering}
 use Rattle.pim_types.specs.declared.fact.Key.{Key}
-use Rattle.pim_model.specs.Tables.{Table, row_at, put, drop_where, changed_entry, change_row}
+use Rattle.pim_model.specs.Tables.{Table, row_at, put, drop_at, drop_where, changed_entry, change_row}
 use Rattle.pim_types.specs.Keys.{key_cmp, same_key}
-use Rattle.pim_types.proofs.Keys.{equal_keys}
+use Rattle.pim_types.proofs.Keys.{equal_keys, same_key_same}
 use Rattle.pim_laws.proofs.ListLaws.{any_more, any_of_filter}
 
 -- ---- either of two tests
@@ -166,3 +167,72 @@ module _ {R : Type 0} (q : Key × R → Bool) where
       go x true None e f = cc
       go x true (Some r) e f = keeps x.0 x.1 r e f
       go x false o e f = f
+
+-- ---- the row at a key
+
+module _ {R : Type 0} (k : Key) (r : R) where
+  put_here_step : (x : Key × R) (xs : Table R) (o : Ordering) → key_cmp k x.0 ≡ o
+      → row_at (insert_entry key_cmp xs k r) k ≡ Some r
+      → row_at (match_ordering o ((k, r) ∷ x ∷ xs) ((x.0, r) ∷ xs) (x ∷ insert_entry key_cmp xs k r)) k ≡ Some r
+  unfolding row_at
+  put_here_step x xs Less e ih = rw (same_key_same k) refl
+  put_here_step x xs Equal e ih = rw e refl
+  put_here_step x xs Greater e ih = rw e ih
+
+  pub row_put : (t : Table R) → row_at (put t k r) k ≡ Some r
+  unfolding put row_at
+  row_put [] = rw (same_key_same k) refl
+  row_put (x ∷ xs) = put_here_step x xs (key_cmp k x.0) refl (row_put xs)
+
+-- where rows are dropped by a test that the key doesn't pass
+pub row_kept : {R : Type 0} (test : Key → Bool) (k : Key) → test k ≡ false → (t : Table R)
+    → row_at (drop_where test t) k ≡ row_at t k
+unfolding row_at drop_where
+row_kept test k out t =
+    lookup-filter-keys (is_at (key_cmp k)) (λ q. not (test q)) true
+    (λ q e. ap (λ (p : Key). not (test p)) (sym (equal_keys k q e)) ∙ ap not out) t
+
+differs : (k q : Key) → (k ≡ q → ⊥) → same_key k q ≡ false
+differs k q apart = go (same_key k q) refl
+  where
+    go : (b : Bool) → same_key k q ≡ b → b ≡ false
+    go true e = absurd (apart (equal_keys k q e))
+    go false e = refl
+
+-- where the row at another key is put, changed or dropped
+module _ {R : Type 0} (k q : Key) (apart : k ≡ q → ⊥) where
+  passed : (x : Key × R) (o : Option R) → k ≡ x.0 → cond (same_key q x.0) (Some x.1) o ≡ o
+  passed x o e = rw (differs q x.0 (λ f. apart (e ∙ sym f))) refl
+
+  put_away_step : (r : R) (x : Key × R) (xs ys : Table R) (o : Ordering) → key_cmp k x.0 ≡ o → row_at ys q ≡ row_at xs q
+      → row_at (match_ordering o ((k, r) ∷ x ∷ xs) ((x.0, r) ∷ xs) (x ∷ ys)) q ≡ row_at (x ∷ xs) q
+  unfolding row_at
+  put_away_step r x xs ys Less e ih = passed (k, r) _ refl
+  put_away_step r x xs ys Equal e ih =
+      let key : k ≡ x.0 = equal_keys k x.0 (ap is_eq e) in passed (x.0, r) _ key ∙ sym (passed x _ key)
+  put_away_step r x xs ys Greater e ih = ap (λ (o : Option R). cond (same_key q x.0) (Some x.1) o) ih
+
+  pub row_put_away : (r : R) (t : Table R) → row_at (put t k r) q ≡ row_at t q
+  unfolding row_at put
+  row_put_away r [] = passed (k, r) None refl
+  row_put_away r (x ∷ xs) = put_away_step r x xs (insert_entry key_cmp xs k r) (key_cmp k x.0) refl (row_put_away r xs)
+
+  change_away_step : (x : Key × R) (xs ys : Table R) (b : Bool) (o : Option R) → same_key k x.0 ≡ b
+      → row_at ys q ≡ row_at xs q
+      → row_at (cons_option (cond b (option_map (λ (r : R). let p : Key × R = (x.0, r) in p) o) (Some x)) ys) q
+      ≡ row_at (x ∷ xs) q
+  unfolding row_at
+  change_away_step x xs ys true None e ih = ih ∙ sym (passed x _ (equal_keys k x.0 e))
+  change_away_step x xs ys true (Some r) e ih =
+      let key : k ≡ x.0 = equal_keys k x.0 e in passed (x.0, r) _ key ∙ (ih ∙ sym (passed x _ key))
+  change_away_step x xs ys false o e ih = ap (λ (o : Option R). cond (same_key q x.0) (Some x.1) o) ih
+
+  pub row_change_away : (change : R → Option R) (t : Table R) → row_at (change_row change k t) q ≡ row_at t q
+  unfolding row_at change_row changed_entry
+  row_change_away change [] = refl
+  row_change_away change (x ∷ xs) =
+      change_away_step x xs (change_row change k xs) (same_key k x.0) (change x.1) refl (row_change_away change xs)
+
+  pub row_drop_away : (t : Table R) → row_at (drop_at t k) q ≡ row_at t q
+  unfolding drop_at
+  row_drop_away t = row_kept (same_key k) q (differs k q apart) t

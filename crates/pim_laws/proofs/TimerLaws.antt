@@ -30,6 +30,7 @@ use Rattle.pim_model.specs.Tables.{Table, same_option}
 use Rattle.pim_types.specs.Keys.{same_key}
 use Rattle.pim_model.specs.Timers.{Ending, ending, ending_cmp, endings, is_ending_first, next_due, next_query, other_querier_end, register_end, timers}
 use Rattle.pim_types.proofs.Keys.{equal_keys, same_key_same}
+use Rattle.pim_laws.proofs.EachLaws.{all_pass}
 use Rattle.pim_laws.proofs.ListLaws.{any_more}
 use Rattle.pim_laws.proofs.TableLaws.{or_left, or_right, either, any_append, any_of_filter_map, any_in_filter}
 use Rattle.pim_laws.proofs.Ends.{Ends, always, shows_row, shows_in, shows}
@@ -374,15 +375,6 @@ pub record IsNext (m : ℕ) (s : State) (e : Ending) : Type 0 where
   pub due : e.end ≤ m
   pub shown : Shown s e
   pub least : (kind : TimerKind) (k : Key) (x : ℕ) → shows kind (Ends k x) s ≡ true → e.end ≤ x
-
-all_pass : {X : Type 0} (p : X → Bool) (xs : List X) → AllByRecursion (λ x. p x ≡ true) (filter p xs)
-all_pass p [] = tt
-all_pass p (x ∷ xs) = go (p x) refl (all_pass p xs)
-  where
-    go : (b : Bool) → p x ≡ b → AllByRecursion (λ x. p x ≡ true) (filter p xs)
-        → AllByRecursion (λ x. p x ≡ true) (cond b (x ∷ filter p xs) (filter p xs))
-    go true e rest = (e, rest)
-    go false e rest = rest
 
 -- an end by the moment is among what is due
 among_due : (m : ℕ) (s : State) (kind : TimerKind) (k : Key) (x : ℕ) → shows kind (Ends k x) s ≡ true

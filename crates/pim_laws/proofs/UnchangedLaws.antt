@@ -22,12 +22,12 @@ stop_unchanged s (Stop.Refuse refusal) = (refl, refl, refl)
 stop_unchanged s (Stop.Ignore reason) = (refl, refl, refl)
 
 -- what is taken is done
-taken_done : (s : State) (w : ℕ) (a : Accepted) → (taken s w a).answer ≡ Ok Verdict.Done
+pub taken_done : (s : State) (w : ℕ) (a : Accepted) → (taken s w a).answer ≡ Ok Verdict.Done
 unfolding taken advanced done
 taken_done s w (Accepted.Advance moment) = refl
 taken_done s w a = refl
 
-abbrev full_or_taken : State → ℕ → Accepted → Bool → Answered
+abbrev pub full_or_taken : State → ℕ → Accepted → Bool → Answered
 full_or_taken s w a b = elim b [ true ↦ stopped s (Stop.Refuse Refusal.Full) | false ↦ taken s w a ]
 
 full_or_done : (s : State) (w : ℕ) (a : Accepted) (b : Bool) → IsStop (full_or_taken s w a b).answer

@@ -1,6 +1,6 @@
 -- A packet touches its source, and its group where it may make an assert of (*,G).
 use Rattle.std.proofs.Common.{◌≡◌, ◌&&◌, ℕ, Bool, true, false, not, cond, List, [], ◌∷◌, refl, ◌||◌, Option, ap, sym, ◌∙◌}
-use Rattle.pim_locality.proofs.Rows.{row_put}
+use Rattle.pim_laws.proofs.TableLaws.{row_put}
 use Rattle.pim_locality.proofs.Asserts.{reads_itself, source_read, stars_read}
 use Rattle.pim_locality.specs.Touches.{packet_keys}
 use Rattle.pim_laws.proofs.TableLaws.{or_left, or_right}

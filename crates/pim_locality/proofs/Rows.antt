@@ -1,15 +1,12 @@
 -- Look-ups in the rows of some keys, and in tables whose rows were cut down.
 use Rattle.std.proofs.Common.{◌≡◌, ◌&&◌, ◌||◌, ℕ, Bool, true, false, cond, [], ◌∷◌, map, Option, Some, is_some, refl, ap}
-use Rattle.std.specs.declared.cmp.Ordering.TheVariants.{Less, Equal, Greater}
-use Rattle.std.specs.declared.cmp.Ordering.{Ordering}
-use Rattle.std.specs.Ordering.{match_ordering}
 use Rattle.std.specs.List.{list_all, list_any}
 use Rattle.std.specs.Map.{lookup}
-use Rattle.std.specs.BTreeMap.{is_at, insert_entry}
+use Rattle.std.specs.BTreeMap.{is_at}
 use Rattle.pim_types.specs.declared.fact.Key.{Key}
-use Rattle.pim_model.specs.Tables.{Table, row_at, has_row, rows_on, put}
+use Rattle.pim_model.specs.Tables.{Table, row_at, has_row, rows_on}
 use Rattle.pim_types.specs.Keys.{key_cmp, same_key, is_on}
-use Rattle.pim_types.proofs.Keys.{equal_keys, same_key_same}
+use Rattle.pim_types.proofs.Keys.{equal_keys}
 use Rattle.pim_locality.specs.Scopes.{rows_where}
 
 module _ {R : Type 0} (sees : Key → Bool) (k : Key) (seen : sees k ≡ true) where
@@ -71,19 +68,3 @@ module _ {R : Type 0} (cut : R → R) where
   pub all_cut : (q : Key × R → Bool) (t : Table R) → list_all q (map cut_entry t) ≡ list_all (λ e. q (cut_entry e)) t
   all_cut q [] = refl
   all_cut q (x ∷ xs) = ap (λ (b : Bool). q (cut_entry x) && b) (all_cut q xs)
-
--- ---- a row that is put
-
-module _ {R : Type 0} (k : Key) (r : R) where
-  put_step : (x : Key × R) (xs : Table R) (o : Ordering) → key_cmp k x.0 ≡ o
-      → row_at (insert_entry key_cmp xs k r) k ≡ Some r
-      → row_at (match_ordering o ((k, r) ∷ x ∷ xs) ((x.0, r) ∷ xs) (x ∷ insert_entry key_cmp xs k r)) k ≡ Some r
-  unfolding row_at
-  put_step x xs Less e ih = rw (same_key_same k) refl
-  put_step x xs Equal e ih = rw e refl
-  put_step x xs Greater e ih = rw e ih
-
-  pub row_put : (t : Table R) → row_at (put t k r) k ≡ Some r
-  unfolding put row_at
-  row_put [] = rw (same_key_same k) refl
-  row_put (x ∷ xs) = put_step x xs (key_cmp k x.0) refl (row_put xs)

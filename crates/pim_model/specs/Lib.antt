@@ -26,6 +26,7 @@ pub mod Judging
 pub mod Full
 pub mod Step
 pub mod Built
+pub mod Cause
 pub mod Sure
 pub mod Printed
 pub mod Network

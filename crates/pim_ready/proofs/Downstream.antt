@@ -18,6 +18,11 @@ use Rattle.pim_ready.proofs.LateEnds.{by_cond, late_by, late_max}
 use Rattle.pim_laws.proofs.TimerLaws.{all_append}
 use Rattle.pim_ready.proofs.FineStates.{Lateness, Runs, GoodAssert, GoodDownstream, IsFine, Asserts, Downstreams, with_asserts, with_downstream}
 
+pub named_on : (i address g : ℕ) (kind : EntryKind) → iface_in (key_by i g address kind) ≡ i
+named_on i address g EntryKind.Star = refl
+named_on i address g EntryKind.Source = refl
+named_on i address g EntryKind.SourceRpt = refl
+
 module _ (m : ℕ) (late up : ℕ → Bool) (lateness : Lateness m late) where
   -- a row that may be there
   abbrev GoodRow : Option DownstreamRow → Type 0
@@ -156,11 +161,6 @@ module _ (m : ℕ) (late up : ℕ → Bool) (lateness : Lateness m late) where
           (fine_filter (GoodAssert late up) (λ (e : Key × AssertRow). not (is_loser (Some e.1) && is_named joins e.0))
           s.asserts
           (f.tables Asserts))
-
-  named_on : (i address g : ℕ) (kind : EntryKind) → iface_in (key_by i g address kind) ≡ i
-  named_on i address g EntryKind.Star = refl
-  named_on i address g EntryKind.Source = refl
-  named_on i address g EntryKind.SourceRpt = refl
 
   names_on : (i : ℕ) (ns : List Named) → AllByRecursion (λ k. iface_in k ≡ i) (map (named_key i) ns)
   names_on i [] = tt

@@ -1,17 +1,19 @@
 -- A table that is fine: its keys rise, and each entry is good.
 use Rattle.std.proofs.Common.{◌≡◌, Bool, true, false, not, cond, List, [], ◌∷◌, map, fold, Option, Some, None, option_map, is_some, refl, sym, ap, ◌∙◌, subst}
-use Rattle.std.proofs.lemmas.Bool.{not-true}
 use Rattle.std.specs.List.{filter, filter_map, cons_option, AllByRecursion}
 use Rattle.std.specs.BTreeMap.{insert_entry, is_at}
 use Rattle.std.specs.Ordering.{match_ordering}
 use Rattle.std.specs.declared.cmp.Ordering.{Ordering}
 use Rattle.std.specs.declared.cmp.Ordering.TheVariants.{Less, Equal, Greater}
 use Rattle.std.specs.Map.{lookup}
+use Rattle.std.proofs.lemmas.Bool.{not-true}
 use Rattle.pim_types.specs.declared.fact.Key.{Key}
-use Rattle.pim_model.specs.Tables.{Table, row_at, put, drop_where, drop_at, set_row, changed_entry, change_row, has_row}
 use Rattle.pim_types.specs.Keys.{key_cmp, same_key}
-use Rattle.pim_types.proofs.Keys.{equal_keys, same_key_same}
-use Rattle.pim_ready.proofs.RisingKeys.{Up, each_filter, each_filter_map, each_map, each_more, each_passing, each_put, up_filter, up_filter_map, up_map, up_put}
+use Rattle.pim_types.proofs.Keys.{equal_keys}
+use Rattle.pim_model.specs.Tables.{Table, row_at, put, drop_where, drop_at, set_row, changed_entry, change_row, has_row}
+use Rattle.pim_laws.proofs.TableLaws.{row_kept, row_put}
+use Rattle.pim_laws.proofs.EachLaws.{each_filter, each_filter_map, each_map, each_more, each_passing}
+use Rattle.pim_ready.proofs.RisingKeys.{Up, each_put, up_filter, up_filter_map, up_map, up_put}
 
 module _ {R : Type 0} (Good : Key × R → Type 0) where
   pub record Fine (t : Table R) : Type 0 where
@@ -170,35 +172,13 @@ module _ {R : Type 0} (k : Key) where
   has_row_put q r [] e = some_cond (same_key k q) r None e
   has_row_put q r (x ∷ xs) e = put_has_step q r x xs (key_cmp q x.0) e (has_row_put q r xs)
 
-  here_step : (r : R) (x : Key × R) (xs : Table R) (o : Ordering) → key_cmp k x.0 ≡ o
-      → is_some (row_at (insert_entry key_cmp xs k r) k) ≡ true
-      → is_some (row_at (match_ordering o ((k, r) ∷ x ∷ xs) ((x.0, r) ∷ xs) (x ∷ insert_entry key_cmp xs k r)) k) ≡ true
-  unfolding row_at
-  here_step r x xs Less e ih = rw (same_key_same k) refl
-  here_step r x xs Equal e ih = rw e refl
-  here_step r x xs Greater e ih = rw e ih
-
   pub has_row_here : (r : R) (t : Table R) → has_row (put t k r) k ≡ true
-  unfolding has_row put row_at
-  has_row_here r [] = rw (same_key_same k) refl
-  has_row_here r (x ∷ xs) = here_step r x xs (key_cmp k x.0) refl (has_row_here r xs)
-
-  kept_step : (test : Key → Bool) (x : Key × R) (xs ys : Table R) (b : Bool) → test x.0 ≡ b → test k ≡ false
-      → is_some (row_at ys k) ≡ is_some (row_at xs k)
-      → is_some (row_at (cond (not b) (x ∷ ys) ys) k) ≡ is_some (row_at (x ∷ xs) k)
-  unfolding row_at
-  kept_step test x xs ys false e off ih = has_step x x (same_key k x.0) (row_at ys k) (row_at xs k) ih
-  kept_step test x xs ys true e off ih = go (same_key k x.0) refl
-    where
-      go : (b : Bool) → same_key k x.0 ≡ b → is_some (row_at ys k) ≡ is_some (cond b (Some x.1) (row_at xs k))
-      go true same = let on : false ≡ true = sym off ∙ (ap test (equal_keys k x.0 same) ∙ e) in cc
-      go false same = ih
+  unfolding has_row
+  has_row_here r t = ap (λ (o : Option R). is_some o) (row_put k r t)
 
   pub has_row_kept : (test : Key → Bool) → test k ≡ false → (t : Table R) → has_row (drop_where test t) k ≡ has_row t k
-  unfolding has_row drop_where row_at
-  has_row_kept test off [] = refl
-  has_row_kept test off (x ∷ xs) =
-      kept_step test x xs (drop_where test xs) (test x.0) refl off (has_row_kept test off xs)
+  unfolding has_row
+  has_row_kept test off t = ap (λ (o : Option R). is_some o) (row_kept test k off t)
 
 -- what is left of a table is good in a stricter sense
 pub fine_dropped : {R : Type 0} (P Q : Key × R → Type 0) (test : Key → Bool)

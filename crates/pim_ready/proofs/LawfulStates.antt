@@ -16,13 +16,14 @@ use Rattle.pim_types.specs.declared.fact.SendingRow.{SendingRow}
 use Rattle.pim_types.specs.declared.fact.SourceRecordRow.{SourceRecordRow}
 use Rattle.pim_types.specs.declared.fact.SourceRepeatRow.{SourceRepeatRow}
 use Rattle.pim_types.specs.declared.fact.SourceRow.{SourceRow}
-use Rattle.pim_laws.specs.Laws.{IsFirable, is_querier_entry, is_under_source, is_under_star}
+use Rattle.pim_types.specs.Keys.{iface_in}
 use Rattle.pim_model.specs.State.{State, is_up}
 use Rattle.pim_model.specs.Timers.{next_query, other_querier_end, register_end}
-use Rattle.pim_types.specs.Keys.{iface_in}
+use Rattle.pim_laws.specs.Laws.{IsFirable, is_querier_entry, is_under_source, is_under_star}
+use Rattle.pim_laws.proofs.EachLaws.{each_more}
 use Rattle.pim_ready.specs.Ready.{IsLawful, IsOrdered, IsTidy}
 use Rattle.pim_ready.proofs.ShownEnds.{each_both, each_of_list, fine_of, list_of_each}
-use Rattle.pim_ready.proofs.RisingKeys.{each_more, sorted_of_up}
+use Rattle.pim_ready.proofs.RisingKeys.{sorted_of_up}
 use Rattle.pim_ready.proofs.FineStates.{FineAt, GoodInterface, GoodNeighbour, GoodQuerier, GoodGroupRecord, GoodSourceRecord, GoodGroupRepeat, GoodSourceRepeat, GoodSending, GoodDownstream, GoodAssert, GoodJoinTimer, GoodOverrideTimer, GoodSource, GoodRegister, IsFine, Part, Runs, Interfaces, Neighbours, Queriers, GroupRecords, SourceRecords, GroupRepeats, SourceRepeats, Sendings, Downstreams, Asserts, JoinTimers, OverrideTimers, Sources, Registers, is_caused}
 
 -- all that ends in a state ends late

@@ -1,5 +1,5 @@
 -- Tables whose keys rise, and what holds of each entry, through what changes a table.
-use Rattle.std.proofs.Common.{◌≡◌, Bool, true, false, cond, List, [], ◌∷◌, map, Option, Some, None, refl, ap, ◌∙◌, subst}
+use Rattle.std.proofs.Common.{◌≡◌, Bool, true, false, cond, [], ◌∷◌, map, Option, Some, None, refl, ap, ◌∙◌, subst}
 use Rattle.std.specs.List.{filter, filter_map, cons_option, AllByRecursion}
 use Rattle.std.specs.List.Sorted.{IsStrictlySortedBy}
 use Rattle.std.specs.BTreeMap.{insert_entry}
@@ -7,42 +7,12 @@ use Rattle.std.specs.Ordering.{is_eq, match_ordering, ordering_reverse}
 use Rattle.std.specs.declared.cmp.Ordering.{Ordering}
 use Rattle.std.specs.declared.cmp.Ordering.TheVariants.{Less, Equal, Greater}
 use Rattle.pim_types.specs.declared.fact.Key.{Key}
-use Rattle.pim_model.specs.Tables.{Table, keys_in, put}
 use Rattle.pim_types.specs.Keys.{key_cmp}
 use Rattle.pim_types.proofs.Keys.{equal_keys, key_cmp_total}
+use Rattle.pim_model.specs.Tables.{Table, keys_in, put}
+use Rattle.pim_laws.proofs.EachLaws.{each_filter, each_filter_map, each_map, each_more}
 
 -- ---- each entry
-
-module _ {X : Type 0} (P : X → Type 0) where
-  each_cond : (x : X) (ys : List X) (b : Bool) → P x → AllByRecursion P ys → AllByRecursion P (cond b (x ∷ ys) ys)
-  each_cond x ys true h e = (h, e)
-  each_cond x ys false h e = e
-
-  pub each_filter : (test : X → Bool) (xs : List X) → AllByRecursion P xs → AllByRecursion P (filter test xs)
-  each_filter test [] e = tt
-  each_filter test (x ∷ xs) e = each_cond x (filter test xs) (test x) e.0 (each_filter test xs e.1)
-
-  pub each_option : (o : Option X) (ys : List X) → ((y : X) → o ≡ Some y → P y) → AllByRecursion P ys
-      → AllByRecursion P (cons_option o ys)
-  each_option None ys h e = e
-  each_option (Some y) ys h e = (h y refl, e)
-
-module _ {X Y : Type 0} (P : X → Type 0) (Q : Y → Type 0) where
-  pub each_filter_map : (h : X → Option Y) → ((x : X) (y : Y) → h x ≡ Some y → P x → Q y) → (xs : List X)
-      → AllByRecursion P xs → AllByRecursion Q (filter_map h xs)
-  each_filter_map h keeps [] e = tt
-  each_filter_map h keeps (x ∷ xs) e =
-      each_option Q (h x) (filter_map h xs) (λ y f. keeps x y f e.0) (each_filter_map h keeps xs e.1)
-
-  pub each_map : (f : X → Y) → ((x : X) → P x → Q (f x)) → (xs : List X) → AllByRecursion P xs
-      → AllByRecursion Q (map f xs)
-  each_map f keeps [] e = tt
-  each_map f keeps (x ∷ xs) e = (keeps x e.0, each_map f keeps xs e.1)
-
-pub each_more : {X : Type 0} (P Q : X → Type 0) → ((x : X) → P x → Q x) → (xs : List X) → AllByRecursion P xs
-    → AllByRecursion Q xs
-each_more P Q more [] e = tt
-each_more P Q more (x ∷ xs) e = (more x e.0, each_more P Q more xs e.1)
 
 module _ {R : Type 0} (P : Key × R → Type 0) (k : Key) (r : R) (new : P (k, r)) where
   each_put_step : (x : Key × R) (xs ys : Table R) (o : Ordering) → key_cmp k x.0 ≡ o → P x → AllByRecursion P xs
@@ -61,17 +31,6 @@ module _ {R : Type 0} (P : Key × R → Type 0) (k : Key) (r : R) (new : P (k, r
   pub each_put : (t : Table R) → AllByRecursion P t → AllByRecursion P (put t k r)
   unfolding put
   each_put t e = each_inserted t e
-
--- what a filter leaves passes its test
-pub each_passing : {X : Type 0} (P : X → Type 0) (test : X → Bool) (xs : List X) → AllByRecursion P xs
-    → AllByRecursion (λ x. P x × (test x ≡ true)) (filter test xs)
-each_passing P test [] e = tt
-each_passing P test (x ∷ xs) e = go (test x) refl (each_passing P test xs e.1)
-  where
-    go : (b : Bool) → test x ≡ b → AllByRecursion (λ x. P x × (test x ≡ true)) (filter test xs)
-        → AllByRecursion (λ x. P x × (test x ≡ true)) (cond b (x ∷ filter test xs) (filter test xs))
-    go true h rest = ((e.0, h), rest)
-    go false h rest = rest
 
 -- ---- keys that rise
 

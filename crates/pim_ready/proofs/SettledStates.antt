@@ -15,15 +15,15 @@ use Rattle.pim_types.specs.declared.fact.SourceRecordRow.{SourceRecordRow}
 use Rattle.pim_types.specs.declared.fact.SourceRepeatRow.{SourceRepeatRow}
 use Rattle.pim_types.specs.declared.fact.SourceRow.{SourceRow}
 use Rattle.pim_types.specs.declared.timer.TimerKind.{TimerKind}
-use Rattle.pim_laws.specs.Laws.{IsAhead, is_querier_entry, is_under_source, is_under_star}
 use Rattle.pim_model.specs.State.{State, is_up}
 use Rattle.pim_model.specs.Timers.{next_query, other_querier_end, register_end}
+use Rattle.pim_laws.specs.Laws.{IsAhead, is_querier_entry, is_under_source, is_under_star}
 use Rattle.pim_laws.proofs.Ends.{Ends, always, shows}
 use Rattle.pim_laws.proofs.TimerLaws.{shown_after}
+use Rattle.pim_laws.proofs.EachLaws.{each_more}
 use Rattle.pim_ready.specs.Ready.{IsLawful, IsSettled}
 use Rattle.pim_ready.proofs.LawfulStates.{EndsLate, its_firing, its_order, its_tidiness, lawful_is_fine}
 use Rattle.pim_ready.proofs.ShownEnds.{rows_run, runs_later, shown_is_later}
-use Rattle.pim_ready.proofs.RisingKeys.{each_more}
 use Rattle.pim_ready.proofs.FineStates.{GoodInterface, GoodNeighbour, GoodQuerier, GoodGroupRecord, GoodSourceRecord, GoodGroupRepeat, GoodSourceRepeat, GoodDownstream, GoodAssert, GoodJoinTimer, GoodOverrideTimer, GoodSource, GoodRegister, IsFine, Runs, Interfaces, Neighbours, Queriers, GroupRecords, SourceRecords, GroupRepeats, SourceRepeats, Downstreams, Asserts, JoinTimers, OverrideTimers, Sources, Registers}
 
 pub settled_is_lawful : (s : State) → IsSettled s → IsLawful s

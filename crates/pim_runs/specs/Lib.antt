@@ -6,6 +6,7 @@ pub mod Neighbours
 pub mod Membership
 pub mod Asserts
 pub mod Data
+pub mod Causes
 pub mod Routes
 pub mod Limits
 pub mod SourceSpecific

@@ -25,6 +25,9 @@ address a b c d = ((a * 256 + b) * 256 + c) * 256 + d
 abbrev pub up : ℕ → ℕ → Event
 up draw i = record { draw = draw; kind = EventKind.Up (record { number = i }) }
 
+abbrev pub down : ℕ → Event
+down i = record { draw = 0; kind = EventKind.Down (record { number = i }) }
+
 abbrev pub frame_drawn : ℕ → ℕ → List ℕ → Event
 frame_drawn draw i bytes = record { draw = draw; kind = EventKind.Frame (record { number = i }) bytes }
 

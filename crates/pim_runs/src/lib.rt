@@ -3,6 +3,7 @@
 #![tactic(auto)]
 
 pub mod asserts;
+pub mod causes;
 pub mod data;
 pub mod joins;
 pub mod limits;

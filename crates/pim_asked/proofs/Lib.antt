@@ -1,0 +1,10 @@
+pub mod Same
+pub mod Flows
+pub mod Asks
+pub mod Members
+pub mod Reports
+pub mod Fired
+pub mod Past
+pub mod Copies
+pub mod Steps
+pub mod Told

@@ -1,0 +1,27 @@
+-- Nothing flows unasked: of each copy of (S,G) on a link an earlier event is the cause.
+use Rattle.std.specs.Prelude.{List, Ok, [], true, ◌≡◌}
+use Rattle.pim_types.specs.declared.config.Config.{Config}
+use Rattle.pim_types.specs.declared.event.Event.{Event}
+use Rattle.pim_model.specs.Built.{are_built, built_run}
+use Rattle.pim_model.specs.Cause.{CopiesAreAsked, OutcomesAreAsked, past_after}
+use Rattle.pim_model.specs.Limits.{config_test}
+use Rattle.pim_model.specs.State.{opening}
+use Rattle.pim_model.specs.Step.{outcome_of, run, state_after, step}
+
+-- after any events from the opening with an accepted configuration, each copy that an event makes is asked for
+abbrev pub NothingFlowsUnasked : Type 0
+NothingFlowsUnasked =
+    (c : Config) (earlier : List Event) (e : Event) → config_test c ≡ Ok tt
+    → CopiesAreAsked (past_after [] (opening c) earlier)
+    (record { before = state_after (opening c) earlier; event = e })
+    (outcome_of (step (state_after (opening c) earlier) e))
+
+-- the same of the outcomes of a run
+abbrev pub RunIsAsked : Type 0
+RunIsAsked = (c : Config) (events : List Event) → config_test c ≡ Ok tt
+    → OutcomesAreAsked [] (opening c) events (run (opening c) events)
+
+-- and of a run of the restriction to what is built, where all events are
+abbrev pub BuiltRunIsAsked : Type 0
+BuiltRunIsAsked = (c : Config) (events : List Event) → config_test c ≡ Ok tt → are_built (opening c) events ≡ true
+    → OutcomesAreAsked [] (opening c) events (built_run (opening c) events)

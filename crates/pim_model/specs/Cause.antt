@@ -1,0 +1,124 @@
+-- Nothing flows unasked: what asked for a copy of a packet on a link. A Join/Prune asks for as long as its holdtime
+-- says (RFC 7761, section 4.5), a membership report for the Group Membership Interval (RFC 3376, section 6), and
+-- neither beyond a Down of the interface.
+use Rattle.std.specs.List.{All, list_any}
+use Rattle.std.specs.Prelude.{Bool, List, None, Ok, Option, Result, Some, [], drop, false, filter, length, nat_lt, not, true, ℕ, ◌&&◌, ◌*◌, ◌+◌, ◌-◌, ◌==◌, ◌||◌, ◌≡◌, ◌∷◌}
+use Rattle.pim_ip.specs.Ipv4.{Packet, copy_text}
+use Rattle.pim_ip.specs.declared.refusal.Refusal.{Refusal}
+use Rattle.pim_types.specs.Keys.{source_key, star_key}
+use Rattle.pim_types.specs.declared.event.Event.{Event}
+use Rattle.pim_types.specs.declared.outcome.Emission.{Emission}
+use Rattle.pim_types.specs.declared.outcome.Outcome.{Outcome}
+use Rattle.pim_types.specs.declared.outcome.Verdict.{Verdict}
+use Rattle.pim_wire.specs.Values.{Encapsulated, JoinPrune}
+use Rattle.igmp_wire.specs.Values.{Record}
+use Rattle.igmp_wire.specs.declared.report.RecordType.{RecordType}
+use Rattle.pim_model.specs.declared.accepted.Accepted.{Accepted}
+use Rattle.pim_model.specs.Downstream.{holdtime_forever, is_named, joined_keys}
+use Rattle.pim_model.specs.Judging.{Judged, judged}
+use Rattle.pim_model.specs.Querier.{group_membership_interval, is_excluding, is_skipped}
+use Rattle.pim_model.specs.State.{State}
+use Rattle.pim_model.specs.Step.{step}
+use Rattle.pim_model.specs.Tables.{is_among}
+use Rattle.pim_model.specs.Writing.{on_link}
+
+-- an event with the state that it found, whose present is the event's moment
+pub record Happened : Type 0 where
+  pub before : State
+  pub event : Event
+
+-- the events so far, the latest first
+abbrev pub Past : Type 0
+Past = List Happened
+
+unfoldable pub past_after : Past → State → List Event → Past
+past_after past s [] = past
+past_after past s (e ∷ es) = past_after (record { before = s; event = e } ∷ past) (step s e).state es
+
+-- what an event was judged to be, where it was answered Done
+abbrev pub if_done : Result Verdict Refusal → Judged → Option Accepted
+if_done (Ok Verdict.Done) (Ok a) = Some a
+if_done answer _ = None
+
+unfoldable pub done_as : Happened → Option Accepted
+done_as h = if_done (step h.before h.event).answer (judged h.before h.event.kind)
+
+-- ---- who asks
+
+-- a Join/Prune to the router with an accepted Join(*,G) or Join(S,G), whose holdtime is endless or lasts beyond now
+unfoldable pub is_join_for : ℕ → ℕ → ℕ → ℕ → State → JoinPrune → Bool
+is_join_for now i g src s m =
+    (is_named (joined_keys s i m) (star_key i g) || is_named (joined_keys s i m) (source_key i g src))
+    && ((m.holdtime == holdtime_forever) || nat_lt now (s.present + 1000 * m.holdtime))
+
+abbrev pub is_including : RecordType → Bool
+is_including RecordType.IsInclude = true
+is_including RecordType.Allow = true
+is_including RecordType.ToInclude = true
+is_including _ = false
+
+-- a record for G of type IS_EX or TO_EX, or of type IS_IN, ALLOW or TO_IN that names S; a skipped record is none
+unfoldable pub is_record_for : ℕ → ℕ → Record → Bool
+is_record_for g src r =
+    not (is_skipped r) && (r.group == g)
+    && (is_excluding r.type || (is_including r.type && is_among src r.sources))
+
+-- a report with such a record, where the interface's Group Membership Interval from it lasts beyond now
+unfoldable pub is_report_for : ℕ → ℕ → ℕ → ℕ → State → List Record → Bool
+is_report_for now i g src s records =
+    list_any (is_record_for g src) records && nat_lt now (s.present + group_membership_interval s i)
+
+-- an event of this kind, in the state that it found, asks for (S,G) on the interface, beyond now
+unfoldable pub asks_for : ℕ → ℕ → ℕ → ℕ → State → Option Accepted → Bool
+asks_for now i g src s (Some (Accepted.JoinPruneToMe j m)) = (j.number == i) && is_join_for now i g src s m
+asks_for now i g src s (Some (Accepted.Report j records)) = (j.number == i) && is_report_for now i g src s records
+asks_for now i g src s _ = false
+
+abbrev pub is_down_of : ℕ → Option Accepted → Bool
+is_down_of i (Some (Accepted.Down j)) = j.number == i
+is_down_of i _ = false
+
+-- (S,G) has a cause on the interface: an event so far asks for it, and the interface hasn't gone down since
+unfoldable pub has_cause : Past → ℕ → ℕ → ℕ → ℕ → Bool
+has_cause [] now i g src = false
+has_cause (h ∷ past) now i g src =
+    asks_for now i g src h.before (done_as h) || (not (is_down_of i (done_as h)) && has_cause past now i g src)
+
+-- ---- what flows
+
+-- the packet that an event brings: data that came on a link, or what a Register holds
+abbrev pub packet_in : Option Accepted → Option Packet
+packet_in (Some (Accepted.Data i p)) = Some p
+packet_in (Some (Accepted.Register p (Encapsulated inner))) = Some inner
+packet_in _ = None
+
+abbrev pub is_on_link : Emission → Bool
+is_on_link (Emission.Link i bytes) = true
+is_on_link (Emission.Unicast to bytes) = false
+
+-- the copies of an outcome: the last of what it sends on links
+unfoldable pub copies_in : Outcome → List Emission
+copies_in o =
+    let links : List Emission = filter is_on_link o.emissions in
+    drop (length links - o.copies) links
+
+-- a copy of the packet that the event brings, on a link, with a cause there
+pub record IsAskedFor (past : Past) (h : Happened) (copy : Emission) : Type 0 where
+  pub link : ℕ
+  pub packet : Packet
+  pub brought : packet_in (done_as h) ≡ Some packet
+  pub copied : copy ≡ on_link link (copy_text packet)
+  pub cause : has_cause past h.before.present link packet.destination packet.source ≡ true
+
+-- an outcome has so many copies as it says, and each is asked for
+pub record CopiesAreAsked (past : Past) (h : Happened) (o : Outcome) : Type 0 where
+  pub count : length (copies_in o) ≡ o.copies
+  pub asked : All (IsAskedFor past h) (copies_in o)
+
+-- likewise the outcomes of events from a state on, one after the other
+abbrev pub OutcomesAreAsked : Past → State → List Event → List Outcome → Type 0
+OutcomesAreAsked past s [] [] = Unit {0}
+OutcomesAreAsked past s (e ∷ es) (o ∷ os) =
+    CopiesAreAsked past (record { before = s; event = e }) o
+    × OutcomesAreAsked (record { before = s; event = e } ∷ past) (step s e).state es os
+OutcomesAreAsked past s es os = ⊥
