@@ -8,6 +8,7 @@ pub mod IgmpKept
 pub mod ListLaws
 pub mod RecordLaws
 pub mod RecordsKept
+pub mod RemovalLaws
 pub mod RepeatLaws
 pub mod SettledKept
 pub mod StepLaws

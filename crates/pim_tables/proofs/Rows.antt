@@ -1,48 +1,16 @@
--- In a table whose keys rise, a key stands once.
-use Rattle.std.proofs.Common.{◌≡◌, sym, Bool, true, false, [], ◌∷◌, Option, Some, None, refl, ap, ◌∙◌, cond, not, map, option_map}
+-- What a change of the row at a key leaves of a table whose keys rise.
+use Rattle.std.proofs.Common.{◌≡◌, sym, Bool, true, false, [], ◌∷◌, Option, Some, None, refl, ap, ◌∙◌, cond, map, option_map}
 use Rattle.std.specs.declared.cmp.Ordering.TheVariants.{Less}
 use Rattle.std.specs.List.{cons_option, filter_map, AllByRecursion}
 use Rattle.std.specs.Option.{IfSome}
 use Rattle.std.specs.List.Sorted.{IsStrictlySortedBy}
-use Rattle.std.specs.Map.{lookup, remove_entry, set_value}
+use Rattle.std.specs.Map.{lookup, set_value}
 use Rattle.std.specs.BTreeMap.{is_at}
-use Rattle.std.specs.Prelude.{filter, if◌then◌else◌}
+use Rattle.std.specs.Prelude.{if◌then◌else◌}
 use Rattle.pim_types.specs.declared.fact.Key.{Key}
-use Rattle.pim_model.specs.Tables.{Table, drop_at, drop_where, change_row, changed_entry, row_at}
+use Rattle.pim_model.specs.Tables.{Table, change_row, changed_entry, row_at}
 use Rattle.pim_types.specs.Keys.{key_cmp, same_key}
-use Rattle.pim_types.proofs.Keys.{equal_keys}
-
-module _ {R : Type 0} (k : Key) where
-  without : Table R → Table R
-  without t = filter (λ e. not (same_key k e.0)) t
-
-  -- below all keys of a table: not among them
-  kept_whole : (t : Table R) → AllByRecursion (λ y. key_cmp k y ≡ Less) (map (λ e. e.0) t) → without t ≡ t
-  unfolding without
-  kept_whole [] above = refl
-  kept_whole (y ∷ t) above = rw above.0 (ap (λ s. y ∷ s) (kept_whole t above.1))
-
-  moved_above : (x : Key) → same_key k x ≡ true → (t : Table R)
-      → AllByRecursion (λ y. key_cmp x y ≡ Less) (map (λ e. e.0) t)
-      → AllByRecursion (λ y. key_cmp k y ≡ Less) (map (λ e. e.0) t)
-  moved_above x e t above = rw (equal_keys k x e) above
-
-  removed_first : (e : Key × R) (t : Table R) (b : Bool) → same_key k e.0 ≡ b
-      → AllByRecursion (λ y. key_cmp e.0 y ≡ Less) (map (λ e. e.0) t) → remove_entry (is_at (key_cmp k)) t ≡ without t
-      → cond b t (e ∷ remove_entry (is_at (key_cmp k)) t) ≡ (if not b then e ∷ without t else without t)
-  removed_first e t true h above rest = sym (kept_whole t (moved_above e.0 h t above))
-  removed_first e t false h above rest = ap (λ u. e ∷ u) rest
-
-  removed : (t : Table R) → IsStrictlySortedBy key_cmp (map (λ e. e.0) t)
-      → remove_entry (is_at (key_cmp k)) t ≡ without t
-  unfolding without IsStrictlySortedBy
-  removed [] s = refl
-  removed (e ∷ t) s = removed_first e t (same_key k e.0) refl s.0 (removed t s.1)
-
-  pub removed_is_dropped : (t : Table R) → IsStrictlySortedBy key_cmp (map (λ e. e.0) t)
-      → remove_entry (is_at (key_cmp k)) t ≡ drop_at t k
-  unfolding drop_at drop_where without
-  removed_is_dropped t s = removed t s
+use Rattle.pim_laws.proofs.RemovalLaws.{moved_above}
 
 module _ {R : Type 0} (k : Key) (change : R → Option R) where
   changed : Table R → Table R

@@ -56,6 +56,17 @@ module _ {V : Type 0} where
   tree_at (suc n) nodes None = Leaf
   tree_at (suc n) nodes (Some key) = fork_of (tree_at n nodes) (get nodes key)
 
+  -- a node's link to the side of a bit
+  abbrev pub side_link : Bool → Option (Node V) → Option ℕ
+  side_link bit None = None
+  side_link bit (Some node) = link_of bit node
+
+  -- where the bits of a path lead from a link on
+  abbrev pub link_at : Slab (Node V) → Option ℕ → Path → Option ℕ
+  link_at nodes link [] = link
+  link_at nodes None (bit ∷ path) = None
+  link_at nodes (Some key) (bit ∷ path) = link_at nodes (side_link bit (get nodes key)) path
+
   -- behind the link stands a node for the path, or none, and so on below it for so many levels
   unfoldable pub IsHeld : ℕ → Slab (Node V) → Path → Option ℕ → Type 0
   IsHeld n nodes path None = Unit {0}

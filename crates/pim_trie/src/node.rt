@@ -1,5 +1,6 @@
 //! One node of a trie.
-ghost use Rattle.std.specs.Prelude.{◌≡◌, ◌+◌, ◌-◌, ◌^◌, ◌<◌, ◌≤◌, None, option_map};
+ghost use Rattle.std.specs.Prelude.{◌≡◌, ◌+◌, ◌-◌, ◌^◌, ◌<◌, ◌≤◌, Some, None, IsSome, option_map};
+ghost use Rattle.std.specs.Borrow.{sem};
 ghost use Rattle.pim_trie.specs.Entries.{entry_seen};
 ghost use Rattle.pim_trie.specs.Tree.{bit_at, prefix_of};
 ghost use Rattle.pim_trie.specs.Nodes.{way_to};
@@ -42,6 +43,7 @@ pub(crate) fn first_bits(prefix: Prefix, depth: u32) -> Prefix
 }
 
 impl<V> Node<V> {
+    ghost use Rattle.pim_trie.specs.Lends.{lends_value};
     ghost use Rattle.pim_trie.specs.Nodes.{link_of, with_link, is_idle, entry_of};
 
     // A node with no value and no children.
@@ -61,6 +63,18 @@ impl<V> Node<V> {
         ensures { option_map entry_seen result ≡ entry_of self.now }
     {
         self.value.as_ref().map(|value| (self.prefix, value))
+    }
+
+    // The value, for writing.
+    pub(crate) fn value_mut(&mut self) -> &mut V
+        requires { IsSome (self.old).value }
+        ensures* writes_back { sem 𝓛 (lends_value V.row self.entry result) }
+        ensures value { (self.old).value ≡ Some result.now }
+    {
+        match &mut self.value {
+            Some(value) => value,
+            None => unreachable!(),
+        }
     }
 
     // The link to the side of a bit.

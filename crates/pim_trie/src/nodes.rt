@@ -3,12 +3,14 @@
 
 ghost use Rattle.std.specs.Prelude.{◌≡◌, ◌+◌, ◌-◌, ◌≤◌, [], Some, None, IsSome, IsOk, OnOk, option_map, filter};
 ghost use Rattle.std.specs.Option.{option_to_list};
+ghost use Rattle.std.specs.Borrow.{sem};
+ghost use Rattle.pim_trie.specs.Lends.{lends_value_at, value_at};
 ghost use Rattle.std.specs.Iterator.{YieldsFirstBy};
 ghost use Rattle.slab.specs.Slab.{ContainsKey, HasRoomFor};
 ghost use Rattle.pim_trie.specs.Tree.{address_path, path_of, named_entry, find, put, cut, visits, deepest, part_at};
 ghost use Rattle.pim_trie.specs.Entries.{entry_seen, is_under};
 ghost use Rattle.pim_trie.specs.Meter.{raised};
-ghost use Rattle.pim_trie.specs.Nodes.{way_to, way_on, tree_at, opened, IsHeld, HasRoomForSome, Rebuilds, Prunes, IsPending, pending_entries, entries_of};
+ghost use Rattle.pim_trie.specs.Nodes.{way_to, way_on, link_at, tree_at, opened, IsHeld, HasRoomForSome, Rebuilds, Prunes, IsPending, pending_entries, entries_of};
 
 use crate::meter::Meter;
 use crate::node::{Node, first_bits, next_bit};
@@ -27,6 +29,7 @@ pub(crate) fn locate<V>(
     requires whole { prefix.length ≤ 32 }
     requires held { IsHeld 33 nodes.now [] root }
     ensures held { IsHeld (33 - prefix.length) nodes.now (path_of prefix) result }
+    ensures linked { result ≡ link_at nodes.now root (path_of prefix) }
     ensures tree { tree_at (33 - prefix.length) nodes.now result ≡ part_at (tree_at 33 nodes.now root) (path_of prefix) }
     ensures visited { meter.new ≡ raised meter.old (visits (tree_at 33 nodes.now root) (path_of prefix)) }
 {
@@ -41,6 +44,15 @@ pub(crate) fn locate<V>(
         depth += 1;
     }
     link
+}
+
+// The value of the node at the key, for writing.
+pub(crate) fn value_mut<V>(nodes: &mut Slab<Node<V>>, key: usize) -> &mut V
+    requires { IsSome (value_at nodes.old key) }
+    ensures* writes_back { sem 𝓛 (lends_value_at V.row nodes.entry key result) }
+    ensures value { value_at nodes.old key ≡ Some result.now }
+{
+    nodes[key].value_mut()
 }
 
 // The node whose part of the tree holds the entries under the prefix.

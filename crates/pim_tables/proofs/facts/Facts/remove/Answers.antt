@@ -1,8 +1,8 @@
 use Rattle.std.proofs.Common.{◌∙◌}
 use Rattle.pim_model.specs.Tables.{keys_in}
 use Rattle.pim_types.specs.Keys.{addr_cmp, key_cmp}
+use Rattle.pim_laws.proofs.RemovalLaws.{removed_is_dropped}
 use Rattle.pim_tables.proofs.facts.Facts.remove.Goals as goal
-use Rattle.pim_tables.proofs.Rows.{removed_is_dropped}
 
 pub returns : goal.returns
 unfolding keys_in key_cmp addr_cmp

@@ -1,0 +1,7 @@
+mod Ascents
+mod GroupLaws
+mod Keyed
+mod Rising
+mod RowLaws
+mod TrieLaws
+mod WalkLaws

@@ -1,0 +1,19 @@
+use Rattle.std.proofs.Common.{None, Some, ap, sym, ◌∙◌}
+use Rattle.std.specs.Option.{option_copied}
+use Rattle.pim_source_trie.specs.Rows.{keyed}
+use Rattle.pim_source_trie.proofs.WalkLaws.{walk_found}
+use Rattle.pim_source_trie.proofs.source_trie.SourceTrie.walk.Goals as goal
+
+pub returns-in_default : goal.returns-in_default
+unfolding keyed
+returns-in_default g c =
+    rw (← c.self.view_is)
+    (c.none.ensures ∙ walk_found c.args.group.bits c.self.inside.groups c.self.invariant c.host.result c.host.ensures
+    None (sym (ap option_copied c.in_default.is) ∙ c.get.ensures.value))
+
+pub returns : goal.returns
+returns g c =
+    rw (← c.self.view_is)
+    (c.of.ensures ∙ ap (keyed c.args.group.bits) c.deref.ensures
+    ∙ walk_found c.args.group.bits c.self.inside.groups c.self.invariant c.host.result c.host.ensures
+    (Some c.in-Some.found.now) (sym (ap option_copied c.in-Some.is) ∙ c.get.ensures.value))

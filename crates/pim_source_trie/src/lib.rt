@@ -1,0 +1,9 @@
+//! A map from groups, and from the sources of each group, to values.
+#![tactic(auto)]
+
+mod group;
+pub mod source_trie;
+pub mod walks;
+
+pub use source_trie::SourceTrie;
+pub use walks::{Entries, Groups};

@@ -1,0 +1,121 @@
+//! The map of groups and sources.
+ghost use Rattle.std.specs.Prelude.{◌≡◌, ◌≤◌, ◌+◌, ◌↔◌, [], All, IsTrue, IsOk, OnOk, OnErr, None, option_copied, filter, map};
+ghost use Rattle.std.specs.List.Sorted.{IsStrictlySortedBy};
+ghost use Rattle.pim_model.specs.Tables.{ascending, drop_at, has_row, keys_in, put, row_at};
+ghost use Rattle.pim_types.specs.Keys.{group_in, is_of_group, key_cmp};
+ghost use Rattle.pim_source_trie.specs.Entries.{entry_key};
+
+use crate::group::{Group, host};
+use crate::walks::{Entries, Groups};
+use pim_ip::Addr;
+use pim_trie::{Meter, Trie};
+use std::alloc::{AllocError, Global};
+use std::marker::Model;
+
+/// A map from groups, and from the sources of each group, to values: (*,G) may have one, and each source
+/// of G. The source 0.0.0.0 is one like any other.
+///
+/// It is seen as a table under the keys of the whole router, by rising key. A look-up visits 33 nodes at
+/// most for a group, and 33 more for a source.
+#[derive(Drop)]
+pub struct SourceTrie<V> {
+    alloc: Global,
+    groups: Trie<Box<Group<V>>>,
+}
+
+impl<V> Model for SourceTrie<V> {
+    ghost use Rattle.pim_model.specs.Tables.{Table};
+
+    ghost Value = { Table V };
+
+    ghost use Rattle.pim_source_trie.specs.Groups.{IsGroups, table_of};
+
+    ghost view = { λ t. table_of t.groups };
+
+    ghost invariant = { λ t. IsGroups t.groups };
+}
+
+impl<V> SourceTrie<V> {
+    /// An empty map. It takes no memory.
+    pub fn new(alloc: Global) -> Self
+        ensures { result ≡ [] }
+    {
+        SourceTrie {
+            alloc,
+            groups: Trie::new(alloc),
+        }
+    }
+
+    /// Whether there is no entry.
+    pub fn is_empty(&self) -> bool
+        ensures empty { IsTrue result ↔ (self.now ≡ []) }
+
+        // Of every table: the keys rise, and each is of the whole router.
+        ensures ascending { IsStrictlySortedBy key_cmp (keys_in self.now) }
+        ensures keys { All (λ e. e.0 ≡ entry_key (e.0).group (e.0).source) self.now }
+    {
+        self.groups.is_empty()
+    }
+
+    /// The value of (*,G), where `source` is `None`, or of a source of the group. The meter rises by the
+    /// nodes visited, 66 at most.
+    pub fn get(&self, group: Addr, source: Option<Addr>, meter: &mut Meter) -> Option<&V>
+        ensures value { option_copied result ≡ row_at self.now (entry_key group source) }
+        ensures rises { meter.old ≤ meter.new }
+        ensures at_most { meter.new ≤ meter.old + 66 }
+        ensures star_at_most { source ≡ None → meter.new ≤ meter.old + 33 }
+    {
+        self.groups.get(host(group), meter)?.get(source, meter)
+    }
+
+    /// Puts the value of (*,G), where `source` is `None`, or of a source of the group. It fails only where
+    /// there was none and there is no memory, and then nothing has changed.
+    pub fn put(&mut self, group: Addr, source: Option<Addr>, value: V) -> Result<(), AllocError>
+    where
+        V: Drop,
+        ensures ok { OnOk result (self.new ≡ put self.old (entry_key group source) value) }
+        ensures overwrites { IsTrue (has_row self.old (entry_key group source)) → IsOk result }
+        ensures err { OnErr result (self.new ≡ self.old) }
+    {
+        if let Some(found) = self.groups.get_mut(host(group)) {
+            return found.put(source, value);
+        }
+        let found = Box::new(self.alloc, Group::with(self.alloc, source, value)?)?;
+        self.groups.insert(host(group), found)?;
+        Ok(())
+    }
+
+    /// Takes the value of (*,G), where `source` is `None`, or of a source of the group away, if there is
+    /// one. It takes no memory.
+    pub fn remove(&mut self, group: Addr, source: Option<Addr>)
+    where
+        V: Drop,
+        ensures { self.new ≡ drop_at self.old (entry_key group source) }
+    {
+        let Some(found) = self.groups.get_mut(host(group)) else {
+            return;
+        };
+        found.remove(source);
+        if found.is_empty() {
+            drop(self.groups.remove(host(group)));
+        }
+    }
+
+    /// The entries of the group: (*,G) first, and then its sources ascending.
+    pub fn walk(&self, group: Addr) -> Entries<'_, V>
+        ensures { result ≡ filter (λ e. is_of_group group.bits e.0) self.now }
+    {
+        let mut uncounted = Meter::new();
+        let Some(found) = self.groups.get(host(group), &mut uncounted) else {
+            return Entries::none(group);
+        };
+        Entries::of(group, found)
+    }
+
+    /// The groups that have a value, or a source with one, ascending.
+    pub fn groups(&self) -> Groups<'_, V>
+        ensures { result ≡ ascending (map group_in (keys_in self.now)) }
+    {
+        Groups::of(&self.groups)
+    }
+}
