@@ -13,9 +13,10 @@ use Rattle.pim_model.specs.State.{State}
 use Rattle.pim_model.specs.Step.{iface_down}
 use Rattle.pim_model.specs.Tables.{Table, drop_where, later_end, row_at, set_row}
 use Rattle.pim_laws.proofs.RecordLaws.{EndsSo}
-use Rattle.pim_laws.proofs.TableLaws.{either, row_kept}
-use Rattle.pim_ready.proofs.FineTables.{Fine, fine_drop_at, fine_dropped, fine_fold, fine_more, fine_replaced, fine_set_row, good_row}
-use Rattle.pim_ready.proofs.LateEnds.{by_cond}
+use Rattle.pim_laws.proofs.ListLaws.{by_cond, either}
+use Rattle.pim_laws.proofs.RowLaws.{row_kept}
+use Rattle.pim_laws.proofs.TurnLaws.{kept_by_fold}
+use Rattle.pim_ready.proofs.FineTables.{Fine, fine_drop_at, fine_dropped, fine_more, fine_replaced, fine_set_row, good_row}
 use Rattle.pim_asked.proofs.Flows.{is_timed, is_timed_row}
 use Rattle.pim_asked.proofs.Same.{Rows, rows_of}
 
@@ -142,7 +143,7 @@ module _ (A : ℕ → ℕ → ℕ → ℕ → Type 0) where
     pub to_me_asked : IsAsked (to_me s i m)
     unfolding to_me keys_taken after
     to_me_asked = record {
-      joins = fine_fold JoinAsked (λ t k. set_row t k (after k))
+      joins = kept_by_fold (λ t k. set_row t k (after k)) (Fine JoinAsked)
           (λ t k. fine_set_row JoinAsked t k (after k) (λ r e not_rpt. of_row k (after k) r (after_asked k not_rpt) e))
           (touched_keys s i (joined_keys s i m) (pruned_keys i m)) s.downstream f.joins;
       groups = f.groups;

@@ -22,11 +22,10 @@ use Rattle.pim_model.specs.Sets.{members}
 use Rattle.pim_model.specs.State.{State, ifaces, is_up}
 use Rattle.pim_model.specs.Tables.{has_row, row_at}
 use Rattle.pim_model.specs.Writing.{copies_of, leaves, on_link, pim_to, register_of_packet, tunnel_of}
-use Rattle.pim_laws.proofs.TableLaws.{either}
-use Rattle.pim_laws.proofs.EachLaws.{all_pass, each_map}
-use Rattle.pim_ready.proofs.FineStates.{Downstreams, GoodDownstream, GoodGroupRecord, GoodSourceRecord, GroupRecords, IsFine, Runs, SourceRecords}
+use Rattle.pim_laws.proofs.ListLaws.{by_cond, each_map, each_passes, either}
+use Rattle.pim_laws.proofs.Parts.{Downstreams, GroupRecords, SourceRecords}
+use Rattle.pim_ready.proofs.FineStates.{Good, IsFine, Runs}
 use Rattle.pim_ready.proofs.FineTables.{good_row}
-use Rattle.pim_ready.proofs.LateEnds.{by_cond}
 use Rattle.pim_ready.proofs.SettledStates.{settled_is_fine}
 use Rattle.pim_ready.specs.Ready.{IsSettled}
 use Rattle.pim_asked.proofs.Asks.{GroupAsked, IsAsked, JoinAsked, KeyAsked, SourceAsked, UpTo}
@@ -55,7 +54,7 @@ module _ (past : Past) (s : State) (f : IsAsked (CausedBy past) s) (settled : Is
   join_found k e (Some r) there some =
       at_present _ (KeyAsked (CausedBy past) k) s.present r.expiry
       (good_row (JoinAsked (CausedBy past)) s.downstream k r f.joins there e)
-      (good_row (GoodDownstream late (is_up s)) s.downstream k r (fine.tables Downstreams) there).0
+      (good_row (Good late (is_up s) Downstreams) s.downstream k r (fine.tables Downstreams) there).0
       (λ is all. all s.present)
 
   group_found : (i g src : ℕ) (o : Option GroupRecordRow) → row_at s.group_records (star_key i g) ≡ o
@@ -65,7 +64,7 @@ module _ (past : Past) (s : State) (f : IsAsked (CausedBy past) s) (settled : Is
       let k : Key = star_key i g in
       at_present _ (λ now. (src : ℕ) → CausedBy past i g src now) s.present r.end
       (good_row (GroupAsked (CausedBy past)) s.group_records k r f.groups there)
-      (good_row (GoodGroupRecord late (is_up s)) s.group_records k r (fine.tables GroupRecords) there).1
+      (good_row (Good late (is_up s) GroupRecords) s.group_records k r (fine.tables GroupRecords) there).1
       (λ is any. let off : true ≡ false = sym on ∙ ap (λ (o : Option ℕ). is_some o) is in cc) src
 
   source_found : (i g src : ℕ) → is_timed s.group_records i g ≡ false → (o : Option SourceRecordRow)
@@ -75,7 +74,7 @@ module _ (past : Past) (s : State) (f : IsAsked (CausedBy past) s) (settled : Is
       let k : Key = source_key i g src in
       at_present _ (CausedBy past i g src) s.present r.end
       (good_row (SourceAsked (CausedBy past) s.group_records) s.source_records k r f.sources there)
-      (good_row (GoodSourceRecord late (is_up s)) s.source_records k r (fine.tables SourceRecords) there).1
+      (good_row (Good late (is_up s) SourceRecords) s.source_records k r (fine.tables SourceRecords) there).1
       (λ is timed. let both : false ≡ true = sym off ∙ timed in cc)
 
   cause_of : (g src i : ℕ) → is_wanted (rows_of s) g src i ≡ true → CausedBy past i g src s.present
@@ -146,6 +145,6 @@ module _ (past : Past) (s : State) (e : Event) (f : IsAsked (CausedBy past) s) (
           brought = brought;
           copied = refl;
           cause = cause_of past s f settled p.destination p.source i (flows.list i on);
-        }) (filter flow.list (ifaces flow.state)) (all_pass flow.list (ifaces flow.state))) tt;
+        }) (filter flow.list (ifaces flow.state)) (each_passes flow.list (ifaces flow.state))) tt;
     to_rp = to_the_rp flow.state p flow.to_tunnel;
   }

@@ -13,11 +13,10 @@ use Rattle.pim_model.specs.Querier.{group_record_due, lower_group, lower_sources
 use Rattle.pim_model.specs.Records.{apply_record, GroupRecord, Member, group_expired, is_at_group, is_no_record, members_of, put_member, record_of, source_expired, with_members, with_record, with_repeats_of_rows}
 use Rattle.pim_model.specs.State.{State}
 use Rattle.pim_model.specs.Tables.{Table, change_row, drop_at, drop_where, is_among, put, row_at}
-use Rattle.pim_laws.proofs.TableLaws.{row_change_away, row_drop_away, row_put, row_put_away}
+use Rattle.pim_laws.proofs.RowLaws.{row_change_away, row_drop_away, row_put, row_put_away}
 use Rattle.pim_laws.proofs.RecordLaws.{MemberSo, NewSo, RecordSo, applied_so, group_expired_so, source_expired_so}
-use Rattle.pim_laws.proofs.EachLaws.{each_map, each_more, each_passing}
+use Rattle.pim_laws.proofs.ListLaws.{by_cond, each_map, each_more, each_passing}
 use Rattle.pim_ready.proofs.FineTables.{Fine, fine_drop_at, fine_dropped, fine_fold_each, fine_map, fine_more, fine_put, fine_replaced, good_row}
-use Rattle.pim_ready.proofs.LateEnds.{by_cond}
 use Rattle.pim_asked.proofs.Asks.{Before, GroupAsked, IsAsked, JoinAsked, RowsAsked, SourceAsked, UpTo, ends_more}
 use Rattle.pim_asked.proofs.Flows.{is_timed, is_timed_row}
 

@@ -1,6 +1,7 @@
 -- What an event adds to the past: who has asked goes on to ask, and a Join/Prune or a report asks anew.
 use Rattle.std.proofs.Common.{◌&&◌, ◌≡◌, ◌∙◌, ℕ, ◌+◌, ◌*◌, nat_lt, ◌==◌, Bool, true, false, not, cond, ◌||◌, List, [], ◌∷◌, filter, map, Option, Some, None, refl, sym, ap, subst, eq-eqb}
 use Rattle.std.specs.List.{AllByRecursion, list_any}
+use Rattle.std.proofs.lemmas.Bool.{or_left, or_right}
 use Rattle.pim_ip.specs.declared.addr.Addr.{Addr}
 use Rattle.pim_types.specs.Keys.{iface_in, same_key, source_key, star_key}
 use Rattle.pim_types.specs.declared.config.IfaceId.{IfaceId}
@@ -13,8 +14,7 @@ use Rattle.pim_model.specs.Cause.{Happened, Past, asks_for, done_as, has_cause, 
 use Rattle.pim_model.specs.Downstream.{Named, accepted_joins, holdtime_end, holdtime_end_from, holdtime_forever, is_named, joined_keys, named_key}
 use Rattle.pim_model.specs.Querier.{group_membership_interval, is_excluding, is_skipped}
 use Rattle.pim_model.specs.Tables.{is_among}
-use Rattle.pim_laws.proofs.TableLaws.{either, or_left, or_right}
-use Rattle.pim_laws.proofs.EachLaws.{each_more, each_passing}
+use Rattle.pim_laws.proofs.ListLaws.{each_more, each_passing, either}
 use Rattle.pim_ready.proofs.Downstream.{named_on}
 use Rattle.pim_asked.proofs.Asks.{KeyAsked, MoreOn, Throughout}
 use Rattle.pim_asked.proofs.Reports.{Asks}

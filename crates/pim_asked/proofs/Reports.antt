@@ -10,8 +10,8 @@ use Rattle.pim_model.specs.Records.{AskGroup, AskSources, Asked, GroupRecord, ap
 use Rattle.pim_model.specs.State.{State}
 use Rattle.pim_model.specs.Tables.{Table, is_empty_list}
 use Rattle.pim_model.specs.Messages.{Message}
-use Rattle.pim_laws.proofs.SettledKept.{kept_in_turn}
-use Rattle.pim_ready.proofs.LateEnds.{by_cond}
+use Rattle.pim_laws.proofs.ListLaws.{by_cond}
+use Rattle.pim_laws.proofs.TurnLaws.{kept_in_turn}
 use Rattle.pim_asked.proofs.Asks.{IsAsked, RowsAsked}
 use Rattle.pim_asked.proofs.Members.{AsksUntil, Whole, applied_asked, lower_group_asked, lower_sources_asked, record_asked, with_record_asked}
 use Rattle.pim_asked.proofs.Same.{rows_of}

@@ -24,9 +24,7 @@ use Rattle.pim_model.specs.State.{State}
 use Rattle.pim_model.specs.Tables.{Table, hop_at}
 use Rattle.pim_model.specs.Upstream.{TimerChange, group_upstream, moved_join_timer, moved_override_timer, source_upstream, upstream, with_join_timer, with_override_timer}
 use Rattle.pim_model.specs.Writing.{write_all}
-use Rattle.pim_laws.proofs.SettledKept.{kept_in_turn}
-use Rattle.pim_laws.proofs.TurnLaws.{kept_to_the_end}
-use Rattle.pim_ready.proofs.LateEnds.{kept_by_fold}
+use Rattle.pim_laws.proofs.TurnLaws.{kept_by_fold, kept_in_turn, kept_to_the_end}
 
 -- the rows by which packets are asked for
 pub record Rows : Type 0 where

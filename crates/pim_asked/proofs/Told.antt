@@ -25,7 +25,8 @@ use Rattle.pim_model.specs.Querier.{is_excluding, is_skipped}
 use Rattle.pim_model.specs.State.{State}
 use Rattle.pim_model.specs.Step.{step, stopped}
 use Rattle.pim_model.specs.Tables.{is_among}
-use Rattle.pim_laws.proofs.TableLaws.{any_of_map, either}
+use Rattle.pim_laws.proofs.ListLaws.{either}
+use Rattle.pim_laws.proofs.TableLaws.{any_of_map}
 use Rattle.pim_asked.specs.Told.{AsksByJoin, AsksByReport, CauseIsAnEarlierEvent, HasJoin, HasRecord, IsCause, IsDone, StaysUp}
 
 -- one of a list that passes

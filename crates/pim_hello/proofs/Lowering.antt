@@ -1,5 +1,7 @@
 -- Join timers lowered one after the other, and all at once.
 use Rattle.std.proofs.Common.{◌≡◌, ◌≤◌, ℕ, Bool, true, false, List, [], ◌∷◌, ◌&&◌, ◌||◌, Some, refl, ap, sym, ◌∙◌, filter, map, min, arith, add-one, ◌<◌, ◌+◌, length, drop, get_or}
+use Rattle.std.specs.Cmp.Derive.{both_true}
+use Rattle.std.proofs.lemmas.Bool.{or_right}
 use Rattle.std.specs.Cmp.{first_so, second_so}
 use Rattle.std.specs.Prelude.{if◌then◌else◌}
 use Rattle.std.specs.List.{list_all, list_any}
@@ -8,11 +10,11 @@ use Rattle.std.proofs.Math.Nat.{min-le_right}
 use Rattle.std.proofs.Math.Seq.{drop-cons}
 use Rattle.pim_types.specs.declared.fact.JoinTimerRow.{JoinTimerRow}
 use Rattle.pim_types.specs.declared.fact.Key.{Key}
-use Rattle.pim_model.specs.State.{State}
-use Rattle.pim_model.specs.Tables.{Table, change_row, changed_entry, keys_in}
 use Rattle.pim_types.specs.Keys.{same_key}
 use Rattle.pim_types.proofs.Keys.{equal_keys, same_key_same}
-use Rattle.pim_laws.proofs.TableLaws.{any_in_filter, or_right}
+use Rattle.pim_model.specs.State.{State}
+use Rattle.pim_model.specs.Tables.{Table, change_row, changed_entry, keys_in}
+use Rattle.pim_laws.proofs.TableLaws.{any_in_filter}
 use Rattle.pim_macros.specs.Timers.{lowered}
 use Rattle.pim_hello.specs.Towards.{all_lowered}
 
@@ -126,13 +128,10 @@ module _ (test : Key → Bool) where
       → list_all (λ e. list_any (λ q. same_key q e.0) (k ∷ ks)) xs ≡ true
   among_more k ks [] all = refl
   among_more k ks (e ∷ xs) all =
-      both (same_key k e.0 || list_any (λ q. same_key q e.0) ks) _
+      both_true
       (or_right (same_key k e.0) (list_any (λ q. same_key q e.0) ks)
       (first_so (list_any (λ q. same_key q e.0) ks) _ all))
-      (among_more k ks xs (second_so (list_any (λ q. same_key q e.0) ks) _ all)) where
-        both : (a b : Bool) → a ≡ true → b ≡ true → (a && b) ≡ true
-        both true b x y = y
-        both false b x y = x
+      (among_more k ks xs (second_so (list_any (λ q. same_key q e.0) ks) _ all))
 
   all_among : (t : Table JoinTimerRow) → list_all (λ e. list_any (λ q. same_key q e.0) (keys_in t)) t ≡ true
   unfolding keys_in

@@ -1,5 +1,6 @@
 -- Where all events are built, the restriction is the written machine.
-use Rattle.std.specs.Prelude.{Bool, Err, List, Ok, [], false, refl, true, ℕ, ◌&&◌, ◌∷◌, ◌≡◌}
+use Rattle.std.specs.Prelude.{Bool, Err, List, Ok, [], false, refl, true, ℕ, ◌∷◌, ◌≡◌}
+use Rattle.std.specs.Cmp.{first_so, second_so}
 use Rattle.std.proofs.Common.{ap, ◌∙◌}
 use Rattle.pim_types.specs.declared.event.Event.{Event}
 use Rattle.pim_types.specs.declared.outcome.Outcome.{Outcome}
@@ -29,15 +30,6 @@ pub built_step_is_step : BuiltStepIsStep
 unfolding built_step step
 built_step_is_step s e is = same_judged s e.draw (judged s e.kind) is
 
-first_holds : (a b : Bool) → (a && b) ≡ true → a ≡ true
-first_holds true b is = refl
-first_holds false b is = is
-
-second_holds : (a b : Bool) → (a && b) ≡ true → b ≡ true
-second_holds true b is = is
-second_holds false true is = refl
-second_holds false false is = is
-
 -- what a first answer and a run after it make
 with_first : Answered → List Outcome × State → List Outcome × State
 with_first first later = (outcome_of first ∷ later.0, later.1)
@@ -47,9 +39,9 @@ unfolding are_built built_ran ran with_first
 same_ran s [] is = refl
 same_ran s (e ∷ es) is =
     ap (λ (first : Answered). with_first first (built_ran first.state es))
-    (built_step_is_step s e (first_holds (is_event_built s e) (are_built (step s e).state es) is))
+    (built_step_is_step s e (first_so (is_event_built s e) (are_built (step s e).state es) is))
     ∙ ap (with_first (step s e))
-    (same_ran (step s e).state es (second_holds (is_event_built s e) (are_built (step s e).state es) is))
+    (same_ran (step s e).state es (second_so (is_event_built s e) (are_built (step s e).state es) is))
 
 pub built_run_is_run : BuiltRunIsRun
 unfolding built_run run

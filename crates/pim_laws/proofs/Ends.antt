@@ -1,33 +1,19 @@
 -- The ends of a state by kind of timer, key and moment, and what a change may do to them: what ends by a
 -- moment after the change ended so before it.
-use Rattle.std.proofs.Common.{◌≡◌, ℕ, nat_lt, nat_le, Bool, true, false, not, cond, ◌&&◌, ◌||◌, [], ◌∷◌, map, Option, Some, None, option_map, refl, sym, ◌∙◌, subst, arith}
+use Rattle.std.proofs.Common.{◌≡◌, ◌⊎◌, ⊎_elim, ℕ, nat_lt, nat_le, Bool, true, false, not, cond, ◌&&◌, ◌||◌, [], ◌∷◌, map, Option, Some, None, option_map, refl, sym, ◌∙◌, subst, arith}
 use Rattle.std.specs.Cmp.{first_so, second_so}
-use Rattle.std.specs.List.{list_any}
+use Rattle.std.specs.List.{AllByRecursion, list_any}
 use Rattle.std.specs.Option.{option_map_or}
 use Rattle.std.proofs.lemmas.Grind.{common_steps}
-use Rattle.pim_types.specs.declared.fact.AssertRow.{AssertRow}
-use Rattle.pim_types.specs.declared.fact.DownstreamRow.{DownstreamRow}
-use Rattle.pim_types.specs.declared.fact.GroupRecordRow.{GroupRecordRow}
-use Rattle.pim_types.specs.declared.fact.GroupRepeatRow.{GroupRepeatRow}
-use Rattle.pim_types.specs.declared.fact.InterfaceRow.{InterfaceRow}
-use Rattle.pim_types.specs.declared.fact.JoinTimerRow.{JoinTimerRow}
 use Rattle.pim_types.specs.declared.fact.Key.{Key}
-use Rattle.pim_types.specs.declared.fact.NeighbourRow.{NeighbourRow}
-use Rattle.pim_types.specs.declared.fact.OverrideTimerRow.{OverrideTimerRow}
-use Rattle.pim_types.specs.declared.fact.QuerierRow.{QuerierRow}
-use Rattle.pim_types.specs.declared.fact.RegisterRow.{RegisterRow}
-use Rattle.pim_types.specs.declared.fact.SendingRow.{SendingRow}
-use Rattle.pim_types.specs.declared.fact.SourceRecordRow.{SourceRecordRow}
-use Rattle.pim_types.specs.declared.fact.SourceRepeatRow.{SourceRepeatRow}
-use Rattle.pim_types.specs.declared.fact.SourceRow.{SourceRow}
 use Rattle.pim_types.specs.declared.timer.TimerKind.{TimerKind}
-use Rattle.pim_laws.specs.Laws.{is_under_star, is_under_source, is_querier_entry}
-use Rattle.pim_model.specs.State.{State}
-use Rattle.pim_model.specs.Tables.{Table, same_option, row_at, put, drop_where, drop_at, changed_entry, change_row}
 use Rattle.pim_types.specs.Keys.{same_key}
-use Rattle.pim_model.specs.Timers.{register_end, next_query, other_querier_end}
-use Rattle.pim_laws.proofs.ListLaws.{any_more}
-use Rattle.pim_laws.proofs.TableLaws.{none_passes, either, any_of_map, any_in_filter, any_of_drop, any_of_put, any_of_replaced, any_of_changed, any_of_filter_map}
+use Rattle.pim_model.specs.State.{State}
+use Rattle.pim_model.specs.Tables.{Table, same_option, row_at, put, drop_where, drop_at, set_row, changed_entry, change_row}
+use Rattle.pim_laws.proofs.RowLaws.{any_of_put}
+use Rattle.pim_laws.proofs.Parts.{Asserts, Downstreams, GroupRecords, GroupRepeats, Interfaces, JoinTimers, Neighbours, OverrideTimers, Part, Queriers, Registers, Row, Sendings, SourceRecords, SourceRepeats, Sources, end_of, ends_of, is_sound, part_of, rows, timed_rows, with_rows, present_stays, settings_stay}
+use Rattle.pim_laws.proofs.ListLaws.{any_more, each_both, each_more, each_of_all, either}
+use Rattle.pim_laws.proofs.TableLaws.{row_is_there, none_passes, any_of_map, any_in_filter, any_of_drop, any_of_replaced, any_of_changed, any_of_filter_map}
 
 -- what is looked for: an end at a key, or a row under a key of another kind
 pub data Mark : Type 0 where
@@ -92,11 +78,20 @@ module _ {R : Type 0} (end_of : R → Option ℕ) (sound : Key × R → Bool) (m
       → TableKeeps end_of sound m t (put t k r)
   put_kept_if t k r new mark by e =
       either (shows_row end_of sound mark (k, r)) (shows_in end_of sound mark t) (new mark by) (λ old. old)
-      (any_of_put (shows_row end_of sound mark) t k r e)
+      (any_of_put k r (shows_row end_of sound mark) t e)
 
   pub put_kept : (t : Table R) (k : Key) (r : R) → sound (k, r) ≡ true → is_later m (end_of r) ≡ true
       → TableKeeps end_of sound m t (put t k r)
   put_kept t k r good later = put_kept_if t k r (λ mark by e. absurd (fresh_row k r good later mark by e))
+
+  pub set_row_kept : (t : Table R) (k : Key) (o : Option R) → ((r : R) → sound (k, r) ≡ true)
+      → ((r : R) → o ≡ Some r → (row_at t k ≡ Some r) ⊎ (is_later m (end_of r) ≡ true))
+      → TableKeeps end_of sound m t (set_row t k o)
+  unfolding set_row
+  set_row_kept t k None good new = drop_at_kept k t
+  set_row_kept t k (Some r) good new =
+      ⊎_elim (λ there. put_kept_if t k r (λ mark by e. row_is_there (shows_row end_of sound mark) k t r e there))
+      (put_kept t k r (good r)) (new r refl)
 
   pub replaced_kept_if : (k : Key) (o : Option R) (t : Table R)
       → ((mark : Mark) → counts m mark ≡ true
@@ -194,23 +189,7 @@ module _ {R : Type 0} (end_of : R → Option ℕ) (sound : Key × R → Bool) (m
 -- ---- of a state
 
 abbrev pub shows : TimerKind → Mark → State → Bool
-shows TimerKind.Neighbour mark s = shows_in (λ (r : NeighbourRow). r.end) always mark s.neighbours
-shows TimerKind.PrunePending mark s = shows_in (λ (r : DownstreamRow). r.pending) always mark s.downstream
-shows TimerKind.DownstreamExpiry mark s = shows_in (λ (r : DownstreamRow). r.expiry) always mark s.downstream
-shows TimerKind.GroupRecord mark s = shows_in (λ (r : GroupRecordRow). r.end) is_under_star mark s.group_records
-shows TimerKind.SourceRecord mark s = shows_in (λ (r : SourceRecordRow). r.end) is_under_source mark s.source_records
-shows TimerKind.Assert mark s = shows_in (λ (r : AssertRow). Some r.end) always mark s.asserts
-shows TimerKind.Keepalive mark s = shows_in (λ (r : SourceRow). r.keepalive) always mark s.sources
-shows TimerKind.Register mark s = shows_in (λ (r : RegisterRow). register_end r.state) always mark s.registers
-shows TimerKind.Override mark s = shows_in (λ (r : OverrideTimerRow). Some r.end) always mark s.override_timers
-shows TimerKind.Join mark s = shows_in (λ (r : JoinTimerRow). Some r.end) always mark s.join_timers
-shows TimerKind.OtherQuerier mark s =
-    shows_in (λ (r : QuerierRow). other_querier_end r.role) is_querier_entry mark s.queriers
-shows TimerKind.GroupRepeat mark s = shows_in (λ (r : GroupRepeatRow). Some r.next) is_under_star mark s.group_repeats
-shows TimerKind.SourceRepeat mark s =
-    shows_in (λ (r : SourceRepeatRow). Some r.next) is_under_star mark s.source_repeats
-shows TimerKind.GeneralQuery mark s = shows_in (λ (r : QuerierRow). next_query r.role) is_querier_entry mark s.queriers
-shows TimerKind.Hello mark s = shows_in (λ (r : InterfaceRow). Some r.hello_end) always mark s.interfaces
+shows kind mark s = shows_in (end_of kind) (is_sound (part_of kind)) mark (timed_rows kind s)
 
 -- t is s after a change that makes no end by the moment m
 pub record Keeps (m : ℕ) (s t : State) : Type 0 where
@@ -231,141 +210,61 @@ kept_then m s t u f g = record {
 
 -- ---- one table changed
 
+module _ (m : ℕ) (p : Part) where
+  -- what ends by the moment in the second table ended so in the first
+  abbrev pub PartKeeps : Table (Row p) → Table (Row p) → Type 0
+  PartKeeps t u = AllByRecursion (λ end. TableKeeps end (is_sound p) m t u) (ends_of p)
+
+  -- the row ends later than the moment
+  abbrev pub IsLate : Row p → Type 0
+  IsLate r = AllByRecursion (λ end. is_later m (end r) ≡ true) (ends_of p)
+
+  pub part_same : (t : Table (Row p)) → PartKeeps t t
+  part_same t = each_of_all _ (λ end mark by e. e) (ends_of p)
+
+  pub part_then : (t u v : Table (Row p)) → PartKeeps t u → PartKeeps u v → PartKeeps t v
+  part_then t u v f g =
+      each_both _ _ _ (λ end f g mark by e. f mark by (g mark by e)) (ends_of p) f g
+
+  pub part_dropped : (test : Key → Bool) (t : Table (Row p)) → PartKeeps t (drop_where test t)
+  part_dropped test t = each_of_all _ (λ end. drop_kept end (is_sound p) m test t) (ends_of p)
+
+  pub part_without : (k : Key) (t : Table (Row p)) → PartKeeps t (drop_at t k)
+  part_without k t = each_of_all _ (λ end. drop_at_kept end (is_sound p) m k t) (ends_of p)
+
+  pub part_put : (k : Key) (r : Row p) (t : Table (Row p)) → is_sound p (k, r) ≡ true → IsLate r
+      → PartKeeps t (put t k r)
+  part_put k r t good late =
+      each_more _ _ (λ end later. put_kept end (is_sound p) m t k r good later) (ends_of p) late
+
+  pub part_replaced : (k : Key) (r : Row p) (t : Table (Row p)) → is_sound p (k, r) ≡ true → IsLate r
+      → PartKeeps t (change_row (λ old. Some r) k t)
+  part_replaced k r t good late =
+      each_more _ _ (λ end later. replaced_kept end (is_sound p) m k r t good later) (ends_of p) late
+
+  pub part_removed : (k : Key) (t : Table (Row p)) → PartKeeps t (change_row (λ (old : Row p). None) k t)
+  part_removed k t = each_of_all _ (λ end. removed_kept end (is_sound p) m k t) (ends_of p)
+
 module _ (m : ℕ) (s : State) where
-  pub neighbours_kept : (t : Table NeighbourRow) → TableKeeps (λ (r : NeighbourRow). r.end) always m s.neighbours t
-      → Keeps m s (record s { neighbours = t })
-  neighbours_kept t f = record { settings = refl; present = refl; shown = go }
-    where
-      go : (kind : TimerKind) (mark : Mark) → counts m mark ≡ true
-          → shows kind mark (record s { neighbours = t }) ≡ true → shows kind mark s ≡ true
-      go TimerKind.Neighbour mark by e = f mark by e
-      go _ mark by e = e
+  rows_shown : (p : Part) (t : Table (Row p)) → PartKeeps m p (rows p s) t → (kind : TimerKind) (mark : Mark)
+      → counts m mark ≡ true → shows kind mark (with_rows p s t) ≡ true → shows kind mark s ≡ true
+  rows_shown Interfaces t f TimerKind.Hello mark by e = f.0 mark by e
+  rows_shown Neighbours t f TimerKind.Neighbour mark by e = f.0 mark by e
+  rows_shown Queriers t f TimerKind.OtherQuerier mark by e = f.0 mark by e
+  rows_shown Queriers t f TimerKind.GeneralQuery mark by e = (f.1).0 mark by e
+  rows_shown GroupRecords t f TimerKind.GroupRecord mark by e = f.0 mark by e
+  rows_shown SourceRecords t f TimerKind.SourceRecord mark by e = f.0 mark by e
+  rows_shown GroupRepeats t f TimerKind.GroupRepeat mark by e = f.0 mark by e
+  rows_shown SourceRepeats t f TimerKind.SourceRepeat mark by e = f.0 mark by e
+  rows_shown Downstreams t f TimerKind.PrunePending mark by e = f.0 mark by e
+  rows_shown Downstreams t f TimerKind.DownstreamExpiry mark by e = (f.1).0 mark by e
+  rows_shown Asserts t f TimerKind.Assert mark by e = f.0 mark by e
+  rows_shown JoinTimers t f TimerKind.Join mark by e = f.0 mark by e
+  rows_shown OverrideTimers t f TimerKind.Override mark by e = f.0 mark by e
+  rows_shown Sources t f TimerKind.Keepalive mark by e = f.0 mark by e
+  rows_shown Registers t f TimerKind.Register mark by e = f.0 mark by e
+  rows_shown Sendings t f TimerKind.Hello mark by e = e
+  rows_shown p t f kind mark by e = e
 
-  pub downstream_kept : (t : Table DownstreamRow)
-      → TableKeeps (λ (r : DownstreamRow). r.pending) always m s.downstream t
-      → TableKeeps (λ (r : DownstreamRow). r.expiry) always m s.downstream t → Keeps m s (record s { downstream = t })
-  downstream_kept t f g = record { settings = refl; present = refl; shown = go }
-    where
-      go : (kind : TimerKind) (mark : Mark) → counts m mark ≡ true
-          → shows kind mark (record s { downstream = t }) ≡ true → shows kind mark s ≡ true
-      go TimerKind.PrunePending mark by e = f mark by e
-      go TimerKind.DownstreamExpiry mark by e = g mark by e
-      go _ mark by e = e
-
-  pub group_records_kept : (t : Table GroupRecordRow)
-      → TableKeeps (λ (r : GroupRecordRow). r.end) is_under_star m s.group_records t
-      → Keeps m s (record s { group_records = t })
-  group_records_kept t f = record { settings = refl; present = refl; shown = go }
-    where
-      go : (kind : TimerKind) (mark : Mark) → counts m mark ≡ true
-          → shows kind mark (record s { group_records = t }) ≡ true → shows kind mark s ≡ true
-      go TimerKind.GroupRecord mark by e = f mark by e
-      go _ mark by e = e
-
-  pub source_records_kept : (t : Table SourceRecordRow)
-      → TableKeeps (λ (r : SourceRecordRow). r.end) is_under_source m s.source_records t
-      → Keeps m s (record s { source_records = t })
-  source_records_kept t f = record { settings = refl; present = refl; shown = go }
-    where
-      go : (kind : TimerKind) (mark : Mark) → counts m mark ≡ true
-          → shows kind mark (record s { source_records = t }) ≡ true → shows kind mark s ≡ true
-      go TimerKind.SourceRecord mark by e = f mark by e
-      go _ mark by e = e
-
-  pub asserts_kept : (t : Table AssertRow) → TableKeeps (λ (r : AssertRow). Some r.end) always m s.asserts t
-      → Keeps m s (record s { asserts = t })
-  asserts_kept t f = record { settings = refl; present = refl; shown = go }
-    where
-      go : (kind : TimerKind) (mark : Mark) → counts m mark ≡ true
-          → shows kind mark (record s { asserts = t }) ≡ true → shows kind mark s ≡ true
-      go TimerKind.Assert mark by e = f mark by e
-      go _ mark by e = e
-
-  pub sources_kept : (t : Table SourceRow) → TableKeeps (λ (r : SourceRow). r.keepalive) always m s.sources t
-      → Keeps m s (record s { sources = t })
-  sources_kept t f = record { settings = refl; present = refl; shown = go }
-    where
-      go : (kind : TimerKind) (mark : Mark) → counts m mark ≡ true
-          → shows kind mark (record s { sources = t }) ≡ true → shows kind mark s ≡ true
-      go TimerKind.Keepalive mark by e = f mark by e
-      go _ mark by e = e
-
-  pub registers_kept : (t : Table RegisterRow)
-      → TableKeeps (λ (r : RegisterRow). register_end r.state) always m s.registers t
-      → Keeps m s (record s { registers = t })
-  registers_kept t f = record { settings = refl; present = refl; shown = go }
-    where
-      go : (kind : TimerKind) (mark : Mark) → counts m mark ≡ true
-          → shows kind mark (record s { registers = t }) ≡ true → shows kind mark s ≡ true
-      go TimerKind.Register mark by e = f mark by e
-      go _ mark by e = e
-
-  pub override_timers_kept : (t : Table OverrideTimerRow)
-      → TableKeeps (λ (r : OverrideTimerRow). Some r.end) always m s.override_timers t
-      → Keeps m s (record s { override_timers = t })
-  override_timers_kept t f = record { settings = refl; present = refl; shown = go }
-    where
-      go : (kind : TimerKind) (mark : Mark) → counts m mark ≡ true
-          → shows kind mark (record s { override_timers = t }) ≡ true → shows kind mark s ≡ true
-      go TimerKind.Override mark by e = f mark by e
-      go _ mark by e = e
-
-  pub join_timers_kept : (t : Table JoinTimerRow)
-      → TableKeeps (λ (r : JoinTimerRow). Some r.end) always m s.join_timers t
-      → Keeps m s (record s { join_timers = t })
-  join_timers_kept t f = record { settings = refl; present = refl; shown = go }
-    where
-      go : (kind : TimerKind) (mark : Mark) → counts m mark ≡ true
-          → shows kind mark (record s { join_timers = t }) ≡ true → shows kind mark s ≡ true
-      go TimerKind.Join mark by e = f mark by e
-      go _ mark by e = e
-
-  pub queriers_kept : (t : Table QuerierRow)
-      → TableKeeps (λ (r : QuerierRow). other_querier_end r.role) is_querier_entry m s.queriers t
-      → TableKeeps (λ (r : QuerierRow). next_query r.role) is_querier_entry m s.queriers t
-      → Keeps m s (record s { queriers = t })
-  queriers_kept t f g = record { settings = refl; present = refl; shown = go }
-    where
-      go : (kind : TimerKind) (mark : Mark) → counts m mark ≡ true
-          → shows kind mark (record s { queriers = t }) ≡ true → shows kind mark s ≡ true
-      go TimerKind.OtherQuerier mark by e = f mark by e
-      go TimerKind.GeneralQuery mark by e = g mark by e
-      go _ mark by e = e
-
-  pub group_repeats_kept : (t : Table GroupRepeatRow)
-      → TableKeeps (λ (r : GroupRepeatRow). Some r.next) is_under_star m s.group_repeats t
-      → Keeps m s (record s { group_repeats = t })
-  group_repeats_kept t f = record { settings = refl; present = refl; shown = go }
-    where
-      go : (kind : TimerKind) (mark : Mark) → counts m mark ≡ true
-          → shows kind mark (record s { group_repeats = t }) ≡ true → shows kind mark s ≡ true
-      go TimerKind.GroupRepeat mark by e = f mark by e
-      go _ mark by e = e
-
-  pub source_repeats_kept : (t : Table SourceRepeatRow)
-      → TableKeeps (λ (r : SourceRepeatRow). Some r.next) is_under_star m s.source_repeats t
-      → Keeps m s (record s { source_repeats = t })
-  source_repeats_kept t f = record { settings = refl; present = refl; shown = go }
-    where
-      go : (kind : TimerKind) (mark : Mark) → counts m mark ≡ true
-          → shows kind mark (record s { source_repeats = t }) ≡ true → shows kind mark s ≡ true
-      go TimerKind.SourceRepeat mark by e = f mark by e
-      go _ mark by e = e
-
-  pub interfaces_kept : (t : Table InterfaceRow)
-      → TableKeeps (λ (r : InterfaceRow). Some r.hello_end) always m s.interfaces t
-      → Keeps m s (record s { interfaces = t })
-  interfaces_kept t f = record { settings = refl; present = refl; shown = go }
-    where
-      go : (kind : TimerKind) (mark : Mark) → counts m mark ≡ true
-          → shows kind mark (record s { interfaces = t }) ≡ true → shows kind mark s ≡ true
-      go TimerKind.Hello mark by e = f mark by e
-      go _ mark by e = e
-
-  pub sendings_kept : (t : Table SendingRow) → Keeps m s (record s { sendings = t })
-  sendings_kept t = record { settings = refl; present = refl; shown = λ kind mark by e. go kind mark e }
-    where
-      go : (kind : TimerKind) (mark : Mark) → shows kind mark (record s { sendings = t }) ≡ true
-          → shows kind mark s ≡ true
-      go TimerKind.Neighbour mark e = e
-      go _ mark e = e
+  pub rows_kept : (p : Part) (t : Table (Row p)) → PartKeeps m p (rows p s) t → Keeps m s (with_rows p s t)
+  rows_kept p t f = record { settings = settings_stay s p t; present = present_stays s p t; shown = rows_shown p t f }

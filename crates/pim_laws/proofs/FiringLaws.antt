@@ -1,5 +1,6 @@
 -- Firing ends: each firing makes what is due by its instant fewer, each instant is later than the one before.
 use Rattle.std.proofs.Common.{◌≡◌, ℕ, suc, ◌<◌, ◌≤◌, ◌+◌, ◌-◌, ◌*◌, nat_lt, nat_le, Bool, true, false, not, cond, ◌&&◌, ◌||◌, List, [], ◌∷◌, ◌++◌, append_assoc, length, filter, Ok, Option, Result, Some, None, refl, sym, ap, ◌∙◌, subst, arith, leb-false, leb-true, le-leb, lt-ltb}
+use Rattle.std.proofs.lemmas.Bool.{or_left, or_right, both_ways, false≢true, true_from_ne_false}
 use Rattle.std.specs.Cmp.{first_so, second_so}
 use Rattle.std.specs.List.{list_any, list_all}
 use Rattle.std.specs.Option.{option_map_or}
@@ -8,23 +9,20 @@ use Rattle.pim_ip.specs.Tests.{expect, ◌>>◌}
 use Rattle.pim_ip.specs.Ipv4.{is_unicast}
 use Rattle.pim_types.specs.declared.config.Config.{Config}
 use Rattle.pim_types.specs.declared.config.InterfaceConfig.{InterfaceConfig}
-use Rattle.pim_types.specs.declared.fact.AssertRow.{AssertRow}
-use Rattle.pim_types.specs.declared.fact.DownstreamRow.{DownstreamRow}
 use Rattle.pim_types.specs.declared.fact.GroupRecordRow.{GroupRecordRow}
 use Rattle.pim_types.specs.declared.fact.GroupRepeatRow.{GroupRepeatRow}
-use Rattle.pim_types.specs.declared.fact.InterfaceRow.{InterfaceRow}
 use Rattle.pim_types.specs.declared.fact.Key.{Key}
 use Rattle.pim_types.specs.declared.fact.QuerierRow.{QuerierRow}
 use Rattle.pim_types.specs.declared.fact.RegisterRow.{RegisterRow}
 use Rattle.pim_types.specs.declared.fact.SourceRepeatRow.{SourceRepeatRow}
-use Rattle.pim_types.specs.declared.fact.SourceRow.{SourceRow}
 use Rattle.pim_types.specs.declared.outcome.Emission.{Emission}
 use Rattle.pim_types.specs.declared.timer.TimerKind.{TimerKind}
+use Rattle.pim_types.specs.Keys.{same_key, iface_key, iface_in, group_in, star_key}
+use Rattle.pim_types.proofs.Keys.{equal_keys}
 use Rattle.pim_model.specs.Asserts.{assert_due}
-use Rattle.pim_model.specs.Downstream.{prune_pending_due}
+use Rattle.pim_model.specs.Downstream.{downstream_expired, prune_pending_due}
 use Rattle.pim_model.specs.Firing.{fire_all, fire_instant, fire_once, fire_row, fired, keepalive_due, settled, silent, startup_left}
-use Rattle.pim_model.specs.Hellos.{hello_due}
-use Rattle.pim_laws.specs.Laws.{IsAhead, IsFirable, IsReady, ends_after, ends_from, is_under_star, is_under_source, is_querier_entry}
+use Rattle.pim_model.specs.Hellos.{hello_due, neighbour_due}
 use Rattle.pim_model.specs.Limits.{are_apart, are_routes, are_rps, config_test, is_between, is_delay_config, is_querier_config, most_ifaces}
 use Rattle.pim_model.specs.Messages.{Message}
 use Rattle.pim_model.specs.Querier.{general_query_due, group_record_due, group_repeat_due, other_querier_gone, source_repeat_due}
@@ -33,15 +31,16 @@ use Rattle.pim_model.specs.Repeat.{and_then, until_none}
 use Rattle.pim_model.specs.State.{State, opening, settings_of}
 use Rattle.pim_model.specs.Step.{advanced}
 use Rattle.pim_model.specs.Tables.{Table, same_option, row_at}
-use Rattle.pim_types.specs.Keys.{same_key, iface_key, iface_in, group_in, star_key}
-use Rattle.pim_model.specs.Timers.{endings, Ending, next_due, next_query, other_querier_end, register_end, timers}
-use Rattle.pim_types.proofs.Keys.{equal_keys}
-use Rattle.pim_laws.proofs.ListLaws.{any_more, filter_shorter}
-use Rattle.pim_laws.proofs.TableLaws.{or_left, or_right, either, any_or}
+use Rattle.pim_model.specs.Timers.{endings, Ending, next_due, next_query, other_querier_end, timers}
+use Rattle.pim_model.specs.Upstream.{override_timer_due}
+use Rattle.pim_laws.proofs.Parts.{Row, end_of, is_sound, part_of, timed_rows}
+use Rattle.pim_laws.specs.Laws.{IsAhead, IsFirable, IsReady, ends_after, ends_from, is_under_star, is_under_source, is_querier_entry}
+use Rattle.pim_laws.proofs.ListLaws.{any_more, filter_shorter, either}
+use Rattle.pim_laws.proofs.TableLaws.{any_or, none_passes}
 use Rattle.pim_laws.proofs.RepeatLaws.{none_is_next}
 use Rattle.pim_laws.proofs.TurnLaws.{kept_to_the_end, same_when_none, unrolls_with}
-use Rattle.pim_laws.proofs.Ends.{Mark, Ends, Faulty, counts, always, shows_row, shows_in, shows, Keeps, kept, kept_then, absent_row}
-use Rattle.pim_laws.proofs.DueKept.{Gone, Fires, neighbour_fires, downstream_fires, prune_pending_fires, assert_fires, keepalive_fires, register_fires, override_fires, join_fires, hello_fires}
+use Rattle.pim_laws.proofs.Ends.{Mark, Ends, Faulty, counts, shows_row, shows_in, shows, Keeps, kept, kept_then, absent_row}
+use Rattle.pim_laws.proofs.DueKept.{Gone, Fires, assert_fires, hello_fires, join_fires, keepalive_fires, prune_pending_fires, register_fires, row_goes}
 use Rattle.pim_laws.proofs.IgmpKept.{IsSound, still_sound, still_gone, other_querier_fires, general_query_fires, group_repeat_fires, source_repeat_fires}
 use Rattle.pim_laws.proofs.RecordsKept.{group_record_fires, source_record_fires}
 use Rattle.pim_laws.proofs.SettledKept.{settled_kept}
@@ -77,12 +76,19 @@ is_iface_key k = same_key (iface_key (iface_in k)) k
 
 -- ---- a timer fires
 
-row_fires : {R : Type 0} (m : ℕ) (s : State) (kind : TimerKind) (k : Key) (fire : State → Key → R
-    → State × List Message) (o : Option R)
-    → (o ≡ None → Gone m kind k s) → ((r : R) → o ≡ Some r → Fires m kind k s (fire s k r).0)
-    → Fires m kind k s (option_map_or (fire s k) o (s, [])).0
-row_fires m s kind k fire None absent there = record { keeps = kept m s; gone = absent refl }
-row_fires m s kind k fire (Some r) absent there = there r refl
+row_fires : (m : ℕ) (s : State) (kind : TimerKind) (k : Key)
+    (fire : State → Key → Row (part_of kind) → State × List Message)
+    → ((r : Row (part_of kind)) → row_at (timed_rows kind s) k ≡ Some r → Fires m kind k s (fire s k r).0)
+    → Fires m kind k s (option_map_or (fire s k) (row_at (timed_rows kind s) k) (s, [])).0
+row_fires m s kind k fire there = go (row_at (timed_rows kind s) k) refl
+  where
+    go : (o : Option (Row (part_of kind))) → row_at (timed_rows kind s) k ≡ o
+        → Fires m kind k s (option_map_or (fire s k) o (s, [])).0
+    go None e = record {
+      keeps = kept m s;
+      gone = λ x by f. absent_row (end_of kind) (is_sound (part_of kind)) m k x (timed_rows kind s) e f;
+    }
+    go (Some r) e = there r e
 
 module _ (m : ℕ) (s : State) (sound : IsSound s) (now : s.present ≡ m) (k : Key) (x : ℕ) where
   star_form : {R : Type 0} (end_of : R → Option ℕ) (t : Table R) → shows_in end_of is_under_star (Ends k x) t ≡ true
@@ -101,40 +107,32 @@ module _ (m : ℕ) (s : State) (sound : IsSound s) (now : s.present ≡ m) (k : 
       faultless)
 
   fires : (kind : TimerKind) → shows kind (Ends k x) s ≡ true → Fires m kind k s (fired s kind k).0
-  unfolding fired fire_row
-  fires TimerKind.Neighbour e = neighbour_fires m s now k
+  unfolding fired fire_row neighbour_due downstream_expired override_timer_due
+  fires TimerKind.Neighbour e = row_goes m s TimerKind.Neighbour k
   fires TimerKind.PrunePending e =
-      row_fires m s TimerKind.PrunePending k prune_pending_due (row_at s.downstream k)
-      (λ none x by f. absent_row (λ (r : DownstreamRow). r.pending) always m k x s.downstream none f)
-      (prune_pending_fires m s now k)
-  fires TimerKind.DownstreamExpiry e = downstream_fires m s now k
+      row_fires m s TimerKind.PrunePending k prune_pending_due (prune_pending_fires m s now k)
+  fires TimerKind.DownstreamExpiry e = row_goes m s TimerKind.DownstreamExpiry k
   fires TimerKind.GroupRecord e =
       subst (λ (q : Key). Fires m TimerKind.GroupRecord q s (group_record_due s (iface_in k) (group_in k)))
       (star_form (λ (r : GroupRecordRow). r.end) s.group_records e (sound.faultless TimerKind.GroupRecord))
       (group_record_fires m s now (iface_in k) (group_in k))
   fires TimerKind.SourceRecord e = source_record_fires m s sound k
-  fires TimerKind.Assert e =
-      row_fires m s TimerKind.Assert k assert_due (row_at s.asserts k)
-      (λ none x by f. absent_row (λ (r : AssertRow). Some r.end) always m k x s.asserts none f)
-      (λ r there. assert_fires m s now k r)
+  fires TimerKind.Assert e = row_fires m s TimerKind.Assert k assert_due (λ r there. assert_fires m s now k r)
   fires TimerKind.Keepalive e =
-      row_fires m s TimerKind.Keepalive k (λ t q r. silent (keepalive_due t q r)) (row_at s.sources k)
-      (λ none x by f. absent_row (λ (r : SourceRow). r.keepalive) always m k x s.sources none f)
+      row_fires m s TimerKind.Keepalive k (λ t q r. silent (keepalive_due t q r))
       (λ r there. keepalive_fires m s now k r)
   fires TimerKind.Register e =
-      row_fires m s TimerKind.Register k (λ t q (r : RegisterRow). register_due t q r.state) (row_at s.registers k)
-      (λ none x by f. absent_row (λ (r : RegisterRow). register_end r.state) always m k x s.registers none f)
+      row_fires m s TimerKind.Register k (λ t q (r : RegisterRow). register_due t q r.state)
       (λ r there. register_fires m s now k r.state)
-  fires TimerKind.Override e = override_fires m s now k
+  fires TimerKind.Override e = row_goes m s TimerKind.Override k
   fires TimerKind.Join e = join_fires m s now k
   fires TimerKind.OtherQuerier e =
       subst (λ (q : Key). Fires m TimerKind.OtherQuerier q s (other_querier_gone s (iface_in k)).0)
       (iface_form (λ (r : QuerierRow). other_querier_end r.role) s.queriers e (sound.faultless TimerKind.OtherQuerier))
-      (other_querier_fires m s sound (iface_in k) now)
+      (other_querier_fires m s sound now (iface_in k))
   fires TimerKind.GroupRepeat e =
       row_fires m s TimerKind.GroupRepeat k
-      (λ t q (r : GroupRepeatRow). group_repeat_due t (iface_in q) (group_in q) r.left) (row_at s.group_repeats k)
-      (λ none x by f. absent_row (λ (r : GroupRepeatRow). Some r.next) is_under_star m k x s.group_repeats none f)
+      (λ t q (r : GroupRepeatRow). group_repeat_due t (iface_in q) (group_in q) r.left)
       (λ r there. subst (λ (q : Key). Fires m TimerKind.GroupRepeat q s
       (group_repeat_due s (iface_in k) (group_in k) r.left).0)
       (star_form (λ (r : GroupRepeatRow). Some r.next) s.group_repeats e (sound.faultless TimerKind.GroupRepeat))
@@ -145,16 +143,12 @@ module _ (m : ℕ) (s : State) (sound : IsSound s) (now : s.present ≡ m) (k : 
       (source_repeat_fires m s sound now (iface_in k) (group_in k))
   fires TimerKind.GeneralQuery e =
       row_fires m s TimerKind.GeneralQuery k
-      (λ t q (r : QuerierRow). general_query_due t (iface_in q) (startup_left r.role)) (row_at s.queriers k)
-      (λ none x by f. absent_row (λ (r : QuerierRow). next_query r.role) is_querier_entry m k x s.queriers none f)
+      (λ t q (r : QuerierRow). general_query_due t (iface_in q) (startup_left r.role))
       (λ r there. subst (λ (q : Key). Fires m TimerKind.GeneralQuery q s
       (general_query_due s (iface_in k) (startup_left r.role)).0)
       (iface_form (λ (r : QuerierRow). next_query r.role) s.queriers e (sound.faultless TimerKind.GeneralQuery))
-      (general_query_fires m s sound (iface_in k) now (startup_left r.role)))
-  fires TimerKind.Hello e =
-      row_fires m s TimerKind.Hello k hello_due (row_at s.interfaces k)
-      (λ none x by f. absent_row (λ (r : InterfaceRow). Some r.hello_end) always m k x s.interfaces none f)
-      (λ r there. hello_fires m s now k r)
+      (general_query_fires m s sound now (iface_in k) (startup_left r.role)))
+  fires TimerKind.Hello e = row_fires m s TimerKind.Hello k hello_due (λ r there. hello_fires m s now k r)
 
 -- ---- one firing
 
@@ -165,12 +159,8 @@ same_at TimerKind.Neighbour mark s p = refl
 same_at _ mark s p = refl
 
 pub sound_at : (s : State) (p : ℕ) → IsSound s → IsSound (record s { present = p })
-sound_at s p sound = record {
-  robustness = sound.robustness;
-  query_interval = sound.query_interval;
-  last_member_query_interval = sound.last_member_query_interval;
-  faultless = λ kind e. sound.faultless kind (sym (same_at kind Faulty s p) ∙ e);
-}
+sound_at s p sound =
+    record { firm = sound.firm; faultless = λ kind e. sound.faultless kind (sym (same_at kind Faulty s p) ∙ e) }
 
 record FiresOnce (m : ℕ) (e : Ending) (s t : State) : Type 0 where
   sound : IsSound t
@@ -516,34 +506,28 @@ module _ (w m : ℕ) (s : State) (e : Ending) (sound : IsSound s) (from : EndsFr
 
 -- ---- what firing asks of a state, as tests of its tables
 
-no_fault : {X : Type 0} (p : X → Bool) (xs : List X) → list_all p xs ≡ true → list_any (λ x. not (p x)) xs ≡ true → ⊥
-no_fault p [] e f = cc
-no_fault p (x ∷ xs) e f = go (p x) e f (no_fault p xs)
+any_not : {X : Type 0} (p : X → Bool) (xs : List X) → list_any (λ x. not (p x)) xs ≡ not (list_all p xs)
+any_not p [] = refl
+any_not p (x ∷ xs) = go (p x) (any_not p xs)
   where
-    go : (b : Bool) → (b && list_all p xs) ≡ true → (not b || list_any (λ x. not (p x)) xs) ≡ true
-        → (list_all p xs ≡ true → list_any (λ x. not (p x)) xs ≡ true → ⊥) → ⊥
-    go true g h rest = rest g h
-    go false g h rest = cc
+    go : (b : Bool) → list_any (λ x. not (p x)) xs ≡ not (list_all p xs)
+        → (not b || list_any (λ x. not (p x)) xs) ≡ not (b && list_all p xs)
+    go true ih = ih
+    go false ih = refl
+
+no_fault : {X : Type 0} (p : X → Bool) (xs : List X) → list_all p xs ≡ true → list_any (λ x. not (p x)) xs ≡ true → ⊥
+no_fault p xs e f = both_ways (list_any (λ x. not (p x)) xs) (any_not p xs ∙ ap not e) f
 
 all_good : {X : Type 0} (p : X → Bool) (xs : List X) → (list_any (λ x. not (p x)) xs ≡ true → ⊥) → list_all p xs ≡ true
-all_good p [] e = refl
-all_good p (x ∷ xs) e = go (p x) e (all_good p xs)
-  where
-    go : (b : Bool) → ((not b || list_any (λ x. not (p x)) xs) ≡ true → ⊥)
-        → ((list_any (λ x. not (p x)) xs ≡ true → ⊥) → list_all p xs ≡ true)
-        → (b && list_all p xs) ≡ true
-    go true none rest = rest none
-    go false none rest = absurd (none refl)
-
-none_faulty : {X : Type 0} (xs : List X) → list_any (λ (x : X). false) xs ≡ true → ⊥
-none_faulty [] e = cc
-none_faulty (x ∷ xs) e = none_faulty xs e
+all_good p xs none = true_from_ne_false (list_all p xs) (λ e. none (any_not p xs ∙ ap not e))
 
 pub sound_of : (s : State) → IsFirable s → IsSound s
 sound_of s f = record {
-  robustness = f.robustness;
-  query_interval = f.query_interval;
-  last_member_query_interval = f.last_member_query_interval;
+  firm = record {
+    robustness = f.robustness;
+    query_interval = f.query_interval;
+    last_member_query_interval = f.last_member_query_interval;
+  };
   faultless = faultless;
 }
   where
@@ -554,21 +538,13 @@ sound_of s f = record {
     faultless TimerKind.SourceRepeat e = no_fault is_under_star s.source_repeats f.source_repeats e
     faultless TimerKind.OtherQuerier e = no_fault is_querier_entry s.queriers f.queriers e
     faultless TimerKind.GeneralQuery e = no_fault is_querier_entry s.queriers f.queriers e
-    faultless TimerKind.Neighbour e = none_faulty s.neighbours e
-    faultless TimerKind.PrunePending e = none_faulty s.downstream e
-    faultless TimerKind.DownstreamExpiry e = none_faulty s.downstream e
-    faultless TimerKind.Assert e = none_faulty s.asserts e
-    faultless TimerKind.Keepalive e = none_faulty s.sources e
-    faultless TimerKind.Register e = none_faulty s.registers e
-    faultless TimerKind.Override e = none_faulty s.override_timers e
-    faultless TimerKind.Join e = none_faulty s.join_timers e
-    faultless TimerKind.Hello e = none_faulty s.interfaces e
+    faultless kind e = none_passes _ (λ x (f : false ≡ true). false≢true f) (timed_rows kind s) e
 
 pub firable_of : (s : State) → IsSound s → IsFirable s
 firable_of s f = record {
-  robustness = f.robustness;
-  query_interval = f.query_interval;
-  last_member_query_interval = f.last_member_query_interval;
+  robustness = f.firm.robustness;
+  query_interval = f.firm.query_interval;
+  last_member_query_interval = f.firm.last_member_query_interval;
   queriers = all_good is_querier_entry s.queriers (f.faultless TimerKind.GeneralQuery);
   group_records = all_good is_under_star s.group_records (f.faultless TimerKind.GroupRecord);
   source_records = all_good is_under_source s.source_records (f.faultless TimerKind.SourceRecord);

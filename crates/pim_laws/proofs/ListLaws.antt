@@ -1,7 +1,143 @@
--- Lists and tables: what a filter, a first element and a changed row leave.
-use Rattle.std.proofs.Common.{◌≡◌, suc, ◌<◌, ◌≤◌, Bool, true, false, cond, ◌&&◌, ◌||◌, List, [], ◌∷◌, length, Option, Some, None, refl, sym, ap, ◌∙◌, arith}
-use Rattle.std.specs.List.{filter, find, list_any}
+-- Lists: what holds of each element, what passes a test, the first of a list.
+use Rattle.std.proofs.Common.{◌≡◌, suc, ◌<◌, ◌≤◌, Bool, true, false, cond, ◌&&◌, ◌||◌, List, [], ◌∷◌, ◌++◌, map, length, Option, Some, None, refl, sym, ◌∙◌, subst, arith}
+use Rattle.std.proofs.lemmas.Bool.{false≢true, or_left, or_right}
+use Rattle.std.specs.Cmp.{first_so, second_so}
+use Rattle.std.specs.Cmp.Derive.{both_true}
+use Rattle.std.specs.List.{AllByRecursion, cons_option, filter, filter_map, find, list_all, list_any}
 use Rattle.pim_model.specs.Clearing.{first_of_both, first_by}
+
+pub by_cond : {X : Type 0} (P : X → Type 0) (b : Bool) (x y : X) → P x → P y → P (cond b x y)
+by_cond P true x y f g = f
+by_cond P false x y f g = g
+
+pub either : {A : Type 0} (a b : Bool) → (a ≡ true → A) → (b ≡ true → A) → (a || b) ≡ true → A
+either true b f g e = f refl
+either false b f g e = g e
+
+pub or_swapped : (a b c : Bool) → (a || (b || c)) ≡ (b || (a || c))
+or_swapped true true c = refl
+or_swapped true false c = refl
+or_swapped false b c = refl
+
+-- ---- each element
+
+module _ {X : Type 0} (P : X → Type 0) where
+  pub each_of_all : ((x : X) → P x) → (xs : List X) → AllByRecursion P xs
+  each_of_all all [] = tt
+  each_of_all all (x ∷ xs) = (all x, each_of_all all xs)
+
+  pub each_append : (xs ys : List X) → AllByRecursion P xs → AllByRecursion P ys → AllByRecursion P (xs ++ ys)
+  each_append [] ys f g = g
+  each_append (x ∷ xs) ys f g = (f.0, each_append xs ys f.1 g)
+
+  pub each_option : (o : Option X) (ys : List X) → ((y : X) → o ≡ Some y → P y) → AllByRecursion P ys
+      → AllByRecursion P (cons_option o ys)
+  each_option None ys h e = e
+  each_option (Some y) ys h e = (h y refl, e)
+
+  -- what a filter leaves passes its test
+  pub each_passing : (test : X → Bool) (xs : List X) → AllByRecursion P xs
+      → AllByRecursion (λ x. P x × (test x ≡ true)) (filter test xs)
+  each_passing test [] e = tt
+  each_passing test (x ∷ xs) e = go (test x) refl (each_passing test xs e.1)
+    where
+      go : (b : Bool) → test x ≡ b → AllByRecursion (λ x. P x × (test x ≡ true)) (filter test xs)
+          → AllByRecursion (λ x. P x × (test x ≡ true)) (cond b (x ∷ filter test xs) (filter test xs))
+      go true h rest = ((e.0, h), rest)
+      go false h rest = rest
+
+module _ {X Y : Type 0} (P : X → Type 0) (Q : Y → Type 0) where
+  pub each_filter_map : (h : X → Option Y) → ((x : X) (y : Y) → h x ≡ Some y → P x → Q y) → (xs : List X)
+      → AllByRecursion P xs → AllByRecursion Q (filter_map h xs)
+  each_filter_map h keeps [] e = tt
+  each_filter_map h keeps (x ∷ xs) e =
+      each_option Q (h x) (filter_map h xs) (λ y f. keeps x y f e.0) (each_filter_map h keeps xs e.1)
+
+  pub each_map : (f : X → Y) → ((x : X) → P x → Q (f x)) → (xs : List X) → AllByRecursion P xs
+      → AllByRecursion Q (map f xs)
+  each_map f keeps [] e = tt
+  each_map f keeps (x ∷ xs) e = (keeps x e.0, each_map f keeps xs e.1)
+
+pub each_more : {X : Type 0} (P Q : X → Type 0) → ((x : X) → P x → Q x) → (xs : List X) → AllByRecursion P xs
+    → AllByRecursion Q xs
+each_more P Q more [] e = tt
+each_more P Q more (x ∷ xs) e = (more x e.0, each_more P Q more xs e.1)
+
+pub each_both : {X : Type 0} (P Q G : X → Type 0) → ((x : X) → P x → Q x → G x) → (xs : List X) → AllByRecursion P xs
+    → AllByRecursion Q xs → AllByRecursion G xs
+each_both P Q G both [] e f = tt
+each_both P Q G both (x ∷ xs) e f = (both x e.0 f.0, each_both P Q G both xs e.1 f.1)
+
+pub each_filter : {X : Type 0} (P : X → Type 0) (test : X → Bool) (xs : List X) → AllByRecursion P xs
+    → AllByRecursion P (filter test xs)
+each_filter P test xs e =
+    each_more (λ x. P x × (test x ≡ true)) P (λ x f. f.0) (filter test xs) (each_passing P test xs e)
+
+-- of each of one list and each of another, in either order
+module _ {X Y : Type 0} (P : X → Y → Type 0) where
+  each_paired : (x : X) (xs : List X) (ys : List Y) → AllByRecursion (λ y. AllByRecursion (λ x. P x y) (x ∷ xs)) ys
+      → AllByRecursion (P x) ys × AllByRecursion (λ y. AllByRecursion (λ x. P x y) xs) ys
+  each_paired x xs [] f = (tt, tt)
+  each_paired x xs (y ∷ ys) f =
+      let later : AllByRecursion (P x) ys × AllByRecursion (λ y. AllByRecursion (λ x. P x y) xs) ys =
+      each_paired x xs ys f.1 in
+      (((f.0).0, later.0), ((f.0).1, later.1))
+
+  pub each_swapped : (xs : List X) (ys : List Y) → AllByRecursion (λ y. AllByRecursion (λ x. P x y) xs) ys
+      → AllByRecursion (λ x. AllByRecursion (P x) ys) xs
+  each_swapped [] ys f = tt
+  each_swapped (x ∷ xs) ys f = ((each_paired x xs ys f).0, each_swapped xs ys (each_paired x xs ys f).1)
+
+-- ---- tests
+
+module _ {X : Type 0} (p : X → Bool) where
+  pub each_of_list : (xs : List X) → list_all p xs ≡ true → AllByRecursion (λ x. p x ≡ true) xs
+  each_of_list [] e = tt
+  each_of_list (x ∷ xs) e = (first_so (p x) (list_all p xs) e, each_of_list xs (second_so (p x) (list_all p xs) e))
+
+  pub list_of_each : (xs : List X) → AllByRecursion (λ x. p x ≡ true) xs → list_all p xs ≡ true
+  list_of_each [] e = refl
+  list_of_each (x ∷ xs) e = both_true e.0 (list_of_each xs e.1)
+
+  pub each_passes : (xs : List X) → AllByRecursion (λ x. p x ≡ true) (filter p xs)
+  each_passes xs =
+      each_more (λ x. Unit {0} × (p x ≡ true)) (λ x. p x ≡ true) (λ x f. f.1) (filter p xs)
+      (each_passing (λ x. Unit {0}) p xs (each_of_all (λ x. Unit {0}) (λ x. tt) xs))
+
+  -- where one passes, each that does says so
+  pub each_member : (xs : List X) → AllByRecursion (λ x. p x ≡ true → list_any p xs ≡ true) xs
+  each_member [] = tt
+  each_member (x ∷ xs) = (
+    or_left (p x) (list_any p xs),
+    each_more _ _ (λ y f e. or_right (p x) (list_any p xs) (f e)) xs (each_member xs),
+  )
+
+-- what follows of one that passes
+pub any_among_all : {X C : Type 0} (P : X → Type 0) (q : X → Bool) → ((x : X) → P x → q x ≡ true → C) → (xs : List X)
+    → AllByRecursion P xs → list_any q xs ≡ true → C
+any_among_all P q done [] h e = absurd (false≢true e)
+any_among_all P q done (x ∷ xs) h e = either (q x) (list_any q xs) (done x h.0) (any_among_all P q done xs h.1) e
+
+-- tests that pass more
+module _ {X : Type 0} (p q : X → Bool) (more : (x : X) → p x ≡ true → q x ≡ true) where
+  pub any_more : (xs : List X) → list_any p xs ≡ true → list_any q xs ≡ true
+  any_more xs e =
+      any_among_all (λ x. q x ≡ true → list_any q xs ≡ true) p (λ x f g. f (more x g)) xs (each_member q xs) e
+
+  pub all_more : (xs : List X) → list_all p xs ≡ true → list_all q xs ≡ true
+  all_more xs e = list_of_each q xs (each_more _ _ more xs (each_of_list p xs e))
+
+-- what passes a test in a filtered list passes it in the list
+pub any_of_filter : {X : Type 0} (p q : X → Bool) (xs : List X) → list_any q (filter p xs) ≡ true
+    → list_any q xs ≡ true
+any_of_filter p q xs e =
+    any_among_all (λ x. q x ≡ true → list_any q xs ≡ true) q (λ x f g. f g) (filter p xs)
+    (each_filter _ p xs (each_member q xs)) e
+
+pub all_of_filter : {X : Type 0} (p q : X → Bool) (xs : List X) → list_all q xs ≡ true → list_all q (filter p xs) ≡ true
+all_of_filter p q xs e = list_of_each q (filter p xs) (each_filter _ p xs (each_of_list q xs e))
+
+-- ---- lengths
 
 module _ {X : Type 0} (p : X → Bool) where
   pub filter_shorter : (xs : List X) → length (filter p xs) ≤ length xs
@@ -30,63 +166,50 @@ module _ {X : Type 0} (p : X → Bool) where
   filter_stricter q apart (x ∷ xs) e =
       stricter_step q apart x xs (filter_stricter q apart xs) (q x) (p x) refl refl e
 
-  -- what passes a test in a filtered list passes it in the list
-  any_step : (q : X → Bool) (x : X) (xs : List X) → (list_any q (filter p xs) ≡ true → list_any q xs ≡ true)
-      → (c : Bool) → list_any q (cond c (x ∷ filter p xs) (filter p xs)) ≡ true → (q x || list_any q xs) ≡ true
-  any_step q x xs ih true e = grind (arith, ih)
-  any_step q x xs ih false e = grind (arith, ih)
-
-  pub any_of_filter : (q : X → Bool) (xs : List X) → list_any q (filter p xs) ≡ true → list_any q xs ≡ true
-  any_of_filter q [] e = e
-  any_of_filter q (x ∷ xs) e = any_step q x xs (any_of_filter q xs) (p x) e
-
 -- ---- the first of a list is one of its elements
 
-module _ {X : Type 0} (is_first : X → X → Bool) (q : X → Bool) where
-  first_step : (x y : X) (b : Bool) (d : X) → q d ≡ true → cond b y x ≡ d → (q x || q y) ≡ true
-  first_step x y true d here e = grind (arith, ap q e)
-  first_step x y false d here e = grind (arith, ap q e)
-
-  first_of_step : (x : X) (xs : List X) (o : Option X) → (first_by is_first xs ≡ o) → (d : X) → q d ≡ true
-      → (first_by is_first xs ≡ Some d → list_any q xs ≡ true)
-      → ((y : X) → q y ≡ true → first_by is_first xs ≡ Some y → list_any q xs ≡ true)
-      → first_of_both is_first x o ≡ d → (q x || list_any q xs) ≡ true
+module _ {X : Type 0} (is_first : X → X → Bool) where
+  first_of_two : (P : X → Type 0) (x : X) (o : Option X) → P x → ((y : X) → o ≡ Some y → P y)
+      → P (first_of_both is_first x o)
   unfolding first_of_both
-  first_of_step x xs None was d here ih all e = grind (arith, ap q e)
-  first_of_step x xs (Some y) was d here ih all e = go (is_first y x) e
-    where
-      go : (b : Bool) → cond b y x ≡ d → (q x || list_any q xs) ≡ true
-      go true f =
-          let found : q y ≡ true = ap q f ∙ here in let rest : list_any q xs ≡ true = all y found was in grind arith
-      go false f = let found : q x ≡ true = ap q f ∙ here in grind arith
+  first_of_two P x None here later = here
+  first_of_two P x (Some y) here later = by_cond P (is_first y x) y x (later y refl) here
 
-  pub first_by_member : (xs : List X) (d : X) → q d ≡ true → first_by is_first xs ≡ Some d → list_any q xs ≡ true
+  pub first_of_all : (P : X → Type 0) (xs : List X) → AllByRecursion P xs → (d : X) → first_by is_first xs ≡ Some d
+      → P d
   unfolding first_by
-  first_by_member [] d here e = cc
-  first_by_member (x ∷ xs) d here e =
+  first_of_all P [] h d e = cc
+  first_of_all P (x ∷ xs) h d e =
       let same : first_of_both is_first x (first_by is_first xs) ≡ d = cc in
-      first_of_step x xs (first_by is_first xs) refl d here (first_by_member xs d here) (λ y. first_by_member xs y) same
+      subst P same (first_of_two P x (first_by is_first xs) h.0 (first_of_all P xs h.1))
+
+  pub nothing_first : (xs : List X) → first_by is_first xs ≡ None → xs ≡ []
+  unfolding first_by
+  nothing_first [] e = refl
+  nothing_first (x ∷ xs) e = cc
+
+  pub first_by_member : (q : X → Bool) (xs : List X) (d : X) → q d ≡ true → first_by is_first xs ≡ Some d
+      → list_any q xs ≡ true
+  first_by_member q xs d here e =
+      first_of_all (λ x. q x ≡ true → list_any q xs ≡ true) xs (each_member q xs) d e here
 
 -- what is found passes
-module _ {X : Type 0} (p q : X → Bool) where
-  pub find_member : (xs : List X) (d : X) → q d ≡ true → find p xs ≡ Some d → list_any (λ x. p x && q x) xs ≡ true
-  find_member [] d here e = cc
-  find_member (x ∷ xs) d here e = go (p x) refl e (find_member xs d here)
+module _ {X : Type 0} (p : X → Bool) where
+  found_of_each : (P : X → Type 0) (xs : List X) → AllByRecursion P xs → (d : X) → find p xs ≡ Some d
+      → P d × (p d ≡ true)
+  found_of_each P [] h d e = cc
+  found_of_each P (x ∷ xs) h d e = go (p x) refl e (found_of_each P xs h.1 d)
     where
       go : (b : Bool) → p x ≡ b → cond b (Some x) (find p xs) ≡ Some d
-          → (find p xs ≡ Some d → list_any (λ x. p x && q x) xs ≡ true)
-          → ((p x && q x) || list_any (λ x. p x && q x) xs) ≡ true
+          → (find p xs ≡ Some d → P d × (p d ≡ true)) → P d × (p d ≡ true)
       go true passes f rest =
-          let same : x ≡ d = cc in let found : q x ≡ true = ap q same ∙ here in rw (passes, found) refl
-      go false passes f rest = let later : list_any (λ x. p x && q x) xs ≡ true = rest f in grind arith
+          let same : x ≡ d = cc in (subst P same h.0, subst (λ (y : X). p y ≡ true) same passes)
+      go false passes f rest = rest f
 
--- a test that passes more
-module _ {X : Type 0} (p q : X → Bool) (more : (x : X) → p x ≡ true → q x ≡ true) where
-  more_step : (x : X) (xs : List X) → (list_any p xs ≡ true → list_any q xs ≡ true) → (b : Bool) → p x ≡ b
-      → (b || list_any p xs) ≡ true → (q x || list_any q xs) ≡ true
-  more_step x xs ih true here e = rw (more x here) refl
-  more_step x xs ih false here e = let later : list_any q xs ≡ true = ih e in grind arith
-
-  pub any_more : (xs : List X) → list_any p xs ≡ true → list_any q xs ≡ true
-  any_more [] e = e
-  any_more (x ∷ xs) e = more_step x xs (any_more xs) (p x) refl e
+  pub find_member : (q : X → Bool) (xs : List X) (d : X) → q d ≡ true → find p xs ≡ Some d
+      → list_any (λ x. p x && q x) xs ≡ true
+  find_member q xs d here e =
+      let found : ((p d && q d) ≡ true → list_any (λ x. p x && q x) xs ≡ true) × (p d ≡ true) =
+      found_of_each (λ x. (p x && q x) ≡ true → list_any (λ x. p x && q x) xs ≡ true) xs
+      (each_member (λ x. p x && q x) xs) d e in
+      found.0 (both_true found.1 here)

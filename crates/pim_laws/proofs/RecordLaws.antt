@@ -8,7 +8,7 @@ use Rattle.pim_model.specs.Querier.{is_excluding}
 use Rattle.pim_model.specs.Records.{Asked, Excluded, Fate, Gone, GroupRecord, Member, Until, apply_record, exclude_again, exclude_less, exclude_more, fate_in, from_exclude, from_include, group_expired, include_more, include_to_exclude, is_running, kept_or_until, member_of, record_with, source_expired}
 use Rattle.pim_model.specs.Sets.{Set}
 use Rattle.pim_model.specs.Tables.{is_among}
-use Rattle.pim_laws.proofs.EachLaws.{each_filter, each_map, each_more, each_passing}
+use Rattle.pim_laws.proofs.ListLaws.{each_filter, each_map, each_more, each_passing}
 
 -- an end, or none
 abbrev pub EndsSo : Type 0 → (ℕ → Type 0) → Option ℕ → Type 0

@@ -1,26 +1,27 @@
 -- The same of IGMP's records: the group timer and the source timers.
 use Rattle.std.proofs.Common.{◌≡◌, ℕ, nat_lt, ◌==◌, Bool, true, false, not, cond, ◌&&◌, ◌||◌, List, [], ◌∷◌, map, fold, filter, Option, Some, None, is_some, refl, sym, ap, ◌∙◌, subst, eqb-true, eq-eqb}
+use Rattle.std.proofs.lemmas.Bool.{or_left, or_right}
 use Rattle.std.specs.Cmp.{first_so, second_so}
 use Rattle.std.specs.List.{list_any}
 use Rattle.std.specs.Option.{option_map_or}
 use Rattle.pim_types.specs.declared.fact.GroupRecordRow.{GroupRecordRow}
-use Rattle.pim_types.specs.declared.fact.GroupRepeatRow.{GroupRepeatRow}
 use Rattle.pim_types.specs.declared.fact.Key.{Key}
 use Rattle.pim_types.specs.declared.fact.SendingRow.{SendingRow}
 use Rattle.pim_types.specs.declared.fact.SourceRecordRow.{SourceRecordRow}
-use Rattle.pim_types.specs.declared.fact.SourceRepeatRow.{SourceRepeatRow}
 use Rattle.pim_types.specs.declared.timer.TimerKind.{TimerKind}
-use Rattle.pim_laws.specs.Laws.{is_under_star, is_under_source}
+use Rattle.pim_types.specs.Keys.{same_key, iface_in, group_in, source_in, source_key, star_key}
+use Rattle.pim_types.proofs.Keys.{equal_keys, same_key_same}
 use Rattle.pim_model.specs.Querier.{group_record_due, source_record_due}
 use Rattle.pim_model.specs.Records.{GroupRecord, Member, group_expired, is_at_group, is_no_record, members_of, put_member, record_of, source_expired, with_members, with_repeats_of_rows}
 use Rattle.pim_model.specs.State.{State}
-use Rattle.pim_model.specs.Tables.{Table, same_option, put, drop_where, drop_at, change_row}
-use Rattle.pim_types.specs.Keys.{same_key, iface_in, group_in, source_in, source_key, star_key}
-use Rattle.pim_types.proofs.Keys.{equal_keys, same_key_same}
-use Rattle.pim_laws.proofs.ListLaws.{any_more, any_of_filter}
-use Rattle.pim_laws.proofs.TableLaws.{any_of_either, none_passes, or_left, or_right, either, any_of_put, any_of_map, any_in_filter}
-use Rattle.pim_laws.proofs.Ends.{Mark, Ends, Faulty, counts, shows_row, TableKeeps, shows, Keeps, kept_then, fresh_row, drop_kept, drop_at_kept, same_kept, cond_kept, replaced_kept, later_is_gone, group_records_kept, source_records_kept, group_repeats_kept, source_repeats_kept, sendings_kept}
-use Rattle.pim_laws.proofs.DueKept.{Gone, Fires}
+use Rattle.pim_model.specs.Tables.{Table, has_row, same_option, put, drop_where, drop_at, change_row}
+use Rattle.pim_laws.proofs.RowLaws.{any_of_put}
+use Rattle.pim_laws.specs.Laws.{is_under_source}
+use Rattle.pim_laws.proofs.ListLaws.{any_more, any_of_filter, by_cond, either}
+use Rattle.pim_laws.proofs.TableLaws.{any_of_either, none_passes, any_of_map, any_in_filter}
+use Rattle.pim_laws.proofs.Ends.{Mark, Ends, Faulty, PartKeeps, counts, shows_row, TableKeeps, shows, Keeps, kept_then, fresh_row, drop_kept, part_same, part_without, rows_kept}
+use Rattle.pim_laws.proofs.Parts.{GroupRecords, GroupRepeats, Part, Row, Sendings, SourceRecords, SourceRepeats}
+use Rattle.pim_laws.proofs.DueKept.{Fires, row_replaced}
 use Rattle.pim_laws.proofs.IgmpKept.{IsSound, still_gone}
 
 -- a member as an entry of the table
@@ -42,7 +43,7 @@ module _ (q : Key × SourceRecordRow → Bool) (i g : ℕ) where
       either later (list_any q (put t (source_key i g p.0) (record { end = p.1 })))
       (λ f. or_left (new || later) old (or_right new later f))
       (λ f. either new old (λ h. or_left (new || later) old (or_left new later h)) (λ h. or_right (new || later) old h)
-      (any_of_put q t (source_key i g p.0) (record { end = p.1 }) f))
+      (any_of_put (source_key i g p.0) (record { end = p.1 }) q t f))
       (any_of_members ps (put t (source_key i g p.0) (record { end = p.1 })) e)
 
 -- the members show nothing by the moment that didn't show before
@@ -51,37 +52,27 @@ MembersKeep m s i g ms =
     (mark : Mark) → counts m mark ≡ true → list_any (λ p. shows_source mark (entry_of i g p)) ms ≡ true
     → shows TimerKind.SourceRecord mark s ≡ true
 
-abbrev cut_group_repeats : State → ℕ → ℕ → Bool → Table GroupRepeatRow
-cut_group_repeats s i g b = cond b s.group_repeats (drop_at s.group_repeats (star_key i g))
-
-abbrev cut_source_repeats : State → ℕ → ℕ → Bool → Table SourceRepeatRow
-cut_source_repeats s i g b = cond b s.source_repeats (drop_at s.source_repeats (star_key i g))
-
 module _ (m : ℕ) (s : State) (i g : ℕ) where
-  cut_kept : (b c : Bool) (t : Table SendingRow) → Keeps m s (record s {
-    group_repeats = cut_group_repeats s i g b;
-    source_repeats = cut_source_repeats s i g c;
-    sendings = t;
-  })
-  cut_kept b c t =
-      let one : State = record s { sendings = t } in
-      let two : State = record one { group_repeats = cut_group_repeats s i g b } in
-      kept_then m s one (record two { source_repeats = cut_source_repeats s i g c }) (sendings_kept m s t)
-      (kept_then m one two (record two { source_repeats = cut_source_repeats s i g c })
-      (group_repeats_kept m one (cut_group_repeats s i g b)
-      (cond_kept (λ (r : GroupRepeatRow). Some r.next) is_under_star m b s.group_repeats s.group_repeats
-      (drop_at s.group_repeats (star_key i g))
-      (same_kept (λ (r : GroupRepeatRow). Some r.next) is_under_star m s.group_repeats)
-      (drop_at_kept (λ (r : GroupRepeatRow). Some r.next) is_under_star m (star_key i g) s.group_repeats)))
-      (source_repeats_kept m two (cut_source_repeats s i g c)
-      (cond_kept (λ (r : SourceRepeatRow). Some r.next) is_under_star m c s.source_repeats s.source_repeats
-      (drop_at s.source_repeats (star_key i g))
-      (same_kept (λ (r : SourceRepeatRow). Some r.next) is_under_star m s.source_repeats)
-      (drop_at_kept (λ (r : SourceRepeatRow). Some r.next) is_under_star m (star_key i g) s.source_repeats))))
-
   repeats_kept : Keeps m s (with_repeats_of_rows s i g)
   unfolding with_repeats_of_rows
-  repeats_kept = cut_kept _ _ _
+  repeats_kept =
+      let sendings : Table SendingRow =
+      drop_where (λ k. is_at_group i g k && not (has_row s.source_records k)) s.sendings in
+      let has_sendings : Bool = list_any (λ (e : Key × SendingRow). is_at_group i g e.0) sendings in
+      let one : State = record s { sendings = sendings } in
+      let two : State =
+      record one { group_repeats = cut GroupRepeats s.group_repeats (has_row s.group_records (star_key i g)) } in
+      kept_then m s one _ (rows_kept m s Sendings sendings tt)
+      (kept_then m one two _
+      (rows_kept m one GroupRepeats _ (cut_kept GroupRepeats s.group_repeats _))
+      (rows_kept m two SourceRepeats _ (cut_kept SourceRepeats s.source_repeats has_sendings)))
+    where
+      cut : (p : Part) → Table (Row p) → Bool → Table (Row p)
+      cut p t b = cond b t (drop_at t (star_key i g))
+
+      cut_kept : (p : Part) (t : Table (Row p)) (b : Bool) → PartKeeps m p t (cut p t b)
+      cut_kept p t b =
+          by_cond (PartKeeps m p t) b t (drop_at t (star_key i g)) (part_same m p t) (part_without m p (star_key i g) t)
 
 module _ (m : ℕ) (s : State) (i g : ℕ) where
   put_back : (ms : List Member) → MembersKeep m s i g ms
@@ -94,31 +85,21 @@ module _ (m : ℕ) (s : State) (i g : ℕ) where
       (drop_kept (λ (r : SourceRecordRow). r.end) is_under_source m (is_at_group i g) s.source_records mark by)
       (any_of_members (shows_source mark) i g ms (drop_where (is_at_group i g) s.source_records) e)
 
-  written : Bool → List Member → State
-  written b ms = record s {
-    group_records = cond b (drop_at s.group_records (star_key i g)) s.group_records;
-    source_records = fold (put_member i g) (drop_where (is_at_group i g) s.source_records) ms;
-  }
-
-  written_kept : (b : Bool) (ms : List Member) → MembersKeep m s i g ms → Keeps m s (written b ms)
-  unfolding written
-  written_kept b ms keeps =
-      let groups : Table GroupRecordRow = cond b (drop_at s.group_records (star_key i g)) s.group_records in
-      let sources : Table SourceRecordRow = fold (put_member i g) (drop_where (is_at_group i g) s.source_records) ms in
-      let one : State = record s { group_records = groups } in
-      kept_then m s one (record one { source_records = sources })
-      (group_records_kept m s groups
-      (cond_kept (λ (r : GroupRecordRow). r.end) is_under_star m b s.group_records
-      (drop_at s.group_records (star_key i g)) s.group_records
-      (drop_at_kept (λ (r : GroupRecordRow). r.end) is_under_star m (star_key i g) s.group_records)
-      (same_kept (λ (r : GroupRecordRow). r.end) is_under_star m s.group_records)))
-      (source_records_kept m one sources (put_back ms keeps))
-
   members_kept : (r : GroupRecord) → MembersKeep m s i g r.members → Keeps m s (with_members s i g r)
-  unfolding with_members written
+  unfolding with_members
   members_kept r keeps =
-      kept_then m s (written (is_no_record r) r.members) (with_repeats_of_rows (written (is_no_record r) r.members) i g)
-      (written_kept (is_no_record r) r.members keeps) (repeats_kept m (written (is_no_record r) r.members) i g)
+      let groups : Table GroupRecordRow =
+      cond (is_no_record r) (drop_at s.group_records (star_key i g)) s.group_records in
+      let sources : Table SourceRecordRow =
+      fold (put_member i g) (drop_where (is_at_group i g) s.source_records) r.members in
+      let one : State = record s { group_records = groups } in
+      let two : State = record one { source_records = sources } in
+      kept_then m s one _
+      (rows_kept m s GroupRecords groups
+      (by_cond (PartKeeps m GroupRecords s.group_records) (is_no_record r) _ s.group_records
+      (part_without m GroupRecords (star_key i g) s.group_records) (part_same m GroupRecords s.group_records)))
+      (kept_then m one two _ (rows_kept m one SourceRecords sources (put_back r.members keeps, tt))
+      (repeats_kept m two i g))
 
 -- ---- the group timer ends
 
@@ -128,20 +109,11 @@ module _ (m : ℕ) (s : State) (now : s.present ≡ m) (i g : ℕ) where
     group_records = change_row (λ (old : GroupRecordRow). Some (record { end = None })) (star_key i g) s.group_records;
   }
 
-  timed_kept : Keeps m s timed
+  timed_fires : Fires m TimerKind.GroupRecord (star_key i g) s timed
   unfolding timed
-  timed_kept =
-      group_records_kept m s
-      (change_row (λ (old : GroupRecordRow). Some (record { end = None })) (star_key i g) s.group_records)
-      (replaced_kept (λ (r : GroupRecordRow). r.end) is_under_star m (star_key i g)
-      (record { end = None }) s.group_records
-      (same_key_same (star_key i g)) refl)
-
-  timed_gone : Gone m TimerKind.GroupRecord (star_key i g) timed
-  unfolding timed
-  timed_gone x by e =
-      later_is_gone (λ (r : GroupRecordRow). r.end) is_under_star m (star_key i g) x
-      (record { end = None }) by refl s.group_records e
+  timed_fires =
+      row_replaced m s TimerKind.GroupRecord (star_key i g) (record { end = None }) (same_key_same (star_key i g))
+      (refl, tt)
 
   runs_on : Member → Bool
   runs_on p = option_map_or (nat_lt s.present) p.1 false
@@ -175,9 +147,10 @@ module _ (m : ℕ) (s : State) (now : s.present ≡ m) (i g : ℕ) where
       let expired : GroupRecord = group_expired s.present (record_of s i g) in
       let after : Keeps m timed (with_members timed i g expired) = members_kept m timed i g expired expired_members in
       record {
-        keeps = kept_then m s timed (with_members timed i g expired) timed_kept after;
+        keeps = kept_then m s timed (with_members timed i g expired) timed_fires.keeps after;
         gone =
-            still_gone m TimerKind.GroupRecord (star_key i g) timed (with_members timed i g expired) after timed_gone;
+            still_gone m TimerKind.GroupRecord (star_key i g) timed (with_members timed i g expired) after
+            timed_fires.gone;
       }
 
 -- ---- a source timer ends

@@ -1,6 +1,7 @@
 -- The repetition ends: where each turn makes a count smaller, as much fuel as the count is enough.
-use Rattle.std.proofs.Common.{◌≡◌, ℕ, zero, suc, ◌<◌, ◌≤◌, List, [], ◌++◌, Option, Some, None, refl, sym, ap, ◌∙◌, arith}
+use Rattle.std.proofs.Common.{◌≡◌, ℕ, zero, suc, ◌<◌, ◌≤◌, List, ◌++◌, Option, Some, None, refl, sym, ap, ◌∙◌, arith}
 use Rattle.pim_model.specs.Repeat.{and_then, after_next, until_none}
+use Rattle.pim_laws.proofs.TurnLaws.{none_then_none}
 
 module _ {S D E : Type 0} (next : S → Option D) (once : S → D → S × List E)
     (Kept : S → Type 0) (left : S → ℕ)
@@ -42,20 +43,14 @@ module _ {S D E : Type 0} (next : S → Option D) (once : S → D → S × List 
           ih (once s d).0 (keeps s d k e) (omega arith) (omega arith) in
           ap (λ (rest : S × List E). let p : S × List E = (rest.0, (once s d).1 ++ rest.1) in p) same
 
-    -- a turn in which nothing is next is the end
-    idle_turn : (later : S → S × List E) (s : S) (o : Option D) → o ≡ None → after_next next once later s o ≡ (s, [])
-    unfolding after_next
-    idle_turn later s None e = refl
-    idle_turn later s (Some d) e = cc
-
     pub same_with_more_fuel : (n m : ℕ) (s : S) → Kept s → left s ≤ n → left s ≤ m
         → until_none next once n s ≡ until_none next once m s
     unfolding until_none
     same_with_more_fuel zero zero s k h g = refl
     same_with_more_fuel zero (suc m) s k h g =
-        sym (idle_turn (λ t. until_none next once m t) s (next s) (nothing_left s (next s) refl k h))
+        sym (none_then_none next once s (next s) (λ t. until_none next once m t) (nothing_left s (next s) refl k h))
     same_with_more_fuel (suc n) zero s k h g =
-        idle_turn (λ t. until_none next once n t) s (next s) (nothing_left s (next s) refl k g)
+        none_then_none next once s (next s) (λ t. until_none next once n t) (nothing_left s (next s) refl k g)
     same_with_more_fuel (suc n) (suc m) s k h g = same_turn n m (same_with_more_fuel n m) s (next s) refl k h g
 
     -- ---- one turn, then the rest with the same fuel
@@ -68,9 +63,3 @@ module _ {S D E : Type 0} (next : S → Option D) (once : S → D → S × List 
         let longer : until_none next once n s
         ≡ until_none next once (suc n) s = same_with_more_fuel n (suc n) s k h (omega arith) in
         longer ∙ ap (after_next next once (λ t. until_none next once n t) s) e
-
-    -- where nothing is next nothing happens
-    pub stays : (n : ℕ) (s : S) → next s ≡ None → until_none next once n s ≡ (s, [])
-    unfolding until_none
-    stays zero s e = refl
-    stays (suc n) s e = idle_turn (λ t. until_none next once n t) s (next s) e

@@ -1,54 +1,79 @@
 -- The timers of a state and its ends are the same; what is due is one of them, the least.
-use Rattle.std.proofs.Common.{◌≡◌, ⊎_elim, ℕ, ◌<◌, ◌≤◌, nat_lt, nat_le, ◌==◌, Bool, true, false, cond, ◌&&◌, List, [], ◌∷◌, ◌++◌, Option, Some, None, option_map, refl, sym, ap, ◌∙◌, subst, arith, leb-true, le-leb, leb-false, lt-ltb, ltb-true, eqb-true}
+use Rattle.std.proofs.Common.{◌≡◌, ⊎_elim, ℕ, zero, suc, ◌-◌, ◌<◌, ◌≤◌, nat_lt, nat_le, ◌==◌, Bool, true, false, cond, ◌&&◌, List, [], ◌∷◌, ◌++◌, Option, Some, None, option_map, refl, sym, ap, ◌∙◌, subst, arith, leb-true, le-leb, leb-false, lt-ltb, ltb-true, eqb-true}
+use Rattle.std.proofs.lemmas.Option.{none-some}
+use Rattle.std.proofs.lemmas.List.Folds.{list_any-append}
 use Rattle.std.specs.Cmp.{first_so, second_so}
-use Rattle.std.specs.List.{filter, cons_option, list_any, list_all, AllByRecursion}
+use Rattle.std.specs.List.{filter, cons_option, list_any, AllByRecursion, slice_get}
 use Rattle.std.specs.Option.{option_map_or}
 use Rattle.std.specs.declared.cmp.Ordering.{Ordering}
 use Rattle.std.specs.declared.cmp.Ordering.TheVariants.{Less, Equal, Greater}
 use Rattle.std.specs.Ordering.{nat_cmp, is_lt, ordering_then}
-use Rattle.std.proofs.lemmas.Bool.{cases_lt}
+use Rattle.std.proofs.lemmas.Bool.{cases_lt, or_left, or_right}
 use Rattle.std.proofs.lemmas.Grind.{common_steps}
-use Rattle.pim_types.specs.declared.fact.AssertRow.{AssertRow}
-use Rattle.pim_types.specs.declared.fact.DownstreamRow.{DownstreamRow}
-use Rattle.pim_types.specs.declared.fact.GroupRecordRow.{GroupRecordRow}
-use Rattle.pim_types.specs.declared.fact.GroupRepeatRow.{GroupRepeatRow}
-use Rattle.pim_types.specs.declared.fact.InterfaceRow.{InterfaceRow}
-use Rattle.pim_types.specs.declared.fact.JoinTimerRow.{JoinTimerRow}
+use Rattle.pim_types.specs.Timers.{rank}
 use Rattle.pim_types.specs.declared.fact.Key.{Key}
-use Rattle.pim_types.specs.declared.fact.NeighbourRow.{NeighbourRow}
-use Rattle.pim_types.specs.declared.fact.OverrideTimerRow.{OverrideTimerRow}
-use Rattle.pim_types.specs.declared.fact.QuerierRow.{QuerierRow}
-use Rattle.pim_types.specs.declared.fact.RegisterRow.{RegisterRow}
-use Rattle.pim_types.specs.declared.fact.SourceRecordRow.{SourceRecordRow}
-use Rattle.pim_types.specs.declared.fact.SourceRepeatRow.{SourceRepeatRow}
-use Rattle.pim_types.specs.declared.fact.SourceRow.{SourceRow}
 use Rattle.pim_types.specs.declared.timer.TimerKind.{TimerKind}
+use Rattle.pim_types.specs.Keys.{same_key}
+use Rattle.pim_types.proofs.Keys.{equal_keys, same_key_same}
 use Rattle.pim_model.specs.Clearing.{first_by, first_of_both}
-use Rattle.pim_laws.specs.Laws.{is_under_star, is_under_source, is_querier_entry, ends_after, ends_from}
 use Rattle.pim_model.specs.State.{State}
 use Rattle.pim_model.specs.Tables.{Table, same_option}
-use Rattle.pim_types.specs.Keys.{same_key}
-use Rattle.pim_model.specs.Timers.{Ending, ending, ending_cmp, endings, is_ending_first, next_due, next_query, other_querier_end, register_end, timers}
-use Rattle.pim_types.proofs.Keys.{equal_keys, same_key_same}
-use Rattle.pim_laws.proofs.EachLaws.{all_pass}
-use Rattle.pim_laws.proofs.ListLaws.{any_more}
-use Rattle.pim_laws.proofs.TableLaws.{or_left, or_right, either, any_append, any_of_filter_map, any_in_filter}
-use Rattle.pim_laws.proofs.Ends.{Ends, always, shows_row, shows_in, shows}
+use Rattle.pim_model.specs.Timers.{Ending, ending, ending_cmp, endings, is_ending_first, next_due, timers}
+use Rattle.pim_laws.proofs.Parts.{end_of, is_sound, part_of, timed_rows}
+use Rattle.pim_laws.specs.Laws.{ends_after, ends_from}
+use Rattle.pim_laws.proofs.ListLaws.{any_more, each_append, each_filter, each_more, each_of_list, each_passes, list_of_each, any_among_all, first_of_all, nothing_first}
+use Rattle.pim_laws.proofs.TableLaws.{any_of_filter_map, any_in_filter}
+use Rattle.pim_laws.proofs.Ends.{Ends, shows_row, shows_in, shows}
+
+-- ---- the timers kind by kind
+
+abbrev kinds : List TimerKind
+kinds =
+    TimerKind.Neighbour ∷ TimerKind.PrunePending ∷ TimerKind.DownstreamExpiry ∷ TimerKind.GroupRecord
+    ∷ TimerKind.SourceRecord ∷ TimerKind.Assert ∷ TimerKind.Keepalive ∷ TimerKind.Register ∷ TimerKind.Override
+    ∷ TimerKind.Join ∷ TimerKind.OtherQuerier ∷ TimerKind.GroupRepeat ∷ TimerKind.SourceRepeat ∷ TimerKind.GeneralQuery
+    ∷ TimerKind.Hello ∷ []
+
+abbrev kind_ends : TimerKind → State → List Ending
+kind_ends kind s = endings kind (end_of kind) (timed_rows kind s)
+
+abbrev gathered : State → List Ending → List TimerKind → List Ending
+gathered s ds [] = ds
+gathered s ds (kind ∷ ks) = gathered s (ds ++ kind_ends kind s) ks
+
+timers_by_kind : (s : State) → timers s ≡ gathered s [] kinds
+unfolding timers
+timers_by_kind s = refl
+
+at_rank : (kind : TimerKind) → slice_get kinds (rank kind - 1) ≡ Some kind
+unfolding rank
+at_rank TimerKind.Neighbour = refl
+at_rank kind = refl
+
+each_gathered : (s : State) (P : Ending → Type 0) → ((kind : TimerKind) → AllByRecursion P (kind_ends kind s))
+    → (ks : List TimerKind) (ds : List Ending) → AllByRecursion P ds → AllByRecursion P (gathered s ds ks)
+each_gathered s P each [] ds f = f
+each_gathered s P each (kind ∷ ks) ds f =
+    each_gathered s P each ks (ds ++ kind_ends kind s) (each_append P ds (kind_ends kind s) f (each kind))
+
+module _ (s : State) (q : Ending → Bool) where
+  still_there : (ks : List TimerKind) (ds : List Ending) → list_any q ds ≡ true → list_any q (gathered s ds ks) ≡ true
+  still_there [] ds e = e
+  still_there (kind ∷ ks) ds e =
+      still_there ks (ds ++ kind_ends kind s)
+      (list_any-append q ds (kind_ends kind s) ∙ or_left (list_any q ds) (list_any q (kind_ends kind s)) e)
+
+  kind_comes : (n : ℕ) (ks : List TimerKind) (ds : List Ending) (kind : TimerKind) → slice_get ks n ≡ Some kind
+      → list_any q (kind_ends kind s) ≡ true → list_any q (gathered s ds ks) ≡ true
+  kind_comes n [] ds kind there e = absurd (none-some kind there)
+  kind_comes zero (first ∷ ks) ds kind there e =
+      let same : first ≡ kind = cc in
+      still_there ks (ds ++ kind_ends first s)
+      (list_any-append q ds (kind_ends first s) ∙ or_right (list_any q ds) (list_any q (kind_ends first s))
+      (ap (λ (k : TimerKind). list_any q (kind_ends k s)) same ∙ e))
+  kind_comes (suc n) (first ∷ ks) ds kind there e = kind_comes n ks (ds ++ kind_ends first s) kind there e
 
 -- ---- each timer is an end that shows
-
-module _ {X : Type 0} (P : X → Type 0) where
-  pub all_append : (xs ys : List X) → AllByRecursion P xs → AllByRecursion P ys → AllByRecursion P (xs ++ ys)
-  all_append [] ys f g = g
-  all_append (x ∷ xs) ys f g = (f.0, all_append xs ys f.1 g)
-
-  all_filter : (p : X → Bool) (xs : List X) → AllByRecursion P xs → AllByRecursion P (filter p xs)
-  all_filter p [] f = f
-  all_filter p (x ∷ xs) f = go (p x) (all_filter p xs f.1)
-    where
-      go : (b : Bool) → AllByRecursion P (filter p xs) → AllByRecursion P (cond b (x ∷ filter p xs) (filter p xs))
-      go true rest = (f.0, rest)
-      go false rest = rest
 
 same_end : (n : ℕ) → (n == n) ≡ true
 same_end n = grind (arith, common_steps)
@@ -76,77 +101,21 @@ module _ {R : Type 0} (kind : TimerKind) (end_of : R → Option ℕ) (sound : Ke
 abbrev pub Shown : State → Ending → Type 0
 Shown s d = shows d.timer.kind (Ends d.timer.key d.end) s ≡ true
 
-all_more : {X : Type 0} (P Q : X → Type 0) → ((x : X) → P x → Q x) → (xs : List X) → AllByRecursion P xs
-    → AllByRecursion Q xs
-all_more P Q f [] h = tt
-all_more P Q f (x ∷ xs) h = (f x h.0, all_more P Q f xs h.1)
-
 module _ (s : State) where
   of_kind : (kind : TimerKind) (ds : List Ending)
       → AllByRecursion (λ d. (d.timer.kind ≡ kind) × (shows kind (Ends d.timer.key d.end) s ≡ true)) ds
       → AllByRecursion (Shown s) ds
   of_kind kind ds h =
-      all_more (λ d. (d.timer.kind ≡ kind) × (shows kind (Ends d.timer.key d.end) s ≡ true)) (Shown s)
+      each_more (λ d. (d.timer.kind ≡ kind) × (shows kind (Ends d.timer.key d.end) s ≡ true)) (Shown s)
       (λ d f. subst (λ (k : TimerKind). shows k (Ends d.timer.key d.end) s ≡ true) (sym f.0) f.1) ds h
 
   pub all_shown : AllByRecursion (Shown s) (timers s)
-  unfolding timers
   all_shown =
-      (all_append (Shown s) _ _
-      (all_append (Shown s) _ _
-      (all_append (Shown s) _ _
-      (all_append (Shown s) _ _
-      (all_append (Shown s) _ _
-      (all_append (Shown s) _ _
-      (all_append (Shown s) _ _
-      (all_append (Shown s) _ _
-      (all_append (Shown s) _ _
-      (all_append (Shown s) _ _
-      (all_append (Shown s) _ _
-      (all_append (Shown s) _ _
-      (all_append (Shown s) _ _
-      (all_append (Shown s) _ _
-      (of_kind TimerKind.Neighbour _
-      (each_shown TimerKind.Neighbour (λ (r : NeighbourRow). r.end) always s.neighbours s.neighbours (λ q e. e)))
-      (of_kind TimerKind.PrunePending _
-      (each_shown TimerKind.PrunePending (λ (r : DownstreamRow). r.pending) always s.downstream s.downstream
-      (λ q e. e))))
-      (of_kind TimerKind.DownstreamExpiry _
-      (each_shown TimerKind.DownstreamExpiry (λ (r : DownstreamRow). r.expiry) always s.downstream s.downstream
-      (λ q e. e))))
-      (of_kind TimerKind.GroupRecord _
-      (each_shown TimerKind.GroupRecord (λ (r : GroupRecordRow). r.end) is_under_star s.group_records s.group_records
-      (λ q e. e))))
-      (of_kind TimerKind.SourceRecord _
-      (each_shown TimerKind.SourceRecord
-      (λ (r : SourceRecordRow). r.end) is_under_source s.source_records s.source_records (λ q e. e))))
-      (of_kind TimerKind.Assert _
-      (each_shown TimerKind.Assert (λ (r : AssertRow). Some r.end) always s.asserts s.asserts (λ q e. e))))
-      (of_kind TimerKind.Keepalive _
-      (each_shown TimerKind.Keepalive (λ (r : SourceRow). r.keepalive) always s.sources s.sources (λ q e. e))))
-      (of_kind TimerKind.Register _
-      (each_shown TimerKind.Register (λ (r : RegisterRow). register_end r.state) always s.registers s.registers
-      (λ q e. e))))
-      (of_kind TimerKind.Override _
-      (each_shown TimerKind.Override (λ (r : OverrideTimerRow). Some r.end) always s.override_timers s.override_timers
-      (λ q e. e))))
-      (of_kind TimerKind.Join _
-      (each_shown TimerKind.Join (λ (r : JoinTimerRow). Some r.end) always s.join_timers s.join_timers (λ q e. e))))
-      (of_kind TimerKind.OtherQuerier _
-      (each_shown TimerKind.OtherQuerier
-      (λ (r : QuerierRow). other_querier_end r.role) is_querier_entry s.queriers s.queriers (λ q e. e))))
-      (of_kind TimerKind.GroupRepeat _
-      (each_shown TimerKind.GroupRepeat
-      (λ (r : GroupRepeatRow). Some r.next) is_under_star s.group_repeats s.group_repeats (λ q e. e))))
-      (of_kind TimerKind.SourceRepeat _
-      (each_shown TimerKind.SourceRepeat
-      (λ (r : SourceRepeatRow). Some r.next) is_under_star s.source_repeats s.source_repeats (λ q e. e))))
-      (of_kind TimerKind.GeneralQuery _
-      (each_shown TimerKind.GeneralQuery (λ (r : QuerierRow). next_query r.role) is_querier_entry s.queriers s.queriers
-      (λ q e. e))))
-      (of_kind TimerKind.Hello _
-      (each_shown TimerKind.Hello (λ (r : InterfaceRow). Some r.hello_end) always s.interfaces s.interfaces
-      (λ q e. e))))
+      subst (AllByRecursion (Shown s)) (sym (timers_by_kind s))
+      (each_gathered s (Shown s)
+      (λ kind. of_kind kind (kind_ends kind s)
+      (each_shown kind (end_of kind) (is_sound (part_of kind)) (timed_rows kind s) (timed_rows kind s) (λ q e. e)))
+      kinds [] tt)
 
 -- ---- each end that shows is a timer
 
@@ -170,161 +139,23 @@ module _ {R : Type 0} (kind : TimerKind) (end_of : R → Option ℕ) (sound : Ke
       (λ (e : Key × R). option_map_or q (option_map (ending kind e.0) (end_of e.1)) false)
       (λ e f. as_ending e (end_of e.1) f) t e
 
-record SomePasses (q : Ending → Bool) (ds : List Ending) : Type 0 where
-  passes : list_any q ds ≡ true
-
-module _ (q : Ending → Bool) where
-  first : (xs ys : List Ending) → SomePasses q xs → SomePasses q (xs ++ ys)
-  first xs ys e = record { passes = any_append q xs ys ∙ or_left (list_any q xs) (list_any q ys) e.passes }
-
-  rest : (xs ys : List Ending) → list_any q ys ≡ true → SomePasses q (xs ++ ys)
-  rest xs ys e = record { passes = any_append q xs ys ∙ or_right (list_any q xs) (list_any q ys) e }
-
-some_timer : (s : State) (q : Ending → Bool) (kind : TimerKind) (k : Key) (x : ℕ) → q (ending kind k x) ≡ true
-    → shows kind (Ends k x) s ≡ true → SomePasses q (timers s)
-unfolding timers
-some_timer s q TimerKind.Neighbour k x here e =
-    first q _ _ (first q _ _
-    (first q _ _ (first q _ _
-    (first q _ _ (first q _ _
-    (first q _ _ (first q _ _
-    (first q _ _ (first q _ _
-    (first q _ _ (first q _ _
-    (first q _ _ (first q _ _
-    (record {
-      passes = (shown_ends TimerKind.Neighbour
-          (λ (r : NeighbourRow). r.end) always q k x here s.neighbours e);
-    }))))))))))))))
-some_timer s q TimerKind.PrunePending k x here e =
-    first q _ _ (first q _ _
-    (first q _ _ (first q _ _
-    (first q _ _ (first q _ _
-    (first q _ _ (first q _ _
-    (first q _ _ (first q _ _
-    (first q _ _ (first q _ _
-    (first q _ _ (rest q _ _
-    (shown_ends TimerKind.PrunePending
-    (λ (r : DownstreamRow). r.pending) always q k x here s.downstream e))))))))))))))
-some_timer s q TimerKind.DownstreamExpiry k x here e =
-    first q _ _ (first q _ _
-    (first q _ _ (first q _ _
-    (first q _ _ (first q _ _
-    (first q _ _ (first q _ _
-    (first q _ _ (first q _ _
-    (first q _ _ (first q _ _
-    (rest q _ _ (shown_ends TimerKind.DownstreamExpiry
-    (λ (r : DownstreamRow). r.expiry) always q k x here s.downstream e)))))))))))))
-some_timer s q TimerKind.GroupRecord k x here e =
-    first q _ _ (first q _ _
-    (first q _ _ (first q _ _
-    (first q _ _ (first q _ _
-    (first q _ _ (first q _ _
-    (first q _ _ (first q _ _
-    (first q _ _ (rest q _ _
-    (shown_ends TimerKind.GroupRecord
-    (λ (r : GroupRecordRow). r.end) is_under_star q k x here s.group_records e))))))))))))
-some_timer s q TimerKind.SourceRecord k x here e =
-    first q _ _ (first q _ _
-    (first q _ _ (first q _ _
-    (first q _ _ (first q _ _
-    (first q _ _ (first q _ _
-    (first q _ _ (first q _ _
-    (rest q _ _ (shown_ends TimerKind.SourceRecord
-    (λ (r : SourceRecordRow). r.end) is_under_source q k x here s.source_records e)))))))))))
-some_timer s q TimerKind.Assert k x here e =
-    first q _ _ (first q _ _
-    (first q _ _ (first q _ _
-    (first q _ _ (first q _ _
-    (first q _ _ (first q _ _
-    (first q _ _ (rest q _ _
-    (shown_ends TimerKind.Assert (λ (r : AssertRow). Some r.end) always q k x here s.asserts e))))))))))
-some_timer s q TimerKind.Keepalive k x here e =
-    first q _ _ (first q _ _
-    (first q _ _ (first q _ _
-    (first q _ _ (first q _ _
-    (first q _ _ (first q _ _
-    (rest q _ _ (shown_ends TimerKind.Keepalive
-    (λ (r : SourceRow). r.keepalive) always q k x here s.sources e)))))))))
-some_timer s q TimerKind.Register k x here e =
-    first q _ _ (first q _ _
-    (first q _ _ (first q _ _
-    (first q _ _ (first q _ _
-    (first q _ _ (rest q _ _
-    (shown_ends TimerKind.Register
-    (λ (r : RegisterRow). register_end r.state) always q k x here s.registers e))))))))
-some_timer s q TimerKind.Override k x here e =
-    first q _ _ (first q _ _
-    (first q _ _ (first q _ _
-    (first q _ _ (first q _ _
-    (rest q _ _ (shown_ends TimerKind.Override
-    (λ (r : OverrideTimerRow). Some r.end) always q k x here s.override_timers e)))))))
-some_timer s q TimerKind.Join k x here e =
-    first q _ _ (first q _ _
-    (first q _ _ (first q _ _
-    (first q _ _ (rest q _ _
-    (shown_ends TimerKind.Join (λ (r : JoinTimerRow). Some r.end) always q k x here s.join_timers e))))))
-some_timer s q TimerKind.OtherQuerier k x here e =
-    first q _ _ (first q _ _
-    (first q _ _ (first q _ _
-    (rest q _ _ (shown_ends TimerKind.OtherQuerier
-    (λ (r : QuerierRow). other_querier_end r.role) is_querier_entry q k x here s.queriers e)))))
-some_timer s q TimerKind.GroupRepeat k x here e =
-    first q _ _ (first q _ _
-    (first q _ _ (rest q _ _
-    (shown_ends TimerKind.GroupRepeat
-    (λ (r : GroupRepeatRow). Some r.next) is_under_star q k x here s.group_repeats e))))
-some_timer s q TimerKind.SourceRepeat k x here e =
-    first q _ _ (first q _ _
-    (rest q _ _ (shown_ends TimerKind.SourceRepeat
-    (λ (r : SourceRepeatRow). Some r.next) is_under_star q k x here s.source_repeats e)))
-some_timer s q TimerKind.GeneralQuery k x here e =
-    first q _ _ (rest q _ _
-    (shown_ends TimerKind.GeneralQuery
-    (λ (r : QuerierRow). next_query r.role) is_querier_entry q k x here s.queriers e))
-some_timer s q TimerKind.Hello k x here e =
-    rest q _ _ (shown_ends TimerKind.Hello (λ (r : InterfaceRow). Some r.hello_end) always q k x here s.interfaces e)
-
 pub among_timers : (s : State) (q : Ending → Bool) (kind : TimerKind) (k : Key) (x : ℕ) → q (ending kind k x) ≡ true
     → shows kind (Ends k x) s ≡ true → list_any q (timers s) ≡ true
-among_timers s q kind k x here e = (some_timer s q kind k x here e).passes
+among_timers s q kind k x here e =
+    ap (list_any q) (timers_by_kind s)
+    ∙ kind_comes s q (rank kind - 1) kinds [] kind (at_rank kind)
+    (shown_ends kind (end_of kind) (is_sound (part_of kind)) q k x here (timed_rows kind s) e)
 
 -- ---- the first of a list
 
-any_among_all : {X C : Type 0} (P : X → Type 0) (q : X → Bool) → ((x : X) → P x → q x ≡ true → C) → (xs : List X)
-    → AllByRecursion P xs → list_any q xs ≡ true → C
-any_among_all P q done [] h e = absurd (let no : false ≡ true = e in cc)
-any_among_all P q done (x ∷ xs) h e = either (q x) (list_any q xs) (done x h.0) (any_among_all P q done xs h.1) e
-
 module _ {X : Type 0} (is_first : X → X → Bool) where
-  first_of_two : (P : X → Type 0) (x : X) (o : Option X) → P x → ((y : X) → o ≡ Some y → P y)
-      → P (first_of_both is_first x o)
-  unfolding first_of_both
-  first_of_two P x None here later = here
-  first_of_two P x (Some y) here later = go (is_first y x)
-    where
-      go : (b : Bool) → P (cond b y x)
-      go true = later y refl
-      go false = here
-
-  first_of_all : (P : X → Type 0) (xs : List X) → AllByRecursion P xs → (d : X) → first_by is_first xs ≡ Some d → P d
-  unfolding first_by
-  first_of_all P [] h d e = cc
-  first_of_all P (x ∷ xs) h d e =
-      let same : first_of_both is_first x (first_by is_first xs) ≡ d = cc in
-      subst P same (first_of_two P x (first_by is_first xs) h.0 (first_of_all P xs h.1))
-
-  nothing_first : (xs : List X) → first_by is_first xs ≡ None → xs ≡ []
-  unfolding first_by
-  nothing_first [] e = refl
-  nothing_first (x ∷ xs) e = cc
-
   module _ (size : X → ℕ) (before : (a b : X) → is_first a b ≡ true → size a ≤ size b) (behind : (a b : X)
       → is_first a b ≡ false → size b ≤ size a) where
     abbrev AtLeast : ℕ → X → Type 0
     AtLeast n x = n ≤ size x
 
     all_at_least : (n m : ℕ) → n ≤ m → (xs : List X) → AllByRecursion (AtLeast m) xs → AllByRecursion (AtLeast n) xs
-    all_at_least n m h xs all = all_more (AtLeast m) (AtLeast n) (λ x (f : m ≤ size x). omega arith) xs all
+    all_at_least n m h xs all = each_more (AtLeast m) (AtLeast n) (λ x (f : m ≤ size x). omega arith) xs all
 
     least_of_two : (x : X) (xs : List X) (o : Option X) → first_by is_first xs ≡ o
         → ((y : X) → first_by is_first xs ≡ Some y → AllByRecursion (AtLeast (size y)) xs)
@@ -390,14 +221,14 @@ is_next m s e f = record {
   due = by_moment;
   shown =
       first_of_all is_ending_first (Shown s) (filter (is_due m) (timers s))
-      (all_filter (Shown s) (is_due m) (timers s) (all_shown s)) e f;
+      (each_filter (Shown s) (is_due m) (timers s) (all_shown s)) e f;
   least = λ kind k x g. of_least kind k x g (nat_le x m) refl;
 }
   where
     by_moment : e.end ≤ m
     by_moment =
         leb-true e.end m (first_of_all is_ending_first (λ d. nat_le d.end m
-        ≡ true) (filter (is_due m) (timers s)) (all_pass (is_due m) (timers s)) e f)
+        ≡ true) (filter (is_due m) (timers s)) (each_passes (is_due m) (timers s)) e f)
 
     of_least : (kind : TimerKind) (k : Key) (x : ℕ) → shows kind (Ends k x) s ≡ true → (b : Bool) → nat_le x m ≡ b
         → e.end ≤ x
@@ -426,43 +257,35 @@ all_later m s f kind k x e = go (nat_le x m) refl
 
 -- ---- the tests of all ends
 
-all_of_list : {X : Type 0} (p : X → Bool) (xs : List X) → list_all p xs ≡ true → AllByRecursion (λ x. p x ≡ true) xs
-all_of_list p [] e = tt
-all_of_list p (x ∷ xs) e = (first_so (p x) (list_all p xs) e, all_of_list p xs (second_so (p x) (list_all p xs) e))
-
-list_of_all : {X : Type 0} (p : X → Bool) (xs : List X) → AllByRecursion (λ x. p x ≡ true) xs → list_all p xs ≡ true
-list_of_all p [] h = refl
-list_of_all p (x ∷ xs) h = rw (h.0, list_of_all p xs h.1) refl
-
 pub from_shown : (m : ℕ) (s : State) → ends_from m s ≡ true → (kind : TimerKind) (k : Key) (x : ℕ)
     → shows kind (Ends k x) s ≡ true → m ≤ x
 from_shown m s f kind k x e =
     any_among_all (λ (d : Ending). nat_le m d.end ≡ true) (λ (d : Ending). d.end == x)
     (λ d g same. let end : d.end
     ≡ x = eqb-true d.end x same in let early : m ≤ d.end = leb-true m d.end g in let r : m ≤ x = omega arith in r)
-    (timers s) (all_of_list (λ (d : Ending). nat_le m d.end) (timers s) f)
+    (timers s) (each_of_list (λ (d : Ending). nat_le m d.end) (timers s) f)
     (among_timers s (λ (d : Ending). d.end == x) kind k x (same_end x) e)
 
 pub shown_from : (m : ℕ) (s : State) → ((kind : TimerKind) (k : Key) (x : ℕ) → shows kind (Ends k x) s ≡ true → m ≤ x)
     → ends_from m s ≡ true
 shown_from m s f =
-    list_of_all (λ (d : Ending). nat_le m d.end) (timers s)
-    (all_more (Shown s) (λ d. nat_le m d.end
+    list_of_each (λ (d : Ending). nat_le m d.end) (timers s)
+    (each_more (Shown s) (λ d. nat_le m d.end
     ≡ true) (λ d e. le-leb m d.end (f d.timer.kind d.timer.key d.end e)) (timers s) (all_shown s))
 
 pub shown_after : (m : ℕ) (s : State) → ((kind : TimerKind) (k : Key) (x : ℕ) → shows kind (Ends k x) s ≡ true → m < x)
     → ends_after m s ≡ true
 shown_after m s f =
-    list_of_all (λ (d : Ending). nat_lt m d.end) (timers s)
-    (all_more (Shown s) (λ d. nat_lt m d.end
+    list_of_each (λ (d : Ending). nat_lt m d.end) (timers s)
+    (each_more (Shown s) (λ d. nat_lt m d.end
     ≡ true) (λ d e. lt-ltb m d.end (f d.timer.kind d.timer.key d.end e)) (timers s) (all_shown s))
 
 pub after_is_from : (m : ℕ) (s : State) → ends_after m s ≡ true → ends_from m s ≡ true
 after_is_from m s f =
-    list_of_all (λ (d : Ending). nat_le m d.end) (timers s)
-    (all_more (λ (d : Ending). nat_lt m d.end ≡ true) (λ (d : Ending). nat_le m d.end ≡ true)
+    list_of_each (λ (d : Ending). nat_le m d.end) (timers s)
+    (each_more (λ (d : Ending). nat_lt m d.end ≡ true) (λ (d : Ending). nat_le m d.end ≡ true)
     (λ d e. let later : m < d.end = ltb-true m d.end e in le-leb m d.end (omega arith)) (timers s)
-    (all_of_list (λ (d : Ending). nat_lt m d.end) (timers s) f))
+    (each_of_list (λ (d : Ending). nat_lt m d.end) (timers s) f))
 
 -- ---- the first timer of all that is due is the first of its instant
 

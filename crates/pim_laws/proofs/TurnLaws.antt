@@ -1,6 +1,21 @@
 -- More of the repetition: what every turn keeps, and that fuel which is enough either way makes no difference.
-use Rattle.std.proofs.Common.{◌≡◌, ℕ, zero, suc, List, [], ◌++◌, Option, Some, None, refl, sym, ap, ◌∙◌, subst}
+use Rattle.std.proofs.Common.{◌≡◌, ℕ, zero, suc, List, [], ◌∷◌, ◌++◌, fold, Option, Some, None, refl, sym, ap, ◌∙◌, subst}
+use Rattle.pim_model.specs.Querier.{each_in_turn}
 use Rattle.pim_model.specs.Repeat.{and_then, after_next, until_none}
+
+-- what each change keeps all of them keep
+pub kept_in_turn : {S A M : Type 0} (change : S → A → S × List M) (Kept : S → Type 0)
+    → ((s : S) (a : A) → Kept s → Kept (change s a).0)
+    → (xs : List A) (s : S) → Kept s → Kept (each_in_turn change s xs).0
+unfolding each_in_turn
+kept_in_turn change Kept keeps [] s k = k
+kept_in_turn change Kept keeps (x ∷ xs) s k = kept_in_turn change Kept keeps xs (change s x).0 (keeps s x k)
+
+-- what each step of a fold keeps the fold keeps
+pub kept_by_fold : {S A : Type 0} (f : S → A → S) (Kept : S → Type 0) → ((s : S) (a : A) → Kept s → Kept (f s a))
+    → (xs : List A) (s : S) → Kept s → Kept (fold f s xs)
+kept_by_fold f Kept keeps [] s k = k
+kept_by_fold f Kept keeps (x ∷ xs) s k = kept_by_fold f Kept keeps xs (f s x) (keeps s x k)
 
 -- what every turn keeps is kept to the end
 module _ {S D E : Type 0} (next : S → Option D) (once : S → D → S × List E) (Kept : S → Type 0)
@@ -18,7 +33,9 @@ module _ {S D E : Type 0} (next : S → Option D) (once : S → D → S × List 
 
 -- fuel that is enough either way makes no difference
 module _ {S D E : Type 0} (next : S → Option D) (once : S → D → S × List E) where
-  none_then_none : (s : S) (o : Option D) (later : S → S × List E) → o ≡ None → after_next next once later s o ≡ (s, [])
+  -- a turn in which nothing is next is the end
+  pub none_then_none : (s : S) (o : Option D) (later : S → S × List E) → o ≡ None
+      → after_next next once later s o ≡ (s, [])
   unfolding after_next
   none_then_none s None later e = refl
   none_then_none s (Some d) later e = cc

@@ -1,6 +1,6 @@
 -- What holds of the definitions for every state.
-use Rattle.std.specs.List.{list_all}
-use Rattle.std.specs.Prelude.{Bool, Err, List, None, Ok, Some, [], nat_le, nat_lt, true, ℕ, ◌&&◌, ◌≡◌, ◌≤◌}
+use Rattle.std.specs.List.{list_all, list_any}
+use Rattle.std.specs.Prelude.{Bool, Err, List, None, Ok, Some, [], false, nat_le, nat_lt, true, ℕ, ◌&&◌, ◌≡◌, ◌≤◌}
 use Rattle.pim_ip.specs.declared.refusal.Refusal.{Refusal}
 use Rattle.pim_types.specs.declared.config.Config.{Config}
 use Rattle.pim_types.specs.declared.event.Event.{Event}
@@ -15,8 +15,11 @@ use Rattle.pim_model.specs.Limits.{config_test}
 use Rattle.pim_model.specs.Repeat.{and_then}
 use Rattle.pim_model.specs.State.{State, opening}
 use Rattle.pim_model.specs.Step.{Answered, advanced, run, state_after, step}
-use Rattle.pim_types.specs.Keys.{group_in, iface_in, iface_key, same_key, source_in, source_key, star_key}
+use Rattle.pim_types.specs.Keys.{group_in, iface_in, iface_key, is_of_group, same_key, source_in, source_key, star_key}
+use Rattle.pim_model.specs.Desires.{join_desired_star}
+use Rattle.pim_model.specs.Tables.{ascending, is_among}
 use Rattle.pim_model.specs.Timers.{Ending, next_due, timers}
+use Rattle.pim_model.specs.Upstream.{fact_keys}
 
 -- clearing leaves nothing that must go
 abbrev pub ClearingIsComplete : Type 0
@@ -154,6 +157,21 @@ AdvancedIsAhead = (w m : ℕ) (s : State) → IsReady s.present s → IsAhead m 
 -- with an accepted configuration it is one from which time can go on
 abbrev pub OpeningIsAhead : Type 0
 OpeningIsAhead = (c : Config) → config_test c ≡ Ok tt → IsAhead 0 (opening c)
+
+-- ---- groups and their order
+
+-- ascending numbers are told by their members, and stay as they are when they are put in order once more
+abbrev pub MembersTell : Type 0
+MembersTell =
+    (xs ys : List ℕ) → ((n : ℕ) → is_among n (ascending xs) ≡ is_among n (ascending ys)) → ascending xs ≡ ascending ys
+
+abbrev pub AscendingAgain : Type 0
+AscendingAgain = (ns : List ℕ) → ascending (ascending ns) ≡ ascending ns
+
+-- a group without facts isn't desired
+abbrev pub AbsentIsUndesired : Type 0
+AbsentIsUndesired =
+    (g : ℕ) (s : State) → list_any (λ k. is_of_group g k) (fact_keys s) ≡ false → join_desired_star s g ≡ false
 
 -- ---- what is built
 

@@ -1,6 +1,6 @@
 //! Laws of the definitions, each the contract of a function with nothing to do.
 
-ghost use Rattle.pim_laws.specs.Laws.{AdvancedIsAhead, AheadIsReady, BuiltRunIsRun, BuiltStateIsState, BuiltStepIsStep, ClearingGoesOn, ClearingIsComplete, FiringGoesOn, FiringGoesOnByOne, FiringIsAhead, FiringIsComplete, FiringStops, IgnoredEventChangesNothing, InstantGoesOn, InstantIsComplete, InstantStops, NextIsDue, NextIsFirst, NextIsLeast, OneFiringKeeps, OpeningIsAhead, ReadyAtPresent, RefusedEventChangesNothing};
+ghost use Rattle.pim_laws.specs.Laws.{AbsentIsUndesired, AdvancedIsAhead, AheadIsReady, AscendingAgain, BuiltRunIsRun, BuiltStateIsState, BuiltStepIsStep, ClearingGoesOn, ClearingIsComplete, FiringGoesOn, FiringGoesOnByOne, FiringIsAhead, FiringIsComplete, FiringStops, IgnoredEventChangesNothing, InstantGoesOn, InstantIsComplete, InstantStops, MembersTell, NextIsDue, NextIsFirst, NextIsLeast, OneFiringKeeps, OpeningIsAhead, ReadyAtPresent, RefusedEventChangesNothing};
 
 /// After clearing no assert and no SPTbit is left that must go.
 #[tactic(auto, using(crate::proofs::ClearingLaws::nothing_to_clear))]
@@ -116,6 +116,24 @@ pub fn advanced_is_ahead()
 /// Time can go on from the opening with an accepted configuration.
 pub fn opening_is_ahead()
     ensures { OpeningIsAhead }
+{}
+
+/// Ascending numbers are told by their members.
+#[tactic(auto, using(crate::proofs::Numbers::members_tell))]
+pub fn members_tell()
+    ensures { MembersTell }
+{}
+
+/// Numbers that are put in order once more stay as they are.
+#[tactic(auto, using(crate::proofs::Numbers::ascending_again))]
+pub fn ascending_again()
+    ensures { AscendingAgain }
+{}
+
+/// A group without facts isn't desired.
+#[tactic(auto, using(crate::proofs::AbsentGroups::absent_is_undesired))]
+pub fn absent_is_undesired()
+    ensures { AbsentIsUndesired }
 {}
 
 /// An event that is built is taken as the written machine takes it.

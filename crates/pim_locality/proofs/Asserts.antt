@@ -1,23 +1,24 @@
 -- What the assert machines of a key ask, in the scope of the key.
 use Rattle.std.proofs.Common.{◌≡◌, ◌∙◌, eqb-true, ◌==◌, ℕ, Bool, eq-eqb, refl, true, false, not, ◌||◌, ◌&&◌, cond, Some}
+use Rattle.std.proofs.lemmas.Bool.{or_left, or_right}
 use Rattle.std.specs.Cmp.{first_so, second_so}
 use Rattle.std.specs.Cmp.Derive.{both_true}
 use Rattle.std.specs.Option.{option_map_or}
-use Rattle.pim_laws.proofs.TableLaws.{either, or_left, or_right}
 use Rattle.pim_types.specs.declared.fact.AssertRow.{AssertRow}
+use Rattle.pim_types.specs.declared.fact.Key.{Key}
+use Rattle.pim_types.specs.declared.fact.SourceRow.{SourceRow as SourceFact}
+use Rattle.pim_types.specs.Keys.{group_in, iface_in, is_star, rpt_key, source_in, source_key, star_key}
+use Rattle.pim_types.specs.declared.path.Path.{Path}
 use Rattle.pim_model.specs.AssertMacros.{could_assert, could_assert_star, forwarding_set, infinite, is_tracking_desired, is_tracking_desired_star, my_metric, my_metric_star}
 use Rattle.pim_model.specs.Sets.{is_better, is_winner, route_metric, rpt_metric, ◌∖◌, ◌∪◌}
 use Rattle.pim_model.specs.State.{State, is_own, my_address}
-use Rattle.pim_locality.specs.Scopes.{reads, scope}
-use Rattle.pim_locality.proofs.SharedMacros.{is_dr_local, route_local, rp_of_local, rp_route_local, is_neighbour_local}
-use Rattle.pim_locality.proofs.StarMacros.{assert_star_local, is_exclude_local, join_desired_star_local, joins_star_local, lost_assert_star_local, pim_include_star_local, rpf_at, rpf_rp_at}
-use Rattle.pim_types.specs.declared.fact.Key.{Key}
-use Rattle.pim_types.specs.declared.fact.SourceRow.{SourceRow as SourceFact}
 use Rattle.pim_model.specs.Asserts.{could_assert_at, is_tracking_at, my_metric_at}
 use Rattle.pim_model.specs.Clearing.{assert_must_go, is_rpf_at, loser_must_go, spt_must_go}
 use Rattle.pim_model.specs.Registers.{could_register, has_other_rp, is_dr_of_path}
-use Rattle.pim_types.specs.Keys.{group_in, iface_in, is_star, rpt_key, source_in, source_key, star_key}
-use Rattle.pim_types.specs.declared.path.Path.{Path}
+use Rattle.pim_laws.proofs.ListLaws.{either}
+use Rattle.pim_locality.specs.Scopes.{reads, scope}
+use Rattle.pim_locality.proofs.SharedMacros.{is_dr_local, route_local, rp_of_local, rp_route_local, is_neighbour_local}
+use Rattle.pim_locality.proofs.StarMacros.{assert_star_local, is_exclude_local, join_desired_star_local, joins_star_local, lost_assert_star_local, pim_include_star_local, rpf_at, rpf_rp_at}
 use Rattle.pim_locality.proofs.SourceMacros.{ReadsSource, assert_source_local, is_kept_alive_local, join_desired_local, joins_local, local_include_local, pim_exclude_local, pim_include_local, prunes_local, spt_bit_local, spt_metric_local}
 
 module _ (sees : Key → Bool) (s : State) (g : ℕ) (stars : (i : ℕ) → sees (star_key i g) ≡ true) where

@@ -1,6 +1,6 @@
 -- Where nothing had to go at the opening, and the state agrees with it on all groups but some, what must go is of
 -- those groups, and so is all that goes.
-use Rattle.std.proofs.Common.{◌≡◌, ◌||◌, Bool, true, false, not, cond, List, [], ◌∷◌, Some, option_map, refl, sym, ap, ◌∙◌}
+use Rattle.std.proofs.Common.{◌≡◌, ◌||◌, Bool, true, false, not, cond, [], ◌∷◌, Some, option_map, refl, sym, ap, ◌∙◌}
 use Rattle.std.specs.Cmp.{first_so, second_so}
 use Rattle.std.specs.Cmp.Derive.{both_true}
 use Rattle.std.specs.List.{filter, find, list_all}
@@ -9,6 +9,7 @@ use Rattle.pim_types.specs.declared.fact.Key.{Key}
 use Rattle.pim_model.specs.Clearing.{ClearAssert, ClearSptBit, assert_must_go, assert_to_clear, first_by, is_assert_first, spt_must_go, spt_to_clear, to_clear}
 use Rattle.pim_model.specs.State.{State}
 use Rattle.pim_model.specs.Tables.{Table}
+use Rattle.pim_laws.proofs.ListLaws.{all_of_filter}
 use Rattle.pim_locality.specs.Locality.{AgreesBut, IsQuiet, of_touched, touched_assert, touched_spt, touched_to_clear}
 use Rattle.pim_locality.specs.Scopes.{reads, rows_where, scope}
 use Rattle.pim_locality.proofs.Asserts.{assert_must_go_local, reads_itself, spt_must_go_local}
@@ -56,17 +57,6 @@ module _ {R : Type 0} (touches : Key → Bool) (p : Key × R → Bool) where
 
 -- ---- quiet beside the touched groups
 
-module _ {X : Type 0} (p : X → Bool) where
-  all_step : (f : X → Bool) (x : X) (xs : List X) (b : Bool) → p x ≡ true → list_all p (filter f xs) ≡ true
-      → list_all p (cond b (x ∷ filter f xs) (filter f xs)) ≡ true
-  all_step f x xs true e ih = both_true e ih
-  all_step f x xs false e ih = ih
-
-  pub all_filtered : (f : X → Bool) (t : List X) → list_all p t ≡ true → list_all p (filter f t) ≡ true
-  all_filtered f [] e = e
-  all_filtered f (x ∷ xs) e =
-      all_step f x xs (f x) (first_so (p x) (list_all p xs) e) (all_filtered f xs (second_so (p x) (list_all p xs) e))
-
 module _ {R : Type 0} (p : Key × R → Bool) where
   tail_step : (sees : Key → Bool) (x : Key × R) (xs : Table R) (b : Bool)
       → list_all p (cond b (x ∷ rows_where sees xs) (rows_where sees xs)) ≡ true
@@ -105,7 +95,7 @@ pub all_agreed : {R : Type 0} (touches : Key → Bool) (p q : Key × R → Bool)
 unfolding rows_where
 all_agreed touches p q moves t u same e =
     all_beside p touches q moves u
-    (λ k f. ap (list_all p) (sym (same k f)) ∙ all_filtered p (λ x. reads k x.0) t e)
+    (λ k f. ap (list_all p) (sym (same k f)) ∙ all_of_filter (λ x. reads k x.0) p t e)
 
 module _ (touches : Key → Bool) (o : State) (quiet : IsQuiet o) where
   asserts_quiet : (s : State) → AgreesBut touches o s

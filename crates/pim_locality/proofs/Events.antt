@@ -1,11 +1,16 @@
 -- An Assert and the end of a timer touch their keys.
 use Rattle.std.proofs.Common.{◌≡◌, ◌++◌, ◌==◌, ◌||◌, ◌&&◌, ℕ, Bool, true, false, cond, List, [], ◌∷◌, Option, Some, None, refl}
+use Rattle.pim_laws.proofs.ListLaws.{by_cond}
+use Rattle.std.proofs.lemmas.Bool.{or_left, or_right}
 use Rattle.std.specs.Option.{option_map_or}
+use Rattle.std.specs.Cmp.Derive.{both_true}
+use Rattle.std.specs.List.{list_all}
 use Rattle.pim_types.specs.declared.fact.AssertMetric.{AssertMetric}
 use Rattle.pim_types.specs.declared.fact.AssertRow.{AssertRow}
 use Rattle.pim_types.specs.declared.fact.Key.{Key}
 use Rattle.pim_types.specs.declared.fact.RegisterState.{RegisterState}
 use Rattle.pim_types.specs.declared.timer.TimerKind.{TimerKind}
+use Rattle.pim_types.specs.Keys.{group_in, source_in, source_key, star_key}
 use Rattle.pim_wire.specs.declared.assert.Assert.{Assert as AssertMessage}
 use Rattle.pim_model.specs.Asserts.{assert_as_loser, assert_as_winner, assert_at, assert_due, assert_forgotten, assert_in_no_info, assert_received, is_acceptable, is_challenge, is_from_winner, is_inferior, is_of_tree, is_tracking_at, loses, loses_first, theirs_of, wins, wins_again, with_spt_bit}
 use Rattle.pim_model.specs.AssertMacros.{is_infinite}
@@ -15,15 +20,11 @@ use Rattle.pim_model.specs.Messages.{Message}
 use Rattle.pim_model.specs.Registers.{register_due}
 use Rattle.pim_model.specs.Sets.{is_better, is_winner}
 use Rattle.pim_model.specs.State.{State}
-use Rattle.pim_types.specs.Keys.{group_in, source_in, source_key, star_key}
 use Rattle.pim_model.specs.Tables.{row_at}
 use Rattle.pim_model.specs.Upstream.{join_timer_due, override_timer_due}
+use Rattle.pim_model.specs.Full.{asserted_keys}
 use Rattle.pim_locality.specs.Locality.{AgreesBut, touching}
 use Rattle.pim_locality.specs.Scopes.{reads, scope}
-use Rattle.pim_laws.proofs.TableLaws.{or_left, or_right}
-use Rattle.std.specs.Cmp.Derive.{both_true}
-use Rattle.std.specs.List.{list_all}
-use Rattle.pim_model.specs.Full.{asserted_keys}
 use Rattle.pim_locality.proofs.Asserts.{reads_itself}
 use Rattle.pim_locality.proofs.RowChanges.{changed_elsewhere, dropped_elsewhere, put_elsewhere}
 use Rattle.pim_locality.proofs.Touches.{agrees_same, agrees_then, touches_itself, unread_of, widened, asserts_agree, downstream_agrees, registers_agree, sources_agree}
@@ -31,13 +32,7 @@ use Rattle.pim_locality.proofs.Touches.{agrees_same, agrees_then, touches_itself
 module _ (touches : Key → Bool) (s : State) where
   pub agrees_if : (b : Bool) (t u : State × List Message) → AgreesBut touches s t.0 → AgreesBut touches s u.0
       → AgreesBut touches s (cond b t u).0
-  agrees_if true t u f g = f
-  agrees_if false t u f g = g
-
-  pub agrees_state_if : (b : Bool) (t u : State) → AgreesBut touches s t → AgreesBut touches s u
-      → AgreesBut touches s (cond b t u)
-  agrees_state_if true t u f g = f
-  agrees_state_if false t u f g = g
+  agrees_if b t u f g = by_cond (λ (p : State × List Message). AgreesBut touches s p.0) b t u f g
 
 -- ---- the assert machine of a key
 
@@ -82,7 +77,7 @@ module _ (k : Key) where
   loses_first_only : (s : State) (theirs : AssertMetric) → Only s (loses_first s k theirs)
   unfolding loses_first
   loses_first_only s theirs =
-      agrees_state_if (touching (k ∷ [])) s _ (with_spt_bit (loses s k theirs) (group_in k) (source_in k))
+      by_cond (AgreesBut (touching (k ∷ [])) s) _ (with_spt_bit (loses s k theirs) (group_in k) (source_in k))
       (loses s k theirs)
       (agrees_then (touching (k ∷ [])) s (loses s k theirs) _ (loses_only s theirs) (spt_bit_only (loses s k theirs)))
       (loses_only s theirs)
@@ -105,10 +100,11 @@ module _ (k : Key) where
   loser_only : (s : State) (r : AssertRow) (theirs : AssertMetric) → Only s (assert_as_loser s k r theirs)
   unfolding assert_as_loser
   loser_only s r theirs =
-      agrees_state_if (touching (k ∷ [])) s (is_better theirs
+      by_cond (AgreesBut (touching (k ∷ [])) s) (is_better theirs
       r.winner || (is_from_winner r theirs && is_acceptable s k theirs && is_of_tree k theirs))
       (loses s k theirs) _ (loses_only s theirs)
-      (agrees_state_if (touching (k ∷ [])) s (is_from_winner r theirs && (is_inferior s k theirs || is_infinite theirs))
+      (by_cond (AgreesBut (touching (k ∷ [])) s)
+      (is_from_winner r theirs && (is_inferior s k theirs || is_infinite theirs))
       (assert_forgotten s k) s
       (forgotten_only s) (agrees_same (touching (k ∷ [])) s))
 
@@ -196,47 +192,41 @@ module _ (s : State) (k : Key) where
   abbrev Here : State → Type 0
   Here t = AgreesBut (touching (k ∷ [])) s t
 
-  away : (q : Key) → touching (k ∷ []) q ≡ false → reads q k ≡ false
-  away q e = unread_of (k ∷ []) k q (touches_itself k) e
-
-  row_fires : {R : Type 0} (o : Option R) (fire : R → State × List Message) → ((r : R) → Here (fire r).0)
-      → Here (option_map_or fire o (s, [])).0
-  row_fires None fire f = agrees_same (touching (k ∷ [])) s
-  row_fires (Some r) fire f = f r
-
   pub prune_pending_touches : Here (fired s TimerKind.PrunePending k).0
   unfolding fired fire_row prune_pending_due
-  prune_pending_touches = row_fires (row_at s.downstream k) (prune_pending_due s k) (λ r.
+  prune_pending_touches = row_fires_but (touching (k ∷ [])) s (row_at s.downstream k) (prune_pending_due s k) (λ r.
       agrees_if (touching (k ∷ [])) s k.rpt _ _
-      (downstream_agrees (touching (k ∷ [])) s _ (λ h e. changed_elsewhere (reads h) _ k (away h e) s.downstream))
-      (downstream_agrees (touching (k ∷ [])) s _ (λ h e. dropped_elsewhere (reads h) k (away h e) s.downstream)))
+      (downstream_agrees (touching (k ∷ [])) s _
+      (λ h e. changed_elsewhere (reads h) _ k (elsewhere k h e) s.downstream))
+      (downstream_agrees (touching (k ∷ [])) s _ (λ h e. dropped_elsewhere (reads h) k (elsewhere k h e) s.downstream)))
 
   pub expiry_touches : Here (fired s TimerKind.DownstreamExpiry k).0
   unfolding fired downstream_expired
   expiry_touches =
-      downstream_agrees (touching (k ∷ [])) s _ (λ h e. dropped_elsewhere (reads h) k (away h e) s.downstream)
+      downstream_agrees (touching (k ∷ [])) s _ (λ h e. dropped_elsewhere (reads h) k (elsewhere k h e) s.downstream)
 
   pub assert_end_touches : Here (fired s TimerKind.Assert k).0
   unfolding fired fire_row
-  assert_end_touches = row_fires (row_at s.asserts k) (assert_due s k) (assert_due_touches s k)
+  assert_end_touches =
+      row_fires_but (touching (k ∷ [])) s (row_at s.asserts k) (assert_due s k) (assert_due_touches s k)
 
   pub keepalive_touches : Here (fired s TimerKind.Keepalive k).0
   unfolding fired fire_row keepalive_due
-  keepalive_touches = row_fires (row_at s.sources k) _ (λ r.
-      sources_agree (touching (k ∷ [])) s _ (λ h e. changed_elsewhere (reads h) _ k (away h e) s.sources))
+  keepalive_touches = row_fires_but (touching (k ∷ [])) s (row_at s.sources k) _ (λ r.
+      sources_agree (touching (k ∷ [])) s _ (λ h e. changed_elsewhere (reads h) _ k (elsewhere k h e) s.sources))
 
   register_end_touches : (state : RegisterState) → Here (register_due s k state).0
   unfolding register_due
   register_end_touches (RegisterState.Prune end) =
-      registers_agree (touching (k ∷ [])) s _ (λ h e. changed_elsewhere (reads h) _ k (away h e) s.registers)
+      registers_agree (touching (k ∷ [])) s _ (λ h e. changed_elsewhere (reads h) _ k (elsewhere k h e) s.registers)
   register_end_touches RegisterState.Join =
-      registers_agree (touching (k ∷ [])) s _ (λ h e. changed_elsewhere (reads h) _ k (away h e) s.registers)
+      registers_agree (touching (k ∷ [])) s _ (λ h e. changed_elsewhere (reads h) _ k (elsewhere k h e) s.registers)
   register_end_touches (RegisterState.JoinPending end) =
-      registers_agree (touching (k ∷ [])) s _ (λ h e. changed_elsewhere (reads h) _ k (away h e) s.registers)
+      registers_agree (touching (k ∷ [])) s _ (λ h e. changed_elsewhere (reads h) _ k (elsewhere k h e) s.registers)
 
   pub register_touches : Here (fired s TimerKind.Register k).0
   unfolding fired fire_row
-  register_touches = row_fires (row_at s.registers k) _ (λ r. register_end_touches r.state)
+  register_touches = row_fires_but (touching (k ∷ [])) s (row_at s.registers k) _ (λ r. register_end_touches r.state)
 
   -- upstream timers touch nothing
   pub join_timer_touches_none : AgreesBut (touching []) s (fired s TimerKind.Join k).0

@@ -4,8 +4,6 @@ pub mod StarMacros
 pub mod SourceMacros
 pub mod Turns
 pub mod UntoldKeys
-pub mod Members
-pub mod AbsentGroups
 pub mod TouchedUpstream
 pub mod Asserts
 pub mod RowChanges

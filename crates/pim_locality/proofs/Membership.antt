@@ -1,26 +1,26 @@
 -- A report touches the groups of its records; the ends of its timers touch theirs.
 use Rattle.std.proofs.Common.{◌≡◌, eq-eqb, ◌==◌, ◌&&◌, ℕ, Bool, true, false, not, cond, List, [], ◌∷◌, map, fold, Option, Some, None, ◌+◌, refl, sym, ap, ◌∙◌, subst}
+use Rattle.std.proofs.lemmas.Bool.{or_left, or_right}
 use Rattle.std.specs.Cmp.{first_so, second_so}
-use Rattle.pim_laws.proofs.SettledKept.{kept_in_turn}
 use Rattle.std.specs.Cmp.Derive.{both_true}
 use Rattle.std.specs.List.{filter, list_all, list_any}
 use Rattle.pim_types.specs.declared.fact.GroupRecordRow.{GroupRecordRow}
 use Rattle.pim_types.specs.declared.fact.Key.{Key}
 use Rattle.pim_types.specs.declared.fact.SendingRow.{SendingRow}
 use Rattle.pim_types.specs.declared.fact.SourceRecordRow.{SourceRecordRow}
+use Rattle.pim_types.specs.Keys.{group_in, is_of_group, is_on, same_key, source_in, source_key, star_key}
+use Rattle.pim_types.proofs.Keys.{equal_keys, same_key_same}
 use Rattle.igmp_wire.specs.Values.{Record}
 use Rattle.pim_model.specs.Messages.{Message}
 use Rattle.pim_model.specs.Querier.{each_in_turn, exceeds, group_membership_interval, robustness, group_record_due, is_skipped, is_querier, lower_group, lower_sources, lowered, query_asked, query_end, query_group, query_sources, record_seen, report_seen, send_sources, source_end, source_record_due, sources_sent}
 use Rattle.pim_model.specs.Records.{AskGroup, AskSources, Asked, GroupRecord, Member, apply_record, group_expired, source_expired, is_at_group, is_no_record, put_member, record_of, with_members, with_record, with_repeats_of_rows}
 use Rattle.pim_model.specs.State.{State}
 use Rattle.pim_model.specs.Tables.{Table, change_row, drop_at, drop_where, is_among, is_empty_list, put}
-use Rattle.pim_types.specs.Keys.{group_in, is_of_group, is_on, same_key, source_in, source_key, star_key}
-use Rattle.pim_types.proofs.Keys.{equal_keys, same_key_same}
-use Rattle.pim_laws.proofs.TableLaws.{or_left, or_right}
-use Rattle.pim_locality.specs.Locality.{AgreesBut, touching}
-use Rattle.pim_locality.specs.Scopes.{reads, rows_where, scope}
 use Rattle.pim_model.specs.Full.{reported_groups}
 use Rattle.pim_model.specs.Downstream.{is_named}
+use Rattle.pim_laws.proofs.TurnLaws.{kept_in_turn}
+use Rattle.pim_locality.specs.Locality.{AgreesBut, touching}
+use Rattle.pim_locality.specs.Scopes.{reads, rows_where, scope}
 use Rattle.pim_locality.proofs.RowChanges.{changed_elsewhere, dropped_elsewhere, filtered_elsewhere, put_elsewhere}
 use Rattle.pim_locality.proofs.Asserts.{stars_read}
 use Rattle.pim_locality.proofs.Events.{agrees_if}

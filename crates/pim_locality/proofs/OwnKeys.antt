@@ -1,31 +1,30 @@
 -- The sources of a group are named by the rows of the group; groups put in order twice; the opening is quiet.
 use Rattle.std.proofs.Common.{◌≡◌, ◌==◌, ◌&&◌, ℕ, Bool, true, false, cond, List, [], ◌∷◌, ◌++◌, map, Option, Some, is_some, refl, sym, ap, ◌∙◌, eqb-true}
 use Rattle.std.specs.Cmp.{first_so, second_so}
-use Rattle.pim_locality.proofs.Turns.{turns_filtered}
-use Rattle.pim_locality.proofs.Touches.{touching_is_closed}
-use Rattle.pim_locality.proofs.AbsentGroups.{names}
-use Rattle.pim_laws.proofs.TableLaws.{any_in_filter, any_of_map, either}
-use Rattle.pim_laws.proofs.ListLaws.{any_more}
 use Rattle.std.specs.List.{filter, AllByRecursion, list_any}
 use Rattle.std.specs.List.Sorted.{IsStrictlySortedBy}
 use Rattle.std.specs.Map.{lookup}
 use Rattle.std.specs.BTreeMap.{is_at}
 use Rattle.std.specs.Ordering.{is_eq}
 use Rattle.std.specs.declared.cmp.Ordering.TheVariants.{Less}
-use Rattle.pim_types.specs.declared.fact.SourceRow.{SourceRow}
 use Rattle.std.proofs.lemmas.List.Elements.{filter-append}
+use Rattle.pim_types.specs.declared.fact.SourceRow.{SourceRow}
 use Rattle.pim_types.specs.declared.config.Config.{Config}
 use Rattle.pim_types.specs.declared.fact.Key.{Key}
-use Rattle.pim_model.specs.State.{State, opening}
-use Rattle.pim_model.specs.Tables.{Table, ascending, has_row, is_among, keys_in, row_at}
 use Rattle.pim_types.specs.Keys.{is_of_group, key_cmp, same_key, source_in, star_key, group_in}
+use Rattle.pim_model.specs.State.{State, opening}
+use Rattle.pim_model.specs.Tables.{Table, ascending, has_row, keys_in, row_at}
 use Rattle.pim_model.specs.Messages.{Message}
 use Rattle.pim_model.specs.Querier.{each_in_turn}
 use Rattle.pim_model.specs.Upstream.{Told, fact_keys, group_upstream, groups_of, source_upstream, sources_of, star_told, star_view, upstream, with_join_timer}
+use Rattle.pim_laws.proofs.AbsentGroups.{names}
+use Rattle.pim_laws.proofs.TableLaws.{any_in_filter, any_of_map}
+use Rattle.pim_laws.proofs.ListLaws.{any_more, either}
+use Rattle.pim_locality.proofs.Turns.{turns_filtered}
+use Rattle.pim_locality.proofs.Touches.{touching_is_closed}
 use Rattle.pim_locality.specs.Locality.{AgreesBut, AreOnce, IsQuiet, touching, own_keys, facts_of_both, own_upstream, touched_upstream}
 use Rattle.pim_locality.proofs.TouchedUpstream.{upstream_of_touched, touched_turn, untouched_turn, filtered_order, first_implies}
 use Rattle.pim_locality.specs.Scopes.{rows_where, scope, reads}
-use Rattle.pim_locality.proofs.Members.{any_ascending, members_tell}
 
 module _ {X : Type 0} (p q : X → Bool) where
   swap_step : (x : X) (xs : List X) (b c : Bool) → p x ≡ b → q x ≡ c → filter p (filter q xs) ≡ filter q (filter p xs)
@@ -92,10 +91,6 @@ module _ (g : ℕ) where
       ap (λ ks. ascending (map source_in ks))
       (filters_swap is_source touches (own_keys g o ++ own_keys g a)
       ∙ (ap (filter touches) (own_of_both o a) ∙ sym (filters_swap is_source touches (fact_keys o ++ fact_keys a))))
-
-pub ascending_again : (ns : List ℕ) → ascending (ascending ns) ≡ ascending ns
-unfolding is_among
-ascending_again ns = members_tell (ascending ns) ns (λ n. any_ascending (λ m. m == n) (ascending ns))
 
 pub opening_is_quiet : (c : Config) → IsQuiet (opening c)
 unfolding opening

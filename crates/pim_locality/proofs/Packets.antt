@@ -1,15 +1,14 @@
 -- A packet touches its source, and its group where it may make an assert of (*,G).
 use Rattle.std.proofs.Common.{◌≡◌, ◌&&◌, ℕ, Bool, true, false, not, cond, List, [], ◌∷◌, refl, ◌||◌, Option, ap, sym, ◌∙◌}
-use Rattle.pim_laws.proofs.TableLaws.{row_put}
-use Rattle.pim_locality.proofs.Asserts.{reads_itself, source_read, stars_read}
-use Rattle.pim_locality.specs.Touches.{packet_keys}
-use Rattle.pim_laws.proofs.TableLaws.{or_left, or_right}
-use Rattle.pim_types.specs.declared.fact.SourceRow.{SourceRow}
+use Rattle.pim_laws.proofs.ListLaws.{by_cond}
+use Rattle.std.proofs.lemmas.Bool.{or_left, or_right}
 use Rattle.std.specs.Option.{option_map_or}
 use Rattle.std.specs.Cmp.Derive.{both_true}
+use Rattle.pim_types.specs.declared.fact.SourceRow.{SourceRow}
 use Rattle.pim_types.specs.declared.fact.Key.{Key}
 use Rattle.pim_types.specs.declared.fact.RegisterRow.{RegisterRow}
 use Rattle.pim_types.specs.declared.fact.RegisterState.{RegisterState}
+use Rattle.pim_types.specs.Keys.{source_key, star_key}
 use Rattle.pim_model.specs.Asserts.{could_assert_at, data_seen, wins, with_spt_bit}
 use Rattle.pim_model.specs.Forwarding.{Forwarded, forwarded, is_spt_reached, list_chosen, source_here, source_joined, spt_updated, stray, watched, when}
 use Rattle.pim_model.specs.Messages.{Message}
@@ -17,12 +16,14 @@ use Rattle.pim_model.specs.Registers.{could_register, settle_register, settled_r
 use Rattle.pim_model.specs.Sets.{Set, inherited_olist, inherited_olist_rpt, spt_bit}
 use Rattle.pim_model.specs.State.{State}
 use Rattle.pim_model.specs.Tables.{Table, drop_at, has_row, put}
-use Rattle.pim_types.specs.Keys.{source_key, star_key}
 use Rattle.pim_model.specs.Unicast.{is_connected, is_rpf_interface, is_rpf_interface_rp, route, rp_of, rp_route, rpf_interface_rp}
+use Rattle.pim_laws.proofs.RowLaws.{row_put}
+use Rattle.pim_locality.proofs.Asserts.{reads_itself, source_read, stars_read}
+use Rattle.pim_locality.specs.Touches.{packet_keys}
 use Rattle.pim_locality.specs.Locality.{AgreesBut, touching}
 use Rattle.pim_locality.specs.Scopes.{reads, rows_where}
 use Rattle.pim_locality.proofs.RowChanges.{dropped_elsewhere, put_elsewhere}
-use Rattle.pim_locality.proofs.Events.{agrees_if, agrees_state_if, wins_only}
+use Rattle.pim_locality.proofs.Events.{agrees_if, wins_only}
 use Rattle.pim_locality.proofs.Touches.{agrees_same, agrees_then, unread_of, widened, registers_agree, sources_agree, touching_is_closed}
 
 -- ---- a packet
@@ -78,7 +79,7 @@ module _ (g src : ℕ) (keys : List Key) (there : touching keys (source_key 0 g 
   connected_here : (iif : ℕ) (s : State) → Here s (source_here s g src iif)
   unfolding source_here
   connected_here iif s =
-      agrees_state_if (touching keys) s (is_connected s src && is_rpf_interface s src iif) _ s
+      by_cond (AgreesBut (touching keys) s) (is_connected s src && is_rpf_interface s src iif) _ s
       (agrees_then (touching keys) s (with_keepalive s g src) _ (keepalive_here s)
       (register_here (with_keepalive s g src)))
       (agrees_same (touching keys) s)

@@ -9,10 +9,10 @@ use Rattle.std.specs.BTreeMap.{is_at}
 use Rattle.pim_types.specs.declared.fact.Key.{Key}
 use Rattle.pim_types.specs.declared.fact.RegisterRow.{RegisterRow}
 use Rattle.pim_types.specs.declared.fact.RegisterState.{RegisterState}
+use Rattle.pim_types.specs.Keys.{group_in, key_cmp, same_key, source_in}
 use Rattle.pim_model.specs.Registers.{could_register, settle_registers, settled_register}
 use Rattle.pim_model.specs.State.{State}
 use Rattle.pim_model.specs.Tables.{Table, drop_at, drop_where, has_row, keys_in, put, row_at, same_bool}
-use Rattle.pim_types.specs.Keys.{group_in, key_cmp, same_key, source_in}
 use Rattle.pim_locality.specs.Locality.{AgreesBut, IsClosed, IsQuiet, is_register_settled, touched_registers}
 use Rattle.pim_locality.specs.Scopes.{reads, rows_where, scope}
 use Rattle.pim_locality.proofs.Asserts.{could_register_here, reads_itself}
@@ -24,13 +24,9 @@ use Rattle.pim_locality.proofs.UntoldKeys.{same_by_scope}
 
 -- ---- lists
 
-all_keys : {R : Type 0} (q : Key → Bool) (t : Table R) → list_all q (keys_in t) ≡ list_all (λ e. q e.0) t
+pub all_keys : {R : Type 0} (q : Key → Bool) (t : Table R) → list_all q (keys_in t) ≡ list_all (λ e. q e.0) t
 unfolding keys_in
 all_keys q t = list_all-map q (λ e. e.0) t
-
-all_append : (q : Key → Bool) (xs ys : List Key) → list_all q xs ≡ true → list_all q ys ≡ true
-    → list_all q (xs ++ ys) ≡ true
-all_append q xs ys e f = list_all-append q xs ys ∙ both_true e f
 
 -- nothing goes where nothing is
 nothing_step : {R : Type 0} (x : Key × R) (xs ys : Table R) (b : Bool) (o : Option R)
@@ -148,7 +144,8 @@ unfolding settle_registers touched_registers scope
 registers_of_touched touches closed o quiet s agree = λ j. record s {
   registers = settled_of_touched touches closed o s agree (keys_in s.sources ++ keys_in s.registers) s.registers
       (same_registers touches closed o s agree)
-      (all_append (λ k. touches k || is_register_settled o k) (keys_in s.sources) (keys_in s.registers)
+      (list_all-append (λ k. touches k || is_register_settled o k) (keys_in s.sources) (keys_in s.registers)
+      ∙ both_true
       (all_keys (λ k. touches k || is_register_settled o k) s.sources
       ∙ all_agreed touches (λ e. is_register_settled o e.0) (λ e. is_register_settled o e.0) (λ e f g. g) o.sources
       s.sources

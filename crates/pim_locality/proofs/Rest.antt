@@ -10,11 +10,12 @@ use Rattle.pim_model.specs.Messages.{Message}
 use Rattle.pim_model.specs.State.{State, is_up, opening}
 use Rattle.pim_model.specs.Step.{Change, advanced, change, done, state_after, step}
 use Rattle.pim_model.specs.Timers.{Ending, next_due, timers}
+use Rattle.pim_laws.proofs.Parts.{Sources}
 use Rattle.pim_laws.proofs.StepLaws.{kept_by_built_run, kept_by_run, kept_if_built}
 use Rattle.pim_laws.proofs.TurnLaws.{kept_to_the_end}
 use Rattle.pim_ready.specs.Ready.{IsLawful, IsSettled}
 use Rattle.pim_ready.proofs.Changes.{change_fine}
-use Rattle.pim_ready.proofs.FineStates.{Anyhow, IsFine, Sources}
+use Rattle.pim_ready.proofs.FineStates.{Anyhow, IsFine}
 use Rattle.pim_ready.proofs.Firing.{any, any_late, at_moment, fired_fine}
 use Rattle.pim_ready.proofs.Judgements.{IsHere}
 use Rattle.pim_ready.proofs.LawfulFiring.{lawful_is_sound, one_firing_is_lawful}
@@ -59,7 +60,8 @@ instant_is_quiet w s e f quiet = (instant_keeps w s e (f, quiet)).1
 pub firing_is_quiet : (w m : ℕ) (s : State) → IsLawful s → IsQuiet s → IsQuiet (fire_all w m s).0
 unfolding fire_all
 firing_is_quiet w m s f quiet =
-    (kept_to_the_end (next_due m) (fire_instant w) IsLawfulQuiet (λ t e g there. instant_keeps w t e g) _ s (f, quiet)).1
+    (kept_to_the_end (next_due m) (fire_instant w) IsLawfulQuiet (λ t e g there. instant_keeps w t e g) _ s
+    (f, quiet)).1
 
 -- ---- events
 

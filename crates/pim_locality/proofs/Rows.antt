@@ -1,12 +1,11 @@
 -- Look-ups in the rows of some keys, and in tables whose rows were cut down.
-use Rattle.std.proofs.Common.{◌≡◌, ◌&&◌, ◌||◌, ℕ, Bool, true, false, cond, [], ◌∷◌, map, Option, Some, is_some, refl, ap}
-use Rattle.std.specs.List.{list_all, list_any}
+use Rattle.std.proofs.Common.{◌≡◌, ℕ, Bool, true, false, cond, [], ◌∷◌, map, Option, Some, is_some, refl, ap}
 use Rattle.std.specs.Map.{lookup}
 use Rattle.std.specs.BTreeMap.{is_at}
 use Rattle.pim_types.specs.declared.fact.Key.{Key}
-use Rattle.pim_model.specs.Tables.{Table, row_at, has_row, rows_on}
 use Rattle.pim_types.specs.Keys.{key_cmp, same_key, is_on}
 use Rattle.pim_types.proofs.Keys.{equal_keys}
+use Rattle.pim_model.specs.Tables.{Table, row_at, has_row, rows_on}
 use Rattle.pim_locality.specs.Scopes.{rows_where}
 
 module _ {R : Type 0} (sees : Key → Bool) (k : Key) (seen : sees k ≡ true) where
@@ -37,18 +36,6 @@ module _ {R : Type 0} (cut : R → R) where
   abbrev cut_entry : Key × R → Key × R
   cut_entry e = (e.0, cut e.1)
 
-  cut_step : (k : Key) (x : Key × R) (xs : Table R) (c : Bool)
-      → is_some (lookup (is_at (key_cmp k)) (map cut_entry xs)) ≡ is_some (lookup (is_at (key_cmp k)) xs)
-      → is_some (cond c (Some (cut x.1)) (lookup (is_at (key_cmp k)) (map cut_entry xs)))
-      ≡ is_some (cond c (Some x.1) (lookup (is_at (key_cmp k)) xs))
-  cut_step k x xs true ih = refl
-  cut_step k x xs false ih = ih
-
-  pub has_row_cut : (k : Key) (t : Table R) → has_row (map cut_entry t) k ≡ has_row t k
-  unfolding has_row row_at
-  has_row_cut k [] = refl
-  has_row_cut k (x ∷ xs) = cut_step k x xs (same_key k x.0) (has_row_cut k xs)
-
   on_step : (i : ℕ) (x : Key × R) (xs : Table R) (b : Bool)
       → rows_on i (map cut_entry xs) ≡ map cut_entry (rows_on i xs)
       → cond b (cut_entry x ∷ rows_on i (map cut_entry xs)) (rows_on i (map cut_entry xs)) ≡ map cut_entry
@@ -60,11 +47,3 @@ module _ {R : Type 0} (cut : R → R) where
   unfolding rows_on
   rows_on_cut i [] = refl
   rows_on_cut i (x ∷ xs) = on_step i x xs (is_on i x.0) (rows_on_cut i xs)
-
-  pub any_cut : (q : Key × R → Bool) (t : Table R) → list_any q (map cut_entry t) ≡ list_any (λ e. q (cut_entry e)) t
-  any_cut q [] = refl
-  any_cut q (x ∷ xs) = ap (λ (b : Bool). q (cut_entry x) || b) (any_cut q xs)
-
-  pub all_cut : (q : Key × R → Bool) (t : Table R) → list_all q (map cut_entry t) ≡ list_all (λ e. q (cut_entry e)) t
-  all_cut q [] = refl
-  all_cut q (x ∷ xs) = ap (λ (b : Bool). q (cut_entry x) && b) (all_cut q xs)

@@ -1,5 +1,6 @@
 -- What all groups share: routes, neighbours, the designated router. It is the same in every scope.
 use Rattle.std.proofs.Common.{◌≡◌, ℕ, Bool, false, not, ◌&&◌, cond, List, length, map, Option, Some, None, option_map, option_and_then, refl, ap, ◌∙◌}
+use Rattle.std.proofs.lemmas.List.Folds.{list_all-map}
 use Rattle.std.specs.List.{find, list_any}
 use Rattle.std.specs.Option.{option_map_or}
 use Rattle.std.specs.Prelude.{slice_get}
@@ -10,18 +11,18 @@ use Rattle.pim_types.specs.declared.fact.InterfaceRow.{InterfaceRow}
 use Rattle.pim_types.specs.declared.fact.Key.{Key}
 use Rattle.pim_types.specs.declared.fact.NeighbourRow.{NeighbourRow}
 use Rattle.pim_types.specs.declared.path.Path.{Path}
+use Rattle.pim_types.specs.Keys.{iface_key, neighbour_key}
 use Rattle.pim_model.specs.Neighbours.{all_have_priority, is_better_dr, is_dr, is_dr_among, is_neighbour, nbr, nbr_among}
 use Rattle.pim_model.specs.State.{State, my_address, my_priority, is_own_among}
 use Rattle.pim_model.specs.Tables.{Table, below, has_row, rows_on}
-use Rattle.pim_types.specs.Keys.{iface_key, neighbour_key}
 use Rattle.pim_model.specs.Unicast.{is_on_link_among, link_among, link_path, route, route_among, route_path, routed_among, rp_of, rp_route, rpf_interface, rpf_interface_rp, subnet}
+use Rattle.pim_laws.proofs.TableLaws.{any_of_map}
+use Rattle.pim_laws.proofs.RowLaws.{has_row_map}
 use Rattle.pim_locality.specs.Scopes.{only_priority, only_up, scope}
-use Rattle.pim_locality.proofs.Rows.{all_cut, any_cut, has_row_cut, rows_on_cut}
+use Rattle.pim_locality.proofs.Rows.{rows_on_cut}
 
 is_up_cut : (k : Key) (t : Table InterfaceRow) → has_row (map only_up t) k ≡ has_row t k
-is_up_cut k t =
-    has_row_cut (λ (r : InterfaceRow).
-    let cut : InterfaceRow = record { generation = 0; hello_end = 0; is_hello_owed = false } in cut) k t
+is_up_cut k t = has_row_map k only_up (λ e. refl) t
 
 module _ (configured : List InterfaceConfig) (t : Table InterfaceRow) (address : ℕ) where
   link_cut : link_among configured (map only_up t) address ≡ link_among configured t address
@@ -51,19 +52,19 @@ pub nbr_cut : (t : Table NeighbourRow) (p : Option Path) → nbr_among (map only
 unfolding nbr_among
 nbr_cut t None = refl
 nbr_cut t (Some p) = λ j.
-    cond (has_row_cut cut_neighbour (neighbour_key p.iface.number p.next_hop.bits) t j)
+    cond (has_row_map (neighbour_key p.iface.number p.next_hop.bits) only_priority (λ e. refl) t j)
     (Some (record { iface = p.iface; address = p.next_hop })) None
 
 priorities_cut : (t : Table NeighbourRow) → all_have_priority (map only_priority t) ≡ all_have_priority t
 unfolding all_have_priority
-priorities_cut t = all_cut cut_neighbour _ t
+priorities_cut t = list_all-map _ only_priority t
 
 dr_cut : (priority address : ℕ) (t : Table NeighbourRow)
     → is_dr_among priority address (map only_priority t) ≡ is_dr_among priority address t
 unfolding is_dr_among is_better_dr
 dr_cut priority address t =
     ap (λ (b : Bool). not (list_any (is_better_dr b priority address) (map only_priority t))) (priorities_cut t)
-    ∙ ap not (any_cut cut_neighbour (is_better_dr (all_have_priority t) priority address) t)
+    ∙ ap not (any_of_map (is_better_dr (all_have_priority t) priority address) only_priority t)
 
 module _ (sees : Key → Bool) (s : State) where
   pub route_local : (address : ℕ) → route (scope sees s) address ≡ route s address
@@ -92,7 +93,7 @@ module _ (sees : Key → Bool) (s : State) where
 
   pub is_neighbour_local : (i address : ℕ) → is_neighbour (scope sees s) i address ≡ is_neighbour s i address
   unfolding scope
-  is_neighbour_local i address = has_row_cut cut_neighbour (neighbour_key i address) s.neighbours
+  is_neighbour_local i address = has_row_map (neighbour_key i address) only_priority (λ e. refl) s.neighbours
 
   pub is_dr_local : (i : ℕ) → is_dr (scope sees s) i ≡ is_dr s i
   unfolding is_dr scope

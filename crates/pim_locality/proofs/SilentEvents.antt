@@ -1,6 +1,7 @@
 -- What touches nothing: a Join/Prune to another router, queries, Hellos of the router's own, and the Hello of a
 -- neighbour that says what it said.
 use Rattle.std.proofs.Common.{◌≡◌, ℕ, Bool, true, false, not, cond, List, [], ◌∷◌, ◌+◌, map, fold, Option, Some, refl, sym, ap}
+use Rattle.pim_laws.proofs.ListLaws.{by_cond}
 use Rattle.std.specs.List.{cons_option, filter}
 use Rattle.pim_types.specs.declared.fact.InterfaceRow.{InterfaceRow}
 use Rattle.pim_types.specs.declared.fact.Key.{Key}
@@ -20,7 +21,7 @@ use Rattle.pim_types.specs.Keys.{group_in, iface_in, rpt_key, same_key, source_k
 use Rattle.pim_locality.specs.Locality.{AgreesBut, touching}
 use Rattle.pim_locality.specs.Scopes.{only_up, reads, scope}
 use Rattle.pim_locality.specs.Touches.{isnt_neighbour, touched_by}
-use Rattle.pim_locality.proofs.Events.{agrees_state_if, assert_end_touches, expiry_touches, join_timer_touches_none, keepalive_touches, override_timer_touches_none, prune_pending_touches, register_touches, row_fires_but}
+use Rattle.pim_locality.proofs.Events.{assert_end_touches, expiry_touches, join_timer_touches_none, keepalive_touches, override_timer_touches_none, prune_pending_touches, register_touches, row_fires_but}
 use Rattle.pim_locality.proofs.Membership.{group_end_here, source_end_here}
 use Rattle.pim_locality.proofs.Touches.{agrees_same, agrees_then}
 
@@ -46,7 +47,7 @@ unfolding cancel_override_timer scope
 cancelled s k h e = refl
 
 if_alike : (s : State) (b : Bool) (t : State) → Alike s t → Alike s (cond b t s)
-if_alike s b t f = agrees_state_if (touching []) s b t s f (agrees_same (touching []) s)
+if_alike s b t f = by_cond (AgreesBut (touching []) s) b t s f (agrees_same (touching []) s)
 
 each_alike : {A : Type 0} (change : State → A → State) → ((s : State) (a : A) → Alike s (change s a))
     → (xs : List A) (s : State)

@@ -1,5 +1,7 @@
 -- What is told upstream, where the states agree on all keys but the touched ones, is told of those alone.
 use Rattle.std.proofs.Common.{◌≡◌, ◌==◌, ◌||◌, ◌&&◌, ℕ, Bool, true, false, List, [], ◌∷◌, ◌++◌, map, is_some, refl, sym, ap, ◌∙◌, arith, eq-eqb, eqb-true}
+use Rattle.std.proofs.lemmas.Bool.{or_parts}
+use Rattle.std.proofs.lemmas.List.Folds.{list_any-append}
 use Rattle.std.specs.Cmp.{first_so, second_so}
 use Rattle.std.specs.Cmp.Derive.{both_true}
 use Rattle.std.specs.List.{filter, list_any}
@@ -12,12 +14,12 @@ use Rattle.pim_model.specs.State.{State}
 use Rattle.pim_model.specs.Tables.{ascending, is_among}
 use Rattle.pim_model.specs.Upstream.{Told, fact_keys, group_upstream, groups_of, nothing_told, source_upstream, sources_of, star_told, star_view, upstream, with_join_timer}
 use Rattle.pim_laws.proofs.ListLaws.{any_more, any_of_filter}
-use Rattle.pim_laws.proofs.TableLaws.{any_append, any_in_filter, any_of_map}
+use Rattle.pim_laws.proofs.TableLaws.{any_in_filter, any_of_map}
+use Rattle.pim_laws.proofs.AbsentGroups.{absent_is_undesired, names, no_sources}
+use Rattle.pim_laws.proofs.Numbers.{any_ascending, rises_ascending, rises_filtered, same_numbers}
 use Rattle.pim_locality.specs.Locality.{AgreesBut, IsClosed, facts_of_both, touched_upstream}
 use Rattle.pim_locality.specs.Scopes.{reads}
-use Rattle.pim_locality.proofs.AbsentGroups.{absent_is_undesired, left_false, names, no_sources, right_false}
 use Rattle.pim_locality.proofs.Asserts.{source_read}
-use Rattle.pim_locality.proofs.Members.{any_ascending, rises_ascending, rises_filtered, same_numbers}
 use Rattle.pim_locality.proofs.Turns.{turns_filtered}
 use Rattle.pim_locality.proofs.UntoldKeys.{no_source_upstream, nothing_of_star}
 
@@ -188,10 +190,10 @@ module _ (touches : Key → Bool) (closed : IsClosed touches) where
     unfolding star_told star_view facts_of_both
     star_absent g absent =
         let split : (names g (fact_keys o) || names g (fact_keys a)) ≡ false =
-        sym (any_append (λ k. is_of_group g k) (fact_keys o) (fact_keys a)) ∙ absent in
+        sym (list_any-append (λ k. is_of_group g k) (fact_keys o) (fact_keys a)) ∙ absent in
         rw (
-          absent_is_undesired g o (left_false (names g (fact_keys o)) (names g (fact_keys a)) split),
-          absent_is_undesired g a (right_false (names g (fact_keys o)) (names g (fact_keys a)) split),
+          absent_is_undesired g o ((or_parts (names g (fact_keys o)) (names g (fact_keys a)) split).0),
+          absent_is_undesired g a ((or_parts (names g (fact_keys o)) (names g (fact_keys a)) split).1),
         ) refl
 
     absent_untold : (g : ℕ) → names g facts ≡ false → (s : State) → group_upstream o a w facts s g ≡ (s, [])

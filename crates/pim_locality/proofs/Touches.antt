@@ -1,8 +1,9 @@
 -- Which keys a change touches.
 use Rattle.std.proofs.Common.{◌≡◌, ◌==◌, ◌&&◌, ◌||◌, ℕ, Bool, true, false, not, cond, List, [], ◌∷◌, ◌++◌, fold, Option, Some, refl, sym, ◌∙◌, subst}
+use Rattle.std.proofs.lemmas.Bool.{or_left, or_right}
 use Rattle.std.specs.Cmp.{first_so, second_so}
 use Rattle.std.specs.Cmp.Derive.{both_true}
-use Rattle.std.proofs.lemmas.List.Folds.{list_all-append}
+use Rattle.std.proofs.lemmas.List.Folds.{list_all-append, list_any-append}
 use Rattle.std.specs.List.{filter, list_all, list_any}
 use Rattle.pim_types.specs.Keys.{group_in, is_on, same_key, star_key}
 use Rattle.pim_types.specs.declared.fact.AssertRow.{AssertRow}
@@ -19,7 +20,6 @@ use Rattle.pim_model.specs.Sets.{is_loser}
 use Rattle.pim_model.specs.State.{State}
 use Rattle.pim_model.specs.Tables.{Table, keys_in, set_row}
 use Rattle.pim_laws.proofs.ListLaws.{any_more}
-use Rattle.pim_laws.proofs.TableLaws.{any_append, or_left, or_right}
 use Rattle.pim_locality.specs.Locality.{AgreesBut, IsClosed, touching}
 use Rattle.pim_locality.specs.Scopes.{reads, rows_where, scope}
 use Rattle.pim_locality.proofs.Asserts.{reads_itself, reads_through, stars_read}
@@ -74,10 +74,7 @@ module _ (touches : Key → Bool) (s : State) where
 
 pub touching_is_closed : (keys : List Key) → IsClosed (touching keys)
 unfolding touching
-touching_is_closed keys k q e f = any_more (reads k) (reads q) (λ c g. through q k c f g) keys e
-  where
-    through : (q k c : Key) → reads q k ≡ true → reads k c ≡ true → reads q c ≡ true
-    through q k c f g = reads_through q k c f g
+touching_is_closed keys k q e f = any_more (reads k) (reads q) (λ c g. reads_through q k c f g) keys e
 
 -- what isn't touched reads no row under a key that reads a touched one, such as the touched ones
 pub unread_of : (keys : List Key) (k q : Key) → touching keys k ≡ true → touching keys q ≡ false → reads q k ≡ false
@@ -139,7 +136,7 @@ module _ (s : State) (i holdtime : ℕ) (joined pruned : List Key) where
   either_named : (ks qs : List Key) (k : Key) → is_named ks k ≡ true → is_named (ks ++ qs) k ≡ true
   unfolding is_named
   either_named ks qs k e =
-      any_append (same_key k) ks qs ∙ or_left (list_any (same_key k) ks) (list_any (same_key k) qs) e
+      list_any-append (same_key k) ks qs ∙ or_left (list_any (same_key k) ks) (list_any (same_key k) qs) e
 
   all_named : (ks : List Key) → ((k : Key) → is_named ks k ≡ true → is_touched k ≡ true) → list_all is_touched ks ≡ true
   unfolding is_named

@@ -18,8 +18,8 @@ use Rattle.pim_model.specs.Writing.{write_all}
 use Rattle.pim_types.specs.declared.outcome.Emission.{Emission}
 use Rattle.pim_model.specs.Repeat.{until_none}
 use Rattle.pim_model.specs.State.{State, opening}
-use Rattle.pim_model.specs.Tables.{ascending, is_among, has_row, keys_in, same_bool, set_row, Table}
-use Rattle.pim_types.specs.Keys.{group_in, is_of_group, key_cmp, source_in, source_key, star_key}
+use Rattle.pim_model.specs.Tables.{has_row, keys_in, same_bool, set_row, Table}
+use Rattle.pim_types.specs.Keys.{group_in, key_cmp, source_in, source_key, star_key}
 use Rattle.pim_model.specs.Upstream.{fact_keys, group_upstream, groups_of, nothing_told, source_upstream, source_view, sources_of, star_told, star_view, upstream}
 use Rattle.pim_locality.specs.Scopes.{reads, rows_of, rows_where, scope}
 
@@ -76,15 +76,6 @@ AgreedStarIsUntold = (g : ℕ) (o a : State) (w : ℕ) → AgreesOn (star_key 0 
 abbrev pub AgreedSourceIsUntold : Type 0
 AgreedSourceIsUntold = (g src : ℕ) (o a : State) (w : ℕ) → AgreesOn (source_key 0 g src) o a
     → (s : State) → source_upstream o a w g s src ≡ (s, [])
-
-abbrev pub MembersTell : Type 0
-MembersTell =
-    (xs ys : List ℕ) → ((n : ℕ) → is_among n (ascending xs) ≡ is_among n (ascending ys)) → ascending xs ≡ ascending ys
-
--- a group without facts isn't desired
-abbrev pub AbsentIsUndesired : Type 0
-AbsentIsUndesired =
-    (g : ℕ) (s : State) → list_any (λ k. is_of_group g k) (fact_keys s) ≡ false → join_desired_star s g ≡ false
 
 -- ---- what is told upstream
 
@@ -225,9 +216,6 @@ own_keys g s =
 abbrev pub SourcesAreOwn : Type 0
 SourcesAreOwn =
     (g : ℕ) (o a : State) → sources_of g (own_keys g o ++ own_keys g a) ≡ sources_of g (fact_keys o ++ fact_keys a)
-
-abbrev pub AscendingAgain : Type 0
-AscendingAgain = (ns : List ℕ) → ascending (ascending ns) ≡ ascending ns
 
 abbrev pub OpeningIsQuiet : Type 0
 OpeningIsQuiet = (c : Config) → IsQuiet (opening c)

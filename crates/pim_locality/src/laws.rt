@@ -1,7 +1,7 @@
 //! Laws of the definitions, each the contract of a function with nothing to do.
 
 ghost use Rattle.pim_locality.specs.Events.{ChangeTouches, EventIsLocal, FiringIsLocal};
-ghost use Rattle.pim_locality.specs.Locality.{AbsentIsUndesired, AgreedSourceIsUntold, AgreedStarIsUntold, AscendingAgain, AssertsAreLocal, ClearingIsLocal, CouldRegisterIsLocal, MembersTell, NextToClearIsLocal, OpeningIsQuiet, PresentTouchesNone, QuietGoesOn, RegistersAreLocal, RowsElsewhereStay, SettlingClears, SettlingIsLocal, SettlingIsOwn, SettlingQuiets, SourceDesiresAreLocal, SourceViewsAreLocal, SourcesAreOwn, SourcesStandOnce, StarDesiresAreLocal, StarViewsAreLocal, TouchingIsClosed, TreeStatesAreLocal, UpstreamIsLocal, UpstreamIsOwn};
+ghost use Rattle.pim_locality.specs.Locality.{AgreedSourceIsUntold, AgreedStarIsUntold, AssertsAreLocal, ClearingIsLocal, CouldRegisterIsLocal, NextToClearIsLocal, OpeningIsQuiet, PresentTouchesNone, QuietGoesOn, RegistersAreLocal, RowsElsewhereStay, SettlingClears, SettlingIsLocal, SettlingIsOwn, SettlingQuiets, SourceDesiresAreLocal, SourceViewsAreLocal, SourcesAreOwn, SourcesStandOnce, StarDesiresAreLocal, StarViewsAreLocal, TouchingIsClosed, TreeStatesAreLocal, UpstreamIsLocal, UpstreamIsOwn};
 ghost use Rattle.pim_locality.specs.Rest.{BuiltRunIsAtRest, BuiltStepIsAtRest, BuiltStepIsQuiet, FiringIsQuiet, InstantIsQuiet, OneFiringQuiets, OpeningIsAtRest, RunIsAtRest, StepIsAtRest, StepIsQuiet};
 ghost use Rattle.pim_locality.specs.Sees.{ConnectionsOfSame, DesiresOfSame, MetricsOfSame, RegistersOfSame, StarTrackingOfSame, TrackingOfSame, TreeNeighboursOfSame, TreeStatesOfSame};
 ghost use Rattle.pim_locality.specs.Touches.{AssertDueTouches, AssertTouches, GroupEndTouches, HelloAgainTouchesNone, JoinPruneTouches, PacketTouches, QueryTouches, RegisterStopTouches, RegisterTouches, ReportTouches, SeenTouchesNone, SourceEndTouches, TimerTouches};
@@ -58,18 +58,6 @@ pub fn agreed_source_is_untold()
 #[tactic(auto, using(crate::proofs::Touches::touching_is_closed))]
 pub fn touching_is_closed()
     ensures { TouchingIsClosed }
-{}
-
-/// Ascending numbers are told by their members.
-#[tactic(auto, using(crate::proofs::Members::members_tell))]
-pub fn members_tell()
-    ensures { MembersTell }
-{}
-
-/// A group without facts isn't desired.
-#[tactic(auto, using(crate::proofs::AbsentGroups::absent_is_undesired))]
-pub fn absent_is_undesired()
-    ensures { AbsentIsUndesired }
 {}
 
 /// Where the opening and the state agree on all keys but the touched ones, what is told upstream is told of those.
@@ -187,12 +175,6 @@ pub fn seen_touches_none()
 #[tactic(auto, using(crate::proofs::OwnKeys::own_sources))]
 pub fn sources_are_own()
     ensures { SourcesAreOwn }
-{}
-
-/// Numbers that are put in order once more stay as they are.
-#[tactic(auto, using(crate::proofs::OwnKeys::ascending_again))]
-pub fn ascending_again()
-    ensures { AscendingAgain }
 {}
 
 /// At the opening all is quiet.

@@ -1,5 +1,6 @@
 -- A table of (*,G) stays one.
-use Rattle.std.proofs.Common.{◌≡◌, Bool, true, false, [], ◌∷◌, ◌&&◌, not, Option, Some, None, refl, filter, option_map}
+use Rattle.std.proofs.Common.{◌≡◌, Bool, true, false, [], ◌∷◌, not, Option, Some, None, refl, filter, option_map}
+use Rattle.std.specs.Cmp.Derive.{both_true}
 use Rattle.std.specs.Cmp.{first_so, second_so}
 use Rattle.std.specs.Prelude.{if◌then◌else◌}
 use Rattle.std.specs.List.{cons_option}
@@ -8,13 +9,9 @@ use Rattle.std.specs.declared.cmp.Ordering.TheVariants.{Less, Equal, Greater}
 use Rattle.std.specs.BTreeMap.{insert_entry}
 use Rattle.std.specs.Ordering.{match_ordering}
 use Rattle.pim_types.specs.declared.fact.Key.{Key}
-use Rattle.pim_model.specs.Tables.{Table, change_row, changed_entry, drop_at, drop_where, put, set_row}
 use Rattle.pim_types.specs.Keys.{key_cmp, same_key}
+use Rattle.pim_model.specs.Tables.{Table, change_row, changed_entry, drop_at, drop_where, put, set_row}
 use Rattle.pim_macros.specs.Plain.{are_stars, is_star_alone}
-
-both : (a b : Bool) → a ≡ true → b ≡ true → (a && b) ≡ true
-both true b p q = q
-both false b p q = p
 
 module _ {R : Type 0} (k : Key) where
   inserted : (r : R) (e : Key × R) (t : Table R) (o : Ordering) → is_star_alone k ≡ true → is_star_alone e.0 ≡ true
@@ -22,13 +19,13 @@ module _ {R : Type 0} (k : Key) where
       → are_stars (insert_entry key_cmp t k r) ≡ true
       → are_stars (match_ordering o ((k, r) ∷ e ∷ t) ((e.0, r) ∷ t) (e ∷ insert_entry key_cmp t k r)) ≡ true
   inserted r e t Less s h all later =
-      both (is_star_alone k) (is_star_alone e.0 && are_stars t) s (both (is_star_alone e.0) (are_stars t) h all)
-  inserted r e t Equal s h all later = both (is_star_alone e.0) (are_stars t) h all
-  inserted r e t Greater s h all later = both (is_star_alone e.0) (are_stars (insert_entry key_cmp t k r)) h later
+      both_true s (both_true h all)
+  inserted r e t Equal s h all later = both_true h all
+  inserted r e t Greater s h all later = both_true h later
 
   put_in : (r : R) (t : Table R) → is_star_alone k ≡ true → are_stars t ≡ true
       → are_stars (insert_entry key_cmp t k r) ≡ true
-  put_in r [] s all = both (is_star_alone k) true s refl
+  put_in r [] s all = both_true s refl
   put_in r (e ∷ t) s all =
       inserted r e t (key_cmp k e.0) s (first_so (is_star_alone e.0) (are_stars t) all)
       (second_so (is_star_alone e.0) (are_stars t) all)
@@ -41,7 +38,7 @@ module _ {R : Type 0} (k : Key) where
   kept : (e : Key × R) (t : Table R) (b : Bool) → is_star_alone e.0 ≡ true
       → are_stars (filter (λ e. not (same_key k e.0)) t) ≡ true
       → are_stars (if b then e ∷ filter (λ e. not (same_key k e.0)) t else filter (λ e. not (same_key k e.0)) t) ≡ true
-  kept e t true h later = both (is_star_alone e.0) (are_stars (filter (λ e. not (same_key k e.0)) t)) h later
+  kept e t true h later = both_true h later
   kept e t false h later = later
 
   left_over : (t : Table R) → are_stars t ≡ true → are_stars (filter (λ e. not (same_key k e.0)) t) ≡ true
@@ -60,8 +57,8 @@ module _ {R : Type 0} (k : Key) where
       → are_stars later ≡ true
       → are_stars (cons_option (if b then option_map (λ row. (e.0, row)) o else Some e) later) ≡ true
   entry_changed e later true None h all = all
-  entry_changed e later true (Some r) h all = both (is_star_alone e.0) (are_stars later) h all
-  entry_changed e later false o h all = both (is_star_alone e.0) (are_stars later) h all
+  entry_changed e later true (Some r) h all = both_true h all
+  entry_changed e later false o h all = both_true h all
 
   pub changed_stars : (change : R → Option R) (t : Table R) → are_stars t ≡ true
       → are_stars (change_row change k t) ≡ true

@@ -1,23 +1,25 @@
 -- An Assert leaves a fine state.
-use Rattle.std.proofs.Common.{◌≡◌, ℕ, ◌≤◌, ◌+◌, ◌==◌, Bool, true, cond, List, [], is_some, Option, Some, None, refl, subst, arith}
+use Rattle.std.proofs.Common.{◌≡◌, ℕ, ◌≤◌, ◌+◌, ◌==◌, Bool, true, cond, List, [], is_some, Option, Some, None, refl, arith}
+use Rattle.std.proofs.lemmas.Bool.{or_right}
 use Rattle.std.specs.Prelude.{option_and_then}
 use Rattle.pim_types.specs.declared.fact.AssertMetric.{AssertMetric}
 use Rattle.pim_types.specs.declared.fact.AssertRole.{AssertRole}
 use Rattle.pim_types.specs.declared.fact.AssertRow.{AssertRow}
 use Rattle.pim_types.specs.declared.fact.Key.{Key}
 use Rattle.pim_types.specs.declared.fact.SourceRow.{SourceRow}
+use Rattle.pim_types.specs.Keys.{iface_in, group_in, source_in, source_key, star_key}
 use Rattle.pim_wire.specs.declared.assert.Assert.{Assert as AssertMessage}
 use Rattle.pim_model.specs.Asserts.{assert_as_loser, assert_as_winner, assert_at, assert_due, assert_forgotten, assert_in_no_info, assert_received, data_seen, loses, loses_first, my_metric_at, theirs_of, wins, wins_again, with_spt_bit}
 use Rattle.pim_model.specs.Messages.{Message}
 use Rattle.pim_model.specs.Sets.{is_winner}
 use Rattle.pim_model.specs.State.{State}
-use Rattle.pim_types.specs.Keys.{iface_in, group_in, source_in, source_key, star_key}
-use Rattle.pim_model.specs.Tables.{change_row, put, row_at}
-use Rattle.pim_laws.proofs.TableLaws.{or_right}
-use Rattle.pim_ready.proofs.FineTables.{fine_put, fine_replaced, good_row}
-use Rattle.pim_ready.proofs.LateEnds.{by_cond, late_by}
+use Rattle.pim_model.specs.Tables.{put, row_at}
+use Rattle.pim_laws.proofs.ListLaws.{by_cond}
+use Rattle.pim_laws.proofs.Parts.{Asserts, Sources}
+use Rattle.pim_ready.proofs.FineTables.{good_row}
+use Rattle.pim_ready.proofs.LateEnds.{late_by}
 use Rattle.pim_ready.proofs.Clearing.{assert_forgotten_fine}
-use Rattle.pim_ready.proofs.FineStates.{Lateness, Runs, GoodAssert, GoodSource, IsFine, Asserts, Sources, with_asserts, with_sources}
+use Rattle.pim_ready.proofs.FineStates.{Lateness, Runs, Good, IsFine, with_row, with_row_for}
 
 module _ (m : ℕ) (late up : ℕ → Bool) (lateness : Lateness m late) where
   -- a state with messages
@@ -31,8 +33,7 @@ module _ (m : ℕ) (late up : ℕ → Bool) (lateness : Lateness m late) where
   put_fine : (s : State) (k : Key) (r : AssertRow) → up (iface_in k) ≡ true → late r.end ≡ true → IsFine m late up s
       → IsFine m late up (record s { asserts = put s.asserts k r })
   put_fine s k r here h f =
-      with_asserts m late up s f (put s.asserts k r)
-      (fine_put (GoodAssert late up) s.asserts k r (h, here) (f.tables Asserts))
+      with_row m late up Asserts tt s f k r (h, here)
 
   wins_fine : (s : State) (k : Key) → up (iface_in k) ≡ true → IsFine m late up s → IsFine m late up (wins s k).0
   unfolding wins
@@ -43,12 +44,8 @@ module _ (m : ℕ) (late up : ℕ → Bool) (lateness : Lateness m late) where
   wins_again_fine : (s : State) (k : Key) (r : AssertRow) → IsFine m late up s → IsFine m late up (wins_again s k r).0
   unfolding wins_again
   wins_again_fine s k r f =
-      let o : Option AssertRow = Some (record r { end = s.present + 177000 }) in
-      with_asserts m late up s f (change_row (λ (old : AssertRow). o) k s.asserts)
-      (fine_replaced (GoodAssert late up) o k
-      (λ old q e g. let same : record r { end = s.present + 177000 } ≡ q = cc in
-      (subst (λ (a : AssertRow). late a.end ≡ true) same (assert_late s 177000 f (omega arith)), g.1)) s.asserts
-      (f.tables Asserts))
+      with_row_for m late up Asserts tt s f k (record r { end = s.present + 177000 })
+      (λ old g. (assert_late s 177000 f (omega arith), g.1))
 
   loses_fine : (s : State) (k : Key) (theirs : AssertMetric) → up (iface_in k) ≡ true → IsFine m late up s
       → IsFine m late up (loses s k theirs)
@@ -68,11 +65,10 @@ module _ (m : ℕ) (late up : ℕ → Bool) (lateness : Lateness m late) where
       let k : Key = source_key 0 g src in
       let row : SourceRow =
       record { keepalive = option_and_then (λ (r : SourceRow). r.keepalive) (row_at s.sources k); spt = true } in
-      with_sources m late up s f (put s.sources k row)
-      (fine_put (GoodSource late up) s.sources k row (
-        kept_alive (row_at s.sources k) (λ r e. (good_row (GoodSource late up) s.sources k r (f.tables Sources) e).0),
+      with_row m late up Sources tt s f k row (
+        kept_alive (row_at s.sources k) (λ r e. (good_row (Good late up Sources) s.sources k r (f.tables Sources) e).0),
         or_right (is_some row.keepalive) true refl,
-      ) (f.tables Sources))
+      )
 
   loses_first_fine : (s : State) (k : Key) (theirs : AssertMetric) → up (iface_in k) ≡ true → IsFine m late up s
       → IsFine m late up (loses_first s k theirs)

@@ -1,56 +1,63 @@
 -- An event's own change leaves a fine state, and so does what follows from it.
-use Rattle.std.proofs.Common.{ℕ, ◌+◌, ◌==◌, Bool, List, true, false, arith, ◌∙◌, ◌≡◌, refl}
+use Rattle.std.proofs.Common.{ℕ, ◌+◌, ◌==◌, Bool, List, true, false, arith, ◌∙◌, ◌≡◌, refl, ap, not, ◌&&◌}
+use Rattle.std.proofs.lemmas.Bool.{or_left, or_right}
+use Rattle.pim_types.proofs.Keys.{same_key_same}
 use Rattle.pim_types.specs.declared.config.RpRange.{RpRange}
 use Rattle.pim_types.specs.declared.fact.InterfaceRow.{InterfaceRow}
-use Rattle.pim_types.specs.Keys.{iface_key, is_on, iface_in}
+use Rattle.pim_types.specs.Keys.{iface_key, is_on, iface_in, same_key}
 use Rattle.pim_wire.specs.Values.{Encapsulated, Null, Register}
 use Rattle.pim_model.specs.declared.accepted.Accepted.{Accepted}
 use Rattle.pim_model.specs.Forwarding.{Forwarded, register_received}
-use Rattle.pim_model.specs.Registers.{is_null, registered_group, registered_source, registers_after_rps}
+use Rattle.pim_model.specs.Registers.{is_null, registered_group, registered_source}
 use Rattle.pim_model.specs.State.{State, is_up}
 use Rattle.pim_model.specs.Step.{Change, change, decapsulated, done, iface_down, iface_up, rps_replaced}
-use Rattle.pim_model.specs.Tables.{delay_in, drop_where, put}
+use Rattle.pim_model.specs.Tables.{delay_in, drop_where, put, has_row}
+use Rattle.pim_laws.proofs.RowLaws.{has_row_put, has_row_dropped}
+use Rattle.pim_laws.proofs.Parts.{Interfaces, JoinTimers, OverrideTimers, Part, Registers, Sources, rows}
 use Rattle.pim_ready.proofs.Asserts.{assert_fine}
 use Rattle.pim_ready.proofs.Forwarding.{after_rps_fine, forwarded_fine, register_received_fine, register_stop_fine}
-use Rattle.pim_ready.proofs.FineTables.{fine_drop_where, fine_put, fine_dropped, has_row_put, has_row_here, has_row_kept}
+use Rattle.pim_ready.proofs.FineTables.{fine_put, fine_dropped, fine_more}
 use Rattle.pim_ready.proofs.Hellos.{hello_fine, some_delay}
 use Rattle.pim_ready.proofs.Downstream.{to_me_fine}
 use Rattle.pim_ready.proofs.Judgements.{IsHere}
 use Rattle.pim_ready.proofs.LateEnds.{late_by}
 use Rattle.pim_ready.proofs.Querier.{querier_up_fine, query_fine, report_fine}
-use Rattle.pim_ready.proofs.FineStates.{Lateness, GoodAssert, GoodDownstream, GoodGroupRecord, GoodGroupRepeat, GoodInterface, GoodNeighbour, GoodQuerier, GoodSending, GoodSourceRecord, GoodSourceRepeat, IsFine, Asserts, Downstreams, GroupRecords, GroupRepeats, Interfaces, Neighbours, Queriers, Sendings, SourceRecords, SourceRepeats, with_ranges, with_registers, with_routes, Anyhow, FineAt, JoinTimers, OverrideTimers, Sources, Registers, Part}
+use Rattle.pim_ready.proofs.FineStates.{Lateness, Good, IsFine, with_ranges, rows_fine, with_routes, Anyhow, FineAt, good_if}
 use Rattle.pim_ready.proofs.Upstream.{settled_fine}
 use Rattle.pim_ready.proofs.SeenMessages.{seen_fine}
-use Rattle.pim_ready.proofs.WeakerStates.{weaker}
 
 module _ (m : ℕ) (late up : ℕ → Bool) (lateness : Lateness m late) (s : State) (f : IsFine m late up s) (w : ℕ) where
   -- ---- interfaces
 
-  up_there : (i : ℕ) (row : InterfaceRow) (j : ℕ) → up j ≡ true
-      → is_up (record s { interfaces = put s.interfaces (iface_key i) row }) j ≡ true
-  up_there i row j e = has_row_put (iface_key j) (iface_key i) row s.interfaces (f.ups j ∙ e)
+  abbrev with_iface : ℕ → InterfaceRow → State
+  with_iface i row = record s { interfaces = put s.interfaces (iface_key i) row }
+
+  still_up : (i : ℕ) (row : InterfaceRow) (j : ℕ) → up j ≡ true → is_up (with_iface i row) j ≡ true
+  still_up i row j e =
+      has_row_put (iface_key j) (iface_key i) row s.interfaces
+      ∙ or_right (same_key (iface_key j) (iface_key i)) (is_up s j) (f.ups j ∙ e)
 
   up_row_fine : (i : ℕ) (row : InterfaceRow) → late row.hello_end ≡ true
-      → IsFine m late (is_up (record s { interfaces = put s.interfaces (iface_key i) row }))
-      (record s { interfaces = put s.interfaces (iface_key i) row })
+      → IsFine m late (is_up (with_iface i row)) (with_iface i row)
   up_row_fine i row h = record { firm = f.firm; present = f.present; ups = λ j. refl; tables = go }
     where
-      go : (part : Part) → FineAt m late (is_up (record s { interfaces = put s.interfaces (iface_key i) row })) part
-          (record s { interfaces = put s.interfaces (iface_key i) row })
-      go Interfaces = fine_put (GoodInterface late up) s.interfaces (iface_key i) row h (f.tables Interfaces)
-      go part =
-          weaker m late late up (is_up (record s { interfaces = put s.interfaces (iface_key i) row })) s f (λ x e. e)
-          (up_there i row) part
+      go : (p : Part) → FineAt m late (is_up (with_iface i row)) p (with_iface i row)
+      go Interfaces = fine_put (Good late up Interfaces) s.interfaces (iface_key i) row h (f.tables Interfaces)
+      go p =
+          fine_more (Good late up p) (Good late (is_up (with_iface i row)) p)
+          (λ e. good_if late late up (is_up (with_iface i row)) (λ x h. h) p e (still_up i row (iface_in e.0)))
+          (rows p s) (f.tables p)
 
   up_fine : (i : ℕ) → Anyhow m late (iface_up s w i).0
   unfolding iface_up
   up_fine i =
       let row : InterfaceRow =
       record { generation = w; hello_end = s.present + delay_in 1 5000 w; is_hello_owed = true } in
-      let after : State = record s { interfaces = put s.interfaces (iface_key i) row } in
       record {
-        ups = is_up after;
-        fine = querier_up_fine m late (is_up after) lateness after i (has_row_here (iface_key i) row s.interfaces)
+        ups = is_up (with_iface i row);
+        fine = querier_up_fine m late (is_up (with_iface i row)) lateness (with_iface i row) i
+            (has_row_put (iface_key i) (iface_key i) row s.interfaces
+            ∙ or_left (same_key (iface_key i) (iface_key i)) (is_up s i) (same_key_same (iface_key i)))
             (up_row_fine i row (late_by m late lateness s.present (delay_in 1 5000 w) f.present
             (some_delay m late up lateness 1 5000 w (omega arith))));
       }
@@ -59,7 +66,9 @@ module _ (m : ℕ) (late up : ℕ → Bool) (lateness : Lateness m late) (s : St
   Left i = is_up (record s { interfaces = drop_where (is_on i) s.interfaces })
 
   left : (i j : ℕ) → up j ≡ true → (j == i) ≡ false → Left i j ≡ true
-  left i j e off = has_row_kept (iface_key j) (is_on i) off s.interfaces ∙ (f.ups j ∙ e)
+  left i j e off =
+      has_row_dropped (iface_key j) (is_on i) s.interfaces
+      ∙ (ap (λ b. not b && has_row s.interfaces (iface_key j)) off ∙ (f.ups j ∙ e))
 
   down_fine : (i : ℕ) → Anyhow m late (iface_down s i)
   unfolding iface_down
@@ -78,39 +87,14 @@ module _ (m : ℕ) (late up : ℕ → Bool) (lateness : Lateness m late) (s : St
         downstream = drop_where (is_on i) s.downstream;
         asserts = drop_where (is_on i) s.asserts;
       })
-      go Interfaces = fine_drop_where (GoodInterface late up) (is_on i) s.interfaces (f.tables Interfaces)
-      go Neighbours =
-          fine_dropped (GoodNeighbour late up) (GoodNeighbour late (Left i)) (is_on i)
-          (λ e g h. (g.0, left i (iface_in e.0) g.1 h)) s.neighbours (f.tables Neighbours)
-      go Queriers =
-          fine_dropped (GoodQuerier late up) (GoodQuerier late (Left i)) (is_on i)
-          (λ e g h. record { sound = g.sound; next = g.next; other = g.other; here = left i (iface_in e.0) g.here h })
-          s.queriers (f.tables Queriers)
-      go GroupRecords =
-          fine_dropped (GoodGroupRecord late up) (GoodGroupRecord late (Left i)) (is_on i)
-          (λ e g h. (g.0, g.1, left i (iface_in e.0) g.2 h)) s.group_records (f.tables GroupRecords)
-      go SourceRecords =
-          fine_dropped (GoodSourceRecord late up) (GoodSourceRecord late (Left i)) (is_on i)
-          (λ e g h. (g.0, g.1, left i (iface_in e.0) g.2 h)) s.source_records (f.tables SourceRecords)
-      go GroupRepeats =
-          fine_dropped (GoodGroupRepeat late up) (GoodGroupRepeat late (Left i)) (is_on i)
-          (λ e g h. (g.0, g.1, left i (iface_in e.0) g.2 h)) s.group_repeats (f.tables GroupRepeats)
-      go SourceRepeats =
-          fine_dropped (GoodSourceRepeat late up) (GoodSourceRepeat late (Left i)) (is_on i)
-          (λ e g h. (g.0, g.1, left i (iface_in e.0) g.2 h)) s.source_repeats (f.tables SourceRepeats)
-      go Sendings =
-          fine_dropped (GoodSending late up) (GoodSending late (Left i)) (is_on i) (λ e g h. left i (iface_in e.0) g h)
-          s.sendings (f.tables Sendings)
-      go Downstreams =
-          fine_dropped (GoodDownstream late up) (GoodDownstream late (Left i)) (is_on i)
-          (λ e g h. (g.0, g.1, left i (iface_in e.0) g.2 h)) s.downstream (f.tables Downstreams)
-      go Asserts =
-          fine_dropped (GoodAssert late up) (GoodAssert late (Left i)) (is_on i)
-          (λ e g h. (g.0, left i (iface_in e.0) g.1 h)) s.asserts (f.tables Asserts)
       go JoinTimers = f.tables JoinTimers
       go OverrideTimers = f.tables OverrideTimers
       go Sources = f.tables Sources
       go Registers = f.tables Registers
+      go p =
+          fine_dropped (Good late up p) (Good late (Left i) p) (is_on i)
+          (λ e g off. good_if late late up (Left i) (λ x h. h) p e (λ h. left i (iface_in e.0) h off) g) (rows p s)
+          (f.tables p)
 
   -- ---- RP ranges and Registers
 
@@ -119,7 +103,7 @@ module _ (m : ℕ) (late up : ℕ → Bool) (lateness : Lateness m late) (s : St
   rps_fine rps =
       let after : State = record s { ranges = rps } in
       let g : IsFine m late up after = with_ranges m late up s f rps in
-      with_registers m late up after g (registers_after_rps s after) (after_rps_fine m late up lateness s after g)
+      rows_fine m late up Registers tt after g _ (after_rps_fine m late up lateness s after g)
 
   decapsulated_fine : (r : Register) (p : Forwarded) → IsFine m late up p.state
       → IsFine m late up (decapsulated r p).state

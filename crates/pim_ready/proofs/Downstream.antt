@@ -4,19 +4,20 @@ use Rattle.std.specs.List.{AllByRecursion}
 use Rattle.pim_types.specs.declared.fact.AssertRow.{AssertRow}
 use Rattle.pim_types.specs.declared.fact.DownstreamRow.{DownstreamRow}
 use Rattle.pim_types.specs.declared.fact.Key.{Key}
+use Rattle.pim_types.specs.Keys.{is_on, iface_in, group_in, star_key}
 use Rattle.pim_wire.specs.declared.join_prune.EntryKind.{EntryKind}
 use Rattle.pim_wire.specs.Values.{JoinPrune}
 use Rattle.pim_model.specs.Downstream.{Named, key_by, named_key, rpt_rows_joined, accepted_joins, accepted_prunes, asserts_after_joins, holdtime_end, holdtime_end_from, is_named, joined_keys, joined_row, keys_taken, prune_pending_end, pruned_keys, pruned_row, pruned_rpt_row, row_after, to_me, touched_keys}
 use Rattle.pim_model.specs.Neighbours.{join_prune_override_interval, neighbour_count}
 use Rattle.pim_model.specs.Sets.{is_loser}
 use Rattle.pim_model.specs.State.{State}
-use Rattle.pim_types.specs.Keys.{is_on, iface_in, group_in, star_key}
 use Rattle.pim_model.specs.Tables.{keys_in, Table, later_end, row_at, set_row}
+use Rattle.pim_laws.proofs.ListLaws.{by_cond, each_append}
+use Rattle.pim_laws.proofs.Parts.{Asserts, Downstreams}
 use Rattle.pim_ready.proofs.FineTables.{fine_filter, fine_fold_each, fine_set_row, good_row}
 use Rattle.pim_ready.proofs.Hellos.{some_holdtime_runs}
-use Rattle.pim_ready.proofs.LateEnds.{by_cond, late_by, late_max}
-use Rattle.pim_laws.proofs.TimerLaws.{all_append}
-use Rattle.pim_ready.proofs.FineStates.{Lateness, Runs, GoodAssert, GoodDownstream, IsFine, Asserts, Downstreams, with_asserts, with_downstream}
+use Rattle.pim_ready.proofs.LateEnds.{late_by, late_max}
+use Rattle.pim_ready.proofs.FineStates.{Lateness, Runs, Good, IsFine, rows_fine}
 
 pub named_on : (i address g : ℕ) (kind : EntryKind) → iface_in (key_by i g address kind) ≡ i
 named_on i address g EntryKind.Star = refl
@@ -99,8 +100,10 @@ module _ (m : ℕ) (late up : ℕ → Bool) (lateness : Lateness m late) where
         let ends : Ends holdtime end = ends_of s.present holdtime f.present in
         let runs : Runs late pending = pending_runs s i f.present in
         let found : GoodRow row =
-        good_option row (λ r e. let its : GoodDownstream late up (k, r) = good_row (GoodDownstream late up) s.downstream
-        k r (f.tables Downstreams) e in (its.0, its.1)) in
+        good_option row (λ r e.
+        let its : Good late up Downstreams (k, r) =
+        good_row (Good late up Downstreams) s.downstream k r (f.tables Downstreams) e in
+        (its.0, its.1)) in
         let is_joined : Bool = is_named joins k in
         let is_pruned : Bool = is_named prunes k in
         let group_joined : Bool = is_named joins (star_key i (group_in k)) in
@@ -140,7 +143,7 @@ module _ (m : ℕ) (late up : ℕ → Bool) (lateness : Lateness m late) where
       keys_on : AllByRecursion OnIt (touched_keys s i joins prunes)
       unfolding touched_keys rpt_rows_joined
       keys_on =
-          all_append OnIt (joins ++ prunes) _ (all_append OnIt joins prunes joins_on prunes_on)
+          each_append OnIt (joins ++ prunes) _ (each_append OnIt joins prunes joins_on prunes_on)
           (rows_on (λ k. is_named joins (star_key i (group_in k))) (keys_in s.downstream))
 
       taken_fine : up i ≡ true → IsFine m late up (keys_taken s i holdtime joins prunes)
@@ -151,14 +154,14 @@ module _ (m : ℕ) (late up : ℕ → Bool) (lateness : Lateness m late) where
           fold (λ t k. set_row t k (after k)) s.downstream (touched_keys s i joins prunes) in
           let one : State = record s { downstream = rows } in
           let g : IsFine m late up one =
-          with_downstream m late up s f rows
-          (fine_fold_each (GoodDownstream late up) OnIt (λ t k. set_row t k (after k))
-          (λ t k on h. fine_set_row (GoodDownstream late up) t k (after k)
+          rows_fine m late up Downstreams tt s f rows
+          (fine_fold_each (Good late up Downstreams) OnIt (λ t k. set_row t k (after k))
+          (λ t k on h. fine_set_row (Good late up Downstreams) t k (after k)
           (λ r e. let its : Runs late r.expiry × Runs late r.pending = of_good (after k) r (row_good k) e in
           (its.0, its.1, on_up here k on)) h) (touched_keys s i joins prunes) keys_on s.downstream
           (f.tables Downstreams)) in
-          with_asserts m late up one g (asserts_after_joins s joins)
-          (fine_filter (GoodAssert late up) (λ (e : Key × AssertRow). not (is_loser (Some e.1) && is_named joins e.0))
+          rows_fine m late up Asserts tt one g (asserts_after_joins s joins)
+          (fine_filter (Good late up Asserts) (λ (e : Key × AssertRow). not (is_loser (Some e.1) && is_named joins e.0))
           s.asserts
           (f.tables Asserts))
 

@@ -1,31 +1,23 @@
 -- A state that is fine: the keys of each table rise, its entries are under keys of their kind, no interval is 0, and
--- what
--- ends ends late, in a sense that is open here.
-use Rattle.std.proofs.Common.{◌≡◌, ℕ, List, ◌<◌, ◌≤◌, nat_lt, Bool, true, ◌||◌, ◌∙◌, is_some, Option, Some, None}
+-- what ends ends late, in a sense that is open here.
+use Rattle.std.proofs.Common.{◌≡◌, ℕ, List, ◌<◌, ◌≤◌, Bool, true, ◌||◌, ◌∙◌, is_some, Option, Some, None, refl, sym, ap, subst, cond}
+use Rattle.std.proofs.lemmas.Option.{cond_some}
+use Rattle.std.specs.List.{AllByRecursion}
 use Rattle.pim_types.specs.declared.config.Route.{Route}
 use Rattle.pim_types.specs.declared.config.RpRange.{RpRange}
-use Rattle.pim_types.specs.declared.config.Settings.{Settings}
-use Rattle.pim_types.specs.declared.fact.AssertRow.{AssertRow}
-use Rattle.pim_types.specs.declared.fact.DownstreamRow.{DownstreamRow}
-use Rattle.pim_types.specs.declared.fact.GroupRecordRow.{GroupRecordRow}
-use Rattle.pim_types.specs.declared.fact.GroupRepeatRow.{GroupRepeatRow}
 use Rattle.pim_types.specs.declared.fact.InterfaceRow.{InterfaceRow}
-use Rattle.pim_types.specs.declared.fact.JoinTimerRow.{JoinTimerRow}
 use Rattle.pim_types.specs.declared.fact.Key.{Key}
-use Rattle.pim_types.specs.declared.fact.NeighbourRow.{NeighbourRow}
-use Rattle.pim_types.specs.declared.fact.OverrideTimerRow.{OverrideTimerRow}
 use Rattle.pim_types.specs.declared.fact.QuerierRow.{QuerierRow}
-use Rattle.pim_types.specs.declared.fact.RegisterRow.{RegisterRow}
-use Rattle.pim_types.specs.declared.fact.SendingRow.{SendingRow}
-use Rattle.pim_types.specs.declared.fact.SourceRecordRow.{SourceRecordRow}
-use Rattle.pim_types.specs.declared.fact.SourceRepeatRow.{SourceRepeatRow}
 use Rattle.pim_types.specs.declared.fact.SourceRow.{SourceRow}
-use Rattle.pim_laws.specs.Laws.{is_under_star, is_under_source, is_querier_entry}
-use Rattle.pim_model.specs.State.{State, is_up}
-use Rattle.pim_model.specs.Tables.{Table, has_row}
 use Rattle.pim_types.specs.Keys.{iface_in, iface_key}
+use Rattle.pim_model.specs.State.{State, is_up}
+use Rattle.pim_model.specs.Tables.{Table, has_row, change_row, drop_at, drop_where, put}
 use Rattle.pim_model.specs.Timers.{register_end, next_query, other_querier_end}
-use Rattle.pim_ready.proofs.FineTables.{Fine}
+use Rattle.pim_laws.proofs.ListLaws.{each_more, by_cond}
+use Rattle.pim_laws.proofs.Intervals.{IsFirm}
+use Rattle.pim_laws.proofs.Parts.{Part, Row, rows, with_rows, ends_of, is_sound, interfaces_stay, settings_stay, present_stays, IsBesideInterfaces, Interfaces, Neighbours, Queriers, GroupRecords, SourceRecords, GroupRepeats, SourceRepeats, Sendings, Downstreams, Asserts, JoinTimers, OverrideTimers, Sources, Registers}
+use Rattle.pim_laws.specs.Laws.{is_under_star, is_under_source, is_querier_entry}
+use Rattle.pim_ready.proofs.FineTables.{Fine, fine_drop_at, fine_drop_where, fine_put, fine_replaced, fine_replaced_by}
 
 -- what is later than the present is late, and so is what is later than something late
 pub record Lateness (m : ℕ) (late : ℕ → Bool) : Type 0 where
@@ -37,95 +29,129 @@ module _ (late : ℕ → Bool) where
   Runs None = Unit {0}
   Runs (Some x) = late x ≡ true
 
+  -- all ends of an entry
+  abbrev pub AreLate : (p : Part) → Key × Row p → Type 0
+  AreLate p e = AllByRecursion (λ end. Runs (end e.1)) (ends_of p)
+
 -- a source that runs or has SPTbit set
 abbrev pub is_caused : SourceRow → Bool
 is_caused r = is_some r.keepalive || r.spt
 
+-- an entry of an interface's facts is of one that is up, and a source runs or has SPTbit set
+abbrev pub is_placed : (ℕ → Bool) → (p : Part) → Key × Row p → Bool
+is_placed up Interfaces e = true
+is_placed up JoinTimers e = true
+is_placed up OverrideTimers e = true
+is_placed up Sources e = is_caused e.1
+is_placed up Registers e = true
+is_placed up p e = up (iface_in e.0)
+
 module _ (late up : ℕ → Bool) where
-  abbrev pub GoodInterface : Key × InterfaceRow → Type 0
-  GoodInterface e = late (e.1).hello_end ≡ true
-
-  abbrev pub GoodNeighbour : Key × NeighbourRow → Type 0
-  GoodNeighbour e = Runs late (e.1).end × (up (iface_in e.0) ≡ true)
-
   pub record GoodQuerier (e : Key × QuerierRow) : Type 0 where
     pub sound : is_querier_entry e ≡ true
     pub next : Runs late (next_query (e.1).role)
     pub other : Runs late (other_querier_end (e.1).role)
     pub here : up (iface_in e.0) ≡ true
 
-  abbrev pub GoodGroupRecord : Key × GroupRecordRow → Type 0
-  GoodGroupRecord e = (is_under_star e ≡ true) × Runs late (e.1).end × (up (iface_in e.0) ≡ true)
+  abbrev pub Good : (p : Part) → Key × Row p → Type 0
+  Good Interfaces e = late (e.1).hello_end ≡ true
+  Good Neighbours e = Runs late (e.1).end × (up (iface_in e.0) ≡ true)
+  Good Queriers e = GoodQuerier e
+  Good GroupRecords e = (is_under_star e ≡ true) × Runs late (e.1).end × (up (iface_in e.0) ≡ true)
+  Good SourceRecords e = (is_under_source e ≡ true) × Runs late (e.1).end × (up (iface_in e.0) ≡ true)
+  Good GroupRepeats e = (is_under_star e ≡ true) × (late (e.1).next ≡ true) × (up (iface_in e.0) ≡ true)
+  Good SourceRepeats e = (is_under_star e ≡ true) × (late (e.1).next ≡ true) × (up (iface_in e.0) ≡ true)
+  Good Sendings e = up (iface_in e.0) ≡ true
+  Good Downstreams e = Runs late (e.1).expiry × Runs late (e.1).pending × (up (iface_in e.0) ≡ true)
+  Good Asserts e = (late (e.1).end ≡ true) × (up (iface_in e.0) ≡ true)
+  Good JoinTimers e = late (e.1).end ≡ true
+  Good OverrideTimers e = late (e.1).end ≡ true
+  Good Sources e = Runs late (e.1).keepalive × (is_caused e.1 ≡ true)
+  Good Registers e = Runs late (register_end (e.1).state)
 
-  abbrev pub GoodSourceRecord : Key × SourceRecordRow → Type 0
-  GoodSourceRecord e = (is_under_source e ≡ true) × Runs late (e.1).end × (up (iface_in e.0) ≡ true)
+  -- ---- a good entry is sound and placed, and its ends are late
 
-  abbrev pub GoodGroupRepeat : Key × GroupRepeatRow → Type 0
-  GoodGroupRepeat e = (is_under_star e ≡ true) × (late (e.1).next ≡ true) × (up (iface_in e.0) ≡ true)
+  pub good : (p : Part) (e : Key × Row p) → is_sound p e ≡ true → AreLate late p e → is_placed up p e ≡ true → Good p e
+  good Interfaces e s l h = l.0
+  good Neighbours e s l h = (l.0, h)
+  good Queriers e s l h = record { sound = s; other = l.0; next = (l.1).0; here = h }
+  good GroupRecords e s l h = (s, l.0, h)
+  good SourceRecords e s l h = (s, l.0, h)
+  good GroupRepeats e s l h = (s, l.0, h)
+  good SourceRepeats e s l h = (s, l.0, h)
+  good Sendings e s l h = h
+  good Downstreams e s l h = ((l.1).0, l.0, h)
+  good Asserts e s l h = (l.0, h)
+  good JoinTimers e s l h = l.0
+  good OverrideTimers e s l h = l.0
+  good Sources e s l h = (l.0, h)
+  good Registers e s l h = l.0
 
-  abbrev pub GoodSourceRepeat : Key × SourceRepeatRow → Type 0
-  GoodSourceRepeat e = (is_under_star e ≡ true) × (late (e.1).next ≡ true) × (up (iface_in e.0) ≡ true)
+  pub good_is_late : (p : Part) (e : Key × Row p) → Good p e → AreLate late p e
+  good_is_late Interfaces e g = (g, tt)
+  good_is_late Neighbours e g = (g.0, tt)
+  good_is_late Queriers e g = (g.other, (g.next, tt))
+  good_is_late GroupRecords e g = (g.1, tt)
+  good_is_late SourceRecords e g = (g.1, tt)
+  good_is_late GroupRepeats e g = (g.1, tt)
+  good_is_late SourceRepeats e g = (g.1, tt)
+  good_is_late Sendings e g = tt
+  good_is_late Downstreams e g = (g.1, (g.0, tt))
+  good_is_late Asserts e g = (g.0, tt)
+  good_is_late JoinTimers e g = (g, tt)
+  good_is_late OverrideTimers e g = (g, tt)
+  good_is_late Sources e g = (g.0, tt)
+  good_is_late Registers e g = (g, tt)
 
-  abbrev pub GoodSending : Key × SendingRow → Type 0
-  GoodSending e = up (iface_in e.0) ≡ true
+  pub good_is_sound : (p : Part) (e : Key × Row p) → Good p e → is_sound p e ≡ true
+  good_is_sound Queriers e g = g.sound
+  good_is_sound GroupRecords e g = g.0
+  good_is_sound SourceRecords e g = g.0
+  good_is_sound GroupRepeats e g = g.0
+  good_is_sound SourceRepeats e g = g.0
+  good_is_sound p e g = refl
 
-  abbrev pub GoodDownstream : Key × DownstreamRow → Type 0
-  GoodDownstream e = Runs late (e.1).expiry × Runs late (e.1).pending × (up (iface_in e.0) ≡ true)
+  pub good_is_placed : (p : Part) (e : Key × Row p) → Good p e → is_placed up p e ≡ true
+  good_is_placed Neighbours e g = g.1
+  good_is_placed Queriers e g = g.here
+  good_is_placed GroupRecords e g = g.2
+  good_is_placed SourceRecords e g = g.2
+  good_is_placed GroupRepeats e g = g.2
+  good_is_placed SourceRepeats e g = g.2
+  good_is_placed Sendings e g = g
+  good_is_placed Downstreams e g = g.2
+  good_is_placed Asserts e g = g.1
+  good_is_placed Sources e g = g.1
+  good_is_placed p e g = refl
 
-  abbrev pub GoodAssert : Key × AssertRow → Type 0
-  GoodAssert e = (late (e.1).end ≡ true) × (up (iface_in e.0) ≡ true)
+-- ---- in a weaker sense
 
-  abbrev pub GoodJoinTimer : Key × JoinTimerRow → Type 0
-  GoodJoinTimer e = late (e.1).end ≡ true
+pub placed_if : (up up' : ℕ → Bool) (p : Part) (e : Key × Row p)
+    → (up (iface_in e.0) ≡ true → up' (iface_in e.0) ≡ true) → is_placed up p e ≡ true → is_placed up' p e ≡ true
+placed_if up up' Interfaces e there h = h
+placed_if up up' JoinTimers e there h = h
+placed_if up up' OverrideTimers e there h = h
+placed_if up up' Sources e there h = h
+placed_if up up' Registers e there h = h
+placed_if up up' p e there h = there h
 
-  abbrev pub GoodOverrideTimer : Key × OverrideTimerRow → Type 0
-  GoodOverrideTimer e = late (e.1).end ≡ true
+runs_if : (late late' : ℕ → Bool) → ((x : ℕ) → late x ≡ true → late' x ≡ true) → (o : Option ℕ) → Runs late o
+    → Runs late' o
+runs_if late late' runs None e = tt
+runs_if late late' runs (Some x) e = runs x e
 
-  abbrev pub GoodSource : Key × SourceRow → Type 0
-  GoodSource e = Runs late (e.1).keepalive × (is_caused e.1 ≡ true)
+pub good_if : (late late' up up' : ℕ → Bool) → ((x : ℕ) → late x ≡ true → late' x ≡ true) → (p : Part) (e : Key × Row p)
+    → (up (iface_in e.0) ≡ true → up' (iface_in e.0) ≡ true) → Good late up p e → Good late' up' p e
+good_if late late' up up' runs p e there g =
+    good late' up' p e (good_is_sound late up p e g)
+    (each_more _ _ (λ end. runs_if late late' runs (end e.1)) (ends_of p) (good_is_late late up p e g))
+    (placed_if up up' p e there (good_is_placed late up p e g))
 
-  abbrev pub GoodRegister : Key × RegisterRow → Type 0
-  GoodRegister e = Runs late (register_end (e.1).state)
-
--- no interval and no robustness is 0
-pub record IsFirm (c : Settings) : Type 0 where
-  pub query_interval : nat_lt 0 c.query_interval ≡ true
-  pub last_member_query_interval : nat_lt 0 c.last_member_query_interval ≡ true
-  pub robustness : nat_lt 0 c.robustness ≡ true
-
--- the tables
-pub data Part : Type 0 where
-  Interfaces : Part
-  Neighbours : Part
-  Queriers : Part
-  GroupRecords : Part
-  SourceRecords : Part
-  GroupRepeats : Part
-  SourceRepeats : Part
-  Sendings : Part
-  Downstreams : Part
-  Asserts : Part
-  JoinTimers : Part
-  OverrideTimers : Part
-  Sources : Part
-  Registers : Part
+-- ---- a state
 
 module _ (m : ℕ) (late up : ℕ → Bool) where
   abbrev pub FineAt : Part → State → Type 0
-  FineAt Interfaces s = Fine (GoodInterface late up) s.interfaces
-  FineAt Neighbours s = Fine (GoodNeighbour late up) s.neighbours
-  FineAt Queriers s = Fine (GoodQuerier late up) s.queriers
-  FineAt GroupRecords s = Fine (GoodGroupRecord late up) s.group_records
-  FineAt SourceRecords s = Fine (GoodSourceRecord late up) s.source_records
-  FineAt GroupRepeats s = Fine (GoodGroupRepeat late up) s.group_repeats
-  FineAt SourceRepeats s = Fine (GoodSourceRepeat late up) s.source_repeats
-  FineAt Sendings s = Fine (GoodSending late up) s.sendings
-  FineAt Downstreams s = Fine (GoodDownstream late up) s.downstream
-  FineAt Asserts s = Fine (GoodAssert late up) s.asserts
-  FineAt JoinTimers s = Fine (GoodJoinTimer late up) s.join_timers
-  FineAt OverrideTimers s = Fine (GoodOverrideTimer late up) s.override_timers
-  FineAt Sources s = Fine (GoodSource late up) s.sources
-  FineAt Registers s = Fine (GoodRegister late up) s.registers
+  FineAt p s = Fine (Good late up p) (rows p s)
 
   pub record IsFine (s : State) : Type 0 where
     pub firm : IsFirm s.settings
@@ -135,115 +161,74 @@ module _ (m : ℕ) (late up : ℕ → Bool) where
 
   -- ---- one table changed
 
+  tables_with : (s : State) → IsFine s → (p : Part) (t : Table (Row p)) → Fine (Good late up p) t → (q : Part)
+      → FineAt q (with_rows p s t)
+  tables_with s f Interfaces t g Interfaces = g
+  tables_with s f Neighbours t g Neighbours = g
+  tables_with s f Queriers t g Queriers = g
+  tables_with s f GroupRecords t g GroupRecords = g
+  tables_with s f SourceRecords t g SourceRecords = g
+  tables_with s f GroupRepeats t g GroupRepeats = g
+  tables_with s f SourceRepeats t g SourceRepeats = g
+  tables_with s f Sendings t g Sendings = g
+  tables_with s f Downstreams t g Downstreams = g
+  tables_with s f Asserts t g Asserts = g
+  tables_with s f JoinTimers t g JoinTimers = g
+  tables_with s f OverrideTimers t g OverrideTimers = g
+  tables_with s f Sources t g Sources = g
+  tables_with s f Registers t g Registers = g
+  tables_with s f p t g q = f.tables q
+
+  pub rows_fine : (p : Part) → IsBesideInterfaces p → (s : State) → IsFine s → (t : Table (Row p))
+      → Fine (Good late up p) t → IsFine (with_rows p s t)
+  rows_fine p beside s f t g = record {
+    firm = subst IsFirm (sym (settings_stay s p t)) f.firm;
+    present = present_stays s p t ∙ f.present;
+    ups = λ i. ap (λ (rows : Table InterfaceRow). has_row rows (iface_key i)) (interfaces_stay p beside s t) ∙ f.ups i;
+    tables = tables_with s f p t g;
+  }
+
+  module _ (p : Part) (beside : IsBesideInterfaces p) (s : State) (f : IsFine s) where
+    pub without_rows : (test : Key → Bool) → IsFine (with_rows p s (drop_where test (rows p s)))
+    without_rows test = rows_fine p beside s f _ (fine_drop_where (Good late up p) test (rows p s) (f.tables p))
+
+    pub without_row : (k : Key) → IsFine (with_rows p s (drop_at (rows p s) k))
+    without_row k = rows_fine p beside s f _ (fine_drop_at (Good late up p) (rows p s) k (f.tables p))
+
+    pub without_row_unless : (b : Bool) (k : Key) → IsFine (with_rows p s (cond b (rows p s) (drop_at (rows p s) k)))
+    without_row_unless b k =
+        rows_fine p beside s f _
+        (by_cond (Fine (Good late up p)) b (rows p s) _ (f.tables p)
+        (fine_drop_at (Good late up p) (rows p s) k (f.tables p)))
+
+    pub with_row : (k : Key) (r : Row p) → Good late up p (k, r) → IsFine (with_rows p s (put (rows p s) k r))
+    with_row k r g = rows_fine p beside s f _ (fine_put (Good late up p) (rows p s) k r g (f.tables p))
+
+    -- in the place of the row at a key
+    pub with_row_for : (k : Key) (r : Row p) → ((old : Row p) → Good late up p (k, old) → Good late up p (k, r))
+        → IsFine (with_rows p s (change_row (λ old. Some r) k (rows p s)))
+    with_row_for k r g =
+        rows_fine p beside s f _ (fine_replaced_by (Good late up p) k r g (rows p s) (f.tables p))
+
+    pub with_row_for_if : (b : Bool) (k : Key) (r : Row p)
+        → (b ≡ true → (old : Row p) → Good late up p (k, old) → Good late up p (k, r))
+        → IsFine (with_rows p s (change_row (λ old. cond b (Some r) None) k (rows p s)))
+    with_row_for_if b k r g =
+        rows_fine p beside s f _
+        (fine_replaced (Good late up p) (cond b (Some r) None) k
+        (λ old q e h. let its : (b ≡ true) × (r ≡ q) = cond_some b r q e in
+        subst (λ (a : Row p). Good late up p (k, a)) its.1 (g its.0 old h)) (rows p s) (f.tables p))
+
   module _ (s : State) (f : IsFine s) where
     pub with_interfaces : (t : Table InterfaceRow) → ((k : Key) → has_row t k ≡ has_row s.interfaces k)
-        → Fine (GoodInterface late up) t
+        → Fine (Good late up Interfaces) t
         → IsFine (record s { interfaces = t })
-    with_interfaces t same g =
-        record { firm = f.firm; present = f.present; ups = λ i. same (iface_key i) ∙ f.ups i; tables = go }
-      where
-        go : (part : Part) → FineAt part (record s { interfaces = t })
-        go Interfaces = g
-        go part = f.tables part
-
-    pub with_neighbours : (t : Table NeighbourRow) → Fine (GoodNeighbour late up) t
-        → IsFine (record s { neighbours = t })
-    with_neighbours t g = record { firm = f.firm; present = f.present; ups = f.ups; tables = go }
-      where
-        go : (part : Part) → FineAt part (record s { neighbours = t })
-        go Neighbours = g
-        go part = f.tables part
-
-    pub with_queriers : (t : Table QuerierRow) → Fine (GoodQuerier late up) t → IsFine (record s { queriers = t })
-    with_queriers t g = record { firm = f.firm; present = f.present; ups = f.ups; tables = go }
-      where
-        go : (part : Part) → FineAt part (record s { queriers = t })
-        go Queriers = g
-        go part = f.tables part
-
-    pub with_group_records : (t : Table GroupRecordRow) → Fine (GoodGroupRecord late up) t
-        → IsFine (record s { group_records = t })
-    with_group_records t g = record { firm = f.firm; present = f.present; ups = f.ups; tables = go }
-      where
-        go : (part : Part) → FineAt part (record s { group_records = t })
-        go GroupRecords = g
-        go part = f.tables part
-
-    pub with_source_records : (t : Table SourceRecordRow) → Fine (GoodSourceRecord late up) t
-        → IsFine (record s { source_records = t })
-    with_source_records t g = record { firm = f.firm; present = f.present; ups = f.ups; tables = go }
-      where
-        go : (part : Part) → FineAt part (record s { source_records = t })
-        go SourceRecords = g
-        go part = f.tables part
-
-    pub with_group_repeats : (t : Table GroupRepeatRow) → Fine (GoodGroupRepeat late up) t
-        → IsFine (record s { group_repeats = t })
-    with_group_repeats t g = record { firm = f.firm; present = f.present; ups = f.ups; tables = go }
-      where
-        go : (part : Part) → FineAt part (record s { group_repeats = t })
-        go GroupRepeats = g
-        go part = f.tables part
-
-    pub with_source_repeats : (t : Table SourceRepeatRow) → Fine (GoodSourceRepeat late up) t
-        → IsFine (record s { source_repeats = t })
-    with_source_repeats t g = record { firm = f.firm; present = f.present; ups = f.ups; tables = go }
-      where
-        go : (part : Part) → FineAt part (record s { source_repeats = t })
-        go SourceRepeats = g
-        go part = f.tables part
-
-    pub with_sendings : (t : Table SendingRow) → Fine (GoodSending late up) t → IsFine (record s { sendings = t })
-    with_sendings t g = record { firm = f.firm; present = f.present; ups = f.ups; tables = go }
-      where
-        go : (part : Part) → FineAt part (record s { sendings = t })
-        go Sendings = g
-        go part = f.tables part
-
-    pub with_downstream : (t : Table DownstreamRow) → Fine (GoodDownstream late up) t
-        → IsFine (record s { downstream = t })
-    with_downstream t g = record { firm = f.firm; present = f.present; ups = f.ups; tables = go }
-      where
-        go : (part : Part) → FineAt part (record s { downstream = t })
-        go Downstreams = g
-        go part = f.tables part
-
-    pub with_asserts : (t : Table AssertRow) → Fine (GoodAssert late up) t → IsFine (record s { asserts = t })
-    with_asserts t g = record { firm = f.firm; present = f.present; ups = f.ups; tables = go }
-      where
-        go : (part : Part) → FineAt part (record s { asserts = t })
-        go Asserts = g
-        go part = f.tables part
-
-    pub with_join_timers : (t : Table JoinTimerRow) → Fine (GoodJoinTimer late up) t
-        → IsFine (record s { join_timers = t })
-    with_join_timers t g = record { firm = f.firm; present = f.present; ups = f.ups; tables = go }
-      where
-        go : (part : Part) → FineAt part (record s { join_timers = t })
-        go JoinTimers = g
-        go part = f.tables part
-
-    pub with_override_timers : (t : Table OverrideTimerRow) → Fine (GoodOverrideTimer late up) t
-        → IsFine (record s { override_timers = t })
-    with_override_timers t g = record { firm = f.firm; present = f.present; ups = f.ups; tables = go }
-      where
-        go : (part : Part) → FineAt part (record s { override_timers = t })
-        go OverrideTimers = g
-        go part = f.tables part
-
-    pub with_sources : (t : Table SourceRow) → Fine (GoodSource late up) t → IsFine (record s { sources = t })
-    with_sources t g = record { firm = f.firm; present = f.present; ups = f.ups; tables = go }
-      where
-        go : (part : Part) → FineAt part (record s { sources = t })
-        go Sources = g
-        go part = f.tables part
-
-    pub with_registers : (t : Table RegisterRow) → Fine (GoodRegister late up) t → IsFine (record s { registers = t })
-    with_registers t g = record { firm = f.firm; present = f.present; ups = f.ups; tables = go }
-      where
-        go : (part : Part) → FineAt part (record s { registers = t })
-        go Registers = g
-        go part = f.tables part
+    with_interfaces t same g = record {
+      firm = f.firm;
+      present = f.present;
+      ups = λ i. same (iface_key i) ∙ f.ups i;
+      tables = tables_with s f Interfaces t g;
+    }
 
     pub with_routes : (x : List Route) → IsFine (record s { routes = x })
     with_routes x = record { firm = f.firm; present = f.present; ups = f.ups; tables = go }

@@ -1,18 +1,18 @@
 -- A timer's end leaves a fine state, and so does all that fires by a moment.
-use Rattle.std.proofs.Common.{◌≡◌, ℕ, ◌+◌, Bool, true, false, cond, List, [], length, Option, Some, None, refl, subst, arith}
+use Rattle.std.proofs.Common.{◌≡◌, ℕ, ◌+◌, Bool, true, List, [], length, Option, Some, None, refl, arith}
 use Rattle.std.specs.Option.{option_map_or}
 use Rattle.pim_types.specs.declared.fact.DownstreamRow.{DownstreamRow}
-use Rattle.pim_types.specs.declared.fact.GroupRecordRow.{GroupRecordRow}
 use Rattle.pim_types.specs.declared.fact.GroupRepeatRow.{GroupRepeatRow}
 use Rattle.pim_types.specs.declared.fact.InterfaceRow.{InterfaceRow}
-use Rattle.pim_types.specs.declared.fact.JoinTimerRow.{JoinTimerRow}
 use Rattle.pim_types.specs.declared.fact.Key.{Key}
 use Rattle.pim_types.specs.declared.fact.QuerierRow.{QuerierRow}
 use Rattle.pim_types.specs.declared.fact.RegisterRow.{RegisterRow}
 use Rattle.pim_types.specs.declared.fact.SourceRow.{SourceRow}
 use Rattle.pim_types.specs.declared.timer.TimerKind.{TimerKind}
+use Rattle.pim_types.specs.Keys.{group_in, iface_in, source_in, star_key}
+use Rattle.pim_types.proofs.Keys.{same_key_same}
 use Rattle.pim_model.specs.Asserts.{assert_due}
-use Rattle.pim_model.specs.Downstream.{downstream_expired, prune_echo, prune_pending_due}
+use Rattle.pim_model.specs.Downstream.{downstream_expired, prune_pending_due}
 use Rattle.pim_model.specs.Firing.{fire_all, fire_instant, fire_once, fire_row, fired, keepalive_due, settled, silent, startup_left}
 use Rattle.pim_model.specs.Hellos.{hello_due, neighbour_due}
 use Rattle.pim_model.specs.Messages.{Message}
@@ -21,19 +21,20 @@ use Rattle.pim_model.specs.Records.{group_expired, record_of, source_expired}
 use Rattle.pim_model.specs.Registers.{register_due}
 use Rattle.pim_model.specs.State.{State}
 use Rattle.pim_model.specs.Step.{advanced}
-use Rattle.pim_model.specs.Tables.{change_row, drop_at, row_at}
-use Rattle.pim_types.specs.Keys.{group_in, iface_in, source_in, star_key}
+use Rattle.pim_model.specs.Tables.{row_at}
 use Rattle.pim_model.specs.Timers.{Ending, next_due, timers}
 use Rattle.pim_model.specs.Upstream.{join_timer_due, override_timer_due}
-use Rattle.pim_types.proofs.Keys.{same_key_same}
+use Rattle.pim_laws.proofs.RowLaws.{has_row_replaced}
+use Rattle.pim_laws.proofs.ListLaws.{by_cond}
 use Rattle.pim_laws.proofs.TurnLaws.{kept_to_the_end}
+use Rattle.pim_laws.proofs.Parts.{Downstreams, GroupRecords, Interfaces, JoinTimers, Neighbours, OverrideTimers, Part, Sources}
 use Rattle.pim_ready.proofs.Asserts.{assert_due_fine}
 use Rattle.pim_ready.proofs.Forwarding.{register_due_fine}
-use Rattle.pim_ready.proofs.FineTables.{fine_drop_at, fine_replaced, has_row_changed, good_row}
-use Rattle.pim_ready.proofs.LateEnds.{by_cond, late_by}
+use Rattle.pim_ready.proofs.FineTables.{good_row, fine_replaced_by}
+use Rattle.pim_ready.proofs.LateEnds.{late_by}
 use Rattle.pim_ready.proofs.Querier.{general_query_fine, group_repeat_fine, other_gone_fine, source_repeat_fine}
 use Rattle.pim_ready.proofs.Records.{group_expired_good, members_fine, record_good, source_expired_good}
-use Rattle.pim_ready.proofs.FineStates.{Lateness, Runs, GoodDownstream, GoodGroupRecord, GoodInterface, GoodJoinTimer, GoodNeighbour, GoodOverrideTimer, GoodSource, IsFine, is_caused, FineAt, Part, Interfaces, Neighbours, Downstreams, GroupRecords, JoinTimers, OverrideTimers, Sources, with_downstream, with_group_records, with_interfaces, with_join_timers, with_neighbours, with_override_timers, with_sources}
+use Rattle.pim_ready.proofs.FineStates.{Lateness, Good, IsFine, FineAt, with_interfaces, without_row, with_row_for, with_row_for_if}
 use Rattle.pim_ready.proofs.Upstream.{settled_fine}
 
 module _ (m : ℕ) (late up : ℕ → Bool) (lateness : Lateness m late) where
@@ -50,49 +51,24 @@ module _ (m : ℕ) (late up : ℕ → Bool) (lateness : Lateness m late) where
       → Leaves (prune_pending_due s k r)
   unfolding prune_pending_due
   pending_due_fine s k r there f =
-      let o : Option DownstreamRow = Some (record r { pending = None }) in
-      by_cond Leaves k.rpt (record s { downstream = change_row (λ (old : DownstreamRow). o) k s.downstream }, [])
-      (record s { downstream = drop_at s.downstream k }, prune_echo s k)
-      (with_downstream m late up s f (change_row (λ (old : DownstreamRow). o) k s.downstream)
-      (fine_replaced (GoodDownstream late up) o k
-      (λ old q e g. let same : record r { pending = None } ≡ q = cc in
-      subst (λ (a : DownstreamRow). GoodDownstream late up (k, a)) same
-      ((good_row (GoodDownstream late up) s.downstream k r (f.tables Downstreams) there).0, tt, g.2)) s.downstream
-      (f.tables Downstreams)))
-      (with_downstream m late up s f (drop_at s.downstream k)
-      (fine_drop_at (GoodDownstream late up) s.downstream k (f.tables Downstreams)))
+      by_cond Leaves k.rpt _ _
+      (with_row_for m late up Downstreams tt s f k (record r { pending = None })
+      (λ old g. ((good_row (Good late up Downstreams) s.downstream k r (f.tables Downstreams) there).0, tt, g.2)))
+      (without_row m late up Downstreams tt s f k)
 
   keepalive_due_fine : (s : State) (k : Key) (r : SourceRow) → IsFine m late up s
       → IsFine m late up (keepalive_due s k r)
   unfolding keepalive_due
   keepalive_due_fine s k r f =
-      let o : Option SourceRow = cond r.spt (Some (record r { keepalive = None })) None in
-      with_sources m late up s f (change_row (λ (old : SourceRow). o) k s.sources)
-      (fine_replaced (GoodSource late up) o k (λ old q e g. ended r.spt q refl e) s.sources (f.tables Sources))
-    where
-      ended : (b : Bool) (q : SourceRow) → r.spt ≡ b
-          → cond b (let o : Option SourceRow = Some (record r { keepalive = None }) in o) None ≡ Some q
-          → Runs late q.keepalive × (is_caused q ≡ true)
-      ended true q h e =
-          let same : record r { keepalive = None } ≡ q = cc in
-          subst (λ (a : SourceRow). Runs late a.keepalive × (is_caused a ≡ true)) same (tt, h)
-      ended false q h e = cc
+      with_row_for_if m late up Sources tt s f r.spt k (record r { keepalive = None }) (λ set old g. (tt, set))
 
   group_due_fine : (s : State) (i g : ℕ) → IsFine m late up s → IsFine m late up (group_record_due s i g)
   unfolding group_record_due
   group_due_fine s i g f =
-      let row : GroupRecordRow = record { end = None } in
-      let o : Option GroupRecordRow = Some row in
-      let timed : State =
-      record s { group_records = change_row (λ (old : GroupRecordRow). o) (star_key i g) s.group_records } in
-      members_fine m late up timed i g (group_expired s.present (record_of s i g))
+      members_fine m late up _ i g (group_expired s.present (record_of s i g))
       (group_expired_good late (up i ≡ true) s.present (record_of s i g) (record_good m late up s i g f))
-      (with_group_records m late up s f (change_row (λ (old : GroupRecordRow). o) (star_key i g) s.group_records)
-      (fine_replaced (GoodGroupRecord late up) o (star_key i g)
-      (λ old q e h. let same : row ≡ q = cc in
-      subst (λ (a : GroupRecordRow). GoodGroupRecord late up (star_key i g, a)) same
-      (same_key_same (star_key i g), tt, h.2))
-      s.group_records (f.tables GroupRecords)))
+      (with_row_for m late up GroupRecords tt s f (star_key i g) (record { end = None })
+      (λ old h. (same_key_same (star_key i g), tt, h.2)))
 
   source_due_fine : (s : State) (i g src : ℕ) → IsFine m late up s → IsFine m late up (source_record_due s i g src)
   unfolding source_record_due
@@ -103,37 +79,25 @@ module _ (m : ℕ) (late up : ℕ → Bool) (lateness : Lateness m late) where
   hello_due_fine : (s : State) (k : Key) (r : InterfaceRow) → IsFine m late up s → Leaves (hello_due s k r)
   unfolding hello_due
   hello_due_fine s k r f =
-      let o : Option InterfaceRow = Some (record r { hello_end = s.present + 30000 }) in
-      with_interfaces m late up s f (change_row (λ (old : InterfaceRow). o) k s.interfaces)
-      (λ q. has_row_changed q (record r { hello_end = s.present + 30000 }) k s.interfaces)
-      (fine_replaced (GoodInterface late up) o k
-      (λ old q e g. let same : record r { hello_end = s.present + 30000 } ≡ q = cc in
-      subst (λ (a : InterfaceRow). late a.hello_end ≡ true) same
-      (late_by m late lateness s.present 30000 f.present (omega arith)))
-      s.interfaces (f.tables Interfaces))
+      let row : InterfaceRow = record r { hello_end = s.present + 30000 } in
+      with_interfaces m late up s f _ (λ q. has_row_replaced q row k s.interfaces)
+      (fine_replaced_by (Good late up Interfaces) k row
+      (λ old g. late_by m late lateness s.present 30000 f.present (omega arith)) s.interfaces (f.tables Interfaces))
 
   join_due_fine : (s : State) (k : Key) → IsFine m late up s → Leaves (join_timer_due s k)
   unfolding join_timer_due
   join_due_fine s k f =
-      let row : JoinTimerRow = record { end = s.present + 60000 } in
-      let o : Option JoinTimerRow = Some row in
-      with_join_timers m late up s f (change_row (λ (old : JoinTimerRow). o) k s.join_timers)
-      (fine_replaced (GoodJoinTimer late up) o k
-      (λ old q e g. let same : row ≡ q = cc in
-      subst (λ (a : JoinTimerRow). late a.end ≡ true) same
-      (late_by m late lateness s.present 60000 f.present (omega arith)))
-      s.join_timers (f.tables JoinTimers))
+      with_row_for m late up JoinTimers tt s f k (record { end = s.present + 60000 })
+      (λ old g. late_by m late lateness s.present 60000 f.present (omega arith))
 
   pub fired_fine : (s : State) (kind : TimerKind) (k : Key) → IsFine m late up s → Leaves (fired s kind k)
   unfolding fired fire_row neighbour_due downstream_expired override_timer_due
   fired_fine s TimerKind.Neighbour k f =
-      with_neighbours m late up s f (drop_at s.neighbours k)
-      (fine_drop_at (GoodNeighbour late up) s.neighbours k (f.tables Neighbours))
+      without_row m late up Neighbours tt s f k
   fired_fine s TimerKind.PrunePending k f =
       row_fires s (prune_pending_due s k) (row_at s.downstream k) (λ r there. pending_due_fine s k r there f) f
   fired_fine s TimerKind.DownstreamExpiry k f =
-      with_downstream m late up s f (drop_at s.downstream k)
-      (fine_drop_at (GoodDownstream late up) s.downstream k (f.tables Downstreams))
+      without_row m late up Downstreams tt s f k
   fired_fine s TimerKind.GroupRecord k f = group_due_fine s (iface_in k) (group_in k) f
   fired_fine s TimerKind.SourceRecord k f = source_due_fine s (iface_in k) (group_in k) (source_in k) f
   fired_fine s TimerKind.Assert k f =
@@ -144,8 +108,7 @@ module _ (m : ℕ) (late up : ℕ → Bool) (lateness : Lateness m late) where
       row_fires s (λ (r : RegisterRow). register_due s k r.state) (row_at s.registers k)
       (λ r there. register_due_fine m late up lateness s k r.state f) f
   fired_fine s TimerKind.Override k f =
-      with_override_timers m late up s f (drop_at s.override_timers k)
-      (fine_drop_at (GoodOverrideTimer late up) s.override_timers k (f.tables OverrideTimers))
+      without_row m late up OverrideTimers tt s f k
   fired_fine s TimerKind.Join k f = join_due_fine s k f
   fired_fine s TimerKind.OtherQuerier k f = other_gone_fine m late up lateness s (iface_in k) f
   fired_fine s TimerKind.GroupRepeat k f =

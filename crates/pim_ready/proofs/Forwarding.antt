@@ -1,35 +1,36 @@
 -- Packets and Registers leave a fine state.
-use Rattle.std.proofs.Common.{◌≡◌, ℕ, ◌+◌, Bool, true, false, cond, List, [], map, Option, Some, refl, subst, arith}
+use Rattle.std.proofs.Common.{◌≡◌, ℕ, ◌+◌, Bool, true, false, cond, List, [], map, Some, refl, arith}
 use Rattle.pim_ip.specs.Ipv4.{Packet}
 use Rattle.pim_types.specs.declared.fact.Key.{Key}
 use Rattle.pim_types.specs.declared.fact.RegisterRow.{RegisterRow}
 use Rattle.pim_types.specs.declared.fact.RegisterState.{RegisterState}
 use Rattle.pim_types.specs.declared.fact.SourceRow.{SourceRow}
+use Rattle.pim_types.specs.Keys.{iface_in, group_in, source_key, star_key}
 use Rattle.pim_model.specs.Asserts.{data_seen, with_spt_bit}
 use Rattle.pim_model.specs.Forwarding.{Forwarded, forwarded, is_spt_reached, list_chosen, register_at_rp, register_received, source_here, source_joined, spt_updated, stray, watched, when}
 use Rattle.pim_model.specs.Messages.{Message}
 use Rattle.pim_model.specs.Registers.{is_meant, register_due, register_stop_seen, registers_after_rps, settle_register, state_after_stop, with_keepalive, with_register_state}
 use Rattle.pim_model.specs.Sets.{spt_bit}
 use Rattle.pim_model.specs.State.{State}
-use Rattle.pim_types.specs.Keys.{iface_in, group_in, source_key, star_key}
-use Rattle.pim_model.specs.Tables.{change_row, delay_in, put, same_option}
+use Rattle.pim_model.specs.Tables.{delay_in, same_option}
 use Rattle.pim_model.specs.Timers.{register_end}
 use Rattle.pim_model.specs.Unicast.{is_rp, rp_of}
+use Rattle.pim_laws.proofs.ListLaws.{by_cond}
+use Rattle.pim_laws.proofs.Parts.{Registers, Sources}
 use Rattle.pim_ready.proofs.Asserts.{data_seen_fine, with_spt_fine}
-use Rattle.pim_ready.proofs.FineTables.{Fine, fine_map, fine_put, fine_replaced}
+use Rattle.pim_ready.proofs.FineTables.{Fine, fine_map}
 use Rattle.pim_ready.proofs.Hellos.{some_delay}
-use Rattle.pim_ready.proofs.LateEnds.{by_cond, late_by}
+use Rattle.pim_ready.proofs.LateEnds.{late_by}
 use Rattle.pim_ready.proofs.Clearing.{settle_register_fine}
-use Rattle.pim_ready.proofs.FineStates.{Lateness, Runs, GoodRegister, GoodSource, IsFine, Registers, Sources, with_registers, with_sources}
+use Rattle.pim_ready.proofs.FineStates.{Lateness, Runs, Good, IsFine, rows_fine, with_row, with_row_for}
 
 module _ (m : ℕ) (late up : ℕ → Bool) (lateness : Lateness m late) where
   keepalive_fine : (s : State) (g src : ℕ) → IsFine m late up s → IsFine m late up (with_keepalive s g src)
   unfolding with_keepalive
   keepalive_fine s g src f =
       let row : SourceRow = record { keepalive = Some (s.present + 210000); spt = spt_bit s g src } in
-      with_sources m late up s f (put s.sources (source_key 0 g src) row)
-      (fine_put (GoodSource late up) s.sources (source_key 0 g src) row
-      (late_by m late lateness s.present 210000 f.present (omega arith), refl) (f.tables Sources))
+      with_row m late up Sources tt s f (source_key 0 g src) row
+      (late_by m late lateness s.present 210000 f.present (omega arith), refl)
 
   when_fine : (b : Bool) (change : State → State) (s : State) → IsFine m late up (change s) → IsFine m late up s
       → IsFine m late up (when b change s)
@@ -115,11 +116,11 @@ module _ (m : ℕ) (late up : ℕ → Bool) (lateness : Lateness m late) where
   unfolding stopped_entry
   stopped_key g src end e = by_cond (λ (p : Key × RegisterRow). p.0 ≡ e.0) (is_meant g src e) _ e refl refl
 
-  stopped_good : (g src end : ℕ) → late end ≡ true → (e : Key × RegisterRow) → GoodRegister late up e
-      → GoodRegister late up (stopped_entry g src end e)
+  stopped_good : (g src end : ℕ) → late end ≡ true → (e : Key × RegisterRow) → Good late up Registers e
+      → Good late up Registers (stopped_entry g src end e)
   unfolding stopped_entry
   stopped_good g src end h e f =
-      by_cond (GoodRegister late up) (is_meant g src e) (e.0, record { state = state_after_stop end (e.1).state }) e
+      by_cond (Good late up Registers) (is_meant g src e) (e.0, record { state = state_after_stop end (e.1).state }) e
       (stopped_runs end h (e.1).state f) f
 
   pub register_stop_fine : (s : State) (w g src : ℕ) → IsFine m late up s
@@ -127,8 +128,8 @@ module _ (m : ℕ) (late up : ℕ → Bool) (lateness : Lateness m late) where
   unfolding register_stop_seen stopped_entry
   register_stop_fine s w g src f =
       let end : ℕ = s.present + delay_in 25000 85000 w in
-      with_registers m late up s f (map (stopped_entry g src end) s.registers)
-      (fine_map (GoodRegister late up) (stopped_entry g src end) (stopped_key g src end)
+      rows_fine m late up Registers tt s f (map (stopped_entry g src end) s.registers)
+      (fine_map (Good late up Registers) (stopped_entry g src end) (stopped_key g src end)
       (stopped_good g src end
       (late_by m late lateness s.present (delay_in 25000 85000 w) f.present
       (some_delay m late up lateness 25000 85000 w (omega arith))))
@@ -137,12 +138,7 @@ module _ (m : ℕ) (late up : ℕ → Bool) (lateness : Lateness m late) where
   with_state_fine : (s : State) (k : Key) (state : RegisterState) → Runs late (register_end state) → IsFine m late up s
       → IsFine m late up (with_register_state s k state)
   with_state_fine s k state h f =
-      let o : Option RegisterRow = Some (record { state = state }) in
-      with_registers m late up s f (change_row (λ (old : RegisterRow). o) k s.registers)
-      (fine_replaced (GoodRegister late up) o k
-      (λ old q e g. let row : RegisterRow = record { state = state } in
-      let same : row ≡ q =
-      cc in subst (λ (a : RegisterRow). Runs late (register_end a.state)) same h) s.registers (f.tables Registers))
+      with_row_for m late up Registers tt s f k (record { state = state }) (λ old g. h)
 
   pub register_due_fine : (s : State) (k : Key) (state : RegisterState) → IsFine m late up s
       → IsFine m late up (register_due s k state).0
@@ -164,13 +160,13 @@ module _ (m : ℕ) (late up : ℕ → Bool) (lateness : Lateness m late) where
       by_cond (λ (p : Key × RegisterRow). p.0 ≡ e.0) (same_option (rp_of o (group_in e.0)) (rp_of a (group_in e.0))) e _
       refl refl
 
-  rps_good : (o a : State) (e : Key × RegisterRow) → GoodRegister late up e → GoodRegister late up (rps_entry o a e)
+  rps_good : (o a : State) (e : Key × RegisterRow) → Good late up Registers e → Good late up Registers (rps_entry o a e)
   unfolding rps_entry
   rps_good o a e f =
-      by_cond (GoodRegister late up) (same_option (rp_of o (group_in e.0)) (rp_of a (group_in e.0))) e
+      by_cond (Good late up Registers) (same_option (rp_of o (group_in e.0)) (rp_of a (group_in e.0))) e
       (e.0, record { state = RegisterState.Join }) f tt
 
-  pub after_rps_fine : (o a : State) → IsFine m late up a → Fine (GoodRegister late up) (registers_after_rps o a)
+  pub after_rps_fine : (o a : State) → IsFine m late up a → Fine (Good late up Registers) (registers_after_rps o a)
   unfolding registers_after_rps rps_entry
   after_rps_fine o a f =
-      fine_map (GoodRegister late up) (rps_entry o a) (rps_key o a) (rps_good o a) a.registers (f.tables Registers)
+      fine_map (Good late up Registers) (rps_entry o a) (rps_key o a) (rps_good o a) a.registers (f.tables Registers)

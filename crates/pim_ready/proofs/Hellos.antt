@@ -4,16 +4,19 @@ use Rattle.pim_types.specs.declared.fact.InterfaceRow.{InterfaceRow}
 use Rattle.pim_types.specs.declared.fact.JoinTimerRow.{JoinTimerRow}
 use Rattle.pim_types.specs.declared.fact.Key.{Key}
 use Rattle.pim_types.specs.declared.fact.NeighbourRow.{NeighbourRow}
+use Rattle.pim_types.specs.Keys.{is_on, neighbour_key}
 use Rattle.pim_wire.specs.declared.hello.Hello.{Hello as HelloValue}
 use Rattle.pim_model.specs.Downstream.{holdtime_end_from}
 use Rattle.pim_model.specs.Hellos.{hello_holdtime_of, hello_received, hello_triggered, hellos_triggered, is_generation_changed, is_lost_to, neighbour_replaced, neighbour_restarted, neighbours_replaced, upstream_of}
 use Rattle.pim_model.specs.Neighbours.{t_override, t_override_among}
 use Rattle.pim_model.specs.State.{State}
 use Rattle.pim_model.specs.Tables.{delay_in, hop_at, same_hop}
-use Rattle.pim_types.specs.Keys.{is_on, neighbour_key}
-use Rattle.pim_ready.proofs.FineTables.{fine_filter, fine_map, fine_set_row, has_row_map}
-use Rattle.pim_ready.proofs.LateEnds.{by_cond, late_by, late_min}
-use Rattle.pim_ready.proofs.FineStates.{Lateness, Runs, GoodAssert, GoodInterface, GoodJoinTimer, GoodNeighbour, IsFine, Asserts, Interfaces, JoinTimers, Neighbours, with_asserts, with_interfaces, with_join_timers, with_neighbours}
+use Rattle.pim_laws.proofs.RowLaws.{has_row_map}
+use Rattle.pim_laws.proofs.ListLaws.{by_cond}
+use Rattle.pim_laws.proofs.Parts.{Asserts, Interfaces, JoinTimers, Neighbours}
+use Rattle.pim_ready.proofs.FineTables.{fine_filter, fine_map, fine_set_row}
+use Rattle.pim_ready.proofs.LateEnds.{late_by, late_min}
+use Rattle.pim_ready.proofs.FineStates.{Lateness, Runs, Good, IsFine, rows_fine, with_interfaces}
 
 module _ (m : ℕ) (late up : ℕ → Bool) (lateness : Lateness m late) where
   pub some_delay : (low high w : ℕ) → 1 ≤ low → 1 ≤ delay_in low high w
@@ -43,11 +46,11 @@ module _ (m : ℕ) (late up : ℕ → Bool) (lateness : Lateness m late) where
   unfolding triggered
   triggered_key i end e = by_cond (λ (p : Key × InterfaceRow). p.0 ≡ e.0) (is_on i e.0) _ e refl refl
 
-  triggered_good : (i end : ℕ) → late end ≡ true → (e : Key × InterfaceRow) → GoodInterface late up e
-      → GoodInterface late up (triggered i end e)
+  triggered_good : (i end : ℕ) → late end ≡ true → (e : Key × InterfaceRow) → Good late up Interfaces e
+      → Good late up Interfaces (triggered i end e)
   unfolding triggered
   triggered_good i end h e g =
-      by_cond (GoodInterface late up) (is_on i e.0)
+      by_cond (Good late up Interfaces) (is_on i e.0)
       (e.0, record e.1 { hello_end = min (e.1).hello_end end; is_hello_owed = true }) e
       (late_min m late lateness (e.1).hello_end end g h) g
 
@@ -57,7 +60,7 @@ module _ (m : ℕ) (late up : ℕ → Bool) (lateness : Lateness m late) where
       let end : ℕ = s.present + delay_in 1 5000 w in
       with_interfaces m late up s f (map (triggered i end) s.interfaces)
       (λ k. has_row_map k (triggered i end) (triggered_key i end) s.interfaces)
-      (fine_map (GoodInterface late up) (triggered i end) (triggered_key i end)
+      (fine_map (Good late up Interfaces) (triggered i end) (triggered_key i end)
       (triggered_good i end (late_by m late lateness s.present (delay_in 1 5000 w) f.present
       (some_delay 1 5000 w (omega arith))))
       s.interfaces (f.tables Interfaces))
@@ -73,8 +76,8 @@ module _ (m : ℕ) (late up : ℕ → Bool) (lateness : Lateness m late) where
       → IsFine m late up (neighbour_replaced s i address h)
   unfolding neighbour_replaced neighbours_replaced
   replaced_fine s i address h here f =
-      with_neighbours m late up s f _
-      (fine_set_row (GoodNeighbour late up) s.neighbours (neighbour_key i address) _
+      rows_fine m late up Neighbours tt s f _
+      (fine_set_row (Good late up Neighbours) s.neighbours (neighbour_key i address) _
       (λ r e. (
         replaced_good s.present (hello_holdtime_of h) _ r (hello_holdtime_of h == 0) refl f.present refl e,
         here,
@@ -92,11 +95,11 @@ module _ (m : ℕ) (late up : ℕ → Bool) (lateness : Lateness m late) where
       refl
 
   restarted_good : (o : State) (i address end : ℕ) → late end ≡ true → (e : Key × JoinTimerRow)
-      → GoodJoinTimer late up e
-      → GoodJoinTimer late up (restarted o i address end e)
+      → Good late up JoinTimers e
+      → Good late up JoinTimers (restarted o i address end e)
   unfolding restarted
   restarted_good o i address end h e g =
-      by_cond (GoodJoinTimer late up) (same_hop (upstream_of o e.0) (Some (hop_at i address)))
+      by_cond (Good late up JoinTimers) (same_hop (upstream_of o e.0) (Some (hop_at i address)))
       (e.0, record { end = min (e.1).end end }) e
       (late_min m late lateness (e.1).end end g h) g
 
@@ -107,10 +110,10 @@ module _ (m : ℕ) (late up : ℕ → Bool) (lateness : Lateness m late) where
       let end : ℕ = s.present + t_override s i w in
       let one : State = record s { asserts = filter (λ e. not (is_lost_to i address e)) s.asserts } in
       let g : IsFine m late up one =
-      with_asserts m late up s f (filter (λ e. not (is_lost_to i address e)) s.asserts)
-      (fine_filter (GoodAssert late up) (λ e. not (is_lost_to i address e)) s.asserts (f.tables Asserts)) in
-      with_join_timers m late up one g (map (restarted o i address end) s.join_timers)
-      (fine_map (GoodJoinTimer late up) (restarted o i address end) (restarted_key o i address end)
+      rows_fine m late up Asserts tt s f (filter (λ e. not (is_lost_to i address e)) s.asserts)
+      (fine_filter (Good late up Asserts) (λ e. not (is_lost_to i address e)) s.asserts (f.tables Asserts)) in
+      rows_fine m late up JoinTimers tt one g (map (restarted o i address end) s.join_timers)
+      (fine_map (Good late up JoinTimers) (restarted o i address end) (restarted_key o i address end)
       (restarted_good o i address end
       (late_by m late lateness s.present (t_override s i w) f.present (some_override s i w)))
       s.join_timers (f.tables JoinTimers))

@@ -16,8 +16,8 @@ use Rattle.igmp_wire.specs.declared.view.IgmpView.{IgmpView}
 use Rattle.pim_model.specs.declared.accepted.Accepted.{Accepted}
 use Rattle.pim_model.specs.Judging.{Judged, assert_judged, data_judged, down_judged, frame_judged, hello_judged, igmp_accepted, igmp_judged, igmp_message_judged, ignore_if, join_prune_judged, judged, of_read, packet_judged, pim_judged, pim_message_judged, pim_to_me_judged, refuse_if, register_judged, register_stop_judged, routes_judged, rps_judged, unicast_judged, unicast_packet_judged, up_judged, ◌>>◌}
 use Rattle.pim_model.specs.State.{State, is_up, my_address}
+use Rattle.pim_laws.proofs.ListLaws.{by_cond}
 use Rattle.pim_ready.specs.Ready.{IsTimeless}
-use Rattle.pim_ready.proofs.LateEnds.{by_cond}
 
 module _ (up : ℕ → Bool) where
   abbrev pub IsHere : Accepted → Type 0

@@ -10,7 +10,6 @@ pub mod SeenMessages
 pub mod Asserts
 pub mod Forwarding
 pub mod Records
-pub mod Intervals
 pub mod Querier
 pub mod Firing
 pub mod Judgements
@@ -19,5 +18,4 @@ pub mod ShownEnds
 pub mod LawfulStates
 pub mod SettledStates
 pub mod LawfulFiring
-pub mod WeakerStates
 pub mod Steps

@@ -13,10 +13,11 @@ use Rattle.igmp_wire.specs.declared.report.RecordType.{RecordType}
 use Rattle.pim_model.specs.Records.{GroupRecord, Member, apply_record, group_expired, is_at_group, is_no_record, members_of, put_member, record_of, source_expired, with_members, with_record, with_repeats_of_rows}
 use Rattle.pim_model.specs.State.{State}
 use Rattle.pim_model.specs.Tables.{Table, drop_at, drop_where, has_row, put, row_at}
+use Rattle.pim_laws.proofs.ListLaws.{by_cond, each_map, each_passing}
+use Rattle.pim_laws.proofs.Parts.{GroupRecords, GroupRepeats, Sendings, SourceRecords, SourceRepeats}
 use Rattle.pim_laws.proofs.RecordLaws.{EndsSo, RecordSo, applied_so, group_expired_so, source_expired_so}
-use Rattle.pim_laws.proofs.EachLaws.{each_passing, each_map}
-use Rattle.pim_ready.proofs.FineTables.{Fine, fine_cond, fine_drop_at, fine_drop_where, fine_put, good_row}
-use Rattle.pim_ready.proofs.FineStates.{Runs, GoodGroupRecord, GoodGroupRepeat, GoodSending, GoodSourceRecord, GoodSourceRepeat, IsFine, GroupRecords, GroupRepeats, Sendings, SourceRecords, SourceRepeats, with_group_records, with_group_repeats, with_sendings, with_source_records, with_source_repeats}
+use Rattle.pim_ready.proofs.FineTables.{Fine, fine_drop_at, fine_drop_where, fine_put, good_row}
+use Rattle.pim_ready.proofs.FineStates.{Runs, Good, IsFine, rows_fine, with_row, without_rows, without_row_unless}
 
 module _ (late : ℕ → Bool) (here : Type 0) where
   -- a late end, on an interface that is up
@@ -76,25 +77,25 @@ module _ (m : ℕ) (late up : ℕ → Bool) where
   unfolding record_of members_of
   record_good s i g f = record {
     timer = row_timer late (up i ≡ true) (row_at s.group_records (star_key i g))
-        (λ r e. let its : GoodGroupRecord late up (star_key i g, r) = good_row (GoodGroupRecord late up) s.group_records
-        (star_key i g) r (f.tables GroupRecords) e in (its.1, its.2));
+        (λ r e. let its : Good late up GroupRecords (star_key i g, r) = good_row (Good late up GroupRecords)
+        s.group_records (star_key i g) r (f.tables GroupRecords) e in (its.1, its.2));
     members =
-        each_map (λ e. GoodSourceRecord late up e × (is_at_group i g e.0 ≡ true)) (GoodMember late (up i ≡ true))
+        each_map (λ e. Good late up SourceRecords e × (is_at_group i g e.0 ≡ true)) (GoodMember late (up i ≡ true))
         (λ (e : Key × SourceRecordRow). let p : Member = (source_in e.0, (e.1).end) in p)
         (λ e h. let here : up i ≡ true = on_up i g e.0 (h.0).2 h.1 in
         good_end late (up i ≡ true) (up i ≡ true) (e.1).end (h.0).1 here here)
         (filter (λ e. is_at_group i g e.0) s.source_records)
-        (each_passing (GoodSourceRecord late up) (λ e. is_at_group i g e.0) s.source_records
+        (each_passing (Good late up SourceRecords) (λ e. is_at_group i g e.0) s.source_records
         (f.tables SourceRecords).each);
   }
 
   put_members_fine : (i g : ℕ) (ms : List Member) (t : Table SourceRecordRow)
-      → AllByRecursion (GoodMember late (up i ≡ true)) ms → Fine (GoodSourceRecord late up) t
-      → Fine (GoodSourceRecord late up) (fold (put_member i g) t ms)
+      → AllByRecursion (GoodMember late (up i ≡ true)) ms → Fine (Good late up SourceRecords) t
+      → Fine (Good late up SourceRecords) (fold (put_member i g) t ms)
   put_members_fine i g [] t f h = h
   put_members_fine i g (p ∷ ps) t f h =
       put_members_fine i g ps (put_member i g t p) f.1
-      (fine_put (GoodSourceRecord late up) t (source_key i g p.0) (record { end = p.1 }) (
+      (fine_put (Good late up SourceRecords) t (source_key i g p.0) (record { end = p.1 }) (
         same_key_same (source_key i g p.0),
         end_runs late (up i ≡ true) (up i ≡ true) p.1 f.0,
         end_is_here late (up i ≡ true) p.1 f.0,
@@ -109,21 +110,12 @@ module _ (m : ℕ) (late up : ℕ → Bool) where
       let has_record : Bool = has_row s.group_records (star_key i g) in
       let one : State =
       record s { group_repeats = cond has_record s.group_repeats (drop_at s.group_repeats (star_key i g)) } in
-      let a : IsFine m late up one =
-      with_group_repeats m late up s f (cond has_record s.group_repeats (drop_at s.group_repeats (star_key i g)))
-      (fine_cond (GoodGroupRepeat late up) has_record s.group_repeats (drop_at s.group_repeats (star_key i g))
-      (f.tables GroupRepeats)
-      (fine_drop_at (GoodGroupRepeat late up) s.group_repeats (star_key i g) (f.tables GroupRepeats))) in
       let two : State =
       record one { source_repeats = cond has_sendings s.source_repeats (drop_at s.source_repeats (star_key i g)) } in
-      let b : IsFine m late up two =
-      with_source_repeats m late up one a (cond has_sendings s.source_repeats (drop_at s.source_repeats (star_key i g)))
-      (fine_cond (GoodSourceRepeat late up) has_sendings s.source_repeats (drop_at s.source_repeats (star_key i g))
-      (f.tables SourceRepeats)
-      (fine_drop_at (GoodSourceRepeat late up) s.source_repeats (star_key i g) (f.tables SourceRepeats))) in
-      with_sendings m late up two b sendings
-      (fine_drop_where (GoodSending late up) (λ k. is_at_group i g k && not (has_row s.source_records k)) s.sendings
-      (f.tables Sendings))
+      without_rows m late up Sendings tt two
+      (without_row_unless m late up SourceRepeats tt one
+      (without_row_unless m late up GroupRepeats tt s f has_record (star_key i g)) has_sendings (star_key i g))
+      (λ k. is_at_group i g k && not (has_row s.source_records k))
 
   pub members_fine : (s : State) (i g : ℕ) (r : GroupRecord) → GoodRecord late (up i ≡ true) r → IsFine m late up s
       → IsFine m late up (with_members s i g r)
@@ -134,16 +126,14 @@ module _ (m : ℕ) (late up : ℕ → Bool) where
       let others : Table SourceRecordRow = drop_where (is_at_group i g) s.source_records in
       let one : State = record s { group_records = groups } in
       let a : IsFine m late up one =
-      with_group_records m late up s f groups
-      (fine_cond (GoodGroupRecord late up) (is_no_record r) (drop_at s.group_records (star_key i g)) s.group_records
-      (fine_drop_at (GoodGroupRecord late up) s.group_records (star_key i g) (f.tables GroupRecords))
+      rows_fine m late up GroupRecords tt s f groups
+      (by_cond (Fine (Good late up GroupRecords)) (is_no_record r) _ s.group_records
+      (fine_drop_at (Good late up GroupRecords) s.group_records (star_key i g) (f.tables GroupRecords))
       (f.tables GroupRecords)) in
-      let two : State = record one { source_records = fold (put_member i g) others r.members } in
-      let b : IsFine m late up two =
-      with_source_records m late up one a (fold (put_member i g) others r.members)
+      repeats_fine (record one { source_records = fold (put_member i g) others r.members }) i g
+      (rows_fine m late up SourceRecords tt one a (fold (put_member i g) others r.members)
       (put_members_fine i g r.members others good.members
-      (fine_drop_where (GoodSourceRecord late up) (is_at_group i g) s.source_records (f.tables SourceRecords))) in
-      repeats_fine two i g b
+      (fine_drop_where (Good late up SourceRecords) (is_at_group i g) s.source_records (f.tables SourceRecords))))
 
   pub record_fine : (s : State) (i g : ℕ) (r : GroupRecord) → up i ≡ true → GoodRecord late (up i ≡ true) r
       → IsFine m late up s → IsFine m late up (with_record s i g r)
@@ -151,7 +141,5 @@ module _ (m : ℕ) (late up : ℕ → Bool) where
   record_fine s i g r here good f =
       let timed : State = record s { group_records = put s.group_records (star_key i g) (record { end = r.timer }) } in
       members_fine timed i g r good
-      (with_group_records m late up s f (put s.group_records (star_key i g) (record { end = r.timer }))
-      (fine_put (GoodGroupRecord late up) s.group_records (star_key i g) (record { end = r.timer })
-      (same_key_same (star_key i g), end_runs late (up i ≡ true) (Unit {0}) r.timer good.timer, here)
-      (f.tables GroupRecords)))
+      (with_row m late up GroupRecords tt s f (star_key i g) (record { end = r.timer })
+      (same_key_same (star_key i g), end_runs late (up i ≡ true) (Unit {0}) r.timer good.timer, here))

@@ -1,36 +1,17 @@
 -- Tables whose keys rise, and what holds of each entry, through what changes a table.
-use Rattle.std.proofs.Common.{◌≡◌, Bool, true, false, cond, [], ◌∷◌, map, Option, Some, None, refl, ap, ◌∙◌, subst}
+use Rattle.std.proofs.Common.{◌≡◌, Bool, true, false, cond, [], ◌∷◌, map, Option, Some, None, refl, ap, ◌∙◌}
 use Rattle.std.specs.List.{filter, filter_map, cons_option, AllByRecursion}
 use Rattle.std.specs.List.Sorted.{IsStrictlySortedBy}
 use Rattle.std.specs.BTreeMap.{insert_entry}
-use Rattle.std.specs.Ordering.{is_eq, match_ordering, ordering_reverse}
+use Rattle.std.specs.Ordering.{match_ordering, ordering_reverse}
 use Rattle.std.specs.declared.cmp.Ordering.{Ordering}
 use Rattle.std.specs.declared.cmp.Ordering.TheVariants.{Less, Equal, Greater}
 use Rattle.pim_types.specs.declared.fact.Key.{Key}
 use Rattle.pim_types.specs.Keys.{key_cmp}
-use Rattle.pim_types.proofs.Keys.{equal_keys, key_cmp_total}
+use Rattle.pim_types.proofs.Keys.{key_cmp_total}
 use Rattle.pim_model.specs.Tables.{Table, keys_in, put}
-use Rattle.pim_laws.proofs.EachLaws.{each_filter, each_filter_map, each_map, each_more}
-
--- ---- each entry
-
-module _ {R : Type 0} (P : Key × R → Type 0) (k : Key) (r : R) (new : P (k, r)) where
-  each_put_step : (x : Key × R) (xs ys : Table R) (o : Ordering) → key_cmp k x.0 ≡ o → P x → AllByRecursion P xs
-      → AllByRecursion P ys
-      → AllByRecursion P (match_ordering o ((k, r) ∷ x ∷ xs) ((x.0, r) ∷ xs) (x ∷ ys))
-  each_put_step x xs ys Less e h g f = (new, (h, g))
-  each_put_step x xs ys Equal e h g f =
-      (subst (λ (q : Key). P (q, r)) (equal_keys k x.0 (ap is_eq e)) new, g)
-  each_put_step x xs ys Greater e h g f = (h, f)
-
-  each_inserted : (t : Table R) → AllByRecursion P t → AllByRecursion P (insert_entry key_cmp t k r)
-  each_inserted [] e = (new, tt)
-  each_inserted (x ∷ xs) e =
-      each_put_step x xs (insert_entry key_cmp xs k r) (key_cmp k x.0) refl e.0 e.1 (each_inserted xs e.1)
-
-  pub each_put : (t : Table R) → AllByRecursion P t → AllByRecursion P (put t k r)
-  unfolding put
-  each_put t e = each_inserted t e
+use Rattle.pim_laws.proofs.RowLaws.{each_put}
+use Rattle.pim_laws.proofs.ListLaws.{each_filter, each_filter_map, each_map, each_more}
 
 -- ---- keys that rise
 
@@ -104,6 +85,7 @@ module _ {R : Type 0} (k : Key) (r : R) where
       → Up xs
       → Up (insert_entry key_cmp xs k r)
       → Up (match_ordering o ((k, r) ∷ x ∷ xs) ((x.0, r) ∷ xs) (x ∷ insert_entry key_cmp xs k r))
+  unfolding put
   up_put_step x xs Less e above up ih =
       ((e, each_more (IsBelow x.0) (IsBelow k) (λ y h. key_cmp_total.trans k x.0 y.0 e h) xs above), (above, up))
   up_put_step x xs Equal e above up ih = (above, up)
@@ -113,8 +95,8 @@ module _ {R : Type 0} (k : Key) (r : R) where
       less : key_cmp x.0 k ≡ Less
       less = key_cmp_total.antisymm x.0 k ∙ ap ordering_reverse e
 
-      put_above : AllByRecursion (IsBelow x.0) (insert_entry key_cmp xs k r)
-      put_above = each_inserted (IsBelow x.0) k r less xs above
+      put_above : AllByRecursion (IsBelow x.0) (put xs k r)
+      put_above = each_put k r (IsBelow x.0) less xs above
 
   pub up_put : (t : Table R) → Up t → Up (put t k r)
   unfolding put

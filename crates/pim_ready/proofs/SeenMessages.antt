@@ -5,6 +5,7 @@ use Rattle.pim_types.specs.declared.fact.JoinTimerRow.{JoinTimerRow}
 use Rattle.pim_types.specs.declared.fact.Key.{Key}
 use Rattle.pim_types.specs.declared.fact.OverrideTimerRow.{OverrideTimerRow}
 use Rattle.pim_types.specs.declared.path.Hop.{Hop}
+use Rattle.pim_types.specs.Keys.{rpt_key, source_key, star_key}
 use Rattle.pim_wire.specs.Values.{JoinPrune}
 use Rattle.pim_wire.specs.declared.join_prune.EntryKind.{EntryKind}
 use Rattle.pim_model.specs.Desires.{rpf_source, rpf_star}
@@ -12,12 +13,14 @@ use Rattle.pim_model.specs.Downstream.{Named, accepted_joins, accepted_prunes}
 use Rattle.pim_model.specs.Neighbours.{t_override}
 use Rattle.pim_model.specs.Seen.{cancel_override_timer, is_star_entry, is_unpruned_towards, join_seen, lower_join_timer, lower_override_timer, lower_source_timer, lower_star_timer, lower_tree_timer, lowered_row, override_end, prune_seen, raise_join_timer, raised_row, seen, sources_joined_towards, suppressed_end}
 use Rattle.pim_model.specs.State.{State}
-use Rattle.pim_model.specs.Tables.{drop_at, hop_at, put, row_at, same_hop, set_row}
-use Rattle.pim_types.specs.Keys.{rpt_key, source_key, star_key}
-use Rattle.pim_ready.proofs.FineTables.{fine_drop_at, fine_put, fine_set_row, good_row}
+use Rattle.pim_model.specs.Tables.{hop_at, row_at, same_hop, set_row}
+use Rattle.pim_laws.proofs.TurnLaws.{kept_by_fold}
+use Rattle.pim_laws.proofs.ListLaws.{by_cond}
+use Rattle.pim_laws.proofs.Parts.{JoinTimers, OverrideTimers}
+use Rattle.pim_ready.proofs.FineTables.{fine_set_row, good_row}
 use Rattle.pim_ready.proofs.Hellos.{some_override}
-use Rattle.pim_ready.proofs.LateEnds.{by_cond, kept_by_fold, late_by, late_max, late_min}
-use Rattle.pim_ready.proofs.FineStates.{Lateness, GoodJoinTimer, GoodOverrideTimer, IsFine, JoinTimers, OverrideTimers, with_join_timers, with_override_timers}
+use Rattle.pim_ready.proofs.LateEnds.{late_by, late_max, late_min}
+use Rattle.pim_ready.proofs.FineStates.{Lateness, Good, IsFine, rows_fine, with_row, without_row}
 
 module _ (m : ℕ) (late up : ℕ → Bool) (lateness : Lateness m late) where
   raised_late : (end : ℕ) (o : Option JoinTimerRow) → ((r : JoinTimerRow) → o ≡ Some r → late r.end ≡ true)
@@ -49,19 +52,19 @@ module _ (m : ℕ) (late up : ℕ → Bool) (lateness : Lateness m late) where
     raise_fine : IsFine m late up (raise_join_timer s k end)
     unfolding raise_join_timer
     raise_fine =
-        with_join_timers m late up s f (set_row s.join_timers k (raised_row end (row_at s.join_timers k)))
-        (fine_set_row (GoodJoinTimer late up) s.join_timers k (raised_row end (row_at s.join_timers k))
+        rows_fine m late up JoinTimers tt s f (set_row s.join_timers k (raised_row end (row_at s.join_timers k)))
+        (fine_set_row (Good late up JoinTimers) s.join_timers k (raised_row end (row_at s.join_timers k))
         (raised_late end (row_at s.join_timers k)
-        (λ q g. good_row (GoodJoinTimer late up) s.join_timers k q (f.tables JoinTimers) g))
+        (λ q g. good_row (Good late up JoinTimers) s.join_timers k q (f.tables JoinTimers) g))
         (f.tables JoinTimers))
 
     lower_fine : late end ≡ true → IsFine m late up (lower_join_timer s k end)
     unfolding lower_join_timer
     lower_fine h =
-        with_join_timers m late up s f (set_row s.join_timers k (lowered_row end (row_at s.join_timers k)))
-        (fine_set_row (GoodJoinTimer late up) s.join_timers k (lowered_row end (row_at s.join_timers k))
+        rows_fine m late up JoinTimers tt s f (set_row s.join_timers k (lowered_row end (row_at s.join_timers k)))
+        (fine_set_row (Good late up JoinTimers) s.join_timers k (lowered_row end (row_at s.join_timers k))
         (lowered_late end (row_at s.join_timers k) h
-        (λ q g. good_row (GoodJoinTimer late up) s.join_timers k q (f.tables JoinTimers) g))
+        (λ q g. good_row (Good late up JoinTimers) s.join_timers k q (f.tables JoinTimers) g))
         (f.tables JoinTimers))
 
     lower_override_fine : late end ≡ true → IsFine m late up (lower_override_timer s k end)
@@ -69,17 +72,14 @@ module _ (m : ℕ) (late up : ℕ → Bool) (lateness : Lateness m late) where
     lower_override_fine h =
         let row : OverrideTimerRow =
         record { end = option_map_or (λ (r : OverrideTimerRow). min r.end end) (row_at s.override_timers k) end } in
-        with_override_timers m late up s f (put s.override_timers k row)
-        (fine_put (GoodOverrideTimer late up) s.override_timers k row
+        with_row m late up OverrideTimers tt s f k row
         (lowered_override end (row_at s.override_timers k) h
-        (λ q g. good_row (GoodOverrideTimer late up) s.override_timers k q (f.tables OverrideTimers) g))
-        (f.tables OverrideTimers))
+        (λ q g. good_row (Good late up OverrideTimers) s.override_timers k q (f.tables OverrideTimers) g))
 
     cancel_fine : IsFine m late up (cancel_override_timer s k)
     unfolding cancel_override_timer
     cancel_fine =
-        with_override_timers m late up s f (drop_at s.override_timers k)
-        (fine_drop_at (GoodOverrideTimer late up) s.override_timers k (f.tables OverrideTimers))
+        without_row m late up OverrideTimers tt s f k
 
   join_seen_fine : (o : State) (holdtime w : ℕ) (hop : Hop) (s : State) (n : Named) → IsFine m late up s
       → IsFine m late up (join_seen o holdtime w hop s n)

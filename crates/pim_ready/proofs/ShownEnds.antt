@@ -1,40 +1,24 @@
 -- Between two events a state is fine where all ends are later than the present, and the other way round.
 use Rattle.std.proofs.Common.{◌≡◌, ℕ, suc, ◌<◌, ◌≤◌, nat_lt, nat_le, Bool, true, List, [], ◌∷◌, Option, Some, None, refl, ap, ◌∙◌, arith, eqb-true, eq-eqb, ltb-true, lt-ltb, le-leb}
+use Rattle.std.proofs.lemmas.Bool.{or_left, or_right}
 use Rattle.std.specs.Cmp.{first_so, second_so}
 use Rattle.std.specs.Cmp.Derive.{both_true}
 use Rattle.std.specs.List.{AllByRecursion, list_all}
 use Rattle.pim_types.specs.declared.fact.Key.{Key}
 use Rattle.pim_types.specs.declared.timer.TimerKind.{TimerKind}
-use Rattle.pim_laws.specs.Laws.{ends_after}
+use Rattle.pim_types.specs.Keys.{same_key}
+use Rattle.pim_types.proofs.Keys.{same_key_same}
 use Rattle.pim_model.specs.State.{State}
 use Rattle.pim_model.specs.Tables.{Table, same_option}
-use Rattle.pim_types.specs.Keys.{same_key}
 use Rattle.pim_model.specs.Timers.{Ending, timers}
+use Rattle.pim_laws.proofs.ListLaws.{either}
+use Rattle.pim_laws.specs.Laws.{ends_after}
 use Rattle.pim_laws.proofs.Ends.{Ends, shows, shows_in, shows_row}
-use Rattle.pim_types.proofs.Keys.{same_key_same}
-use Rattle.pim_laws.proofs.TableLaws.{either, or_left, or_right}
 use Rattle.pim_laws.proofs.TimerLaws.{from_shown}
 use Rattle.pim_ready.specs.Ready.{Rises}
 use Rattle.pim_ready.proofs.FineTables.{Fine}
 use Rattle.pim_ready.proofs.RisingKeys.{up_of_sorted}
 use Rattle.pim_ready.proofs.FineStates.{Runs}
-
--- ---- lists
-
-module _ {X : Type 0} (p : X → Bool) where
-  pub each_of_list : (xs : List X) → list_all p xs ≡ true → AllByRecursion (λ x. p x ≡ true) xs
-  each_of_list [] e = tt
-  each_of_list (x ∷ xs) e = (first_so (p x) (list_all p xs) e, each_of_list xs (second_so (p x) (list_all p xs) e))
-
-  pub list_of_each : (xs : List X) → AllByRecursion (λ x. p x ≡ true) xs → list_all p xs ≡ true
-  list_of_each [] e = refl
-  list_of_each (x ∷ xs) e = both_true e.0 (list_of_each xs e.1)
-
-pub each_both : {X : Type 0} (P Q G : X → Type 0) → ((x : X) → P x → Q x → G x) → (xs : List X) → AllByRecursion P xs
-    → AllByRecursion Q xs
-    → AllByRecursion G xs
-each_both P Q G both [] e f = tt
-each_both P Q G both (x ∷ xs) e f = (both x e.0 f.0, each_both P Q G both xs e.1 f.1)
 
 -- ---- ends that are shown
 

@@ -60,7 +60,8 @@ module _ (P : State → Type 0) (s : State) (w : ℕ) (stays : P s)
   concluded_holds (Err stop) here = stopped_holds stop
   concluded_holds (Ok a) here = unless_full (is_full s a) (taken s w a) (taken_holds a here.accepts)
 
-  pub after_timeless : (kind : EventKind) → IsTimeless kind → Holds (concluded s (taken_unless_full s w) (judged s kind))
+  pub after_timeless : (kind : EventKind) → IsTimeless kind
+      → Holds (concluded s (taken_unless_full s w) (judged s kind))
   after_timeless kind none = concluded_holds (judged s kind) (kind_is_judged s kind none)
 
   module _ (passes : (moment : ℕ) → Holds (advanced s w moment)) where

@@ -1,5 +1,6 @@
 -- A plain state stays one.
-use Rattle.std.proofs.Common.{◌≡◌, ℕ, Bool, true, false, List, [], ◌∷◌, ◌&&◌, ◌++◌, map, min, refl}
+use Rattle.std.proofs.Common.{◌≡◌, ℕ, Bool, true, false, List, [], ◌∷◌, ◌++◌, map, min, refl}
+use Rattle.std.specs.Cmp.Derive.{both_true}
 use Rattle.std.specs.Cmp.{first_so, second_so}
 use Rattle.std.specs.Prelude.{if◌then◌else◌}
 use Rattle.pim_types.specs.declared.config.Config.{Config}
@@ -65,18 +66,14 @@ up s w i p = besides s _ s.neighbours _ s.join_timers p p.join_timers
 
 -- ---- Hellos
 
-both : (a b : Bool) → a ≡ true → b ≡ true → (a && b) ≡ true
-both true b p q = q
-both false b p q = p
-
 abbrev low : (Key → Bool) → ℕ → Table JoinTimerRow → Table JoinTimerRow
 low test end t = map (λ (e : Key × JoinTimerRow). if test e.0 then (e.0, record { end = min (e.1).end end }) else e) t
 
 one_lowered : (end : ℕ) (b : Bool) (e : Key × JoinTimerRow) (later : Table JoinTimerRow) → is_star_alone e.0 ≡ true
     → are_stars later ≡ true
     → are_stars ((if b then (e.0, record { end = min (e.1).end end }) else e) ∷ later) ≡ true
-one_lowered end true e later h all = both (is_star_alone e.0) (are_stars later) h all
-one_lowered end false e later h all = both (is_star_alone e.0) (are_stars later) h all
+one_lowered end true e later h all = both_true h all
+one_lowered end false e later h all = both_true h all
 
 lowered : (test : Key → Bool) (end : ℕ) (t : Table JoinTimerRow) → are_stars t ≡ true
     → are_stars (low test end t) ≡ true

@@ -1,6 +1,7 @@
 -- Which machines a change concerns.
 use Rattle.std.proofs.Common.{◌≡◌, ℕ, Bool, true, false, List, [], ◌∷◌, ◌&&◌, ◌++◌, ◌==◌, ◌||◌, min, map, not, Option, Some, None, refl, ap, eqb-true, subst, sym, ◌∙◌}
 use Rattle.std.specs.Cmp.{first_so, second_so}
+use Rattle.std.proofs.lemmas.List.Folds.{list_any-append}
 use Rattle.std.specs.List.{list_any}
 use Rattle.std.specs.Option.{option_map_or}
 use Rattle.std.specs.Prelude.{if◌then◌else◌}
@@ -21,9 +22,9 @@ use Rattle.pim_model.specs.State.{State}
 use Rattle.pim_model.specs.Step.{change, iface_up}
 use Rattle.pim_model.specs.Tables.{Table, is_among, keys_in, row_at, same_option}
 use Rattle.pim_model.specs.Upstream.{fact_keys, groups_of}
-use Rattle.pim_laws.proofs.TableLaws.{any_append, any_of_map}
+use Rattle.pim_laws.proofs.Numbers.{any_ascending, members_tell}
+use Rattle.pim_laws.proofs.TableLaws.{any_of_map}
 use Rattle.pim_locality.proofs.EventLaws.{change_touches}
-use Rattle.pim_locality.proofs.Members.{any_ascending, members_tell}
 use Rattle.pim_locality.proofs.RefreshedNeighbours.{hello_again_touches_none}
 use Rattle.pim_locality.specs.Events.{touched_by_event}
 use Rattle.pim_locality.specs.Locality.{AgreesBut, touching}
@@ -51,7 +52,7 @@ groups_twice ks =
     members_tell (map group_in (ks ++ ks)) (map group_in ks) (λ n.
     any_ascending (λ m. m == n) (map group_in (ks ++ ks))
     ∙ any_of_map (λ m. m == n) group_in (ks ++ ks)
-    ∙ any_append (λ k. group_in k == n) ks ks
+    ∙ list_any-append (λ k. group_in k == n) ks ks
     ∙ twice (list_any (λ k. group_in k == n) ks)
     ∙ sym (any_ascending (λ m. m == n) (map group_in ks) ∙ any_of_map (λ m. m == n) group_in ks))
 

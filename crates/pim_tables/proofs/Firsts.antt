@@ -23,7 +23,7 @@ use Rattle.pim_timers.proofs.Total.{due_cmp_total}
 use Rattle.pim_model.specs.Clearing.{first_by, first_of_both}
 use Rattle.pim_model.specs.Tables.{Table, keys_in, row_at}
 use Rattle.pim_model.specs.Timers.{Ending, ending, ending_cmp, endings, is_ending_first}
-use Rattle.pim_laws.proofs.TimerLaws.{all_append}
+use Rattle.pim_laws.proofs.ListLaws.{each_append}
 use Rattle.pim_tables.specs.Ends.{InStep, Kinds, due_of, end_of, is_second, row_endings, same_kind, second_endings}
 use Rattle.pim_tables.proofs.Steps.{first_end, kind_exact, second_end}
 
@@ -216,7 +216,7 @@ module _ {R : Type 0} (kinds : Kinds) (ends : R → Option ℕ × Option ℕ) (r
         → AllByRecursion IsSet (second_endings second second_in rows first_ones)
     both_set None is = first_set
     both_set (Some kind) is =
-        all_append IsSet first_ones (endings kind second_in rows) first_set
+        each_append IsSet first_ones (endings kind second_in rows) first_set
         (all_of_kind kind second_in (λ r. second_end kinds ends apart r kind kind is (same_itself kind)))
 
     next_of : (o : Option Ending) → FirstOf IsSet (row_endings kinds ends rows) o

@@ -5,12 +5,12 @@ use Rattle.std.specs.Ordering.{is_lt, ordering_reverse}
 use Rattle.std.specs.declared.cmp.Ordering.{Ordering}
 use Rattle.std.specs.declared.cmp.Ordering.TheVariants.{Less, Equal, Greater}
 use Rattle.std.proofs.lemmas.Bool.{true≢false}
+use Rattle.std.proofs.lemmas.List.Folds.{list_any-append}
 use Rattle.pim_timers.specs.Order.{due_cmp}
 use Rattle.pim_timers.proofs.Total.{due_cmp_total, due_exact}
 use Rattle.pim_model.specs.Clearing.{first_by}
 use Rattle.pim_model.specs.Timers.{Ending, ending_cmp, is_ending_first}
 use Rattle.pim_laws.proofs.ListLaws.{first_by_member}
-use Rattle.pim_laws.proofs.TableLaws.{any_append}
 use Rattle.pim_tables.specs.Ends.{due_of}
 use Rattle.pim_tables.proofs.Firsts.{FirstOf, NoneBefore, first_of}
 
@@ -80,7 +80,7 @@ shuffled false false false false e = refl
 any_moved : (p : Ending → Bool) (v w x y z : List Ending)
     → list_any p (v ++ w ++ x ++ y ++ z) ≡ list_any p (v ++ y ++ w ++ x ++ z)
 any_moved p v w x y z =
-    simp any_append (shuffled (list_any p v) (list_any p w) (list_any p x) (list_any p y) (list_any p z))
+    simp list_any-append (shuffled (list_any p v) (list_any p w) (list_any p x) (list_any p y) (list_any p z))
 
 -- the second ends of two tables, moved to the first
 pub moved : (n p d gr sr a k r o j q g s y h : List Ending)

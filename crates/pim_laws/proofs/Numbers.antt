@@ -1,53 +1,56 @@
--- Ascending numbers are told by their members.
+-- Numbers put in order: they rise, they are told by their members, and stay in order.
 use Rattle.std.proofs.Common.{◌≡◌, ◌≤◌, ◌==◌, ◌||◌, ℕ, suc, Bool, true, false, cond, List, [], ◌∷◌, nat_lt, refl, sym, ap, ◌∙◌, arith, subst, eq-eqb}
+use Rattle.std.proofs.Math.Bool.{or-false, or_assoc, or_self_left}
 use Rattle.std.specs.List.{filter, list_any}
 use Rattle.std.specs.Prelude.{fold, if◌then◌else◌}
 use Rattle.std.proofs.lemmas.Bool.Decides.{nat_tests}
 use Rattle.std.proofs.lemmas.Grind.{common_steps}
 use Rattle.pim_model.specs.Tables.{ascending, insert_number, is_among}
+use Rattle.pim_laws.proofs.ListLaws.{or_swapped}
 
 -- each is above the one before, the first not below k
-abbrev pub Rises : ℕ → List ℕ → Type 0
-Rises k [] = Unit {0}
-Rises k (n ∷ ns) = (k ≤ n) × Rises (suc n) ns
+abbrev pub RisesFrom : ℕ → List ℕ → Type 0
+RisesFrom k [] = Unit {0}
+RisesFrom k (n ∷ ns) = (k ≤ n) × RisesFrom (suc n) ns
 
-rises_inserted : (k n : ℕ) (ms : List ℕ) → k ≤ n → Rises k ms → Rises k (insert_number n ms)
+pub rises_inserted : (k n : ℕ) (ms : List ℕ) → k ≤ n → RisesFrom k ms → RisesFrom k (insert_number n ms)
 unfolding insert_number
 rises_inserted k n [] least r = (least, tt)
 rises_inserted k n (m ∷ ms) least r =
     by_test (nat_lt n m) refl (n == m) refl (insert_number n ms)
     (λ (above : suc m ≤ n). rises_inserted (suc m) n ms above r.1) where
       by_test : (less : Bool) → nat_lt n m ≡ less → (same : Bool) → (n == m) ≡ same → (later : List ℕ)
-          → (suc m ≤ n → Rises (suc m) later)
-          → Rises k (if less then n ∷ m ∷ ms else (if same then m ∷ ms else m ∷ later))
+          → (suc m ≤ n → RisesFrom (suc m) later)
+          → RisesFrom k (if less then n ∷ m ∷ ms else (if same then m ∷ ms else m ∷ later))
       by_test true e same f later go = (least, (grind (arith, nat_tests, e), r.1))
       by_test false e true f later go = r
       by_test false e false f later go = (r.0, go (grind (arith, nat_tests, e, f)))
 
-rises_folded : (ns sorted : List ℕ) → Rises 0 sorted → Rises 0 (fold (λ sorted n. insert_number n sorted) sorted ns)
+rises_folded : (ns sorted : List ℕ) → RisesFrom 0 sorted
+    → RisesFrom 0 (fold (λ sorted n. insert_number n sorted) sorted ns)
 rises_folded [] sorted r = r
 rises_folded (n ∷ ns) sorted r = rises_folded ns (insert_number n sorted) (rises_inserted 0 n sorted (omega arith) r)
 
-pub rises_ascending : (ns : List ℕ) → Rises 0 (ascending ns)
+pub rises_ascending : (ns : List ℕ) → RisesFrom 0 (ascending ns)
 unfolding ascending
 rises_ascending ns = rises_folded ns [] tt
 
-rises_from : (k l : ℕ) (ns : List ℕ) → k ≤ l → Rises l ns → Rises k ns
+rises_from : (k l : ℕ) (ns : List ℕ) → k ≤ l → RisesFrom l ns → RisesFrom k ns
 rises_from k l [] least r = tt
 rises_from k l (n ∷ ns) least r = (omega (arith, r.0), r.1)
 
-rises_step : (p : ℕ → Bool) (k n : ℕ) (ns : List ℕ) (b : Bool) → k ≤ n → Rises (suc n) (filter p ns)
-    → Rises k (cond b (n ∷ filter p ns) (filter p ns))
+rises_step : (p : ℕ → Bool) (k n : ℕ) (ns : List ℕ) (b : Bool) → k ≤ n → RisesFrom (suc n) (filter p ns)
+    → RisesFrom k (cond b (n ∷ filter p ns) (filter p ns))
 rises_step p k n ns true least r = (least, r)
 rises_step p k n ns false least r = rises_from k (suc n) (filter p ns) (omega arith) r
 
-pub rises_filtered : (p : ℕ → Bool) (k : ℕ) (ns : List ℕ) → Rises k ns → Rises k (filter p ns)
+pub rises_filtered : (p : ℕ → Bool) (k : ℕ) (ns : List ℕ) → RisesFrom k ns → RisesFrom k (filter p ns)
 rises_filtered p k [] r = tt
 rises_filtered p k (n ∷ ns) r = rises_step p k n ns (p n) r.0 (rises_filtered p (suc n) ns r.1)
 
 -- ---- members
 
-above : (n k : ℕ) (ns : List ℕ) → Rises k ns → list_any (λ m. m == n) ns ≡ true → k ≤ n
+above : (n k : ℕ) (ns : List ℕ) → RisesFrom k ns → list_any (λ m. m == n) ns ≡ true → k ≤ n
 above n k [] r e = cc
 above n k (m ∷ ns) r e = go (m == n) refl e (above n (suc m) ns r.1)
   where
@@ -56,7 +59,7 @@ above n k (m ∷ ns) r e = go (m == n) refl e (above n (suc m) ns r.1)
     go true f h later = grind (arith, nat_tests, f, r.0)
     go false f h later = omega (arith, r.0, later h)
 
-heads : (x y : ℕ) (xs ys : List ℕ) → Rises (suc x) xs → Rises (suc y) ys
+heads : (x y : ℕ) (xs ys : List ℕ) → RisesFrom (suc x) xs → RisesFrom (suc y) ys
     → list_any (λ m. m == x) (y ∷ ys) ≡ true → list_any (λ m. m == y) (x ∷ xs) ≡ true → x ≡ y
 heads x y xs ys r t e f = go (y == x) refl (x == y) refl e f
   where
@@ -68,7 +71,7 @@ heads x y xs ys r t e f = go (y == x) refl (x == y) refl e f
         let up : suc y ≤ x = above x (suc y) ys t i in
         let down : suc x ≤ y = above y (suc x) xs r j in omega arith
 
-tails : (x : ℕ) (xs ys : List ℕ) → Rises (suc x) xs → Rises (suc x) ys
+tails : (x : ℕ) (xs ys : List ℕ) → RisesFrom (suc x) xs → RisesFrom (suc x) ys
     → ((n : ℕ) → list_any (λ m. m == n) (x ∷ xs) ≡ list_any (λ m. m == n) (x ∷ ys))
     → (n : ℕ) → list_any (λ m. m == n) xs ≡ list_any (λ m. m == n) ys
 tails x xs ys r t same n = go (x == n) refl (list_any (λ m. m == n) xs) refl (list_any (λ m. m == n) ys) refl (same n)
@@ -81,7 +84,7 @@ tails x xs ys r t same n = go (x == n) refl (list_any (λ m. m == n) xs) refl (l
     go true e false f true h i = let up : suc x ≤ n = above n (suc x) ys t h in absurd (grind (arith, nat_tests, e))
     go true e false f false h i = refl
 
-pub same_numbers : (k l : ℕ) (xs ys : List ℕ) → Rises k xs → Rises l ys
+pub same_numbers : (k l : ℕ) (xs ys : List ℕ) → RisesFrom k xs → RisesFrom l ys
     → ((n : ℕ) → list_any (λ m. m == n) xs ≡ list_any (λ m. m == n) ys) → xs ≡ ys
 same_numbers k l [] [] r t same = refl
 same_numbers k l [] (y ∷ ys) r t same = cc (same y, ap (λ (b : Bool). b || list_any (λ m. m == y) ys) (eq-eqb y y refl))
@@ -91,7 +94,7 @@ same_numbers k l (x ∷ xs) (y ∷ ys) r t same =
     heads x y xs ys r.1 t.1
     (sym (same x) ∙ ap (λ (b : Bool). b || list_any (λ m. m == x) xs) (eq-eqb x x refl))
     (same y ∙ ap (λ (b : Bool). b || list_any (λ m. m == y) ys) (eq-eqb y y refl)) in
-    let rises : Rises (suc x) ys = subst (λ (z : ℕ). Rises (suc z) ys) (sym head) t.1 in
+    let rises : RisesFrom (suc x) ys = subst (λ (z : ℕ). RisesFrom (suc z) ys) (sym head) t.1 in
     let tail : xs ≡ ys = same_numbers (suc x) (suc x) xs ys r.1 rises
     (tails x xs ys r.1 rises (λ n. same n ∙ ap (λ (z : ℕ). (z == n) || list_any (λ m. m == n) ys) (sym head))) in
     λ j. head j ∷ tail j
@@ -107,22 +110,12 @@ module _ (q : ℕ → Bool) where
   equal_numbers : (n m : ℕ) → (n == m) ≡ true → q n ≡ q m
   equal_numbers n m e = ap q (grind (arith, common_steps, e))
 
-  swapped : (a b c : Bool) → (b || (a || c)) ≡ (a || (b || c))
-  swapped true true c = refl
-  swapped true false c = refl
-  swapped false true c = refl
-  swapped false false c = refl
-
-  doubled : (a c : Bool) → (a || c) ≡ (a || (a || c))
-  doubled true c = refl
-  doubled false c = refl
-
   put_in : (n m : ℕ) (ms later : List ℕ) (less same : Bool) → (n == m) ≡ same
       → list_any q later ≡ (q n || list_any q ms)
       → list_any q (if less then n ∷ m ∷ ms else (if same then m ∷ ms else m ∷ later)) ≡ (q n || (q m || list_any q ms))
   put_in n m ms later true same e is = refl
-  put_in n m ms later false true e is = rw (equal_numbers n m e) (doubled (q m) (list_any q ms))
-  put_in n m ms later false false e is = rw is (swapped (q n) (q m) (list_any q ms))
+  put_in n m ms later false true e is = rw (equal_numbers n m e) (sym (or_self_left (q m) (list_any q ms)))
+  put_in n m ms later false false e is = rw is (or_swapped (q m) (q n) (list_any q ms))
 
   any_inserted : (n : ℕ) (ms : List ℕ) → list_any q (insert_number n ms) ≡ (q n || list_any q ms)
   unfolding insert_number
@@ -133,16 +126,14 @@ module _ (q : ℕ → Bool) where
       ≡ (list_any q ns || list_any q ms)
   any_folded [] ms = refl
   any_folded (n ∷ ns) ms =
-      any_folded ns (insert_number n ms) ∙ rw (any_inserted n ms) (moved (q n) (list_any q ns) (list_any q ms)) where
-        moved : (a b c : Bool) → (b || (a || c)) ≡ ((a || b) || c)
-        moved true true c = refl
-        moved true false c = refl
-        moved false true c = refl
-        moved false false c = refl
+      any_folded ns (insert_number n ms)
+      ∙ rw (any_inserted n ms)
+      (or_swapped (list_any q ns) (q n) (list_any q ms) ∙ sym (or_assoc (q n) (list_any q ns) (list_any q ms)))
 
   pub any_ascending : (ns : List ℕ) → list_any q (ascending ns) ≡ list_any q ns
   unfolding ascending
-  any_ascending ns = any_folded ns [] ∙ last (list_any q ns) where
-    last : (b : Bool) → (b || false) ≡ b
-    last true = refl
-    last false = refl
+  any_ascending ns = any_folded ns [] ∙ or-false (list_any q ns)
+
+pub ascending_again : (ns : List ℕ) → ascending (ascending ns) ≡ ascending ns
+unfolding is_among
+ascending_again ns = members_tell (ascending ns) ns (λ n. any_ascending (λ m. m == n) (ascending ns))

@@ -1,40 +1,46 @@
--- The intervals of a fine state aren't 0.
-use Rattle.std.proofs.Common.{◌≡◌, ℕ, ◌<◌, ◌≤◌, ◌*◌, nat_lt, Bool, true, ◌&&◌, Option, Some, None, refl, arith, ltb-true}
+-- The intervals of a querier in force aren't 0.
+use Rattle.std.proofs.Common.{◌≡◌, ℕ, ◌<◌, ◌≤◌, ◌*◌, nat_lt, true, ◌&&◌, Option, Some, None, refl, arith, ltb-true}
 use Rattle.std.specs.Cmp.{first_so, second_so}
 use Rattle.std.specs.Option.{option_map_or}
 use Rattle.std.proofs.lemmas.Nat.{mul-le}
+use Rattle.pim_types.specs.declared.config.Settings.{Settings}
 use Rattle.pim_types.specs.declared.fact.QuerierRow.{QuerierRow}
+use Rattle.pim_types.specs.Keys.{iface_key}
 use Rattle.pim_model.specs.Querier.{group_membership_interval, last_member_query_interval, last_member_query_time, other_querier_interval, query_interval, robustness, startup_query_interval}
 use Rattle.pim_model.specs.State.{State}
-use Rattle.pim_types.specs.Keys.{iface_key, same_key}
 use Rattle.pim_model.specs.Tables.{row_at}
-use Rattle.pim_ready.proofs.FineTables.{Fine, good_row}
-use Rattle.pim_ready.proofs.FineStates.{GoodQuerier, IsFirm}
 
-module _ (late up : ℕ → Bool) (s : State) (firm : IsFirm s.settings) (rows : Fine (GoodQuerier late up) s.queriers)
-    (i : ℕ) where
-  in_force : (r : QuerierRow) → row_at s.queriers (iface_key i) ≡ Some r
+-- no interval and no robustness is 0
+pub record IsFirm (c : Settings) : Type 0 where
+  pub query_interval : nat_lt 0 c.query_interval ≡ true
+  pub last_member_query_interval : nat_lt 0 c.last_member_query_interval ≡ true
+  pub robustness : nat_lt 0 c.robustness ≡ true
+
+-- nor those of an interface's querier
+pub record IsInForce (s : State) (i : ℕ) : Type 0 where
+  pub firm : IsFirm s.settings
+  pub row : (r : QuerierRow) → row_at s.queriers (iface_key i) ≡ Some r
       → (nat_lt 0 r.robustness && nat_lt 0 r.query_interval) ≡ true
-  in_force r e =
-      second_so (same_key (iface_key i) (iface_key i)) (nat_lt 0 r.robustness && nat_lt 0 r.query_interval)
-      (good_row (GoodQuerier late up) s.queriers (iface_key i) r rows e).sound
 
+module _ (s : State) (i : ℕ) (force : IsInForce s i) where
   its_robustness : (o : Option QuerierRow) → ((r : QuerierRow) → o ≡ Some r → nat_lt 0 r.robustness ≡ true)
       → 1 ≤ option_map_or (λ (q : QuerierRow). q.robustness) o s.settings.robustness
   its_robustness None good =
-      let some : 0 < s.settings.robustness = ltb-true 0 s.settings.robustness firm.robustness in omega arith
+      let some : 0 < s.settings.robustness = ltb-true 0 s.settings.robustness force.firm.robustness in omega arith
   its_robustness (Some r) good = let some : 0 < r.robustness = ltb-true 0 r.robustness (good r refl) in omega arith
 
   some_robustness : 1 ≤ robustness s i
   unfolding robustness
   some_robustness =
       its_robustness (row_at s.queriers (iface_key i))
-      (λ r e. first_so (nat_lt 0 r.robustness) (nat_lt 0 r.query_interval) (in_force r e))
+      (λ r e. first_so (nat_lt 0 r.robustness) (nat_lt 0 r.query_interval) (force.row r e))
 
   its_interval : (o : Option QuerierRow) → ((r : QuerierRow) → o ≡ Some r → nat_lt 0 r.query_interval ≡ true)
       → 1000 ≤ 1000 * option_map_or (λ (q : QuerierRow). q.query_interval) o s.settings.query_interval
   its_interval None good =
-      let some : 0 < s.settings.query_interval = ltb-true 0 s.settings.query_interval firm.query_interval in omega arith
+      let some : 0 < s.settings.query_interval =
+      ltb-true 0 s.settings.query_interval force.firm.query_interval in
+      omega arith
   its_interval (Some r) good =
       let some : 0 < r.query_interval = ltb-true 0 r.query_interval (good r refl) in omega arith
 
@@ -42,7 +48,7 @@ module _ (late up : ℕ → Bool) (s : State) (firm : IsFirm s.settings) (rows :
   unfolding query_interval
   some_interval =
       its_interval (row_at s.queriers (iface_key i))
-      (λ r e. second_so (nat_lt 0 r.robustness) (nat_lt 0 r.query_interval) (in_force r e))
+      (λ r e. second_so (nat_lt 0 r.robustness) (nat_lt 0 r.query_interval) (force.row r e))
 
   pub some_startup : 1 ≤ startup_query_interval s i
   unfolding startup_query_interval
@@ -65,7 +71,7 @@ module _ (late up : ℕ → Bool) (s : State) (firm : IsFirm s.settings) (rows :
   pub some_last_member : 1 ≤ last_member_query_interval s
   some_last_member =
       let some : 0 < s.settings.last_member_query_interval =
-      ltb-true 0 s.settings.last_member_query_interval firm.last_member_query_interval in
+      ltb-true 0 s.settings.last_member_query_interval force.firm.last_member_query_interval in
       omega arith
 
   pub some_query_time : 1 ≤ last_member_query_time s i
