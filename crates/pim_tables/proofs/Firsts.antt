@@ -29,7 +29,7 @@ use Rattle.pim_tables.proofs.Steps.{first_end, kind_exact, second_end}
 
 -- ---- the first of a list
 
-order : IsStrictWeakOrder is_ending_first
+pub order : IsStrictWeakOrder is_ending_first
 unfolding ending_cmp due_cmp
 order = ranks_by due_cmp_total due_of
 

@@ -1,8 +1,9 @@
 mod Counting
-mod Firsts
-mod Lookups
-mod Losses
+pub mod Firsts
+mod Joined
+pub mod Lookups
+pub mod Losses
 mod Orders
-mod Rows
+pub mod Rows
 mod Steps
-mod Stops
+pub mod Stops

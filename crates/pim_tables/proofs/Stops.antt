@@ -22,7 +22,7 @@ module _ {R : Type 0} (q k : Key) (r : R) where
   last_step e xs true later = refl
   last_step e xs false later = later
 
-  has_row-last : (xs : Table R) → has_row (xs ++ (k, r) ∷ []) q ≡ (has_row xs q || same_key q k)
+  pub has_row-last : (xs : Table R) → has_row (xs ++ (k, r) ∷ []) q ≡ (has_row xs q || same_key q k)
   unfolding has_row row_at
   has_row-last [] = only (same_key q k)
     where

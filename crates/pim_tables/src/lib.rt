@@ -4,6 +4,7 @@
 
 pub mod ends;
 pub mod facts;
+pub mod first;
 pub mod law;
 pub mod named;
 mod row_ends;
@@ -11,5 +12,6 @@ pub mod timed;
 
 pub use ends::Ends;
 pub use facts::Facts;
+pub use first::earlier;
 pub use named::is_named;
 pub use timed::Timed;

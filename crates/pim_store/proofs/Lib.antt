@@ -1,0 +1,10 @@
+mod Dropped
+mod Empty
+mod Fitting
+mod Indexed
+mod Lowered
+mod Marked
+mod Places
+mod Told
+mod Walked
+mod Writes

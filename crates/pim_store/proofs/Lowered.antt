@@ -1,0 +1,45 @@
+-- A row that is there is changed in its place.
+use Rattle.std.proofs.Common.{◌≡◌, true, Option, Some, None, is_some, refl, ap, ◌∙◌}
+use Rattle.std.specs.List.Sorted.{IsStrictlySortedBy}
+use Rattle.std.specs.Option.{IfSome}
+use Rattle.std.specs.Prelude.{Err, Ok, OnOk, Result}
+use Rattle.pim_types.specs.declared.fact.Key.{Key}
+use Rattle.pim_types.specs.Keys.{key_cmp}
+use Rattle.pim_types.specs.declared.fact.AssertRow.{AssertRow}
+use Rattle.pim_model.specs.Sets.{is_loser}
+use Rattle.pim_model.specs.Tables.{Table, change_row, has_row, keys_in, put, row_at}
+use Rattle.pim_tables.proofs.Lookups.{absent, put_is_changed}
+use Rattle.pim_tables.proofs.Rows.{absent_is_unchanged}
+
+module _ {R : Type 0} (k : Key) (t : Table R) where
+  pub is_there : (r : R) → row_at t k ≡ Some r → has_row t k ≡ true
+  unfolding has_row
+  is_there r found = ap is_some found
+
+  pub not_there : (change : R → Option R) → row_at t k ≡ None → t ≡ change_row change k t
+  unfolding has_row
+  not_there change none = absent_is_unchanged k change t (absent k t (ap is_some none))
+
+  pub changed_there : {T E : Type 0} (r row : R) (change : R → Option R) (t' : Table R) (result : Result T E)
+      → IsStrictlySortedBy key_cmp (keys_in t) → row_at t k ≡ Some r → change r ≡ Some row
+      → OnOk result (t' ≡ put t k row) → OnOk result (t' ≡ change_row change k t)
+  changed_there r row change t' (Err e) sorted found is put = tt
+  changed_there r row change t' (Ok x) sorted found is put =
+      put ∙ put_is_changed k row change t sorted (is_there r found) (at (row_at t k) found)
+    where
+      at : (o : Option R) → o ≡ Some r → IfSome o (λ before. change before ≡ Some row)
+      at None found = cc
+      at (Some before) found = let same : before ≡ r = cc in ap change same ∙ is
+
+pub lost_there : (k : Key) (t : Table AssertRow) → is_loser (row_at t k) ≡ true → has_row t k ≡ true
+unfolding has_row
+lost_there k t lost = go (row_at t k) lost
+  where
+    go : (o : Option AssertRow) → is_loser o ≡ true → is_some o ≡ true
+    go None lost = cc
+    go (Some r) lost = refl
+
+pub same_on_ok : {T E X Y : Type 0} (result : Result T E) (f : X → Y) (x y : X) → OnOk result (x ≡ y)
+    → OnOk result (f x ≡ f y)
+same_on_ok (Ok r) f x y same = ap f same
+same_on_ok (Err e) f x y same = tt

@@ -1,0 +1,8 @@
+use Rattle.std.proofs.Common.{Some}
+use Rattle.pim_store.proofs.Marked.{marks_set}
+use Rattle.pim_store.proofs.index.Index.mark.Goals as goal
+
+pub returns-clause-ok : goal.returns-clause-ok
+returns-clause-ok g c =
+    marks_set g.R.Marking.tells g.R.Marking.says c.args.key (Some c.args.row) _ _ _ _ c.get-marks.ensures.marks
+    c.marked.ensures.marks _ c.write.ensures.ok

@@ -1,0 +1,16 @@
+use Rattle.std.proofs.Common.{None, Some}
+use Rattle.pim_store.proofs.Told.{found_dropped, found_put, marks_again, told_after}
+use Rattle.pim_store.proofs.rows.put_row.Goals as goal
+
+pub returns-in-Err-clause-told : goal.returns-in-Err-clause-told
+returns-in-Err-clause-told g c =
+    told_after g.R.Marking.tells g.R.Marking.says g.R.Marking.fits c.args.key _ _ c.requires.told None _ _
+    c.requires.fits
+    (marks_again g.R.Marking.tells g.R.Marking.says c.args.key (Some c.args.row) None _ _ _
+    c.in_ok-mark_row.ensures.ok c.unmark.ensures)
+    (found_dropped c.args.key _ _ c.in-Err.ensures.err)
+
+pub returns-clause-told : goal.returns-clause-told
+returns-clause-told g c =
+    told_after g.R.Marking.tells g.R.Marking.says g.R.Marking.fits c.args.key _ _ c.requires.told (Some c.args.row)
+    _ _ c.requires.fits c.in_ok-mark_row.ensures.ok (found_put c.args.key c.args.row _ _ c.in_default.ensures.ok)

@@ -1,0 +1,10 @@
+use Rattle.std.proofs.Common.{nat_lt, ap, ◌∙◌}
+use Rattle.std.specs.List.{list_all}
+use Rattle.pim_types.specs.Keys.{iface_in}
+use Rattle.pim_store.proofs.Fitting.{all_fit}
+use Rattle.pim_store.proofs.store.Store.downstream_rows.Goals as goal
+
+pub returns-clause-below : goal.returns-clause-below
+returns-clause-below c =
+    ap (λ t. list_all (λ e. nat_lt (iface_in e.0) 120) t) c.iter.ensures
+    ∙ all_fit (λ k. nat_lt (iface_in k) 120) c.self.inside.downstream c.self.invariant.downstream.fit

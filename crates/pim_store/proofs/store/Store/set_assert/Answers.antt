@@ -1,0 +1,8 @@
+use Rattle.pim_store.proofs.Indexed.{after_asserts}
+use Rattle.pim_store.proofs.store.Store.set_assert.Goals as goal
+
+pub set_row-requires-clause-told : goal.set_row-requires-clause-told
+set_row-requires-clause-told c = c.self.invariant.asserts
+
+pub invariant_of-self : goal.invariant_of-self
+invariant_of-self c = after_asserts c.self.invariant c.set_row.ensures.others c.set_row.ensures.told

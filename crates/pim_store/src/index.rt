@@ -1,0 +1,143 @@
+//! The marks of all groups and sources.
+ghost use Rattle.std.specs.Prelude.{◌≡◌, ◌≤◌, ◌+◌, ◌&&◌, [], ℕ, IsTrue, None, Some, OnOk, OnErr, cond, false, filter, map};
+ghost use Rattle.std.specs.List.Sorted.{IsStrictlySortedBy};
+ghost use Rattle.pim_model.specs.Tables.{ascending, keys_in, row_at};
+ghost use Rattle.pim_types.specs.Keys.{group_in, is_of_group, key_cmp};
+ghost use Rattle.pim_source_trie.specs.Entries.{entry_key};
+ghost use Rattle.pim_store.specs.Said.{AreEntries, SetsMarks, Writes, is_about, row_says, said, seen, source_bits, tunnel_in};
+ghost use Rattle.pim_store.specs.declared.marks.Mark.{Mark as MarkValue};
+
+use crate::marking::Marking;
+use crate::marks::{Mark, Marks};
+use pim_ip::Addr;
+use pim_source_trie::{Entries, Groups, SourceTrie};
+use pim_trie::Meter;
+use pim_types::Key;
+use std::alloc::{AllocError, Global};
+use std::marker::Model;
+
+// The marks of the groups and sources that have any.
+#[derive(Drop)]
+pub(crate) struct Index {
+    entries: SourceTrie<Marks>,
+}
+
+impl Model for Index {
+    ghost use Rattle.pim_model.specs.Tables.{Table};
+    ghost use Rattle.pim_store.specs.declared.marks.Marks.{Marks};
+    ghost use Rattle.pim_store.specs.Said.{AreEntries};
+
+    ghost Value = { Table Marks };
+
+    ghost view = { λ a. a.entries };
+
+    ghost invariant = { λ a. AreEntries a.entries };
+}
+
+// Whether the row says this of the mark; nothing is said where there is no row.
+pub(crate) fn row_says<R: Marking>(row: Option<R>, mark: Mark) -> bool
+    ensures { result ≡ row_says R.tells R.says mark row }
+{
+    match row {
+        Some(row) => row.says(mark),
+        None => false,
+    }
+}
+
+// The marks of the key's group, or of its source, as the row under the key says.
+fn marked<R: Marking>(marks: Marks, key: Key, row: Option<R>) -> Marks
+    requires { IsTrue (R.fits key) }
+    ensures marks { (x : MarkValue) (i : ℕ)
+        → seen x result i ≡ cond (R.tells x && is_about x i key) (row_says R.tells R.says x row) (seen x marks i) }
+    ensures tunnels { (x : MarkValue) → tunnel_in x result ≡ tunnel_in x marks }
+{
+    let (first, second) = R::told(key);
+    let changed = marks.with(first, key.iface, row_says(row, first));
+    match second {
+        Some(second) => changed.with(second, key.iface, row_says(row, second)),
+        None => changed,
+    }
+}
+
+impl Index {
+    // No marks; it takes no memory.
+    pub(crate) fn new(alloc: Global) -> Index
+        ensures { result ≡ [] }
+    {
+        Index {
+            entries: SourceTrie::new(alloc),
+        }
+    }
+
+    // The groups that have marks, or a source with some, ascending.
+    pub(crate) fn groups(&self) -> Groups<'_, Marks>
+        ensures groups { result ≡ ascending (map group_in (keys_in self.now)) }
+
+        // Of every index.
+        ensures entries { AreEntries self.now }
+    {
+        self.entries.groups()
+    }
+
+    // The entries of a group, by rising key.
+    pub(crate) fn walk(&self, group: Addr) -> Entries<'_, Marks>
+        ensures entries { result ≡ filter (λ e. is_of_group group.bits e.0) self.now }
+
+        // Of every index.
+        ensures ascending { IsStrictlySortedBy key_cmp (keys_in self.now) }
+        ensures all { AreEntries self.now }
+    {
+        // It tells that the keys rise.
+        let _ = self.entries.is_empty();
+        self.entries.walk(group)
+    }
+
+    // The marks of (*,G), where `source` is `None`, or of a source of the group.
+    pub(crate) fn get(&self, group: Addr, source: Option<Addr>, meter: &mut Meter) -> Marks
+        ensures marks { (x : MarkValue) (i : ℕ) → seen x result i ≡ said self.now x i group.bits (source_bits source) }
+        ensures bare { (x : MarkValue) → tunnel_in x result ≡ false }
+        ensures rises { meter.old ≤ meter.new }
+        ensures at_most { meter.new ≤ meter.old + 66 }
+        ensures star_at_most { source ≡ None → meter.new ≤ meter.old + 33 }
+    {
+        match self.entries.get(group, source, meter) {
+            Some(marks) => *marks,
+            None => Marks::none(),
+        }
+    }
+
+    // Makes these the marks of a group, or of a source. Where some of them have to be kept and there was no
+    // place for them it may fail for want of memory, and then nothing has changed.
+    fn write(&mut self, group: Addr, source: Option<Addr>, marks: Marks) -> Result<(), AllocError>
+        requires { (x : MarkValue) → tunnel_in x marks ≡ false }
+        ensures ok { OnOk result (Writes self.old self.new (entry_key group source) marks) }
+        ensures err { OnErr result (self.new ≡ self.old) }
+        ensures absent { OnErr result (row_at self.old (entry_key group source) ≡ None) }
+    {
+        if marks.is_empty() {
+            self.entries.remove(group, source);
+            return Ok(());
+        }
+        self.entries.put(group, source, marks)
+    }
+
+    // Marks what the row says. An error is want of memory, and then nothing has changed.
+    pub(crate) fn mark<R: Marking>(&mut self, key: Key, row: R) -> Result<(), AllocError>
+        requires { IsTrue (R.fits key) }
+        ensures ok { OnOk result (SetsMarks R.tells R.says self.old self.new key (Some row)) }
+        ensures err { OnErr result (self.new ≡ self.old) }
+    {
+        let marks = self.get(key.group, key.source, &mut Meter::new());
+        self.write(key.group, key.source, marked(marks, key, Some(row)))
+    }
+
+    // Takes the marks away that a row under the key made; it takes no memory.
+    pub(crate) fn unmark<R: Marking>(&mut self, key: Key)
+        requires { IsTrue (R.fits key) }
+        ensures { SetsMarks R.tells R.says self.old self.new key None }
+    {
+        let marks = self.get(key.group, key.source, &mut Meter::new());
+        // Where it fails there are no marks.
+        let _ = self.write(key.group, key.source, marked::<R>(marks, key, None));
+    }
+}

@@ -1,0 +1,13 @@
+//! All PIM facts of the router, by interface, group and source.
+#![tactic(auto)]
+
+mod index;
+mod marking;
+pub mod marks;
+mod rows;
+pub mod store;
+pub mod walks;
+
+pub use marks::Marks;
+pub use store::Store;
+pub use walks::Sources;

@@ -1,0 +1,135 @@
+//! A table's rows, changed with the marks that they tell.
+ghost use Rattle.std.specs.Prelude.{◌≡◌, ◌&&◌, ℕ, Some, IsTrue, OnErr, OnOk, true};
+ghost use Rattle.pim_model.specs.Tables.{drop_at, drop_where, put, set_row};
+ghost use Rattle.pim_types.specs.Keys.{is_on};
+ghost use Rattle.pim_store.specs.Said.{IsTold, KeepsOtherMarks, SetsMarks, is_about, row_says};
+ghost use Rattle.pim_store.specs.declared.marks.Mark.{Mark as MarkValue};
+
+use crate::index::Index;
+use crate::marking::Marking;
+use pim_tables::Timed;
+use pim_timers::Wheel;
+use pim_types::{IfaceId, Key};
+use std::alloc::AllocError;
+
+// Whether the row says what the one before says, if there was one.
+fn says_alike<R: Marking>(key: Key, before: Option<R>, row: R) -> bool
+    requires { IsTrue (R.fits key) }
+    ensures { IsTrue result → (x : MarkValue) (i : ℕ) → (R.tells x && is_about x i key) ≡ true
+        → row_says R.tells R.says x (Some row) ≡ row_says R.tells R.says x before }
+{
+    let Some(before) = before else {
+        return false;
+    };
+    let (first, second) = R::told(key);
+    if row.says(first) != before.says(first) {
+        return false;
+    }
+    match second {
+        Some(second) => row.says(second) == before.says(second),
+        None => true,
+    }
+}
+
+// Marks what the row says, unless it says what the one that is there says. An error is want of memory, and then
+// nothing has changed.
+fn mark_row<R: Marking>(
+    rows: &Timed<R, Wheel>,
+    index: &mut Index,
+    key: Key,
+    row: R,
+) -> Result<(), AllocError>
+    requires fits { IsTrue (R.fits key) }
+    requires told { IsTold R.tells R.says R.fits index.old rows.now }
+    ensures ok { OnOk result (SetsMarks R.tells R.says index.old index.new key (Some row)) }
+    ensures err { OnErr result (index.new ≡ index.old) }
+{
+    if says_alike(key, rows.get(key), row) {
+        return Ok(());
+    }
+    index.mark(key, row)
+}
+
+// Puts the row under the key, in place of one that is there. An error is want of memory.
+pub(crate) fn put_row<R: Marking>(
+    rows: &mut Timed<R, Wheel>,
+    index: &mut Index,
+    key: Key,
+    row: R,
+) -> Result<(), AllocError>
+    requires fits { IsTrue (R.fits key) }
+    requires told { IsTold R.tells R.says R.fits index.old rows.old }
+    ensures put { OnOk result (rows.new ≡ put rows.old key row) }
+    ensures told { IsTold R.tells R.says R.fits index.new rows.new }
+    ensures others { KeepsOtherMarks R.tells index.old index.new }
+{
+    mark_row(rows, index, key, row)?;
+    if let Err(refused) = rows.put(key, row) {
+        index.unmark::<R>(key);
+        return Err(refused);
+    }
+    Ok(())
+}
+
+// Takes the row under the key away.
+pub(crate) fn remove_row<R: Marking>(rows: &mut Timed<R, Wheel>, index: &mut Index, key: Key)
+    requires fits { IsTrue (R.fits key) }
+    requires told { IsTold R.tells R.says R.fits index.old rows.old }
+    ensures removed { rows.new ≡ drop_at rows.old key }
+    ensures told { IsTold R.tells R.says R.fits index.new rows.new }
+    ensures others { KeepsOtherMarks R.tells index.old index.new }
+{
+    rows.remove(key);
+    index.unmark::<R>(key);
+}
+
+// Puts the row under the key, or takes away the one that is there. An error is want of memory.
+#[tactic(auto, unfolding(pim_model::specs::Tables::set_row))]
+pub(crate) fn set_row<R: Marking>(
+    rows: &mut Timed<R, Wheel>,
+    index: &mut Index,
+    key: Key,
+    row: Option<R>,
+) -> Result<(), AllocError>
+    requires fits { IsTrue (R.fits key) }
+    requires told { IsTold R.tells R.says R.fits index.old rows.old }
+    ensures set { OnOk result (rows.new ≡ set_row rows.old key row) }
+    ensures told { IsTold R.tells R.says R.fits index.new rows.new }
+    ensures others { KeepsOtherMarks R.tells index.old index.new }
+{
+    match row {
+        Some(row) => put_row(rows, index, key, row),
+        None => {
+            remove_row(rows, index, key);
+            Ok(())
+        }
+    }
+}
+
+// Takes the marks away that the interface's rows made.
+fn unmark_on<R: Marking>(rows: &Timed<R, Wheel>, index: &mut Index, iface: IfaceId)
+    requires { IsTold R.tells R.says R.fits index.old rows.now }
+    ensures told { IsTold R.tells R.says R.fits index.new (drop_where (is_on iface.number) rows.now) }
+    ensures others { KeepsOtherMarks R.tells index.old index.new }
+{
+    for (key, _) in rows.iter() {
+        if key.iface == iface {
+            index.unmark::<R>(*key);
+        }
+    }
+}
+
+// Takes the interface's rows away.
+pub(crate) fn drop_rows_on<R: Marking>(
+    rows: &mut Timed<R, Wheel>,
+    index: &mut Index,
+    iface: IfaceId,
+)
+    requires { IsTold R.tells R.says R.fits index.old rows.old }
+    ensures dropped { rows.new ≡ drop_where (is_on iface.number) rows.old }
+    ensures told { IsTold R.tells R.says R.fits index.new rows.new }
+    ensures others { KeepsOtherMarks R.tells index.old index.new }
+{
+    unmark_on(rows, index, iface);
+    rows.drop_on(iface);
+}

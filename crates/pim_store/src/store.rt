@@ -1,0 +1,377 @@
+//! The PIM facts.
+ghost use Rattle.std.specs.Prelude.{◌≡◌, ◌<◌, ◌≤◌, ◌+◌, ◌^◌, ◌&&◌, ℕ, None, Some, IsTrue, IfOk, OnOk, false, filter, nat_lt, not, option_map, true};
+ghost use Rattle.std.specs.List.{list_all};
+ghost use Rattle.pim_ifset.specs.Members.{has};
+ghost use Rattle.pim_model.specs.Clearing.{first_by};
+ghost use Rattle.pim_model.specs.Downstream.{is_named};
+ghost use Rattle.pim_model.specs.Sets.{is_loser, is_winner};
+ghost use Rattle.pim_model.specs.Tables.{change_row, drop_where, has_row, row_at, set_row};
+ghost use Rattle.pim_model.specs.Timers.{is_ending_first};
+ghost use Rattle.pim_model.specs.Upstream.{groups_of, sources_of};
+ghost use Rattle.pim_tables.specs.Ends.{due_of};
+ghost use Rattle.pim_types.specs.Keys.{iface_in, is_on, rpt_key, same_key, source_key};
+ghost use Rattle.pim_store.specs.Bare.{IsWithoutTunnel};
+ghost use Rattle.pim_store.specs.PimTables.{counted_facts, fact_key, is_prune, lowered, no_facts, stored_endings, stored_keys};
+
+use crate::index::{Index, row_says};
+use crate::marks::{Mark, Marks};
+use crate::rows::{drop_rows_on, put_row, remove_row, set_row};
+use crate::walks::Sources;
+use pim_ip::Addr;
+use pim_source_trie::Groups;
+use pim_tables::{Timed, earlier};
+use pim_timers::Wheel;
+use pim_trie::Meter;
+use pim_types::fact::{
+    AssertRow, DownstreamRow, JoinTimerRow, OverrideTimerRow, RegisterRow, SourceRow,
+};
+use pim_types::{IfaceId, Key, Timer};
+use std::alloc::{AllocError, Global};
+use std::collections::btree_map::Iter;
+use std::marker::Model;
+
+/// The PIM facts of the router. After want of memory in a call that changes them nothing is promised of what they
+/// are, but that all that is told of them is true.
+#[derive(Drop)]
+pub struct Store {
+    downstream: Timed<DownstreamRow, Wheel>,
+    asserts: Timed<AssertRow, Wheel>,
+    join_timers: Timed<JoinTimerRow, Wheel>,
+    override_timers: Timed<OverrideTimerRow, Wheel>,
+    sources: Timed<SourceRow, Wheel>,
+    registers: Timed<RegisterRow, Wheel>,
+    index: Index,
+}
+
+impl Model for Store {
+    ghost use Rattle.pim_store.specs.PimTables.{PimTables};
+
+    ghost Value = { PimTables };
+
+    ghost use Rattle.pim_store.specs.Stored.{IsIndexed, tables_of};
+
+    ghost view = { tables_of };
+
+    ghost invariant = { λ s. IsIndexed s.index (tables_of s) };
+}
+
+impl Store {
+    /// No facts. An error is want of memory.
+    pub fn new(alloc: Global) -> Result<Store, AllocError>
+        ensures { IfOk result (λ store. store ≡ no_facts) }
+    {
+        Ok(Store {
+            downstream: Timed::new(alloc, Wheel::new(alloc)?),
+            asserts: Timed::new(alloc, Wheel::new(alloc)?),
+            join_timers: Timed::new(alloc, Wheel::new(alloc)?),
+            override_timers: Timed::new(alloc, Wheel::new(alloc)?),
+            sources: Timed::new(alloc, Wheel::new(alloc)?),
+            registers: Timed::new(alloc, Wheel::new(alloc)?),
+            index: Index::new(alloc),
+        })
+    }
+
+    /// The downstream states, by rising key; each is of an interface below 120.
+    pub fn downstream_rows(&self) -> Iter<'_, Key, DownstreamRow>
+        ensures rows { result ≡ self.now.downstream }
+        ensures below { IsTrue (list_all (λ e. nat_lt (iface_in e.0) 120) result) }
+    {
+        self.downstream.iter()
+    }
+
+    /// The asserts, by rising key; each is of an interface below 120.
+    pub fn assert_rows(&self) -> Iter<'_, Key, AssertRow>
+        ensures rows { result ≡ self.now.asserts }
+        ensures below { IsTrue (list_all (λ e. nat_lt (iface_in e.0) 120) result) }
+    {
+        self.asserts.iter()
+    }
+
+    /// The Join timers, by rising key.
+    pub fn join_timer_rows(&self) -> Iter<'_, Key, JoinTimerRow>
+        ensures { result ≡ self.now.join_timers }
+    {
+        self.join_timers.iter()
+    }
+
+    /// The override timers, by rising key.
+    pub fn override_timer_rows(&self) -> Iter<'_, Key, OverrideTimerRow>
+        ensures { result ≡ self.now.override_timers }
+    {
+        self.override_timers.iter()
+    }
+
+    /// The sources, by rising key.
+    pub fn source_rows(&self) -> Iter<'_, Key, SourceRow>
+        ensures { result ≡ self.now.sources }
+    {
+        self.sources.iter()
+    }
+
+    /// The registers, by rising key.
+    pub fn register_rows(&self) -> Iter<'_, Key, RegisterRow>
+        ensures { result ≡ self.now.registers }
+    {
+        self.registers.iter()
+    }
+
+    /// The downstream state under the key.
+    pub fn downstream(&self, key: Key) -> Option<DownstreamRow>
+        ensures { result ≡ row_at self.now.downstream key }
+    {
+        self.downstream.get(key)
+    }
+
+    /// Whether there is a downstream state under the key.
+    pub fn has_downstream(&self, key: Key) -> bool
+        ensures { result ≡ has_row self.now.downstream key }
+    {
+        self.downstream.contains(key)
+    }
+
+    /// The assert under the key.
+    pub fn assert_at(&self, key: Key) -> Option<AssertRow>
+        ensures { result ≡ row_at self.now.asserts key }
+    {
+        self.asserts.get(key)
+    }
+
+    /// The Join timer under the key.
+    pub fn join_timer(&self, key: Key) -> Option<JoinTimerRow>
+        ensures { result ≡ row_at self.now.join_timers key }
+    {
+        self.join_timers.get(key)
+    }
+
+    /// The override timer under the key.
+    pub fn override_timer(&self, key: Key) -> Option<OverrideTimerRow>
+        ensures { result ≡ row_at self.now.override_timers key }
+    {
+        self.override_timers.get(key)
+    }
+
+    /// The source under the key.
+    pub fn source(&self, key: Key) -> Option<SourceRow>
+        ensures { result ≡ row_at self.now.sources key }
+    {
+        self.sources.get(key)
+    }
+
+    /// The register under the key.
+    pub fn register(&self, key: Key) -> Option<RegisterRow>
+        ensures { result ≡ row_at self.now.registers key }
+    {
+        self.registers.get(key)
+    }
+
+    /// Puts this downstream state under the key, or takes away the one that is there. An error is want of memory.
+    pub fn set_downstream(&mut self, key: Key, row: Option<DownstreamRow>) -> Result<(), AllocError>
+        requires { key.iface.number < 120 }
+        ensures { OnOk result (self.new ≡ record self.old { downstream = set_row self.old.downstream key row }) }
+    {
+        set_row(&mut self.downstream, &mut self.index, key, row)
+    }
+
+    /// Gives (*,G), where `source` is `None`, or (S,G) this assert on the interface, or takes its assert away. An
+    /// error is want of memory.
+    pub fn set_assert(
+        &mut self,
+        iface: IfaceId,
+        group: Addr,
+        source: Option<Addr>,
+        row: Option<AssertRow>,
+    ) -> Result<(), AllocError>
+        requires { iface.number < 120 }
+        ensures { OnOk result (self.new ≡ record self.old {
+          asserts = set_row self.old.asserts (fact_key iface.number group source false) row;
+        }) }
+    {
+        let key = Key {
+            iface,
+            group,
+            source,
+            rpt: false,
+        };
+        set_row(&mut self.asserts, &mut self.index, key, row)
+    }
+
+    /// Sets the Join timer of (*,G), where `source` is `None`, or of (S,G), or takes it away. An error is want of
+    /// memory.
+    pub fn set_join_timer(
+        &mut self,
+        group: Addr,
+        source: Option<Addr>,
+        row: Option<JoinTimerRow>,
+    ) -> Result<(), AllocError>
+        ensures { OnOk result (self.new ≡ record self.old {
+          join_timers = set_row self.old.join_timers (fact_key 0 group source false) row;
+        }) }
+    {
+        let key = Key {
+            iface: IfaceId::NONE,
+            group,
+            source,
+            rpt: false,
+        };
+        set_row(&mut self.join_timers, &mut self.index, key, row)
+    }
+
+    /// Sets the override timer of (S,G,rpt), or takes it away. An error is want of memory.
+    pub fn set_override_timer(
+        &mut self,
+        group: Addr,
+        source: Addr,
+        row: Option<OverrideTimerRow>,
+    ) -> Result<(), AllocError>
+        ensures { OnOk result (self.new ≡ record self.old {
+          override_timers = set_row self.old.override_timers (rpt_key 0 group.bits source.bits) row;
+        }) }
+    {
+        let key = Key::source_rpt(IfaceId::NONE, group, source);
+        set_row(&mut self.override_timers, &mut self.index, key, row)
+    }
+
+    /// Gives the source of the group this row, or takes its row away. An error is want of memory.
+    pub fn set_source(
+        &mut self,
+        group: Addr,
+        source: Addr,
+        row: Option<SourceRow>,
+    ) -> Result<(), AllocError>
+        ensures { OnOk result (self.new ≡ record self.old {
+          sources = set_row self.old.sources (source_key 0 group.bits source.bits) row;
+        }) }
+    {
+        let key = Key::source(IfaceId::NONE, group, source);
+        set_row(&mut self.sources, &mut self.index, key, row)
+    }
+
+    /// Gives the source of the group this register, or takes its register away. An error is want of memory.
+    pub fn set_register(
+        &mut self,
+        group: Addr,
+        source: Addr,
+        row: Option<RegisterRow>,
+    ) -> Result<(), AllocError>
+        ensures { OnOk result (self.new ≡ record self.old {
+          registers = set_row self.old.registers (source_key 0 group.bits source.bits) row;
+        }) }
+    {
+        let key = Key::source(IfaceId::NONE, group, source);
+        set_row(&mut self.registers, &mut self.index, key, row)
+    }
+
+    /// Lowers the Join timer under the key, if there is one, to this end, in ms. An error is want of memory.
+    pub fn lower_join_timer(&mut self, key: Key, end: u64) -> Result<(), AllocError>
+        ensures { OnOk result (self.new
+            ≡ record self.old { join_timers = change_row (lowered end) key self.old.join_timers }) }
+    {
+        // It tells that the keys rise: what is put under a key that is there stands in its place.
+        let _ = self.join_timers.len();
+        let Some(row) = self.join_timers.get(key) else {
+            return Ok(());
+        };
+        let lowered = JoinTimerRow {
+            end: row.end.min(end),
+        };
+        put_row(&mut self.join_timers, &mut self.index, key, lowered)
+    }
+
+    /// Ends the lost asserts under these keys.
+    pub fn end_losses(&mut self, keys: &[Key])
+        ensures { self.new ≡ record self.old {
+          asserts = filter (λ e. not (is_loser (Some e.1) && is_named keys.now e.0)) self.old.asserts;
+        } }
+    {
+        for key in keys {
+            self.end_loss(*key);
+        }
+    }
+
+    // Ends the assert under the key, if it is lost.
+    fn end_loss(&mut self, key: Key)
+        ensures { self.new ≡ record self.old {
+          asserts = filter (λ e. not (is_loser (Some e.1) && same_key e.0 key)) self.old.asserts;
+        } }
+    {
+        // It tells that the keys rise, so that the key stands once.
+        let _ = self.asserts.len();
+        if row_says(self.asserts.get(key), Mark::Lost) {
+            remove_row(&mut self.asserts, &mut self.index, key);
+        }
+    }
+
+    /// Takes the downstream states and the asserts of the interface away.
+    pub fn drop_on(&mut self, iface: IfaceId)
+        ensures { self.new ≡ record self.old {
+          downstream = drop_where (is_on iface.number) self.old.downstream;
+          asserts = drop_where (is_on iface.number) self.old.asserts;
+        } }
+    {
+        drop_rows_on(&mut self.downstream, &mut self.index, iface);
+        drop_rows_on(&mut self.asserts, &mut self.index, iface);
+    }
+
+    /// The groups with any fact, ascending.
+    pub fn groups(&self) -> Groups<'_, Marks>
+        ensures { result ≡ groups_of (stored_keys self.now) }
+    {
+        self.index.groups()
+    }
+
+    /// The sources of the group with any fact, ascending.
+    pub fn sources_of(&self, group: Addr) -> Sources<'_>
+        ensures { result ≡ sources_of group.bits (stored_keys self.now) }
+    {
+        Sources::among(self.index.walk(group))
+    }
+
+    /// How many facts count: the downstream states, the asserts and the sources.
+    #[tactic(auto, unfolding(crate::specs::PimTables::counted_facts))]
+    pub fn count(&self) -> u128
+        ensures count { result ≡ counted_facts self.now }
+        ensures within { result < 2 ^ 66 }
+    {
+        let states = self.downstream.len() as u128 + self.asserts.len() as u128;
+        states + self.sources.len() as u128
+    }
+
+    /// Which fact ends first, and when, in ms: the least end by its moment, its kind and its key. `None` where no
+    /// fact ever ends.
+    pub fn next(&self) -> Option<(u64, Timer)>
+        ensures { result ≡ option_map due_of (first_by is_ending_first (stored_endings self.now)) }
+    {
+        let states = earlier(self.downstream.next(), self.asserts.next());
+        let sources = earlier(earlier(states, self.sources.next()), self.registers.next());
+        earlier(
+            earlier(sources, self.override_timers.next()),
+            self.join_timers.next(),
+        )
+    }
+
+    /// What there is of (*,G), where `source` is `None`, or of (S,G) with its (S,G,rpt): of the downstream states
+    /// and asserts the interfaces that have them, and whether there are the others. The meter rises by the nodes
+    /// that it visits.
+    pub fn marks(&self, group: Addr, source: Option<Addr>, meter: &mut Meter) -> Marks
+        ensures joined { (i : ℕ) → has result.joined i ≡ has_row self.now.downstream (fact_key i group source false) }
+        ensures branched { (i : ℕ)
+            → has result.branched i ≡ has_row self.now.downstream (fact_key i group source true) }
+        ensures pruned { (i : ℕ)
+            → has result.pruned i ≡ is_prune (row_at self.now.downstream (fact_key i group source true)) }
+        ensures lost { (i : ℕ)
+            → has result.lost i ≡ is_loser (row_at self.now.asserts (fact_key i group source false)) }
+        ensures won { (i : ℕ)
+            → has result.won i ≡ is_winner (row_at self.now.asserts (fact_key i group source false)) }
+        ensures join_timer { result.has_join_timer ≡ has_row self.now.join_timers (fact_key 0 group source false) }
+        ensures override_timer { result.has_override_timer
+            ≡ has_row self.now.override_timers (fact_key 0 group source true) }
+        ensures source { result.has_source ≡ has_row self.now.sources (fact_key 0 group source false) }
+        ensures register { result.has_register ≡ has_row self.now.registers (fact_key 0 group source false) }
+        ensures tunnels { IsWithoutTunnel result }
+        ensures rises { meter.old ≤ meter.new }
+        ensures at_most { meter.new ≤ meter.old + 66 }
+        ensures star_at_most { source ≡ None → meter.new ≤ meter.old + 33 }
+    {
+        self.index.get(group, source, meter)
+    }
+}

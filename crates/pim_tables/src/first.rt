@@ -1,0 +1,30 @@
+//! The first of what ends in several tables.
+ghost use Rattle.std.specs.Prelude.{◌≡◌, ◌++◌, List, option_map};
+ghost use Rattle.std.specs.Ordering.{is_lt};
+ghost use Rattle.pim_model.specs.Clearing.{first_by};
+ghost use Rattle.pim_model.specs.Timers.{Ending, is_ending_first};
+ghost use Rattle.pim_timers.specs.Order.{due_cmp};
+ghost use Rattle.pim_tables.specs.Ends.{due_of};
+
+use pim_types::Timer;
+
+// Whether the first comes before the second: by the moment, the kind and the key.
+fn comes_before(first: (u64, Timer), second: (u64, Timer)) -> bool
+    ensures { result ≡ is_lt (due_cmp first second) }
+{
+    first.cmp(&second).is_lt()
+}
+
+/// What ends first in two tables, by what ends first in each, if anything does: a moment, in ms, and the timer
+/// that ends then.
+pub fn earlier(one: Option<(u64, Timer)>, other: Option<(u64, Timer)>) -> Option<(u64, Timer)>
+    ensures { (xs ys : List Ending) → one ≡ option_map due_of (first_by is_ending_first xs)
+        → other ≡ option_map due_of (first_by is_ending_first ys)
+        → result ≡ option_map due_of (first_by is_ending_first (xs ++ ys)) }
+{
+    match (one, other) {
+        (Some(first), Some(second)) if comes_before(second, first) => other,
+        (Some(_), _) => one,
+        (None, _) => other,
+    }
+}
