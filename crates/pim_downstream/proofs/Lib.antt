@@ -1,5 +1,6 @@
 mod GroupKeys
 mod Loops
+pub mod OnInterface
 pub mod PlainKept
 mod Rows
 mod RptRows

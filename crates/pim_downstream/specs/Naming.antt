@@ -1,4 +1,5 @@
 -- The keys that the entries of one group name, and rows that are set one after the other.
+use Rattle.std.specs.List.{list_all}
 use Rattle.std.specs.Prelude.{Bool, List, filter, fold, map, ℕ, ◌&&◌}
 use Rattle.pim_types.specs.Keys.{group_in, is_on, star_key}
 use Rattle.pim_types.specs.declared.fact.Key.{Key}
@@ -19,6 +20,10 @@ entry_keys test i g es = map (named_key i) (filter test (map (λ e. (g, e)) es))
 -- the key is of (S,G,rpt) on an interface, and its group is joined
 abbrev pub is_rpt_joined : ℕ → List Key → Key → Bool
 is_rpt_joined i joined k = is_on i k && k.rpt && is_named joined (star_key i (group_in k))
+
+-- the keys are on an interface
+abbrev pub are_on : ℕ → List Key → Bool
+are_on i keys = list_all (is_on i) keys
 
 -- the row of a key set, or taken away
 unfoldable pub row_set : State → Change → State

@@ -1,6 +1,8 @@
 //! A message as a whole.
-ghost use Rattle.std.specs.Prelude.{◌≡◌, ◌++◌, IfOk, OnOk, map};
-ghost use Rattle.pim_downstream.specs.Naming.{is_rpt_joined, rows_set};
+ghost use Rattle.std.specs.List.{list_all};
+ghost use Rattle.std.specs.Prelude.{◌≡◌, ◌<◌, ◌++◌, IfOk, OnOk, map, true};
+ghost use Rattle.pim_types.specs.Keys.{is_on};
+ghost use Rattle.pim_downstream.specs.Naming.{are_on, is_rpt_joined, rows_set};
 ghost use Rattle.pim_model.specs.Downstream.{keys_taken, row_after, rpt_rows_joined, touched_keys};
 
 use crate::named::Named;
@@ -82,9 +84,11 @@ fn rows_after(
     Ok(changes)
 }
 
-// Sets the rows, one after the other.
+// Sets the rows of an interface, one after the other.
 #[tactic(auto, unfolding(crate::specs::Naming::row_set, crate::specs::Naming::rows_set))]
-fn set_rows(world: &mut World, changes: &[Change]) -> Result<(), AllocError>
+fn set_rows(world: &mut World, iface: IfaceId, changes: &[Change]) -> Result<(), AllocError>
+    requires within { iface.number < 120 }
+    requires on { list_all (λ change. is_on iface.number change.key) changes.now ≡ true }
     ensures { OnOk result (world.new ≡ rows_set world.old changes.now) }
 {
     for change in changes {
@@ -93,8 +97,8 @@ fn set_rows(world: &mut World, changes: &[Change]) -> Result<(), AllocError>
     Ok(())
 }
 
-/// Takes a Join/Prune to the router that came on an interface, as one message: each key asks the whole message, and the
-/// state that it finds. Where memory is refused, some keys may be taken and others not.
+/// Takes a Join/Prune to the router that came on an interface and names keys on it, as one message: each key asks the
+/// whole message, and the state that it finds. Where memory is refused, some keys may be taken and others not.
 pub fn to_me(
     world: &mut World,
     turn: &mut Turn,
@@ -102,13 +106,16 @@ pub fn to_me(
     holdtime: u16,
     named: &Named,
 ) -> Result<(), AllocError>
+    requires within { iface.number < 120 }
+    requires joined { are_on iface.number named.now.joined.items ≡ true }
+    requires pruned { are_on iface.number named.now.pruned.items ≡ true }
     ensures state { OnOk result (world.new
         ≡ keys_taken world.old iface.number holdtime named.now.joined.items named.now.pruned.items) }
     ensures silent { turn.new ≡ turn.old }
 {
     let keys = touched_keys(turn.alloc, world, iface, named)?;
     let changes = rows_after(turn.alloc, world, iface, holdtime, named, &keys)?;
-    set_rows(world, &changes)?;
+    set_rows(world, iface, &changes)?;
     world.end_losses(&named.joined);
     Ok(())
 }

@@ -15,7 +15,7 @@ use Rattle.pim_types.proofs.Keys.{equal_keys, same_key_same}
 use Rattle.pim_model.specs.State.{State}
 use Rattle.pim_model.specs.Tables.{Table, change_row, changed_entry, keys_in}
 use Rattle.pim_laws.proofs.TableLaws.{any_in_filter}
-use Rattle.pim_macros.specs.Timers.{lowered}
+use Rattle.pim_store.specs.PimTables.{lowered}
 use Rattle.pim_hello.specs.Towards.{all_lowered}
 
 least_twice : (a b : ℕ) → min (min a b) b ≡ min a b

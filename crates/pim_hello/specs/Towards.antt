@@ -6,7 +6,7 @@ use Rattle.pim_types.specs.declared.path.Hop.{Hop}
 use Rattle.pim_model.specs.Hellos.{upstream_of}
 use Rattle.pim_model.specs.State.{State}
 use Rattle.pim_model.specs.Tables.{Table, change_row, same_hop}
-use Rattle.pim_macros.specs.Timers.{lowered}
+use Rattle.pim_store.specs.PimTables.{lowered}
 
 -- the timer's upstream neighbour is this one
 abbrev pub is_towards : State → Hop → Key → Bool

@@ -79,6 +79,6 @@ fn restart(
     trigger(world, iface, turn.draw);
     world.replace_neighbour(iface, from, hello)?;
     let end = world.present() + world.override_delay(iface, turn.draw);
-    lower_timers(world, &towards, end);
+    lower_timers(world, &towards, end)?;
     Ok(())
 }

@@ -1,5 +1,5 @@
 //! The Join timers towards a neighbour that started anew.
-ghost use Rattle.std.specs.Prelude.{◌≡◌, IfOk, Some, filter, fold};
+ghost use Rattle.std.specs.Prelude.{◌≡◌, IfOk, OnOk, Some, filter, fold};
 ghost use Rattle.pim_model.specs.Hellos.{upstream_of};
 ghost use Rattle.pim_model.specs.Tables.{change_row, keys_in, same_hop};
 ghost use Rattle.pim_macros.specs.Plain.{IsPlain};
@@ -29,10 +29,12 @@ pub(crate) fn timers_towards(
 }
 
 /// Lowers the Join timers with these keys to an end, in ms.
-pub(crate) fn lower_timers(world: &mut World, keys: &[Key], end: u64)
-    ensures { world.new ≡ record world.old { join_timers = all_lowered end world.old.join_timers keys.now } }
+pub(crate) fn lower_timers(world: &mut World, keys: &[Key], end: u64) -> Result<(), AllocError>
+    ensures { OnOk result (world.new
+        ≡ record world.old { join_timers = all_lowered end world.old.join_timers keys.now }) }
 {
     for key in keys {
-        world.lower_join_timer(*key, end);
+        world.lower_join_timer(*key, end)?;
     }
+    Ok(())
 }

@@ -1,7 +1,6 @@
 pub mod Accepted
 pub mod Gathered
 pub mod Gathering
-mod Lowered
 mod Options
 pub mod PlainLaws
 mod Ranges

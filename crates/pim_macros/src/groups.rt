@@ -8,10 +8,10 @@ ghost use Rattle.pim_macros.specs.Touches.{touched_keys};
 
 use crate::touched::Touched;
 use crate::world::World;
-use pim_tables::Facts;
 use pim_types::{Addr, Key};
 use std::alloc::{AllocError, Global};
 use std::collections::BTreeMap;
+use std::collections::btree_map::Iter;
 
 impl World {
     /// Puts the groups that are touched into a set of groups.
@@ -33,25 +33,28 @@ impl World {
     fn gather_groups(&self, found: &mut BTreeMap<Addr, (), Global>) -> Result<(), AllocError>
         ensures { OnOk result (numbers_of found.new.entries ≡ gathered (map group_in (fact_keys self.now)) (numbers_of found.old.entries)) }
     {
-        gather(&self.group_records, found)?;
-        gather(&self.source_records, found)?;
-        gather(&self.group_repeats, found)?;
-        gather(&self.source_repeats, found)?;
-        gather(&self.sendings, found)?;
-        gather(&self.downstream, found)?;
-        gather(&self.asserts, found)?;
-        gather(&self.join_timers, found)?;
-        gather(&self.override_timers, found)?;
-        gather(&self.sources, found)?;
-        gather(&self.registers, found)
+        gather(self.group_records.iter(), found)?;
+        gather(self.source_records.iter(), found)?;
+        gather(self.group_repeats.iter(), found)?;
+        gather(self.source_repeats.iter(), found)?;
+        gather(self.sendings.iter(), found)?;
+        gather(self.store.downstream_rows(), found)?;
+        gather(self.store.assert_rows(), found)?;
+        gather(self.store.join_timer_rows(), found)?;
+        gather(self.store.override_timer_rows(), found)?;
+        gather(self.store.source_rows(), found)?;
+        gather(self.store.register_rows(), found)
     }
 }
 
 // Puts the groups of facts into a set of groups.
-fn gather<R>(facts: &Facts<R>, found: &mut BTreeMap<Addr, (), Global>) -> Result<(), AllocError>
-    ensures { OnOk result (numbers_of found.new.entries ≡ gathered (map group_in (keys_in facts.now)) (numbers_of found.old.entries)) }
+fn gather<R>(
+    facts: Iter<'_, Key, R>,
+    found: &mut BTreeMap<Addr, (), Global>,
+) -> Result<(), AllocError>
+    ensures { OnOk result (numbers_of found.new.entries ≡ gathered (map group_in (keys_in facts.entry)) (numbers_of found.old.entries)) }
 {
-    for (key, _) in facts.iter() {
+    for (key, _) in facts {
         found.insert(key.group, ())?;
     }
     Ok(())

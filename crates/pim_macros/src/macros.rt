@@ -87,7 +87,7 @@ impl World {
     fn is_joined(&self, iface: IfaceId, group: Addr) -> bool
         ensures { result ≡ joins_star self.now group.bits iface.number }
     {
-        self.downstream.contains(Key::star(iface, group))
+        self.store.has_downstream(Key::star(iface, group))
     }
 
     // Whether joins(*,G) isn't empty.

@@ -1,5 +1,5 @@
 //! The whole state, and the changes that are made in it.
-ghost use Rattle.std.specs.Prelude.{◌≡◌, ◌<◌, ◌≤◌, ◌+◌, ◌^◌, [], Ok, Err, MatchResult, OnOk, OnErr, IfOk, IfErr, IfSome, length, min, option_map, slice_get, true};
+ghost use Rattle.std.specs.Prelude.{◌≡◌, ◌<◌, ◌≤◌, ◌+◌, ◌^◌, [], Ok, Err, MatchResult, OnOk, OnErr, IfOk, IfErr, length, option_map, slice_get, false, true};
 ghost use Rattle.pim_ip.specs.declared.fault.Fault.{Fault};
 ghost use Rattle.pim_ip.specs.declared.refusal.Refusal.{Refusal};
 ghost use Rattle.pim_types.specs.Keys.{iface_key, star_key};
@@ -11,17 +11,17 @@ ghost use Rattle.pim_model.specs.Neighbours.{is_neighbour, neighbour_count};
 ghost use Rattle.pim_model.specs.State.{iface_count, is_own, is_up, iface_config, my_address, opening};
 ghost use Rattle.pim_model.specs.Tables.{change_row, has_row, put, row_at, set_row};
 ghost use Rattle.pim_macros.specs.Configurations.{without_facts};
-ghost use Rattle.pim_macros.specs.Timers.{lowered};
+ghost use Rattle.pim_store.specs.PimTables.{fact_key, lowered};
 
 use crate::settings::{settings_of, test_settings};
 use pim_ifaces::Interfaces;
 use pim_mrib::Mrib;
 use pim_neighbours::Neighbours;
+use pim_store::Store;
 use pim_tables::Facts;
 use pim_types::fact::{
-    AssertRow, DownstreamRow, GroupRecordRow, GroupRepeatRow, InterfaceRow, JoinTimerRow,
-    OverrideTimerRow, QuerierRow, RegisterRow, SendingRow, SourceRecordRow, SourceRepeatRow,
-    SourceRow,
+    DownstreamRow, GroupRecordRow, GroupRepeatRow, InterfaceRow, JoinTimerRow, QuerierRow,
+    SendingRow, SourceRecordRow, SourceRepeatRow,
 };
 use pim_types::{Addr, Config, Fault, IfaceId, InterfaceConfig, Key, Refusal, Settings};
 use pim_wire::Hello;
@@ -46,12 +46,7 @@ pub struct World {
     pub(crate) source_repeats: Facts<SourceRepeatRow>,
     pub(crate) sendings: Facts<SendingRow>,
     // PIM.
-    pub(crate) downstream: Facts<DownstreamRow>,
-    pub(crate) asserts: Facts<AssertRow>,
-    pub(crate) join_timers: Facts<JoinTimerRow>,
-    pub(crate) override_timers: Facts<OverrideTimerRow>,
-    pub(crate) sources: Facts<SourceRow>,
-    pub(crate) registers: Facts<RegisterRow>,
+    pub(crate) store: Store,
 }
 
 impl Model for World {
@@ -74,12 +69,12 @@ impl Model for World {
       group_repeats = w.group_repeats;
       source_repeats = w.source_repeats;
       sendings = w.sendings;
-      downstream = w.downstream;
-      asserts = w.asserts;
-      join_timers = w.join_timers;
-      override_timers = w.override_timers;
-      sources = w.sources;
-      registers = w.registers;
+      downstream = w.store.downstream;
+      asserts = w.store.asserts;
+      join_timers = w.store.join_timers;
+      override_timers = w.store.override_timers;
+      sources = w.store.sources;
+      registers = w.store.registers;
     } };
 
     ghost invariant = { λ w. (w.present ≤ 2 ^ 62) × (2 ≤ w.settings.robustness) × (w.settings.robustness ≤ 7) };
@@ -108,16 +103,22 @@ impl World {
         if mrib.replace_rps(config.rps.as_slice())?.is_err() {
             return Ok(Err(Refusal::ConfiguredRps));
         }
-        Ok(Ok(World::without_facts(alloc, settings_of(&config), interfaces, mrib)))
+        let world = World::without_facts(alloc, settings_of(&config), interfaces, mrib)?;
+        Ok(Ok(world))
     }
 
     // No facts at moment 0.
-    fn without_facts(alloc: Global, settings: Settings, interfaces: Interfaces, mrib: Mrib) -> World
+    fn without_facts(
+        alloc: Global,
+        settings: Settings,
+        interfaces: Interfaces,
+        mrib: Mrib,
+    ) -> Result<World, AllocError>
         requires least { 2 ≤ settings.robustness }
         requires most { settings.robustness ≤ 7 }
-        ensures { result ≡ without_facts settings interfaces mrib }
+        ensures { IfOk result (λ world. world ≡ without_facts settings interfaces mrib) }
     {
-        World {
+        Ok(World {
             settings,
             present: 0,
             interfaces,
@@ -129,13 +130,8 @@ impl World {
             group_repeats: Facts::new(alloc),
             source_repeats: Facts::new(alloc),
             sendings: Facts::new(alloc),
-            downstream: Facts::new(alloc),
-            asserts: Facts::new(alloc),
-            join_timers: Facts::new(alloc),
-            override_timers: Facts::new(alloc),
-            sources: Facts::new(alloc),
-            registers: Facts::new(alloc),
-        }
+            store: Store::new(alloc)?,
+        })
     }
 
     /// The present moment, in ms.
@@ -212,15 +208,14 @@ impl World {
     }
 
     // How many facts count.
-    #[tactic(auto, unfolding(pim_model::specs::Full::counted))]
+    #[tactic(auto, unfolding(pim_model::specs::Full::counted, pim_store::specs::PimTables::counted_facts))]
     fn counted(&self) -> u128
         ensures count { result ≡ counted self.now }
         ensures within { result < 2 ^ 67 }
     {
         let neighbours = self.neighbours.len() as u128;
         let records = self.group_records.len() as u128 + self.source_records.len() as u128;
-        let states = self.downstream.len() as u128 + self.asserts.len() as u128;
-        neighbours + records + states + self.sources.len() as u128
+        neighbours + records + self.store.count()
     }
 
     /// Whether so many more facts would pass the limit.
@@ -250,28 +245,29 @@ impl World {
     pub fn downstream(&self) -> Iter<'_, Key, DownstreamRow>
         ensures { result ≡ self.now.downstream }
     {
-        self.downstream.iter()
+        self.store.downstream_rows()
     }
 
     /// Whether there is a downstream state under the key.
     pub fn has_downstream(&self, key: Key) -> bool
         ensures { result ≡ has_row self.now.downstream key }
     {
-        self.downstream.contains(key)
+        self.store.has_downstream(key)
     }
 
     /// The downstream state under the key.
     pub fn downstream_at(&self, key: Key) -> Option<DownstreamRow>
         ensures { result ≡ row_at self.now.downstream key }
     {
-        self.downstream.get(key)
+        self.store.downstream(key)
     }
 
     /// Puts this downstream state under the key, or takes away the one that is there.
     pub fn set_downstream(&mut self, key: Key, row: Option<DownstreamRow>) -> Result<(), AllocError>
+        requires { key.iface.number < 120 }
         ensures { OnOk result (self.new ≡ record self.old { downstream = set_row self.old.downstream key row }) }
     {
-        self.downstream.set(key, row)
+        self.store.set_downstream(key, row)
     }
 
     /// Ends the lost asserts under these keys.
@@ -279,45 +275,43 @@ impl World {
     pub fn end_losses(&mut self, keys: &[Key])
         ensures { self.new ≡ record self.old { asserts = asserts_after_joins self.old keys.now } }
     {
-        self.asserts.end_losses(keys);
+        self.store.end_losses(keys);
     }
 
     /// The Join timers, by rising key.
     pub fn join_timers(&self) -> Iter<'_, Key, JoinTimerRow>
         ensures { result ≡ self.now.join_timers }
     {
-        self.join_timers.iter()
+        self.store.join_timer_rows()
     }
 
     /// The Join timer with this key.
     pub fn join_timer(&self, key: Key) -> Option<JoinTimerRow>
         ensures { result ≡ row_at self.now.join_timers key }
     {
-        self.join_timers.get(key)
+        self.store.join_timer(key)
     }
 
-    /// Sets the Join timer with this key, or takes it away.
-    pub fn set_join_timer(&mut self, key: Key, row: Option<JoinTimerRow>) -> Result<(), AllocError>
-        ensures { OnOk result (self.new ≡ record self.old { join_timers = set_row self.old.join_timers key row }) }
+    /// Sets the Join timer of (*,G), where `source` is `None`, or of (S,G), or takes it away.
+    pub fn set_join_timer(
+        &mut self,
+        group: Addr,
+        source: Option<Addr>,
+        row: Option<JoinTimerRow>,
+    ) -> Result<(), AllocError>
+        ensures { OnOk result (self.new ≡ record self.old {
+          join_timers = set_row self.old.join_timers (fact_key 0 group source false) row;
+        }) }
     {
-        self.join_timers.set(key, row)
+        self.store.set_join_timer(group, source, row)
     }
 
     /// Lowers the Join timer with this key, if there is one, to this end, in ms.
-    pub fn lower_join_timer(&mut self, key: Key, end: u64)
-        ensures { self.new ≡ record self.old { join_timers = change_row (lowered end) key self.old.join_timers } }
+    pub fn lower_join_timer(&mut self, key: Key, end: u64) -> Result<(), AllocError>
+        ensures { OnOk result (self.new ≡ record self.old {
+          join_timers = change_row (lowered end) key self.old.join_timers;
+        }) }
     {
-        let end = lowered_end(self.join_timers.get(key), end);
-        self.join_timers.change(key, JoinTimerRow { end });
-    }
-}
-
-// The end of a timer that is lowered to this end.
-fn lowered_end(row: Option<JoinTimerRow>, end: u64) -> u64
-    ensures { IfSome row (λ row. result ≡ min row.end end) }
-{
-    match row {
-        Some(row) => row.end.min(end),
-        None => end,
+        self.store.lower_join_timer(key, end)
     }
 }

@@ -52,6 +52,8 @@ pub(crate) fn apply(
             pim_hello::received(world, turn, *iface, *from, hello)
         }
         Accepted::JoinPruneToMe { iface, message } => {
+            // It tells that the interface is below 120.
+            let _ = world.iface_count();
             to_me(world, turn, *iface, message.holdtime(), named)
         }
         _ => Ok(()),

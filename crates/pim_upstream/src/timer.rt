@@ -15,7 +15,7 @@ pub(crate) fn start(world: &mut World, group: Addr) -> Result<(), AllocError>
         ≡ with_join_timer world.old (star_key 0 group.bits) (SetTo (periodic_end world.old))) }
 {
     let end = world.periodic_end();
-    world.set_join_timer(Key::group(group), Some(JoinTimerRow { end }))
+    world.set_join_timer(group, None, Some(JoinTimerRow { end }))
 }
 
 /// The timer goes.
@@ -23,7 +23,7 @@ pub(crate) fn start(world: &mut World, group: Addr) -> Result<(), AllocError>
 pub(crate) fn cancel(world: &mut World, group: Addr) -> Result<(), AllocError>
     ensures { OnOk result (world.new ≡ with_join_timer world.old (star_key 0 group.bits) Cancel) }
 {
-    world.set_join_timer(Key::group(group), None)
+    world.set_join_timer(group, None, None)
 }
 
 /// The timer ends at this moment at the latest, in ms.
@@ -35,5 +35,5 @@ pub(crate) fn lower(world: &mut World, group: Addr, end: u64) -> Result<(), Allo
         Some(row) => row.end.min(end),
         None => end,
     };
-    world.set_join_timer(Key::group(group), Some(JoinTimerRow { end }))
+    world.set_join_timer(group, None, Some(JoinTimerRow { end }))
 }

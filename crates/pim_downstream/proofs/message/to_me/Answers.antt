@@ -1,7 +1,8 @@
 use Rattle.std.proofs.Common.{List, ap, ◌∙◌}
 use Rattle.pim_types.specs.declared.fact.Key.{Key}
-use Rattle.pim_model.specs.Downstream.{asserts_after_joins}
+use Rattle.pim_model.specs.Downstream.{asserts_after_joins, row_after}
 use Rattle.pim_model.specs.State.{State}
+use Rattle.pim_downstream.proofs.OnInterface.{changes_on, touched_on}
 use Rattle.pim_downstream.proofs.Rows.{taken}
 use Rattle.pim_downstream.proofs.message.to_me.Goals as goal
 
@@ -14,3 +15,14 @@ returns-clause-state c =
     c.deref.result.now c.deref-2.result.now later c.end_losses.new.self
     (c.deref.ensures.value ∙ c.in_ok-keys.ensures) (c.deref-2.ensures.value ∙ c.in_ok-changes.ensures)
     c.in_ok-set_rows.ensures (c.end_losses.ensures ∙ ap losses_ended c.deref-3.ensures.value)
+
+pub set_rows-requires-clause-on : goal.set_rows-requires-clause-on
+set_rows-requires-clause-on c =
+    let named = c.args.named.now in
+    rw c.deref-2.ensures.value
+    (changes_on c.args.iface.number
+    (row_after c.args.world.now c.args.iface.number c.args.holdtime named.joined.items named.pruned.items)
+    c.deref.result.now _ c.in_ok-changes.changes.items (c.deref.ensures.value ∙ c.in_ok-keys.ensures)
+    (touched_on c.args.iface.number c.args.world.now named.joined.items named.pruned.items c.requires.joined
+    c.requires.pruned)
+    c.in_ok-changes.ensures)

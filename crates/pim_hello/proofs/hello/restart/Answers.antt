@@ -13,7 +13,7 @@ returns-clause-state c =
     c.in_ok-replace_neighbour.ensures
     ∙ ap (λ (x : State). neighbour_replaced x c.args.iface.number c.args.from.bits c.args.hello.now)
     c.trigger.ensures in
-    c.lower_timers.ensures
+    c.in_ok-lower_timers.ensures
     ∙ restarted s c.args.iface.number c.args.from.bits w c.args.hello.now c.replace_neighbour.new.self
     (c.present.result + c.override_delay.result) c.deref.result.now is c.requires.asserts
     (ap (λ n. n + c.override_delay.result) c.present.ensures.present

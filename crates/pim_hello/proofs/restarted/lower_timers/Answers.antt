@@ -12,12 +12,12 @@ loop-key-preserved c =
     let end = c.args.end in
     let keys = c.args.keys.now in
     let i = c.loop-key.key-index in
-    let timers = ap (λ (s : State). s.join_timers) c.lower_join_timer.ensures in (
+    let timers = ap (λ (s : State). s.join_timers) c.in_ok-lower_join_timer.ensures in (
       ap (λ (t : Table JoinTimerRow). all_lowered end t (drop (i + 1) keys)) timers
           ∙ one_more_lowered end keys i (star_key 0 0) c.loop-key.world.join_timers c.loop-key-test.true
           ∙ c.loop-key.invariant.0,
       kept c.args.world.now c.loop-key.world c.lower_join_timer.new.self _ c.loop-key.invariant.1
-          c.lower_join_timer.ensures,
+          c.in_ok-lower_join_timer.ensures,
     )
 
 pub returns : goal.returns

@@ -14,4 +14,18 @@ returns c =
     let eight = gathered_more _ _ _ _ _ seven c.in_ok-gather-8.ensures in
     let nine = gathered_more _ _ _ _ _ eight c.in_ok-gather-9.ensures in
     let ten = gathered_more _ _ _ _ _ nine c.in_ok-gather-10.ensures in
-    rw (← c.self.view_is) (gathered_last c.gather-11.result _ _ _ _ _ ten c.gather-11.ensures)
+    rw (
+      ← c.self.view_is,
+      ← c.iter.ensures,
+      ← c.iter-2.ensures,
+      ← c.iter-3.ensures,
+      ← c.iter-4.ensures,
+      ← c.iter-5.ensures,
+      ← c.downstream_rows.ensures.rows,
+      ← c.assert_rows.ensures.rows,
+      ← c.join_timer_rows.ensures,
+      ← c.override_timer_rows.ensures,
+      ← c.source_rows.ensures,
+      ← c.register_rows.ensures,
+    )
+    (gathered_last c.gather-11.result _ _ _ _ _ ten c.gather-11.ensures)

@@ -52,7 +52,7 @@ returns-clause-accepted c =
     (test_held _ Refusal.BadRps c.in_ok-replace_rps.field-0 c.in_ok-replace_rps.ensures.answer
     (sym c.is_err-2.ensures.value ∙ c.if-is_err-2.false)) in (
       all_accepted c.args.config tested (subst (λ xs. are_routes xs c.args.config.routes ≡ true) listed routes) rps,
-      c.without_facts.ensures
+      c.in_ok-world.ensures
           ∙ opens c.args.config c.settings_of.result c.new-interfaces.result c.replace_rps.new.self
           c.settings_of.ensures (c.new-interfaces.ensures
           ∙ ap (λ xs. record { configured = xs; rows = [] }) c.as_slice.ensures)
