@@ -3,4 +3,4 @@ mod Loops
 pub mod OnInterface
 pub mod PlainKept
 mod Rows
-mod RptRows
+mod RptGroups

@@ -7,6 +7,7 @@ pub mod full;
 pub mod message;
 pub mod named;
 pub mod row;
+mod rpt;
 
 pub use entry::{is_accepted, is_used};
 pub use full::is_full;

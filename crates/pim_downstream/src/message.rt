@@ -1,41 +1,17 @@
 //! A message as a whole.
 ghost use Rattle.std.specs.List.{list_all};
-ghost use Rattle.std.specs.Prelude.{◌≡◌, ◌<◌, ◌++◌, IfOk, OnOk, map, true};
+ghost use Rattle.std.specs.Prelude.{◌≡◌, ◌<◌, IfOk, OnOk, map, true};
 ghost use Rattle.pim_types.specs.Keys.{is_on};
-ghost use Rattle.pim_downstream.specs.Naming.{are_on, is_rpt_joined, rows_set};
-ghost use Rattle.pim_model.specs.Downstream.{keys_taken, row_after, rpt_rows_joined, touched_keys};
+ghost use Rattle.pim_downstream.specs.Naming.{are_on, rows_set};
+ghost use Rattle.pim_model.specs.Downstream.{keys_taken, row_after, touched_keys};
 
 use crate::named::Named;
 use crate::row::row_after;
+use crate::rpt::push_rpt_rows;
 use pim_macros::{Turn, World};
-use pim_tables::is_named;
 use pim_types::fact::DownstreamRow;
 use pim_types::{IfaceId, Key};
 use std::alloc::{AllocError, Global};
-
-// Whether the key is of (S,G,rpt) on the interface, and its group is joined.
-fn is_rpt_joined(iface: IfaceId, joined: &[Key], key: Key) -> bool
-    ensures { result ≡ is_rpt_joined iface.number joined.now key }
-{
-    key.iface == iface && key.rpt && is_named(joined, Key::star(iface, key.group))
-}
-
-// Puts the (S,G,rpt) rows of the joined groups behind the other keys.
-fn push_rpt_rows(
-    world: &World,
-    iface: IfaceId,
-    joined: &[Key],
-    keys: &mut Vec<Key>,
-) -> Result<(), AllocError>
-    ensures { OnOk result (keys.new.items ≡ keys.old.items ++ rpt_rows_joined world.now iface.number joined.now) }
-{
-    for (key, _) in world.downstream() {
-        if is_rpt_joined(iface, joined, *key) {
-            keys.push(*key)?;
-        }
-    }
-    Ok(())
-}
 
 // The keys whose rows the message can change.
 #[tactic(auto, unfolding(pim_model::specs::Downstream::touched_keys))]
@@ -51,7 +27,7 @@ fn touched_keys(
     let mut keys = Vec::new(alloc);
     keys.extend_from_slice(&named.joined)?;
     keys.extend_from_slice(&named.pruned)?;
-    push_rpt_rows(world, iface, &named.joined, &mut keys)?;
+    push_rpt_rows(alloc, world, iface, &named.joined, &mut keys)?;
     Ok(keys)
 }
 

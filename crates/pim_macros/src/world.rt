@@ -1,15 +1,16 @@
 //! The whole state, and the changes that are made in it.
-ghost use Rattle.std.specs.Prelude.{◌≡◌, ◌<◌, ◌≤◌, ◌+◌, ◌^◌, [], Ok, Err, MatchResult, OnOk, OnErr, IfOk, IfErr, length, option_map, slice_get, false, true};
+ghost use Rattle.std.specs.Prelude.{◌≡◌, ◌<◌, ◌≤◌, ◌+◌, ◌^◌, ◌==◌, ◌++◌, ◌&&◌, [], Ok, Err, MatchResult, OnOk, OnErr, IfOk, IfErr, filter, length, option_map, slice_get, false, true};
+ghost use Rattle.std.specs.List.{list_any};
 ghost use Rattle.pim_ip.specs.declared.fault.Fault.{Fault};
 ghost use Rattle.pim_ip.specs.declared.refusal.Refusal.{Refusal};
-ghost use Rattle.pim_types.specs.Keys.{iface_key, star_key};
+ghost use Rattle.pim_types.specs.Keys.{group_in, iface_key, is_on, star_key};
 ghost use Rattle.pim_model.specs.Downstream.{asserts_after_joins};
 ghost use Rattle.pim_model.specs.Full.{counted, passes_limit};
 ghost use Rattle.pim_model.specs.Hellos.{hellos_triggered, neighbours_replaced};
 ghost use Rattle.pim_model.specs.Limits.{are_routes, are_rps, config_test};
 ghost use Rattle.pim_model.specs.Neighbours.{is_neighbour, neighbour_count};
 ghost use Rattle.pim_model.specs.State.{iface_count, is_own, is_up, iface_config, my_address, opening};
-ghost use Rattle.pim_model.specs.Tables.{change_row, has_row, put, row_at, set_row};
+ghost use Rattle.pim_model.specs.Tables.{change_row, has_row, keys_in, put, row_at, set_row};
 ghost use Rattle.pim_macros.specs.Configurations.{without_facts};
 ghost use Rattle.pim_store.specs.PimTables.{fact_key, lowered};
 
@@ -26,6 +27,7 @@ use pim_types::fact::{
 use pim_types::{Addr, Config, Fault, IfaceId, InterfaceConfig, Key, Refusal, Settings};
 use pim_wire::Hello;
 use std::alloc::{AllocError, Global};
+use std::collections::BTreeSet;
 use std::collections::btree_map::Iter;
 use std::marker::Model;
 
@@ -246,6 +248,21 @@ impl World {
         ensures { result ≡ self.now.downstream }
     {
         self.store.downstream_rows()
+    }
+
+    /// Puts the keys of the (S,G,rpt) downstream states of these groups on the interface behind the others, by rising key.
+    /// No state of another group is looked at, but for one after each of them.
+    pub fn push_rpt_keys(
+        &self,
+        iface: IfaceId,
+        groups: &BTreeSet<Addr>,
+        keys: &mut Vec<Key>,
+    ) -> Result<(), AllocError>
+        ensures { OnOk result (keys.new.items ≡ keys.old.items
+            ++ filter (λ k. is_on iface.number k && k.rpt && list_any (λ a. group_in k == a.bits) groups.now.keys)
+            (keys_in self.now.downstream)) }
+    {
+        self.store.push_rpt_keys(iface, groups, keys)
     }
 
     /// Whether there is a downstream state under the key.

@@ -1,15 +1,15 @@
 //! The PIM facts.
-ghost use Rattle.std.specs.Prelude.{◌≡◌, ◌<◌, ◌≤◌, ◌+◌, ◌^◌, ◌&&◌, ℕ, None, Some, IsTrue, IfOk, OnOk, false, filter, nat_lt, not, option_map, true};
-ghost use Rattle.std.specs.List.{list_all};
+ghost use Rattle.std.specs.Prelude.{◌≡◌, ◌<◌, ◌≤◌, ◌+◌, ◌^◌, ◌==◌, ◌++◌, ◌&&◌, ℕ, None, Some, IsTrue, IfOk, OnOk, false, filter, nat_lt, not, option_map, true};
+ghost use Rattle.std.specs.List.{list_all, list_any};
 ghost use Rattle.pim_ifset.specs.Members.{has};
 ghost use Rattle.pim_model.specs.Clearing.{first_by};
 ghost use Rattle.pim_model.specs.Downstream.{is_named};
 ghost use Rattle.pim_model.specs.Sets.{is_loser, is_winner};
-ghost use Rattle.pim_model.specs.Tables.{change_row, drop_where, has_row, row_at, set_row};
+ghost use Rattle.pim_model.specs.Tables.{change_row, drop_where, has_row, keys_in, row_at, set_row};
 ghost use Rattle.pim_model.specs.Timers.{is_ending_first};
 ghost use Rattle.pim_model.specs.Upstream.{groups_of, sources_of};
 ghost use Rattle.pim_tables.specs.Ends.{due_of};
-ghost use Rattle.pim_types.specs.Keys.{iface_in, is_on, rpt_key, same_key, source_key};
+ghost use Rattle.pim_types.specs.Keys.{group_in, iface_in, is_of_group, is_on, rpt_key, same_key, source_key};
 ghost use Rattle.pim_store.specs.Bare.{IsWithoutTunnel};
 ghost use Rattle.pim_store.specs.PimTables.{counted_facts, fact_key, is_prune, lowered, no_facts, stored_endings, stored_keys};
 
@@ -19,7 +19,7 @@ use crate::rows::{drop_rows_on, put_row, remove_row, set_row};
 use crate::walks::Sources;
 use pim_ip::Addr;
 use pim_source_trie::Groups;
-use pim_tables::{Timed, earlier};
+use pim_tables::{RptKeys, Timed, earlier};
 use pim_timers::Wheel;
 use pim_trie::Meter;
 use pim_types::fact::{
@@ -27,6 +27,7 @@ use pim_types::fact::{
 };
 use pim_types::{IfaceId, Key, Timer};
 use std::alloc::{AllocError, Global};
+use std::collections::BTreeSet;
 use std::collections::btree_map::Iter;
 use std::marker::Model;
 
@@ -324,6 +325,30 @@ impl Store {
         ensures { result ≡ sources_of group.bits (stored_keys self.now) }
     {
         Sources::among(self.index.walk(group))
+    }
+
+    /// The keys of the (S,G,rpt) downstream states of the group on the interface, ascending by source. No state of
+    /// another group is looked at, but for the one that comes next.
+    pub fn rpt_keys(&self, iface: IfaceId, group: Addr) -> RptKeys<'_, DownstreamRow>
+        ensures { result
+            ≡ filter (λ k. is_on iface.number k && k.rpt && is_of_group group.bits k) (keys_in self.now.downstream) }
+    {
+        self.downstream.rpt_keys(iface, group)
+    }
+
+    /// Puts the keys of the (S,G,rpt) downstream states of these groups on the interface behind the others, by rising key.
+    /// No state of another group is looked at, but for one after each of them.
+    pub fn push_rpt_keys(
+        &self,
+        iface: IfaceId,
+        groups: &BTreeSet<Addr>,
+        keys: &mut Vec<Key>,
+    ) -> Result<(), AllocError>
+        ensures { OnOk result (keys.new.items ≡ keys.old.items
+            ++ filter (λ k. is_on iface.number k && k.rpt && list_any (λ a. group_in k == a.bits) groups.now.keys)
+            (keys_in self.now.downstream)) }
+    {
+        self.downstream.push_rpt_keys(iface, groups, keys)
     }
 
     /// How many facts count: the downstream states, the asserts and the sources.

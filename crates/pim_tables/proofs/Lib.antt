@@ -1,5 +1,7 @@
 mod Counting
 pub mod Firsts
+mod GroupKeys
+mod GroupRuns
 mod Joined
 pub mod Lookups
 pub mod Losses

@@ -1,12 +1,15 @@
-ghost use Rattle.std.specs.Prelude.{◌≡◌, ◌↔◌, [], length, IsTrue, IfSome, OnOk, OnErr, Option, Some};
+ghost use Rattle.std.specs.Prelude.{◌≡◌, ◌==◌, ◌++◌, ◌↔◌, ◌&&◌, [], filter, length, IsTrue, IfSome, OnOk, OnErr, Option, Some};
+ghost use Rattle.std.specs.List.{list_any};
 ghost use Rattle.std.specs.List.Sorted.{IsStrictlySortedBy};
 ghost use Rattle.pim_model.specs.Tables.{keys_in, row_at, has_row, put, drop_at, drop_where, set_row, change_row, rows_on};
-ghost use Rattle.pim_types.specs.Keys.{key_cmp, is_on};
+ghost use Rattle.pim_types.specs.Keys.{group_in, is_of_group, key_cmp, is_on};
 
+use crate::group_rows::{GroupRows, RptKeys, push_keys};
+use pim_ip::Addr;
 use pim_types::{IfaceId, Key};
 use std::alloc::{AllocError, Global};
-use std::collections::BTreeMap;
 use std::collections::btree_map::Iter;
+use std::collections::{BTreeMap, BTreeSet};
 use std::marker::Model;
 
 /// The facts of one kind.
@@ -66,6 +69,40 @@ impl<R> Facts<R> {
         ensures { result ≡ self.now }
     {
         self.rows.iter()
+    }
+
+    /// The facts of a group on an interface, by rising key. No other fact but the next one is looked at.
+    pub fn of_group(&self, iface: IfaceId, group: Addr) -> GroupRows<'_, R>
+        ensures { result ≡ filter (λ e. is_on iface.number e.0 && is_of_group group.bits e.0) self.now }
+    {
+        GroupRows::of(&self.rows, iface, group)
+    }
+
+    /// The keys of the (S,G,rpt) facts of a group on an interface, ascending by source.
+    pub fn rpt_keys(&self, iface: IfaceId, group: Addr) -> RptKeys<'_, R>
+        ensures { result ≡ filter (λ k. is_on iface.number k && k.rpt && is_of_group group.bits k) (keys_in self.now) }
+    {
+        RptKeys::among(GroupRows::of(&self.rows, iface, group))
+    }
+
+    /// Puts the keys of the (S,G,rpt) facts of these groups on an interface behind the others, by rising key. No fact of
+    /// another group is looked at, but for one after each of them.
+    pub fn push_rpt_keys(
+        &self,
+        iface: IfaceId,
+        groups: &BTreeSet<Addr>,
+        keys: &mut Vec<Key>,
+    ) -> Result<(), AllocError>
+        ensures { OnOk result (keys.new.items ≡ keys.old.items
+            ++ filter (λ k. is_on iface.number k && k.rpt && list_any (λ a. group_in k == a.bits) groups.now.keys)
+            (keys_in self.now)) }
+    {
+        // These tell that the keys rise, and the groups.
+        let _ = (self.len(), groups.len());
+        for group in groups {
+            push_keys(self.rpt_keys(iface, *group), keys)?;
+        }
+        Ok(())
     }
 }
 

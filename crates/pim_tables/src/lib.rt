@@ -5,6 +5,7 @@
 pub mod ends;
 pub mod facts;
 pub mod first;
+pub mod group_rows;
 pub mod law;
 pub mod named;
 mod row_ends;
@@ -13,5 +14,6 @@ pub mod timed;
 pub use ends::Ends;
 pub use facts::Facts;
 pub use first::earlier;
+pub use group_rows::{GroupRows, RptKeys};
 pub use named::is_named;
 pub use timed::Timed;
