@@ -1,9 +1,10 @@
 -- Which interfaces are in the sets that the operations make, by the bits of their masks, and that the masks stay below 2 ^ 120.
-use Rattle.std.proofs.Common.{◌≡◌, ◌≢◌, ℕ, ◌-◌, ◌*◌, ◌/◌, ◌%◌, ◌^◌, ◌<◌, ◌≤◌, min, max, Bool, true, false, not, ◌&&◌, ◌||◌, ◌==◌, bit_and, bit_or, refl, ap, ◌∙◌, arith, inl, inr}
+use Rattle.std.proofs.Common.{◌≡◌, ◌≢◌, ℕ, ◌-◌, ◌*◌, ◌/◌, ◌%◌, ◌^◌, ◌<◌, ◌≤◌, min, max, Bool, true, false, not, ◌&&◌, ◌||◌, ◌==◌, bit_and, bit_or, refl, ap, ◌∙◌, arith, inl, inr, nat_lt}
 use Rattle.std.specs.Int.{bit_at, bit_not, w128}
+use Rattle.std.proofs.Math.Nat.{pow-le-pow_right}
 use Rattle.std.proofs.Math.Pow.{pow-lt}
 use Rattle.std.proofs.lemmas.Bool.{cases_order}
-use Rattle.std.proofs.lemmas.Nat.Bits.{bit_at-lt, bit_at_and, bit_at_or, bit_at_not, bit_at-pow_same, bit_at-pow_other, bit_at_above, bit_at-zero, shr_and_one}
+use Rattle.std.proofs.lemmas.Nat.Bits.{bit_at-lt, bit_at_and, bit_at_or, bit_at_not, bit_at-pow_same, bit_at-pow_other, bit_at_above, bit_at-zero, bit_at_ones, bit_at_ones_above, shr_and_one}
 use Rattle.std.proofs.lemmas.Bool.Decides.{nat_tests}
 use Rattle.std.proofs.lemmas.Grind.{one_shifted}
 use Rattle.pim_ifset.specs.Members.{has}
@@ -103,3 +104,22 @@ has_but_above m k t q small above = elim (q == k) as (λ b. (q == k) ≡ b → h
 pub has_by_shift : (m : ℕ) (t : Bool) (k : ℕ) → (bit_and (m / 2 ^ k) 1 == 1) ≡ has (record { mask = m; tunnel = t }) k
 unfolding has
 has_by_shift m t k = rw (shr_and_one m k)
+
+-- all interfaces below one
+ones_shifted : (k : ℕ) → k ≤ 120 → 1 * 2 ^ k % 2 ^ 128 - 1 ≡ 2 ^ k - 1
+ones_shifted k within = ap (λ n. n - 1) ((one_shifted k _ refl (omega arith)).0)
+
+pub ones_lt : (k : ℕ) → k ≤ 120 → 1 * 2 ^ k % 2 ^ 128 - 1 < 2 ^ 120
+ones_lt k within =
+    let most : 2 ^ k ≤ 2 ^ 120 = pow-le-pow_right {n = 2} (omega arith) {i = k} {j = 120} within in
+    rw (ones_shifted k within) (omega (arith, most))
+
+pub has_ones : (k : ℕ) (t : Bool) (q : ℕ) → k ≤ 120
+    → has (record { mask = 1 * 2 ^ k % 2 ^ 128 - 1; tunnel = t }) q ≡ nat_lt q k
+unfolding has
+has_ones k t q within =
+    rw (ones_shifted k within)
+    (elim (nat_lt q k) as (λ b. nat_lt q k ≡ b → (bit_at (2 ^ k - 1) q == 1) ≡ b) [
+      | true ↦ λ e. let below : q < k = grind (arith, nat_tests) in rw (bit_at_ones k q below) refl
+      | false ↦ λ e. let above : k ≤ q = grind (arith, nat_tests) in rw (bit_at_ones_above k q above) refl
+    ] refl)

@@ -39,6 +39,18 @@ impl IfSet {
         IfSet::default()
     }
 
+    /// The interfaces below a number.
+    pub fn below(number: u32) -> IfSet
+        requires { number ≤ 120 }
+        ensures interfaces { (q : ℕ) → has result q ≡ nat_lt q number }
+        ensures tunnel { result.tunnel ≡ false }
+    {
+        IfSet {
+            mask: (1 << number) - 1,
+            tunnel: false,
+        }
+    }
+
     /// Whether the interface is in the set; none above 119 is.
     pub fn contains(self, iface: IfaceId) -> bool
         ensures { result ≡ has self iface.number }

@@ -1,4 +1,5 @@
 pub mod Accepted
+mod Emptiness
 pub mod Gathered
 pub mod Gathering
 mod Options

@@ -1,5 +1,6 @@
 pub mod Configurations
 pub mod Groups
 pub mod Plain
+pub mod Sights
 pub mod Touches
 pub mod Turns

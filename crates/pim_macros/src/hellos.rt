@@ -3,7 +3,7 @@ ghost use Rattle.std.specs.Prelude.{◌≡◌, ◌<◌, ◌≤◌, ◌^◌, OnOk
 ghost use Rattle.pim_model.specs.Downstream.{prune_pending_end};
 ghost use Rattle.pim_model.specs.Hellos.{hellos_triggered, is_generation_changed, neighbour_replaced};
 ghost use Rattle.pim_model.specs.Neighbours.{t_override};
-ghost use Rattle.pim_model.specs.State.{my_override_interval, my_propagation_delay};
+ghost use Rattle.pim_model.specs.State.{my_address, my_override_interval, my_priority, my_propagation_delay};
 ghost use Rattle.pim_neighbours.specs.Refreshed.{is_refreshed};
 
 use crate::world::World;
@@ -28,7 +28,9 @@ impl World {
     }
 
     // What is configured of the interface.
-    fn own(&self, iface: IfaceId) -> InterfaceConfig
+    pub(crate) fn own(&self, iface: IfaceId) -> InterfaceConfig
+        ensures address { result.address.bits ≡ my_address self.now iface.number }
+        ensures priority { result.priority ≡ my_priority self.now iface.number }
         ensures override_interval { result.override_interval ≡ my_override_interval self.now iface.number }
         ensures propagation_delay { result.propagation_delay ≡ my_propagation_delay self.now iface.number }
     {

@@ -2,17 +2,24 @@
 //! and the macros of RFC 7761, section 4.1.6, over it.
 #![tactic(auto)]
 
+pub mod asserts;
+pub mod desires;
 pub mod groups;
 pub mod hellos;
 pub mod macros;
+pub mod registers;
 pub mod routes;
 pub mod sending;
+pub mod sets;
 pub mod settings;
+pub mod sight;
 pub mod touched;
 pub mod turn;
+pub mod views;
 pub mod world;
 
 pub use routes::test_rps;
+pub use sight::{SourceSight, StarSight};
 pub use touched::Touched;
 pub use turn::Turn;
 pub use world::World;

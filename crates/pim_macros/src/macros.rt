@@ -62,21 +62,13 @@ impl World {
         self.nbr(path)
     }
 
-    /// RPF'(*,G).
-    pub fn rpf_star(&self, group: Addr, meter: &mut Meter) -> Option<Hop>
-        requires { IsPlain self.now }
-        ensures { result ≡ rpf_star self.now group.bits }
-    {
-        let path = self.rp_route(group, meter);
-        self.rpf_star_along(group, path)
-    }
-
     /// Whether RPF'(*,G) is this neighbour.
     pub fn is_rpf_star(&self, group: Addr, neighbour: Hop, meter: &mut Meter) -> bool
         requires { IsPlain self.now }
         ensures { result ≡ same_hop (rpf_star self.now group.bits) (Some neighbour) }
     {
-        match self.rpf_star(group, meter) {
+        let path = self.rp_route(group, meter);
+        match self.rpf_star_along(group, path) {
             Some(hop) => hop == neighbour,
             None => false,
         }
