@@ -2,6 +2,7 @@ pub mod Accepted
 mod Emptiness
 pub mod Gathered
 pub mod Gathering
+mod NextInterface
 mod Options
 pub mod PlainLaws
 mod Ranges

@@ -4,9 +4,12 @@
 
 pub mod asserts;
 pub mod desires;
+pub mod gather;
 pub mod groups;
 pub mod hellos;
+pub mod interfaces;
 pub mod macros;
+pub mod membership;
 pub mod registers;
 pub mod routes;
 pub mod sending;

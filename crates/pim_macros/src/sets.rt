@@ -1,26 +1,13 @@
 //! The sets of interfaces of RFC 7761, section 4.1.6, by sights of the state as it is.
 ghost use Rattle.std.specs.Prelude.{◌≡◌, ℕ};
-ghost use Rattle.pim_macros.specs.Sights.{IsSourceSight, IsStarSight, Shows, is_interface_of, wanted_by_group};
+ghost use Rattle.pim_macros.specs.Sights.{IsSourceSight, IsStarSight, Shows, wanted_by_group};
 ghost use Rattle.pim_model.specs.AssertMacros.{forwarding_set};
 ghost use Rattle.pim_model.specs.Sets.{immediate_olist, immediate_olist_star, inherited_olist, inherited_olist_rpt, lost_assert, lost_assert_rpt, lost_assert_star, pim_exclude, pim_include, pim_include_star, serves, serves_star, tunnel};
 
+use crate::interfaces::interface_of;
 use crate::sight::{SourceSight, StarSight};
 use crate::world::World;
 use pim_ifset::IfSet;
-use pim_types::Path;
-
-// The interface of a route, or none.
-pub(crate) fn interface_of(path: Option<Path>) -> IfSet
-    ensures { Shows result (is_interface_of path) }
-{
-    let mut set = IfSet::new();
-    if let Some(path) = path {
-        if path.iface.number < IfSet::LIMIT {
-            set.insert(path.iface);
-        }
-    }
-    set
-}
 
 impl World {
     /// lost_assert(*,G) (RFC 7761, section 4.6.5).

@@ -1,0 +1,171 @@
+//! Sights, gathered of the state as it is.
+ghost use Rattle.std.specs.Prelude.{◌≡◌, option_map};
+ghost use Rattle.pim_macros.specs.Sights.{IsSourceSight, IsStarSight, Shows, is_beaten};
+ghost use Rattle.pim_model.specs.Desires.{winner_hop};
+ghost use Rattle.pim_model.specs.Neighbours.{is_dr};
+ghost use Rattle.pim_model.specs.Sets.{assert_source, assert_star, is_kept_alive, is_loser, is_winner, joins, joins_star, prunes, spt_bit, tunnel};
+ghost use Rattle.pim_model.specs.Tables.{row_at};
+ghost use Rattle.pim_model.specs.Unicast.{route};
+ghost use Rattle.pim_types.specs.declared.path.Path.{Path as PathValue};
+
+use crate::asserts::{is_better, is_loser, is_winner, route_metric};
+use crate::interfaces::interfaces_where;
+use crate::sight::{SourceSight, StarSight};
+use crate::world::World;
+use pim_ifset::IfSet;
+use pim_trie::Meter;
+use pim_types::fact::{AssertRole, AssertRow, RegisterState};
+use pim_types::{Addr, Hop, IfaceId, Key, Path};
+
+impl World {
+    // The assert under the key.
+    fn assert_at(&self, key: Key) -> Option<AssertRow>
+        ensures { result ≡ row_at self.now.asserts key }
+    {
+        self.asserts.get(key)
+    }
+
+    // To whom the router lost the assert with the key's group and source on the interface of a route.
+    fn winner_along(&self, path: Option<Path>, key: Key) -> Option<Hop>
+        ensures { result ≡ winner_hop (option_map (λ (p : PathValue). p.iface.number) path)
+            (λ i. row_at self.now.asserts (record key { iface = record { number = i } })) }
+    {
+        let iface = path?.iface;
+        let row = self.assert_at(Key { iface, ..key })?;
+        match row.role {
+            AssertRole::Loser => Some(Hop {
+                iface,
+                address: row.winner.address,
+            }),
+            AssertRole::Winner => None,
+        }
+    }
+
+    // I_am_DR.
+    fn dr(&self) -> IfSet
+        ensures { Shows result (is_dr self.now) }
+    {
+        interfaces_where(|iface| self.is_dr(iface))
+    }
+
+    /// What the macros of (*,G) read now. The meter rises by the nodes that the look-ups of routes visit.
+    #[tactic(auto, unfolding(pim_model::specs::Sets::joins_star, pim_model::specs::Unicast::rpf_interface_rp))]
+    pub fn gather_star(&self, group: Addr, meter: &mut Meter) -> StarSight
+        ensures sight { IsStarSight self.now result }
+        ensures group { result.group ≡ group }
+    {
+        let rp_path = self.rp_route(group, meter);
+        StarSight {
+            group,
+            rp: self.rp(group, meter),
+            rp_path,
+            next_hop: self.nbr(rp_path),
+            winner: self.winner_along(rp_path, Key::group(group)),
+            joined: interfaces_where(|iface| self.has_downstream(Key::star(iface, group))),
+            lost: interfaces_where(|iface| is_loser(self.assert_at(Key::star(iface, group)))),
+            won: interfaces_where(|iface| is_winner(self.assert_at(Key::star(iface, group)))),
+            receivers: self.receivers(group),
+            dr: self.dr(),
+        }
+    }
+
+    // Whether the winner of the assert of (S,G) on the interface is better than spt_assert_metric(S,I).
+    #[tactic(auto, unfolding(crate::specs::Sights::is_beaten, pim_model::specs::Sets::spt_metric))]
+    fn is_beaten(&self, iface: IfaceId, group: Addr, source: Addr, path: Option<Path>) -> bool
+        requires { path ≡ route self.now source.bits }
+        ensures { result ≡ is_beaten self.now group.bits source.bits iface.number }
+    {
+        match self.assert_at(Key::source(iface, group, source)) {
+            Some(row) => {
+                let is_own = self.is_own(source);
+                is_better(
+                    row.winner,
+                    route_metric(false, self.address(iface), is_own, path),
+                )
+            }
+            None => false,
+        }
+    }
+
+    // In Prune of (S,G,rpt) on the interface.
+    #[tactic(auto, unfolding(pim_model::specs::Sets::prunes))]
+    fn is_pruned(&self, iface: IfaceId, group: Addr, source: Addr) -> bool
+        ensures { result ≡ prunes self.now group.bits source.bits iface.number }
+    {
+        match self.downstream_at(Key::source_rpt(iface, group, source)) {
+            Some(row) => row.pending.is_none(),
+            None => false,
+        }
+    }
+
+    // SPTbit(S,G).
+    #[tactic(auto, unfolding(pim_model::specs::Sets::spt_bit))]
+    fn spt_bit(&self, group: Addr, source: Addr) -> bool
+        ensures { result ≡ spt_bit self.now group.bits source.bits }
+    {
+        match self.sources.get(Key::source(IfaceId::NONE, group, source)) {
+            Some(row) => row.spt,
+            None => false,
+        }
+    }
+
+    // Whether KAT(S,G) runs.
+    #[tactic(auto, unfolding(pim_model::specs::Sets::is_kept_alive))]
+    fn is_kept_alive(&self, group: Addr, source: Addr) -> bool
+        ensures { result ≡ is_kept_alive self.now group.bits source.bits }
+    {
+        match self.sources.get(Key::source(IfaceId::NONE, group, source)) {
+            Some(row) => row.keepalive.is_some(),
+            None => false,
+        }
+    }
+
+    // Whether the register tunnel is in joins(S,G).
+    #[tactic(auto, unfolding(pim_model::specs::Sets::tunnel))]
+    fn has_tunnel(&self, group: Addr, source: Addr) -> bool
+        ensures { result ≡ tunnel self.now group.bits source.bits }
+    {
+        match self
+            .registers
+            .get(Key::source(IfaceId::NONE, group, source))
+        {
+            Some(row) => match row.state {
+                RegisterState::Join => true,
+                _ => false,
+            },
+            None => false,
+        }
+    }
+
+    /// What the macros of (S,G) and of (S,G,rpt) read now, beside those of (*,G). The meter rises by the nodes that the
+    /// look-up of the route visits.
+    #[tactic(auto, unfolding(pim_model::specs::Sets::joins, pim_model::specs::Unicast::rpf_interface, pim_model::specs::Unicast::rpf_interface_rp))]
+    pub fn gather_source(&self, star: StarSight, source: Addr, meter: &mut Meter) -> SourceSight
+        requires { IsStarSight self.now star }
+        ensures sight { IsSourceSight self.now result }
+        ensures star { result.star ≡ star }
+        ensures source { result.source ≡ source }
+    {
+        let group = star.group;
+        let key = Key::source(IfaceId::NONE, group, source);
+        let path = self.route(source, meter);
+        SourceSight {
+            star,
+            source,
+            path,
+            next_hop: self.nbr(path),
+            winner: self.winner_along(path, key),
+            tree_winner: self.winner_along(star.rp_path, key),
+            joined: interfaces_where(|iface| self.has_downstream(Key { iface, ..key })),
+            pruned: interfaces_where(|iface| self.is_pruned(iface, group, source)),
+            lost: interfaces_where(|iface| is_loser(self.assert_at(Key { iface, ..key }))),
+            won: interfaces_where(|iface| is_winner(self.assert_at(Key { iface, ..key }))),
+            beaten: interfaces_where(|iface| self.is_beaten(iface, group, source, path)),
+            included: self.included(group, source),
+            excluded: self.excluded(group, source),
+            spt: self.spt_bit(group, source),
+            is_kept_alive: self.is_kept_alive(group, source),
+            tunnel: self.has_tunnel(group, source),
+        }
+    }
+}
