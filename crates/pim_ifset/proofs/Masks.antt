@@ -123,3 +123,13 @@ has_ones k t q within =
       | true ↦ λ e. let below : q < k = grind (arith, nat_tests) in rw (bit_at_ones k q below) refl
       | false ↦ λ e. let above : k ≤ q = grind (arith, nat_tests) in rw (bit_at_ones_above k q above) refl
     ] refl)
+
+pub has_below_limit : (m : ℕ) (t u : Bool) (q : ℕ) → m < 2 ^ 120
+    → has (record { mask = m; tunnel = t }) q ≡ (nat_lt q 120 && has (record { mask = m; tunnel = u }) q)
+has_below_limit m t u q small =
+    has_tunnel m t u q
+    ∙ elim (nat_lt q 120) as (λ b. nat_lt q 120 ≡ b
+    → has (record { mask = m; tunnel = u }) q ≡ (b && has (record { mask = m; tunnel = u }) q)) [
+      | true ↦ λ e. refl
+      | false ↦ λ e. let above : 120 ≤ q = grind (arith, nat_tests) in has_above m u q small above
+    ] refl

@@ -163,6 +163,9 @@ impl IfSet {
     pub fn without_tunnel(self) -> IfSet
         ensures interfaces { (q : ℕ) → has result q ≡ has self q }
         ensures tunnel { result.tunnel ≡ false }
+
+        // Of every set: its interfaces are below the limit.
+        ensures limit { (q : ℕ) → has result q ≡ (nat_lt q 120 && has self q) }
     {
         IfSet {
             tunnel: false,

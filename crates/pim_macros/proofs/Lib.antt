@@ -1,4 +1,5 @@
 pub mod Accepted
+mod Asserted
 mod Emptiness
 pub mod Gathered
 pub mod Gathering

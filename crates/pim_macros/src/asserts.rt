@@ -3,13 +3,13 @@ ghost use Rattle.std.specs.Option.{option_map_or};
 ghost use Rattle.std.specs.Prelude.{◌≡◌, ◌<◌, false};
 ghost use Rattle.pim_macros.specs.Sights.{IsSourceSight, IsStarSight, Shows, is_tracked_upstream};
 ghost use Rattle.pim_model.specs.AssertMacros.{could_assert, could_assert_star, infinite, is_infinite, is_tracking_desired, is_tracking_desired_star, my_metric, my_metric_star};
-ghost use Rattle.pim_model.specs.Sets.{is_better, is_loser, is_winner, route_metric, rpt_metric, spt_metric};
+ghost use Rattle.pim_model.specs.Sets.{is_better, route_metric, rpt_metric, spt_metric};
 
 use crate::interfaces::interface_of;
 use crate::sight::{SourceSight, StarSight};
 use crate::world::World;
 use pim_ifset::IfSet;
-use pim_types::fact::{AssertMetric, AssertRole, AssertRow};
+use pim_types::fact::AssertMetric;
 use pim_types::{Addr, IfaceId, Path};
 
 // Worse than every route, and not infinite.
@@ -19,32 +19,6 @@ const UNREACHABLE_METRIC: u32 = 0xFFFF_FFFE;
 
 // The metric of infinite_assert_metric.
 const INFINITE_METRIC: u32 = 0xFFFF_FFFF;
-
-/// Whether the router lost the assert.
-pub fn is_loser(row: Option<AssertRow>) -> bool
-    ensures { result ≡ is_loser row }
-{
-    match row {
-        Some(row) => match row.role {
-            AssertRole::Loser => true,
-            AssertRole::Winner => false,
-        },
-        None => false,
-    }
-}
-
-/// Whether the router won the assert.
-pub fn is_winner(row: Option<AssertRow>) -> bool
-    ensures { result ≡ is_winner row }
-{
-    match row {
-        Some(row) => match row.role {
-            AssertRole::Winner => true,
-            AssertRole::Loser => false,
-        },
-        None => false,
-    }
-}
 
 /// infinite_assert_metric.
 pub fn infinite() -> AssertMetric

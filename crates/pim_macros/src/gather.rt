@@ -1,37 +1,32 @@
 //! Sights, gathered of the state as it is.
-ghost use Rattle.std.specs.Prelude.{◌≡◌, option_map};
+ghost use Rattle.std.specs.Prelude.{◌≡◌, ℕ, option_map};
+ghost use Rattle.pim_ifset.specs.Members.{has};
 ghost use Rattle.pim_macros.specs.Sights.{IsSourceSight, IsStarSight, Shows, is_beaten};
 ghost use Rattle.pim_model.specs.Desires.{winner_hop};
 ghost use Rattle.pim_model.specs.Neighbours.{is_dr};
-ghost use Rattle.pim_model.specs.Sets.{assert_source, assert_star, is_kept_alive, is_loser, is_winner, joins, joins_star, prunes, spt_bit, tunnel};
-ghost use Rattle.pim_model.specs.Tables.{row_at};
+ghost use Rattle.pim_model.specs.Sets.{is_kept_alive, spt_bit, tunnel};
+ghost use Rattle.pim_model.specs.Tables.{has_row, row_at};
 ghost use Rattle.pim_model.specs.Unicast.{route};
+ghost use Rattle.pim_types.specs.Keys.{source_key};
 ghost use Rattle.pim_types.specs.declared.path.Path.{Path as PathValue};
 
-use crate::asserts::{is_better, is_loser, is_winner, route_metric};
+use crate::asserts::{is_better, route_metric};
 use crate::interfaces::interfaces_where;
 use crate::sight::{SourceSight, StarSight};
 use crate::world::World;
 use pim_ifset::IfSet;
 use pim_trie::Meter;
-use pim_types::fact::{AssertRole, AssertRow, RegisterState};
+use pim_types::fact::{AssertRole, RegisterState};
 use pim_types::{Addr, Hop, IfaceId, Key, Path};
 
 impl World {
-    // The assert under the key.
-    fn assert_at(&self, key: Key) -> Option<AssertRow>
-        ensures { result ≡ row_at self.now.asserts key }
-    {
-        self.asserts.get(key)
-    }
-
     // To whom the router lost the assert with the key's group and source on the interface of a route.
     fn winner_along(&self, path: Option<Path>, key: Key) -> Option<Hop>
         ensures { result ≡ winner_hop (option_map (λ (p : PathValue). p.iface.number) path)
             (λ i. row_at self.now.asserts (record key { iface = record { number = i } })) }
     {
         let iface = path?.iface;
-        let row = self.assert_at(Key { iface, ..key })?;
+        let row = self.store.assert_at(Key { iface, ..key })?;
         match row.role {
             AssertRole::Loser => Some(Hop {
                 iface,
@@ -48,22 +43,22 @@ impl World {
         interfaces_where(|iface| self.is_dr(iface))
     }
 
-    /// What the macros of (*,G) read now. The meter rises by the nodes that the look-ups of routes visit.
-    #[tactic(auto, unfolding(pim_model::specs::Sets::joins_star, pim_model::specs::Unicast::rpf_interface_rp))]
+    /// What the macros of (*,G) read now. The meter rises by the nodes that the look-ups visit.
     pub fn gather_star(&self, group: Addr, meter: &mut Meter) -> StarSight
         ensures sight { IsStarSight self.now result }
         ensures group { result.group ≡ group }
     {
         let rp_path = self.rp_route(group, meter);
+        let marks = self.store.marks(group, None, meter);
         StarSight {
             group,
             rp: self.rp(group, meter),
             rp_path,
             next_hop: self.nbr(rp_path),
             winner: self.winner_along(rp_path, Key::group(group)),
-            joined: interfaces_where(|iface| self.has_downstream(Key::star(iface, group))),
-            lost: interfaces_where(|iface| is_loser(self.assert_at(Key::star(iface, group)))),
-            won: interfaces_where(|iface| is_winner(self.assert_at(Key::star(iface, group)))),
+            joined: marks.joined.without_tunnel(),
+            lost: marks.lost.without_tunnel(),
+            won: marks.won.without_tunnel(),
             receivers: self.receivers(group),
             dr: self.dr(),
         }
@@ -75,7 +70,7 @@ impl World {
         requires { path ≡ route self.now source.bits }
         ensures { result ≡ is_beaten self.now group.bits source.bits iface.number }
     {
-        match self.assert_at(Key::source(iface, group, source)) {
+        match self.store.assert_at(Key::source(iface, group, source)) {
             Some(row) => {
                 let is_own = self.is_own(source);
                 is_better(
@@ -87,15 +82,15 @@ impl World {
         }
     }
 
-    // In Prune of (S,G,rpt) on the interface.
-    #[tactic(auto, unfolding(pim_model::specs::Sets::prunes))]
-    fn is_pruned(&self, iface: IfaceId, group: Addr, source: Addr) -> bool
-        ensures { result ≡ prunes self.now group.bits source.bits iface.number }
+    // Where the winner of the assert of (S,G) is better than spt_assert_metric(S,I), of the interfaces with an assert.
+    fn beaten(&self, asserted: IfSet, group: Addr, source: Addr, path: Option<Path>) -> IfSet
+        requires asserted { (i : ℕ) → has asserted i ≡ has_row self.now.asserts (source_key i group.bits source.bits) }
+        requires path { path ≡ route self.now source.bits }
+        ensures { Shows result (is_beaten self.now group.bits source.bits) }
     {
-        match self.downstream_at(Key::source_rpt(iface, group, source)) {
-            Some(row) => row.pending.is_none(),
-            None => false,
-        }
+        interfaces_where(|iface| {
+            asserted.contains(iface) && self.is_beaten(iface, group, source, path)
+        })
     }
 
     // SPTbit(S,G).
@@ -103,7 +98,7 @@ impl World {
     fn spt_bit(&self, group: Addr, source: Addr) -> bool
         ensures { result ≡ spt_bit self.now group.bits source.bits }
     {
-        match self.sources.get(Key::source(IfaceId::NONE, group, source)) {
+        match self.store.source(Key::source(IfaceId::NONE, group, source)) {
             Some(row) => row.spt,
             None => false,
         }
@@ -114,7 +109,7 @@ impl World {
     fn is_kept_alive(&self, group: Addr, source: Addr) -> bool
         ensures { result ≡ is_kept_alive self.now group.bits source.bits }
     {
-        match self.sources.get(Key::source(IfaceId::NONE, group, source)) {
+        match self.store.source(Key::source(IfaceId::NONE, group, source)) {
             Some(row) => row.keepalive.is_some(),
             None => false,
         }
@@ -126,8 +121,8 @@ impl World {
         ensures { result ≡ tunnel self.now group.bits source.bits }
     {
         match self
-            .registers
-            .get(Key::source(IfaceId::NONE, group, source))
+            .store
+            .register(Key::source(IfaceId::NONE, group, source))
         {
             Some(row) => match row.state {
                 RegisterState::Join => true,
@@ -138,8 +133,7 @@ impl World {
     }
 
     /// What the macros of (S,G) and of (S,G,rpt) read now, beside those of (*,G). The meter rises by the nodes that the
-    /// look-up of the route visits.
-    #[tactic(auto, unfolding(pim_model::specs::Sets::joins, pim_model::specs::Unicast::rpf_interface, pim_model::specs::Unicast::rpf_interface_rp))]
+    /// look-ups visit.
     pub fn gather_source(&self, star: StarSight, source: Addr, meter: &mut Meter) -> SourceSight
         requires { IsStarSight self.now star }
         ensures sight { IsSourceSight self.now result }
@@ -149,6 +143,8 @@ impl World {
         let group = star.group;
         let key = Key::source(IfaceId::NONE, group, source);
         let path = self.route(source, meter);
+        let marks = self.store.marks(group, Some(source), meter);
+        let asserted = marks.lost.union(marks.won);
         SourceSight {
             star,
             source,
@@ -156,11 +152,11 @@ impl World {
             next_hop: self.nbr(path),
             winner: self.winner_along(path, key),
             tree_winner: self.winner_along(star.rp_path, key),
-            joined: interfaces_where(|iface| self.has_downstream(Key { iface, ..key })),
-            pruned: interfaces_where(|iface| self.is_pruned(iface, group, source)),
-            lost: interfaces_where(|iface| is_loser(self.assert_at(Key { iface, ..key }))),
-            won: interfaces_where(|iface| is_winner(self.assert_at(Key { iface, ..key }))),
-            beaten: interfaces_where(|iface| self.is_beaten(iface, group, source, path)),
+            joined: marks.joined.without_tunnel(),
+            pruned: marks.pruned.without_tunnel(),
+            lost: marks.lost.without_tunnel(),
+            won: marks.won.without_tunnel(),
+            beaten: self.beaten(asserted, group, source, path),
             included: self.included(group, source),
             excluded: self.excluded(group, source),
             spt: self.spt_bit(group, source),

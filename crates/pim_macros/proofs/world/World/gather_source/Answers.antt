@@ -1,30 +1,54 @@
-use Rattle.std.proofs.Common.{rules, arith}
+use Rattle.std.proofs.Common.{ap, arith, rules, ◌∙◌}
 use Rattle.std.proofs.lemmas.Grind.{common_steps}
 use Rattle.pim_model.specs.Sets.{assert_source, is_loser, is_winner, joins, prunes}
+use Rattle.pim_model.specs.State.{State}
+use Rattle.pim_model.specs.Tables.{has_row, row_at}
 use Rattle.pim_model.specs.Unicast.{rpf_interface, rpf_interface_rp}
-use Rattle.pim_macros.specs.Sights.{is_beaten}
+use Rattle.pim_store.specs.PimTables.{is_prune}
+use Rattle.pim_types.specs.Keys.{rpt_key, source_key}
+use Rattle.pim_macros.proofs.Asserted.{asserted_where_either, shown_of_all}
 use Rattle.pim_macros.proofs.world.World.gather_source.Goals as goal
 
+pub beaten-requires-clause-asserted : goal.beaten-requires-clause-asserted
+unfolding has_row
+beaten-requires-clause-asserted c =
+    let g = c.args.star.group.bits in
+    let src = c.args.source.bits in
+    let marks = c.marks-marks.ensures in
+    let asserts = ap (λ (w : State). w.asserts) c.self.view_is in
+    asserted_where_either _ _ _ (assert_source c.args.self.now g src)
+    (λ i. marks.lost i ∙ ap (λ t. is_loser (row_at t (source_key i g src))) asserts)
+    (λ i. marks.won i ∙ ap (λ t. is_winner (row_at t (source_key i g src))) asserts) c.union-asserted.ensures.interfaces
+
 pub returns-clause-sight : goal.returns-clause-sight
-unfolding joins rpf_interface rpf_interface_rp
+unfolding joins prunes rpf_interface rpf_interface_rp
 returns-clause-sight c =
     let s = c.args.self.now in
     let g = c.args.star.group.bits in
     let src = c.args.source.bits in
+    let marks = c.marks-marks.ensures in
+    let rows = ap (λ (w : State). w.downstream) c.self.view_is in
+    let asserts = ap (λ (w : State). w.asserts) c.self.view_is in
     record {
       star = c.requires;
       path = search rules;
       next_hop = search rules;
       winner = grind (arith, common_steps);
       tree_winner = grind (arith, common_steps);
-      joined = c.interfaces_where.ensures (joins s g src) (λ i b below k. search rules);
-      pruned = c.interfaces_where-2.ensures (prunes s g src) (λ i b below k. search rules);
-      lost = c.interfaces_where-3.ensures (λ i. is_loser (assert_source s g src i)) (λ i b below k. search rules);
-      won = c.interfaces_where-4.ensures (λ i. is_winner (assert_source s g src i)) (λ i b below k. search rules);
-      beaten = c.interfaces_where-5.ensures (is_beaten s g src) (λ i b below k. search rules);
+      joined = shown_of_all _ _ (joins s g src) (λ i. marks.joined i ∙ ap (λ t. has_row t (source_key i g src)) rows)
+          c.without_tunnel.ensures.limit;
+      pruned = shown_of_all _ _ (prunes s g src)
+          (λ i. marks.pruned i ∙ ap (λ t. is_prune (row_at t (rpt_key i g src))) rows) c.without_tunnel-2.ensures.limit;
+      lost = shown_of_all _ _ (λ i. is_loser (assert_source s g src i))
+          (λ i. marks.lost i ∙ ap (λ t. is_loser (row_at t (source_key i g src))) asserts)
+          c.without_tunnel-3.ensures.limit;
+      won = shown_of_all _ _ (λ i. is_winner (assert_source s g src i))
+          (λ i. marks.won i ∙ ap (λ t. is_winner (row_at t (source_key i g src))) asserts)
+          c.without_tunnel-4.ensures.limit;
+      beaten = c.beaten.ensures;
       included = c.included.ensures;
       excluded = c.excluded.ensures;
-      spt = search rules;
-      is_kept_alive = search rules;
-      tunnel = search rules;
+      spt = c.spt_bit.ensures;
+      is_kept_alive = c.is_kept_alive.ensures;
+      tunnel = c.has_tunnel.ensures;
     }

@@ -12,5 +12,10 @@ returns c test shown =
     is_empty_shown c.is_empty.result c.intersection.result.tunnel test (has c.intersection.result) n
     (omega (arith, c.iface_count.ensures.count, c.iface_count.ensures.within))
     (rw (c.intersection.ensures.tunnel, c.below-configured.ensures.tunnel) (grind arith))
-    (λ i. rw (c.intersection.ensures.interfaces i, shown i, c.below-configured.ensures.interfaces i, c.iface_count.ensures.count) refl)
+    (λ i. rw (
+      c.intersection.ensures.interfaces i,
+      shown i,
+      c.below-configured.ensures.interfaces i,
+      c.iface_count.ensures.count,
+    ) refl)
     c.is_empty.ensures

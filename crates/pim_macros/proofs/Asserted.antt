@@ -1,0 +1,48 @@
+-- Asserts by the sets of the interfaces on which the router lost or won one.
+use Rattle.std.proofs.Common.{◌≡◌, ℕ, Bool, true, false, ◌&&◌, ◌||◌, nat_lt, Option, Some, None, is_some, refl, ap, ◌∙◌}
+use Rattle.std.specs.Option.{option_map_or}
+use Rattle.pim_ifset.specs.Members.{Members, has}
+use Rattle.pim_types.specs.declared.fact.AssertMetric.{AssertMetric}
+use Rattle.pim_types.specs.declared.fact.AssertRole.{AssertRole}
+use Rattle.pim_types.specs.declared.fact.AssertRow.{AssertRow}
+use Rattle.pim_types.specs.Keys.{source_key}
+use Rattle.pim_model.specs.Sets.{Set, is_better, is_loser, is_winner, spt_metric}
+use Rattle.pim_model.specs.State.{State}
+use Rattle.pim_model.specs.Tables.{has_row, row_at}
+use Rattle.pim_macros.specs.Sights.{Shows, is_beaten}
+
+some_row : (test : AssertRow → Bool) (o : Option AssertRow)
+    → (is_some o && option_map_or test o false) ≡ option_map_or test o false
+some_row test None = refl
+some_row test (Some r) = refl
+
+-- where there is no assert, no winner is better
+pub beaten_where_asserted : (s : State) (g src i : ℕ) (asserted : Bool)
+    → asserted ≡ has_row s.asserts (source_key i g src)
+    → (asserted && is_beaten s g src i) ≡ is_beaten s g src i
+unfolding is_beaten has_row
+beaten_where_asserted s g src i asserted e =
+    ap (λ b. b && is_beaten s g src i) e
+    ∙ some_row (λ r. is_better r.winner (spt_metric s src i)) (row_at s.asserts (source_key i g src))
+
+either_role : (role : AssertRole) (winner : AssertMetric) (end : ℕ)
+    → let row : Option AssertRow = Some (record { role = role; winner = winner; end = end }) in
+    (is_loser row || is_winner row) ≡ true
+either_role AssertRole.Loser winner end = refl
+either_role AssertRole.Winner winner end = refl
+
+lost_or_won : (o : Option AssertRow) → (is_loser o || is_winner o) ≡ is_some o
+lost_or_won None = refl
+lost_or_won (Some r) = either_role r.role r.winner r.end
+
+-- an assert is lost or won
+pub asserted_where_either : (lost won either : Members) (row : ℕ → Option AssertRow)
+    → ((i : ℕ) → has lost i ≡ is_loser (row i))
+    → ((i : ℕ) → has won i ≡ is_winner (row i)) → ((i : ℕ) → has either i ≡ (has lost i || has won i)) → (i : ℕ)
+    → has either i ≡ is_some (row i)
+asserted_where_either lost won either row l w e i = e i ∙ (λ j. l i j || w i j) ∙ lost_or_won (row i)
+
+-- a set that tells of each interface shows of those below the limit
+pub shown_of_all : (all set : Members) (test : Set) → ((i : ℕ) → has all i ≡ test i)
+    → ((i : ℕ) → has set i ≡ (nat_lt i 120 && has all i)) → Shows set test
+shown_of_all all set test tells limited i = limited i ∙ ap (λ b. nat_lt i 120 && b) (tells i)
