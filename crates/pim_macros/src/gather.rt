@@ -98,10 +98,8 @@ impl World {
     fn spt_bit(&self, group: Addr, source: Addr) -> bool
         ensures { result ≡ spt_bit self.now group.bits source.bits }
     {
-        match self.store.source(Key::source(IfaceId::NONE, group, source)) {
-            Some(row) => row.spt,
-            None => false,
-        }
+        let row = self.store.source(Key::source(IfaceId::NONE, group, source));
+        row.is_some_and(|row| row.spt)
     }
 
     // Whether KAT(S,G) runs.
@@ -109,10 +107,8 @@ impl World {
     fn is_kept_alive(&self, group: Addr, source: Addr) -> bool
         ensures { result ≡ is_kept_alive self.now group.bits source.bits }
     {
-        match self.store.source(Key::source(IfaceId::NONE, group, source)) {
-            Some(row) => row.keepalive.is_some(),
-            None => false,
-        }
+        let row = self.store.source(Key::source(IfaceId::NONE, group, source));
+        row.is_some_and(|row| row.keepalive.is_some())
     }
 
     // Whether the register tunnel is in joins(S,G).
@@ -120,16 +116,9 @@ impl World {
     fn has_tunnel(&self, group: Addr, source: Addr) -> bool
         ensures { result ≡ tunnel self.now group.bits source.bits }
     {
-        match self
-            .store
-            .register(Key::source(IfaceId::NONE, group, source))
-        {
-            Some(row) => match row.state {
-                RegisterState::Join => true,
-                _ => false,
-            },
-            None => false,
-        }
+        let key = Key::source(IfaceId::NONE, group, source);
+        let row = self.store.register(key);
+        row.is_some_and(|row| matches!(row.state, RegisterState::Join))
     }
 
     /// What the macros of (S,G) and of (S,G,rpt) read now, beside those of (*,G). The meter rises by the nodes that the

@@ -14,10 +14,8 @@ impl World {
     fn is_exclude(&self, iface: IfaceId, group: Addr) -> bool
         ensures { result ≡ is_exclude self.now group.bits iface.number }
     {
-        match self.group_records.get(Key::star(iface, group)) {
-            Some(row) => row.end.is_some(),
-            None => false,
-        }
+        let row = self.group_records.get(Key::star(iface, group));
+        row.is_some_and(|row| row.end.is_some())
     }
 
     // local_receiver_include(S,G,I).
@@ -37,13 +35,8 @@ impl World {
     fn is_excluded(&self, iface: IfaceId, group: Addr, source: Addr) -> bool
         ensures { result ≡ local_receiver_exclude self.now group.bits source.bits iface.number }
     {
-        if !self.is_exclude(iface, group) {
-            return false;
-        }
-        match self.source_records.get(Key::source(iface, group, source)) {
-            Some(row) => row.end.is_none(),
-            None => false,
-        }
+        let row = self.source_records.get(Key::source(iface, group, source));
+        self.is_exclude(iface, group) && row.is_some_and(|row| row.end.is_none())
     }
 
     /// local_receiver_include(*,G).

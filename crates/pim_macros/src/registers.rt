@@ -25,10 +25,7 @@ impl World {
         requires { IsStarSight self.now star.now }
         ensures { result ≡ option_map_or (is_own self.now) (rp_of self.now star.now.group.bits) false }
     {
-        match star.rp {
-            Some(rp) => self.is_own(rp),
-            None => false,
-        }
+        star.rp.is_some_and(|rp| self.is_own(rp))
     }
 
     /// Whether RP(G) is known, and another router.
@@ -37,20 +34,14 @@ impl World {
         requires { IsStarSight self.now star.now }
         ensures { result ≡ has_other_rp self.now star.now.group.bits }
     {
-        match star.rp {
-            Some(rp) => !self.is_own(rp),
-            None => false,
-        }
+        star.rp.is_some_and(|rp| !self.is_own(rp))
     }
 
     // Whether the router is the DR of a link that the address is on.
     fn is_dr_of_path(&self, path: Option<Path>) -> bool
         ensures { result ≡ option_map_or (is_dr_of_path self.now) path false }
     {
-        match path {
-            Some(path) => path.is_connected && self.is_dr(path.iface),
-            None => false,
-        }
+        path.is_some_and(|path| path.is_connected && self.is_dr(path.iface))
     }
 
     /// CouldRegister(S,G).
