@@ -15,7 +15,7 @@ use Rattle.pim_types.specs.declared.fact.AssertRole.TheVariants.{Loser, Winner}
 use Rattle.pim_types.specs.declared.fact.AssertRow.{AssertRow}
 use Rattle.pim_types.specs.declared.fact.DownstreamRow.{DownstreamRow}
 use Rattle.pim_types.specs.declared.fact.Key.{Key}
-use Rattle.pim_types.specs.Keys.{addr_cmp, group_in, iface_in, is_of_group, key_cmp, same_key, source_in}
+use Rattle.pim_types.specs.Keys.{addr_cmp, group_in, iface_in, is_of_group, key_cmp, names_source, same_key, source_in}
 use Rattle.pim_types.proofs.Keys.{equal_keys, nat_cmp_same, same_key_same}
 use Rattle.pim_model.specs.Sets.{is_loser, is_winner}
 use Rattle.pim_model.specs.Tables.{Table, ascending, has_row, is_among, keys_in, row_at}
@@ -142,6 +142,13 @@ both_true false b e f = cc
 second_true : (a b : Bool) → (a && b) ≡ true → b ≡ true
 second_true true b e = e
 second_true false b e = cc
+
+number_of : (m n : ℕ) → (m == n) ≡ true → m ≡ n
+number_of m n e = grind (arith, nat_tests)
+
+first_true : (a b : Bool) → (a && b) ≡ true → a ≡ true
+first_true true b e = refl
+first_true false b e = cc
 
 downstream_speaks : (k : Key) (r : DownstreamRow) → Speaks (is_told_by 0) downstream_says k r
 downstream_speaks k r = go k.rpt refl
@@ -284,6 +291,48 @@ module _ (marks : Table Marks) (f : PimTables) (entries : AreEntries marks) (is 
       both_false (list_any p (keys_in marks)) (list_any p (stored_keys f)) (λ none. all_stored (none_marked none))
       (λ none. none_among p marks (no_entry (none_stored none)))
 
+-- ---- the facts of one source
+
+module _ (marks : Table Marks) (f : PimTables) (entries : AreEntries marks) (is : IsIndexed marks f) (group source : Addr) where
+  abbrev names : Key → Bool
+  names = names_source group.bits source.bits
+
+  same_names : (k : Key) → names (mark_key (group_in k) (source_bits k.source)) ≡ names k
+  unfolding names_source
+  same_names k =
+      ap (λ (o : Option Addr). (group_in k == group.bits) && is_some o
+      && (option_map_or (λ (a : Addr). a.bits) o 0 == source.bits)) (source_again k.source)
+
+  entry_named : names (entry_key group (Some source)) ≡ true
+  unfolding names_source
+  entry_named = rw (same_number group.bits, same_number source.bits) refl
+
+  is_entry : (g h : Addr) (o : Option Addr) → ((g.bits == group.bits) && is_some o
+      && (option_map_or (λ (a : Addr). a.bits) o 0 == source.bits)) ≡ true
+      → entry_key g o ≡ entry_key group (Some source)
+  is_entry g h None e = absurd (true≢false (sym (second_true _ _ (first_true _ _ e))))
+  is_entry g h (Some s) e =
+      (λ i. entry_key (record { bits = number_of g.bits group.bits (first_true _ _ (first_true _ _ e)) i })
+      (Some (record { bits = number_of s.bits source.bits (second_true _ _ e) i })))
+
+  no_other : has_row marks (entry_key group (Some source)) ≡ false → (k : Key) → names k ≡ true → has_row marks k ≡ false
+  unfolding has_row names_source
+  no_other none k named = go (row_at marks k) refl
+    where
+      go : (o : Option Marks) → row_at marks k ≡ o → is_some o ≡ false
+      go None found = refl
+      go (Some m) found =
+          absurd (true≢false (sym (ap is_some found) ∙ ap (λ q. is_some (row_at marks q))
+          ((entries k m found).placed ∙ is_entry k.group k.group k.source named) ∙ none))
+
+  pub source_marked : has_row marks (entry_key group (Some source)) ≡ list_any names (stored_keys f)
+  unfolding has_row
+  source_marked =
+      both_false (has_row marks (entry_key group (Some source))) (list_any names (keys_in marks))
+      (λ none. none_among names marks (no_other none))
+      (λ none. ap is_some (none_under names marks (entry_key group (Some source)) none entry_named))
+      ∙ any_marked marks f entries is names same_names
+
 -- ---- walks
 
 module _ (marks : Table Marks) (f : PimTables) (entries : AreEntries marks) (is : IsIndexed marks f) where
@@ -300,9 +349,6 @@ module _ (marks : Table Marks) (f : PimTables) (entries : AreEntries marks) (is 
 abbrev IsPlaced : Key → Type 0
 IsPlaced k = k ≡ entry_key k.group k.source
 
-number_of : (m n : ℕ) → (m == n) ≡ true → m ≡ n
-number_of m n e = grind (arith, nat_tests)
-
 less_of : (m n : ℕ) → nat_cmp m n ≡ Less → m < n
 less_of m n e = grind (arith, nat_tests)
 
@@ -314,10 +360,6 @@ third a b c d e f h less = go c (rw (e, f, h) at less)
     go Less less = refl
     go Equal less = less
     go Greater less = cc
-
-first_true : (a b : Bool) → (a && b) ≡ true → a ≡ true
-first_true true b e = refl
-first_true false b e = cc
 
 less_source : (o u : Option Addr) → is_some o ≡ true → is_some u ≡ true → option_cmp addr_cmp o u ≡ Less
     → option_map_or (λ (x : Addr). x.bits) o 0 < option_map_or (λ (x : Addr). x.bits) u 0

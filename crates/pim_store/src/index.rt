@@ -1,7 +1,7 @@
 //! The marks of all groups and sources.
 ghost use Rattle.std.specs.Prelude.{◌≡◌, ◌≤◌, ◌+◌, ◌&&◌, [], ℕ, IsTrue, None, Some, OnOk, OnErr, cond, false, filter, map};
 ghost use Rattle.std.specs.List.Sorted.{IsStrictlySortedBy};
-ghost use Rattle.pim_model.specs.Tables.{ascending, keys_in, row_at};
+ghost use Rattle.pim_model.specs.Tables.{ascending, has_row, keys_in, row_at};
 ghost use Rattle.pim_types.specs.Keys.{group_in, is_of_group, key_cmp};
 ghost use Rattle.pim_source_trie.specs.Entries.{entry_key};
 ghost use Rattle.pim_store.specs.Said.{AreEntries, SetsMarks, Writes, is_about, row_says, said, seen, source_bits, tunnel_in};
@@ -103,6 +103,22 @@ impl Index {
         match self.entries.get(group, source, meter) {
             Some(marks) => *marks,
             None => Marks::none(),
+        }
+    }
+
+    // Whether there are marks of the source of the group.
+    #[tactic(auto, unfolding(pim_model::specs::Tables::has_row))]
+    pub(crate) fn contains(&self, group: Addr, source: Addr, meter: &mut Meter) -> bool
+        ensures found { result ≡ has_row self.now (entry_key group (Some source)) }
+
+        // Of every index.
+        ensures entries { AreEntries self.now }
+        ensures rises { meter.old ≤ meter.new }
+        ensures at_most { meter.new ≤ meter.old + 66 }
+    {
+        match self.entries.get(group, Some(source), meter) {
+            Some(_) => true,
+            None => false,
         }
     }
 

@@ -9,7 +9,7 @@ ghost use Rattle.pim_model.specs.Tables.{change_row, drop_where, has_row, keys_i
 ghost use Rattle.pim_model.specs.Timers.{is_ending_first};
 ghost use Rattle.pim_model.specs.Upstream.{groups_of, sources_of};
 ghost use Rattle.pim_tables.specs.Ends.{due_of};
-ghost use Rattle.pim_types.specs.Keys.{group_in, iface_in, is_of_group, is_on, rpt_key, same_key, source_key};
+ghost use Rattle.pim_types.specs.Keys.{group_in, iface_in, is_of_group, is_on, names_source, rpt_key, same_key, source_key};
 ghost use Rattle.pim_store.specs.Bare.{IsWithoutTunnel};
 ghost use Rattle.pim_store.specs.PimTables.{counted_facts, fact_key, is_prune, lowered, no_facts, stored_endings, stored_keys};
 
@@ -349,6 +349,15 @@ impl Store {
             (keys_in self.now.downstream)) }
     {
         self.downstream.push_rpt_keys(iface, groups, keys)
+    }
+
+    /// Whether there is a fact of the source of the group. The meter rises by the nodes that it visits.
+    pub fn has_facts(&self, group: Addr, source: Addr, meter: &mut Meter) -> bool
+        ensures has { result ≡ list_any (names_source group.bits source.bits) (stored_keys self.now) }
+        ensures rises { meter.old ≤ meter.new }
+        ensures at_most { meter.new ≤ meter.old + 66 }
+    {
+        self.index.contains(group, source, meter)
     }
 
     /// How many facts count: the downstream states, the asserts and the sources.
