@@ -6,7 +6,7 @@ use Rattle.pim_types.specs.declared.fact.Key.{Key}
 use Rattle.pim_model.specs.Tables.{insert_number}
 use Rattle.pim_macros.specs.Groups.{gathered}
 
-gathered_both : (ms ns sorted : List ℕ) → gathered ns (gathered ms sorted) ≡ gathered (ms ++ ns) sorted
+pub gathered_both : (ms ns sorted : List ℕ) → gathered ns (gathered ms sorted) ≡ gathered (ms ++ ns) sorted
 unfolding gathered
 gathered_both [] ns sorted = refl
 gathered_both (m ∷ ms) ns sorted = gathered_both ms ns (insert_number m sorted)

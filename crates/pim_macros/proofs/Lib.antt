@@ -3,6 +3,7 @@ mod Asserted
 mod Emptiness
 pub mod Gathered
 pub mod Gathering
+pub mod GatheredSources
 mod NextInterface
 mod Options
 pub mod PlainLaws

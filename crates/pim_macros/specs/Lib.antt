@@ -2,5 +2,6 @@ pub mod Configurations
 pub mod Groups
 pub mod Plain
 pub mod Sights
+pub mod Sources
 pub mod Touches
 pub mod Turns

@@ -16,6 +16,7 @@ pub mod sending;
 pub mod sets;
 pub mod settings;
 pub mod sight;
+pub mod sources;
 pub mod touched;
 pub mod turn;
 pub mod views;
