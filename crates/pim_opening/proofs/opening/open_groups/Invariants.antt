@@ -1,0 +1,11 @@
+use Rattle.std.proofs.Common.{◌≡◌, ◌++◌, map}
+use Rattle.pim_macros.specs.Groups.{numbers_of}
+use Rattle.pim_opening.specs.Openings.{group_opening}
+use Rattle.pim_opening.proofs.opening.open_groups.Given as goal
+
+abbrev pub invariant-loop-group : goal.invariant-loop-group
+invariant-loop-group l = record {
+  opened : l.opened.items ++ map (group_opening l.world l.touched) (numbers_of l.group-iterator)
+      ≡ map (group_opening l.world l.touched) (numbers_of l.fn.groups.entries);
+  silent : l.turn ≡ l.fn.turn;
+}

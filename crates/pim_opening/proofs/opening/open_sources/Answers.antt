@@ -1,0 +1,18 @@
+use Rattle.std.proofs.Common.{[], ap, append_assoc, map, sym, ◌++◌, ◌∙◌, ◌∷◌}
+use Rattle.pim_macros.specs.Groups.{numbers_of}
+use Rattle.pim_opening.specs.Openings.{source_opening}
+use Rattle.pim_opening.specs.declared.opening.SourceOpening.{SourceOpening}
+use Rattle.pim_opening.proofs.opening.open_sources.Goals as goal
+
+pub loop-source-preserved : goal.loop-source-preserved
+loop-source-preserved c =
+    let s = c.args.world.now in
+    let left = map (source_opening s c.args.star.now.group.bits) (numbers_of c.next.new.self) in
+    record {
+      opened = ap (λ vs. vs ++ left) (c.in_ok-push.ensures.items
+          ∙ ap (λ (v : SourceOpening). c.loop-source.opened.items ++ v ∷ []) c.open_source.ensures.opened)
+          ∙ append_assoc c.loop-source.opened.items (source_opening s c.args.star.now.group.bits c.in-Some.source.now.bits ∷ []) left
+          ∙ sym (ap (λ es. c.loop-source.opened.items ++ map (source_opening s c.args.star.now.group.bits) (numbers_of es)) c.in-Some.ensures.steps)
+          ∙ c.loop-source.invariant.opened;
+      silent = c.open_source.ensures.silent ∙ c.loop-source.invariant.silent;
+    }
