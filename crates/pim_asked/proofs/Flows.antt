@@ -6,7 +6,7 @@ use Rattle.pim_ip.specs.Ipv4.{Packet}
 use Rattle.pim_types.specs.Keys.{source_key, star_key}
 use Rattle.pim_types.specs.declared.fact.GroupRecordRow.{GroupRecordRow}
 use Rattle.pim_model.specs.Forwarding.{Forwarded, forwarded, list_chosen, register_at_rp, register_received, source_here, source_joined, spt_updated, stray}
-use Rattle.pim_model.specs.Receivers.{is_exclude, local_receiver_include}
+use Rattle.pim_model.specs.Receivers.{is_exclude, is_exclude_among, local_receiver_include, local_receiver_include_among}
 use Rattle.pim_model.specs.Registers.{with_keepalive}
 use Rattle.pim_model.specs.Sets.{inherited_olist, inherited_olist_rpt, joins, joins_star, pim_include, pim_include_star}
 use Rattle.pim_model.specs.State.{State}
@@ -28,11 +28,11 @@ is_wanted r g src i =
 
 module _ (s : State) (g src i : ℕ) where
   in_rpt : inherited_olist_rpt s g src i ≡ true → is_wanted (rows_of s) g src i ≡ true
-  unfolding inherited_olist_rpt pim_include_star joins_star is_exclude
+  unfolding inherited_olist_rpt pim_include_star joins_star is_exclude is_exclude_among
   in_rpt e = grind (arith, e)
 
   in_olist : inherited_olist s g src i ≡ true → is_wanted (rows_of s) g src i ≡ true
-  unfolding inherited_olist pim_include joins local_receiver_include is_exclude has_row
+  unfolding inherited_olist pim_include joins local_receiver_include local_receiver_include_among is_exclude_among has_row
   in_olist e = grind (arith, e, in_rpt)
 
 -- ---- a packet

@@ -9,7 +9,7 @@ use Rattle.pim_types.specs.declared.fact.Key.{Key}
 use Rattle.pim_types.specs.Keys.{is_of_group, same_key, source_in, star_key}
 use Rattle.pim_types.proofs.Keys.{equal_keys}
 use Rattle.pim_model.specs.Desires.{join_desired_star}
-use Rattle.pim_model.specs.Receivers.{is_exclude}
+use Rattle.pim_model.specs.Receivers.{is_exclude, is_exclude_among}
 use Rattle.pim_model.specs.Sets.{immediate_olist_star, is_empty, joins_star, lost_assert_star, pim_include_star, serves_star}
 use Rattle.pim_model.specs.State.{State, ifaces}
 use Rattle.pim_model.specs.Tables.{Table, ascending, has_row, keys_in, row_at}
@@ -66,7 +66,7 @@ module _ (g : ℕ) where
     not_joined i = ap is_some (no_row_at (star_key i g) (eq-eqb g g refl) s.downstream no_downstream.absent)
 
     not_excluded : (i : ℕ) → is_exclude s g i ≡ false
-    unfolding is_exclude
+    unfolding is_exclude is_exclude_among
     not_excluded i =
         ap (λ o. option_map_or (λ (r : GroupRecordRow). is_some r.end) o false)
         (no_row_at (star_key i g) (eq-eqb g g refl) s.group_records no_group_records.absent)

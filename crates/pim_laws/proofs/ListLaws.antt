@@ -137,6 +137,19 @@ any_of_filter p q xs e =
 pub all_of_filter : {X : Type 0} (p q : X → Bool) (xs : List X) → list_all q xs ≡ true → list_all q (filter p xs) ≡ true
 all_of_filter p q xs e = list_of_each q (filter p xs) (each_filter _ p xs (each_of_list q xs e))
 
+-- a filter that leaves all that another keeps
+module _ {X : Type 0} (p q : X → Bool) (within : (x : X) → p x ≡ true → q x ≡ true) where
+  within_step : (x : X) (xs : List X) (b c : Bool) → p x ≡ b → q x ≡ c → filter p (filter q xs) ≡ filter p xs
+      → filter p (cond c (x ∷ filter q xs) (filter q xs)) ≡ cond b (x ∷ filter p xs) (filter p xs)
+  within_step x xs true true e f ih = rw (e, ih) refl
+  within_step x xs true false e f ih = let no : true ≡ false = sym (within x e) ∙ f in cc
+  within_step x xs false true e f ih = rw (e, ih) refl
+  within_step x xs false false e f ih = ih
+
+  pub filter_within : (xs : List X) → filter p (filter q xs) ≡ filter p xs
+  filter_within [] = refl
+  filter_within (x ∷ xs) = within_step x xs (p x) (q x) refl refl (filter_within xs)
+
 -- ---- lengths
 
 module _ {X : Type 0} (p : X → Bool) where

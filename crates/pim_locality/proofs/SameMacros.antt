@@ -10,7 +10,7 @@ use Rattle.pim_types.specs.declared.path.Path.{Path}
 use Rattle.pim_model.specs.AssertMacros.{could_assert, could_assert_star, forwarding_set, infinite, is_tracking_desired, is_tracking_desired_star, my_metric, my_metric_star}
 use Rattle.pim_types.specs.declared.upstream.TreeState.{TreeState}
 use Rattle.pim_model.specs.Desires.{is_immediate_empty, is_inherited_empty, join_desired, join_desired_star, prune_desired, rpf_rpt, rpf_source, rpf_star, tree_state, winner_hop}
-use Rattle.pim_model.specs.Receivers.{local_receiver_exclude, local_receiver_include}
+use Rattle.pim_model.specs.Receivers.{is_exclude, local_receiver_exclude, local_receiver_exclude_among, local_receiver_include, local_receiver_include_among}
 use Rattle.pim_model.specs.Registers.{could_register, has_other_rp}
 use Rattle.pim_model.specs.Sets.{Set, assert_source, assert_star, immediate_olist, immediate_olist_star, inherited_olist, inherited_olist_rpt, is_better, is_empty, is_kept_alive, lost_assert, lost_assert_rpt, lost_assert_star, pim_exclude, pim_include, pim_include_star, route_metric, rpt_metric, serves, serves_star, spt_metric, tunnel, ◌∖◌, ◌∪◌}
 use Rattle.pim_model.specs.State.{State, is_own, is_own_among, my_address}
@@ -122,11 +122,11 @@ module _ (g src : ℕ) (s t : State) (sees : SeesSource g src s t) where
   tunnel_same = sees.to_rp
 
   pub local_include_same : local_receiver_include s g src ≡ local_receiver_include t g src
-  unfolding local_receiver_include
+  unfolding is_exclude local_receiver_include local_receiver_include_among
   local_include_same = λ j i. same.including j i && sees.listed i j
 
   local_exclude_same : local_receiver_exclude s g src ≡ local_receiver_exclude t g src
-  unfolding local_receiver_exclude
+  unfolding is_exclude local_receiver_exclude local_receiver_exclude_among
   local_exclude_same = λ j i.
       same.excluding j i && sees.excluded i j
 

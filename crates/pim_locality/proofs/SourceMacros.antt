@@ -11,7 +11,7 @@ use Rattle.pim_types.specs.declared.fact.SourceRow.{SourceRow}
 use Rattle.pim_types.specs.declared.upstream.TreeState.{TreeState}
 use Rattle.pim_model.specs.Desires.{is_immediate_empty, is_inherited_empty, join_desired, prune_desired, rpf_rpt, rpf_source, tree_state, winner_hop}
 use Rattle.pim_model.specs.Neighbours.{nbr}
-use Rattle.pim_model.specs.Receivers.{local_receiver_exclude, local_receiver_include, source_record}
+use Rattle.pim_model.specs.Receivers.{is_exclude, local_receiver_exclude, local_receiver_exclude_among, local_receiver_include, local_receiver_include_among, source_record}
 use Rattle.pim_model.specs.Sets.{assert_source, immediate_olist, inherited_olist, inherited_olist_rpt, is_better, is_empty, is_kept_alive, is_loser, is_register_join, is_winner, joins, lost_assert, lost_assert_rpt, pim_exclude, pim_include, prunes, route_metric, serves, spt_bit, spt_metric, tunnel, ◌∖◌, ◌∪◌}
 use Rattle.pim_model.specs.State.{State, is_own, my_address}
 use Rattle.pim_types.specs.Keys.{rpt_key, source_key, star_key}
@@ -69,11 +69,11 @@ module _ (sees : Key → Bool) (s : State) (g src : ℕ) (rows : ReadsSource see
   source_record_local = λ j i. row_in_scope sees (source_key i g src) (rows.sources i) s.source_records j
 
   pub local_include_local : local_receiver_include (scope sees s) g src ≡ local_receiver_include s g src
-  unfolding local_receiver_include
+  unfolding is_exclude local_receiver_include local_receiver_include_among
   local_include_local = λ j i. is_include_local sees s g rows.stars j i && is_some (source_record_local j i)
 
   local_exclude_local : local_receiver_exclude (scope sees s) g src ≡ local_receiver_exclude s g src
-  unfolding local_receiver_exclude
+  unfolding is_exclude local_receiver_exclude local_receiver_exclude_among
   local_exclude_local = λ j i.
       is_exclude_local sees s g rows.stars j i && option_map_or (λ (r : SourceRecordRow). is_none r.end)
       (source_record_local j i) false

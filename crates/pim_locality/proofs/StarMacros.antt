@@ -7,7 +7,7 @@ use Rattle.pim_types.specs.declared.fact.GroupRecordRow.{GroupRecordRow}
 use Rattle.pim_types.specs.declared.fact.Key.{Key}
 use Rattle.pim_model.specs.Desires.{join_desired_star, rpf_star, winner_hop}
 use Rattle.pim_model.specs.Neighbours.{nbr}
-use Rattle.pim_model.specs.Receivers.{is_exclude, is_include}
+use Rattle.pim_model.specs.Receivers.{is_exclude, is_exclude_among, is_include}
 use Rattle.pim_model.specs.Sets.{assert_star, immediate_olist_star, is_empty, is_loser, is_winner, joins_star, lost_assert_star, pim_include_star, serves_star, ◌∖◌, ◌∪◌}
 use Rattle.pim_model.specs.State.{State}
 use Rattle.pim_model.specs.Tables.{same_option}
@@ -36,7 +36,7 @@ module _ (sees : Key → Bool) (s : State) (g : ℕ) (stars : (i : ℕ) → sees
   assert_star_local = λ j i. row_in_scope sees (star_key i g) (stars i) s.asserts j
 
   pub is_exclude_local : is_exclude (scope sees s) g ≡ is_exclude s g
-  unfolding is_exclude scope
+  unfolding is_exclude is_exclude_among scope
   is_exclude_local =
       λ j i. option_map_or (λ (r : GroupRecordRow). is_some r.end)
       (row_in_scope sees (star_key i g) (stars i) s.group_records j) false

@@ -6,7 +6,7 @@ use Rattle.pim_types.specs.declared.fact.Key.{Key}
 use Rattle.pim_model.specs.Clearing.{clear, clear_all, clearable_count, cleared, to_clear}
 use Rattle.pim_model.specs.Desires.{join_desired_star, rpf_star, winner_hop}
 use Rattle.pim_model.specs.Neighbours.{nbr}
-use Rattle.pim_model.specs.Receivers.{is_exclude}
+use Rattle.pim_model.specs.Receivers.{is_exclude, is_exclude_among}
 use Rattle.pim_model.specs.Registers.{settle_registers, settled_register}
 use Rattle.pim_model.specs.Repeat.{until_none}
 use Rattle.pim_model.specs.Sets.{assert_star, immediate_olist_star, is_empty, is_loser, joins_star, lost_assert_star, pim_include_star, serves_star}
@@ -26,7 +26,7 @@ only_first false false true = refl
 only_first false false false = refl
 
 no_receiver : (s : State) → IsPlain s → (g i : ℕ) → is_exclude s g i ≡ false
-unfolding is_exclude row_at
+unfolding is_exclude is_exclude_among row_at
 no_receiver s p g i = rw p.group_records refl
 
 no_loser : (s : State) → IsPlain s → (g i : ℕ) → is_loser (assert_star s g i) ≡ false

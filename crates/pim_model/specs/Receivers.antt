@@ -4,19 +4,29 @@ use Rattle.std.specs.Prelude.{Bool, Option, false, is_none, is_some, not, ℕ, �
 use Rattle.pim_types.specs.declared.fact.GroupRecordRow.{GroupRecordRow}
 use Rattle.pim_types.specs.declared.fact.SourceRecordRow.{SourceRecordRow}
 use Rattle.pim_model.specs.State.{State}
-use Rattle.pim_model.specs.Tables.{has_row, row_at}
+use Rattle.pim_model.specs.Tables.{Table, has_row, row_at}
 use Rattle.pim_types.specs.Keys.{source_key, star_key}
 
 -- the group is in EXCLUDE mode on the interface
+unfoldable pub is_exclude_among : Table GroupRecordRow → ℕ → ℕ → Bool
+is_exclude_among groups g i =
+    option_map_or (λ (r : GroupRecordRow). is_some r.end) (row_at groups (star_key i g)) false
+
 -- reads: the group record on the interface
 unfoldable pub is_exclude : State → ℕ → ℕ → Bool
-is_exclude s g i = option_map_or (λ (r : GroupRecordRow). is_some r.end) (row_at s.group_records (star_key i g)) false
+is_exclude s g i = is_exclude_among s.group_records g i
+
+abbrev pub is_include_among : Table GroupRecordRow → ℕ → ℕ → Bool
+is_include_among groups g i = has_row groups (star_key i g) && not (is_exclude_among groups g i)
 
 abbrev pub is_include : State → ℕ → ℕ → Bool
-is_include s g i = has_row s.group_records (star_key i g) && not (is_exclude s g i)
+is_include s g i = is_include_among s.group_records g i
+
+abbrev pub source_record_among : Table SourceRecordRow → ℕ → ℕ → ℕ → Option SourceRecordRow
+source_record_among sources g src i = row_at sources (source_key i g src)
 
 abbrev pub source_record : State → ℕ → ℕ → ℕ → Option SourceRecordRow
-source_record s g src i = row_at s.source_records (source_key i g src)
+source_record s g src i = source_record_among s.source_records g src i
 
 -- local_receiver_include(*,G,I)
 -- reads: the group record on the interface
@@ -24,12 +34,20 @@ abbrev pub local_receiver_star : State → ℕ → ℕ → Bool
 local_receiver_star s g i = is_exclude s g i
 
 -- local_receiver_include(S,G,I)
+unfoldable pub local_receiver_include_among : Table GroupRecordRow → Table SourceRecordRow → ℕ → ℕ → ℕ → Bool
+local_receiver_include_among groups sources g src i =
+    is_include_among groups g i && is_some (source_record_among sources g src i)
+
 -- reads: the group record and the source record on the interface
 unfoldable pub local_receiver_include : State → ℕ → ℕ → ℕ → Bool
-local_receiver_include s g src i = is_include s g i && is_some (source_record s g src i)
+local_receiver_include s g src i = local_receiver_include_among s.group_records s.source_records g src i
 
 -- local_receiver_exclude(S,G,I): an excluded source has no end
+unfoldable pub local_receiver_exclude_among : Table GroupRecordRow → Table SourceRecordRow → ℕ → ℕ → ℕ → Bool
+local_receiver_exclude_among groups sources g src i =
+    is_exclude_among groups g i
+    && option_map_or (λ (r : SourceRecordRow). is_none r.end) (source_record_among sources g src i) false
+
 -- reads: the group record and the source record on the interface
 unfoldable pub local_receiver_exclude : State → ℕ → ℕ → ℕ → Bool
-local_receiver_exclude s g src i =
-    is_exclude s g i && option_map_or (λ (r : SourceRecordRow). is_none r.end) (source_record s g src i) false
+local_receiver_exclude s g src i = local_receiver_exclude_among s.group_records s.source_records g src i

@@ -9,3 +9,4 @@ mod Orders
 pub mod Rows
 mod Steps
 pub mod Stops
+mod Walks

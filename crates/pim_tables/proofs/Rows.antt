@@ -1,14 +1,14 @@
 -- What a change of the row at a key leaves of a table whose keys rise.
-use Rattle.std.proofs.Common.{◌≡◌, sym, Bool, true, false, [], ◌∷◌, Option, Some, None, refl, ap, ◌∙◌, cond, map, option_map}
+use Rattle.std.proofs.Common.{◌≡◌, sym, Bool, true, false, [], ◌∷◌, Option, Some, None, refl, ap, ◌∙◌, cond, map, not, option_map}
 use Rattle.std.specs.declared.cmp.Ordering.TheVariants.{Less}
-use Rattle.std.specs.List.{cons_option, filter_map, AllByRecursion}
+use Rattle.std.specs.List.{cons_option, filter, filter_map, AllByRecursion}
 use Rattle.std.specs.Option.{IfSome}
 use Rattle.std.specs.List.Sorted.{IsStrictlySortedBy}
 use Rattle.std.specs.Map.{lookup, set_value}
 use Rattle.std.specs.BTreeMap.{is_at}
 use Rattle.std.specs.Prelude.{if◌then◌else◌}
 use Rattle.pim_types.specs.declared.fact.Key.{Key}
-use Rattle.pim_model.specs.Tables.{Table, change_row, changed_entry, row_at}
+use Rattle.pim_model.specs.Tables.{Table, change_row, changed_entry, drop_at, drop_where, row_at}
 use Rattle.pim_types.specs.Keys.{key_cmp, same_key}
 use Rattle.pim_laws.proofs.RemovalLaws.{moved_above}
 
@@ -78,3 +78,16 @@ module _ {R : Type 0} (k : Key) (change : R → Option R) where
 pub always : {R : Type 0} (o : Option R) (row : R) → IfSome o (λ _. Some row ≡ Some row)
 always None row = tt
 always (Some r) row = refl
+
+-- a row that goes is a change to none
+module _ {R : Type 0} (k : Key) where
+  gone_step : (e : Key × R) (t : Table R) (b : Bool) → filter (λ e. not (same_key k e.0)) t ≡ change_row (λ _. None) k t
+      → cond (not b) (e ∷ filter (λ e. not (same_key k e.0)) t) (filter (λ e. not (same_key k e.0)) t)
+      ≡ cons_option (cond b None (Some e)) (change_row (λ _. None) k t)
+  gone_step e t true later = later
+  gone_step e t false later = ap (λ u. e ∷ u) later
+
+  pub dropped_is_changed : (t : Table R) → drop_at t k ≡ change_row (λ _. None) k t
+  unfolding drop_at drop_where change_row changed_entry
+  dropped_is_changed [] = refl
+  dropped_is_changed (e ∷ t) = gone_step e t (same_key k e.0) (dropped_is_changed t)

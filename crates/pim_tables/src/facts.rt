@@ -3,8 +3,10 @@ ghost use Rattle.std.specs.List.{list_any};
 ghost use Rattle.std.specs.List.Sorted.{IsStrictlySortedBy};
 ghost use Rattle.pim_model.specs.Tables.{keys_in, row_at, has_row, put, drop_at, drop_where, set_row, change_row, rows_on};
 ghost use Rattle.pim_types.specs.Keys.{group_in, is_of_group, key_cmp, is_on};
+ghost use Rattle.pim_model.specs.Records.{is_at_group};
 
 use crate::group_rows::{GroupRows, RptKeys, push_keys};
+use crate::rows_of::RowsOf;
 use pim_ip::Addr;
 use pim_types::{IfaceId, Key};
 use std::alloc::{AllocError, Global};
@@ -103,6 +105,20 @@ impl<R> Facts<R> {
             push_keys(self.rpt_keys(iface, *group), keys)?;
         }
         Ok(())
+    }
+
+    /// The facts of the interface, by rising key.
+    pub fn rows_on(&self, iface: IfaceId) -> RowsOf<'_, R>
+        ensures { result ≡ rows_on iface.number self.now }
+    {
+        RowsOf::among(&self.rows, iface, None)
+    }
+
+    /// The facts of the group on the interface, by rising key.
+    pub fn rows_at(&self, iface: IfaceId, group: Addr) -> RowsOf<'_, R>
+        ensures { result ≡ filter (λ e. is_at_group iface.number group.bits e.0) self.now }
+    {
+        RowsOf::among(&self.rows, iface, Some(group))
     }
 }
 

@@ -9,6 +9,7 @@ pub mod group_rows;
 pub mod law;
 pub mod named;
 mod row_ends;
+pub mod rows_of;
 pub mod timed;
 
 pub use ends::Ends;
@@ -16,4 +17,5 @@ pub use facts::Facts;
 pub use first::earlier;
 pub use group_rows::{GroupRows, RptKeys};
 pub use named::is_named;
+pub use rows_of::RowsOf;
 pub use timed::Timed;

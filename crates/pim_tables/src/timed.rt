@@ -4,6 +4,7 @@ ghost use Rattle.std.specs.FinMap as map;
 ghost use Rattle.std.specs.List.{list_any};
 ghost use Rattle.std.specs.List.Sorted.{IsStrictlySortedBy};
 ghost use Rattle.pim_model.specs.Clearing.{first_by};
+ghost use Rattle.pim_model.specs.Records.{is_at_group};
 ghost use Rattle.pim_model.specs.Tables.{keys_in, row_at, has_row, put, drop_at, drop_where, set_row, change_row, rows_on};
 ghost use Rattle.pim_model.specs.Timers.{is_ending_first};
 ghost use Rattle.pim_timers.specs.Ends.{same_timer};
@@ -14,6 +15,7 @@ ghost use Rattle.pim_tables.specs.Ends.{InStep, KeepsOthers, SetsRow, due_of, ro
 use crate::ends::Ends;
 use crate::facts::Facts;
 use crate::group_rows::{GroupRows, RptKeys};
+use crate::rows_of::RowsOf;
 use pim_ip::Addr;
 use pim_timers::Timers;
 use pim_types::{IfaceId, Key, Timer};
@@ -177,6 +179,20 @@ impl<R: Ends, T: Timers> Timed<R, T> {
             (keys_in self.now)) }
     {
         self.rows.push_rpt_keys(iface, groups, keys)
+    }
+
+    /// The facts of the interface, by rising key.
+    pub fn rows_on(&self, iface: IfaceId) -> RowsOf<'_, R>
+        ensures { result ≡ rows_on iface.number self.now }
+    {
+        self.rows.rows_on(iface)
+    }
+
+    /// The facts of the group on the interface, by rising key.
+    pub fn rows_at(&self, iface: IfaceId, group: Addr) -> RowsOf<'_, R>
+        ensures { result ≡ filter (λ e. is_at_group iface.number group.bits e.0) self.now }
+    {
+        self.rows.rows_at(iface, group)
     }
 
     /// The fact under the key.

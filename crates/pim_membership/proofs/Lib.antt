@@ -1,0 +1,4 @@
+mod Gone
+mod Receivers
+mod Told
+mod Writes

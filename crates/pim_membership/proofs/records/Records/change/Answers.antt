@@ -1,0 +1,45 @@
+use Rattle.std.proofs.Common.{Some, ap, subst, sym, ◌∙◌}
+use Rattle.std.specs.Cmp.{first_so}
+use Rattle.std.specs.List.Sorted.{IsStrictlySortedBy}
+use Rattle.pim_types.specs.Keys.{key_cmp}
+use Rattle.pim_model.specs.Tables.{has_row, keys_in}
+use Rattle.pim_tables.proofs.Lookups.{absent, put_is_changed}
+use Rattle.pim_tables.proofs.Rows.{absent_is_unchanged, always}
+use Rattle.pim_membership.specs.Listing.{record_key}
+use Rattle.pim_membership.proofs.Told.{fits_there, limit_below}
+use Rattle.pim_membership.proofs.records.Records.change.Goals as goal
+
+pub put-requires : goal.put-requires
+put-requires g c =
+    limit_below c.args.iface.number
+    (first_so _ _ (fits_there (record_key c.args.iface.number c.args.group c.args.source) c.self.inside.rows
+    c.self.invariant.fit
+    (ap (has_row c.self.inside.rows) (sym c.record_key.ensures) ∙ sym c.if-contains.ensures)))
+
+pub returns-in_ok-put-clause-to : goal.returns-in_ok-put-clause-to
+returns-in_ok-put-clause-to g c =
+    c.in_ok-put.ensures
+    ∙ put_is_changed (record_key c.args.iface.number c.args.group c.args.source) c.args.row (λ _. Some c.args.row)
+    c.args.self.now (subst (λ t. IsStrictlySortedBy key_cmp (keys_in t)) c.self.view_is c.len.ensures.ascending)
+    (rw (← c.self.view_is) (ap (has_row c.self.inside.rows) (sym c.record_key.ensures) ∙ sym c.if-contains.ensures))
+    (always _ c.args.row)
+
+pub returns-in_ok-put-clause-by : goal.returns-in_ok-put-clause-by
+returns-in_ok-put-clause-by g c = λ change is.
+    c.in_ok-put.ensures
+    ∙ put_is_changed (record_key c.args.iface.number c.args.group c.args.source) c.args.row change
+    c.args.self.now (subst (λ t. IsStrictlySortedBy key_cmp (keys_in t)) c.self.view_is c.len.ensures.ascending)
+    (rw (← c.self.view_is) (ap (has_row c.self.inside.rows) (sym c.record_key.ensures) ∙ sym c.if-contains.ensures))
+    is
+
+pub returns-else-contains-clause-to : goal.returns-else-contains-clause-to
+returns-else-contains-clause-to g c = rw (← c.self.view_is)
+    (absent_is_unchanged (record_key c.args.iface.number c.args.group c.args.source) (λ _. Some c.args.row)
+    c.self.inside.rows (absent (record_key c.args.iface.number c.args.group c.args.source) c.self.inside.rows
+    (ap (has_row c.self.inside.rows) (sym c.record_key.ensures) ∙ sym c.if-contains.ensures)))
+
+pub returns-else-contains-clause-by : goal.returns-else-contains-clause-by
+returns-else-contains-clause-by g c = λ change is. rw (← c.self.view_is)
+    (absent_is_unchanged (record_key c.args.iface.number c.args.group c.args.source) change
+    c.self.inside.rows (absent (record_key c.args.iface.number c.args.group c.args.source) c.self.inside.rows
+    (ap (has_row c.self.inside.rows) (sym c.record_key.ensures) ∙ sym c.if-contains.ensures)))

@@ -1,0 +1,25 @@
+use Rattle.std.proofs.Common.{◌<◌, ap, length, subst, sym, ◌∙◌}
+use Rattle.pim_model.specs.Records.{is_at_group}
+use Rattle.pim_model.specs.Tables.{drop_at, drop_where}
+use Rattle.pim_membership.proofs.Gone.{fewer, goes_anyhow, none_goes}
+use Rattle.pim_membership.proofs.Told.{key_again}
+use Rattle.pim_membership.proofs.records.Records.drop_at.Goals as goal
+
+pub loop-key-smaller : goal.loop-key-smaller
+loop-key-smaller g c =
+    subst (λ t. length t < length c.loop-key.self)
+    (sym (c.remove.ensures ∙ ap (drop_at c.loop-key.self) (key_again c.in-Some.key c.in-Some.ensures.kind)))
+    (fewer (is_at_group c.args.iface.number c.args.group.bits) c.in-Some.key c.loop-key.self (sym c.in-Some.ensures.first))
+
+pub loop-key-preserved : goal.loop-key-preserved
+loop-key-preserved g c =
+    ap (drop_where (is_at_group c.args.iface.number c.args.group.bits))
+    (c.remove.ensures ∙ ap (drop_at c.loop-key.self) (key_again c.in-Some.key c.in-Some.ensures.kind))
+    ∙ goes_anyhow (is_at_group c.args.iface.number c.args.group.bits) c.in-Some.key c.loop-key.self
+    (sym c.in-Some.ensures.first)
+    ∙ c.loop-key.invariant
+
+pub returns : goal.returns
+returns g c =
+    sym (none_goes (is_at_group c.args.iface.number c.args.group.bits) c.loop-key.self (sym c.in_default.ensures.first))
+    ∙ c.loop-key.invariant

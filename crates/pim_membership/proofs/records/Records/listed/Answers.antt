@@ -1,0 +1,18 @@
+use Rattle.std.proofs.Common.{◌∙◌}
+use Rattle.pim_model.specs.Tables.{has_row, row_at}
+use Rattle.pim_membership.proofs.Told.{running_told, there_told}
+use Rattle.pim_membership.specs.Listing.{There, Running, record_key, source_bits}
+use Rattle.pim_membership.proofs.records.Records.listed.Goals as goal
+
+pub returns-clause-there : goal.returns-clause-there
+unfolding has_row
+returns-clause-there g c = rw (← c.self.view_is) (λ i.
+    c.get.ensures.sides There i
+    ∙ c.self.invariant.told There i c.args.group.bits (source_bits c.args.source)
+    ∙ there_told g.R.Record.runs (row_at c.self.inside.rows (record_key i c.args.group c.args.source)))
+
+pub returns-clause-running : goal.returns-clause-running
+returns-clause-running g c = rw (← c.self.view_is) (λ i.
+    c.get.ensures.sides Running i
+    ∙ c.self.invariant.told Running i c.args.group.bits (source_bits c.args.source)
+    ∙ running_told g.R.Record.runs (row_at c.self.inside.rows (record_key i c.args.group c.args.source)))

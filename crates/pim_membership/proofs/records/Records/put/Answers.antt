@@ -1,0 +1,23 @@
+use Rattle.std.proofs.Common.{Some, subst, sym, true, ◌≡◌}
+use Rattle.pim_types.specs.declared.fact.Key.{Key}
+use Rattle.pim_membership.proofs.Told.{fits_at, listed_put, listed_refused}
+use Rattle.pim_membership.specs.Listing.{is_record_key, record_key}
+use Rattle.pim_membership.proofs.records.Records.put.Goals as goal
+
+pub relist-requires-clause-near : goal.relist-requires-clause-near
+relist-requires-clause-near g c =
+    subst (λ (k : Key). is_record_key k ≡ true) (sym c.record_key-key.ensures)
+    (fits_at c.args.iface.number c.args.group c.args.source c.requires)
+
+pub invariant_of-self-in-Err : goal.invariant_of-self-in-Err
+invariant_of-self-in-Err g c =
+    listed_refused g.R.Record.runs _ c.self.inside.rows c.self.invariant c.record_key-key.result
+    (Some (g.R.Record.runs c.args.row)) _ _ _ (record_key c.args.iface.number c.args.group c.args.source)
+    c.record_key-key.ensures c.in-Err.ensures.err c.in_ok-relist.ensures.ok c.unlist.ensures
+
+pub invariant_of-self-in_default : goal.invariant_of-self-in_default
+invariant_of-self-in_default g c =
+    listed_put g.R.Record.runs _ c.self.inside.rows c.self.invariant c.record_key-key.result c.args.row _ _
+    (subst (λ (k : Key). is_record_key k ≡ true) (sym c.record_key-key.ensures)
+    (fits_at c.args.iface.number c.args.group c.args.source c.requires))
+    c.in_default.ensures.ok c.in_ok-relist.ensures.ok

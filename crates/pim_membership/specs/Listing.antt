@@ -1,0 +1,71 @@
+-- What is listed of a group, or of a source: the interfaces with a record of it, and those where its timer runs. No
+-- public clause cites this module.
+use Rattle.std.specs.List.{AllByRecursion}
+use Rattle.std.specs.Prelude.{Bool, None, Option, Some, [], cond, false, is_some, nat_lt, not, option_map, true, unwrap_or, ℕ, ◌&&◌, ◌∷◌, ◌≡◌}
+use Rattle.pim_ip.specs.declared.addr.Addr.{Addr}
+use Rattle.pim_ifset.specs.Members.{has}
+use Rattle.pim_types.specs.declared.fact.Key.{Key}
+use Rattle.pim_types.specs.Keys.{iface_in, key_of, same_key}
+use Rattle.pim_model.specs.Tables.{Table, row_at}
+use Rattle.pim_membership.specs.declared.listed.Listed.{Listed}
+
+-- the interfaces with a record, and those where its timer runs
+pub data Side : Type 0 where
+  There : Side
+  Running : Side
+
+abbrev pub in_side : Side → Listed → ℕ → Bool
+in_side There l i = has l.there i
+in_side Running l i = has l.running i
+
+-- an interface is in a set where there is a record, whose timer runs or doesn't
+abbrev pub told_of : Side → Option Bool → Bool
+told_of There timer = is_some timer
+told_of Running timer = unwrap_or timer false
+
+abbrev pub source_bits : Option Addr → Option ℕ
+source_bits source = option_map (λ (a : Addr). a.bits) source
+
+-- the key of a record: of a group, where there is no source, or of a source of it
+abbrev pub record_key : ℕ → Addr → Option Addr → Key
+record_key i group source = key_of i group.bits (source_bits source) false
+
+-- nothing is listed where there is no entry
+abbrev pub in_entry : Side → Option Listed → ℕ → Bool
+in_entry x None i = false
+in_entry x (Some l) i = in_side x l i
+
+abbrev pub listed : Table Listed → Side → ℕ → ℕ → Option ℕ → Bool
+listed t x i g s = in_entry x (row_at t (key_of 0 g s false)) i
+
+-- these are listed of a group, or of a source, and the others as before
+abbrev pub Writes : (before after : Table Listed) → Key → Listed → Type 0
+Writes before after k l =
+    (x : Side) (i g : ℕ) (s : Option ℕ)
+    → listed after x i g s ≡ cond (same_key (key_of 0 g s false) k) (in_side x l i) (listed before x i g s)
+
+-- what is listed changed as a record under a key does
+abbrev pub Lists : (before after : Table Listed) → Key → Option Bool → Type 0
+Lists before after k timer =
+    (x : Side) (i g : ℕ) (s : Option ℕ)
+    → listed after x i g s ≡ cond (same_key (key_of i g s false) k) (told_of x timer) (listed before x i g s)
+
+-- the key of the first row
+abbrev pub first_key : {R : Type 0} → Table R → Option Key
+first_key [] = None
+first_key (e ∷ t) = Some e.0
+
+-- of an interface that a set can have, and not of (S,G,rpt)
+abbrev pub is_record_key : Key → Bool
+is_record_key k = nat_lt (iface_in k) 120 && not k.rpt
+
+module _ {R : Type 0} (runs : R → Bool) where
+  -- the record under a key, if there is one: whether its timer runs
+  abbrev pub record_at : Table R → Key → Option Bool
+  record_at rows k = option_map runs (row_at rows k)
+
+  -- what is listed is what the rows say, and each is under a key of its kind
+  pub record IsListed (marks : Table Listed) (rows : Table R) : Type 0 where
+    pub told : (x : Side) (i g : ℕ) (s : Option ℕ)
+        → listed marks x i g s ≡ told_of x (record_at rows (key_of i g s false))
+    pub fit : AllByRecursion (λ (e : Key × R). is_record_key e.0 ≡ true) rows

@@ -1,0 +1,10 @@
+//! The IGMP membership facts of the router: who queries on each interface, and which groups and sources have
+//! receivers there.
+#![tactic(auto)]
+
+mod listed;
+mod listing;
+pub mod membership;
+mod records;
+
+pub use membership::Membership;

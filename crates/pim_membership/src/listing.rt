@@ -1,0 +1,92 @@
+//! What is listed of all groups and sources.
+ghost use Rattle.std.specs.Prelude.{◌≡◌, ◌<◌, ◌≤◌, ◌+◌, [], ℕ, None, Some, OnErr, OnOk};
+ghost use Rattle.pim_model.specs.Tables.{row_at};
+ghost use Rattle.pim_source_trie.specs.Entries.{entry_key};
+ghost use Rattle.pim_membership.specs.Listing.{Lists, Side, Writes, in_side, listed, record_key, source_bits};
+
+use crate::listed::Listed;
+use pim_ip::Addr;
+use pim_source_trie::SourceTrie;
+use pim_trie::Meter;
+use pim_types::IfaceId;
+use std::alloc::{AllocError, Global};
+use std::marker::Model;
+
+// The interfaces listed of each group, and of each source, that has any.
+#[derive(Drop)]
+pub(crate) struct Listing {
+    entries: SourceTrie<Listed>,
+}
+
+impl Model for Listing {
+    ghost use Rattle.pim_model.specs.Tables.{Table};
+    ghost use Rattle.pim_membership.specs.declared.listed.Listed.{Listed};
+
+    ghost Value = { Table Listed };
+
+    ghost view = { λ a. a.entries };
+}
+
+impl Listing {
+    // No interface is listed; it takes no memory.
+    pub(crate) fn new(alloc: Global) -> Listing
+        ensures { result ≡ [] }
+    {
+        Listing {
+            entries: SourceTrie::new(alloc),
+        }
+    }
+
+    // What is listed of (*,G), where `source` is `None`, or of a source of the group.
+    pub(crate) fn get(&self, group: Addr, source: Option<Addr>, meter: &mut Meter) -> Listed
+        ensures sides { (x : Side) (i : ℕ) → in_side x result i ≡ listed self.now x i group.bits (source_bits source) }
+        ensures rises { meter.old ≤ meter.new }
+        ensures at_most { meter.new ≤ meter.old + 66 }
+        ensures star_at_most { source ≡ None → meter.new ≤ meter.old + 33 }
+    {
+        match self.entries.get(group, source, meter) {
+            Some(listed) => *listed,
+            None => Listed::none(),
+        }
+    }
+
+    // Lists these of a group, or of a source. Where there are some and nothing was listed it may fail for want of
+    // memory, and then nothing has changed.
+    fn write(&mut self, group: Addr, source: Option<Addr>, listed: Listed) -> Result<(), AllocError>
+        ensures ok { OnOk result (Writes self.old self.new (entry_key group source) listed) }
+        ensures err { OnErr result (self.new ≡ self.old) }
+        ensures absent { OnErr result (row_at self.old (entry_key group source) ≡ None) }
+    {
+        if listed.is_empty() {
+            self.entries.remove(group, source);
+            return Ok(());
+        }
+        self.entries.put(group, source, listed)
+    }
+
+    // Lists the interface, where the record's timer runs or doesn't. An error is want of memory, and then nothing
+    // has changed.
+    pub(crate) fn list(
+        &mut self,
+        iface: IfaceId,
+        group: Addr,
+        source: Option<Addr>,
+        is_running: bool,
+    ) -> Result<(), AllocError>
+        requires { iface.number < 120 }
+        ensures ok { OnOk result (Lists self.old self.new (record_key iface.number group source) (Some is_running)) }
+        ensures err { OnErr result (self.new ≡ self.old) }
+    {
+        let listed = self.get(group, source, &mut Meter::new());
+        self.write(group, source, listed.with(iface, is_running))
+    }
+
+    // Takes the interface out; it takes no memory.
+    pub(crate) fn unlist(&mut self, iface: IfaceId, group: Addr, source: Option<Addr>)
+        ensures { Lists self.old self.new (record_key iface.number group source) None }
+    {
+        let listed = self.get(group, source, &mut Meter::new());
+        // Where it fails nothing was listed.
+        let _ = self.write(group, source, listed.without(iface));
+    }
+}

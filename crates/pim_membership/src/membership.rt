@@ -1,0 +1,432 @@
+//! The membership facts.
+ghost use Rattle.std.specs.Prelude.{◌≡◌, ◌<◌, ◌≤◌, ◌+◌, ◌^◌, ℕ, None, Some, IfOk, IfSome, IsTrue, OnErr, OnOk, Option, false, filter, nat_lt, option_map};
+ghost use Rattle.std.specs.List.{list_all};
+ghost use Rattle.pim_ifset.specs.Members.{has};
+ghost use Rattle.pim_model.specs.Clearing.{first_by};
+ghost use Rattle.pim_model.specs.Receivers.{is_exclude_among, local_receiver_exclude_among, local_receiver_include_among};
+ghost use Rattle.pim_model.specs.Records.{is_at_group};
+ghost use Rattle.pim_model.specs.Tables.{change_row, drop_where, put, row_at, set_row};
+ghost use Rattle.pim_model.specs.Timers.{is_ending_first};
+ghost use Rattle.pim_tables.specs.Ends.{due_of};
+ghost use Rattle.pim_types.specs.Keys.{iface_in, iface_key, is_on, source_key, star_key};
+ghost use Rattle.pim_types.specs.declared.fact.GroupRecordRow.{GroupRecordRow as GroupRecord};
+ghost use Rattle.pim_membership.specs.MembershipTables.{counted_records, membership_endings, no_membership};
+
+use crate::records::Records;
+use pim_ifset::IfSet;
+use pim_ip::Addr;
+use pim_tables::{Facts, RowsOf, Timed, earlier};
+use pim_timers::Wheel;
+use pim_trie::Meter;
+use pim_types::fact::{
+    GroupRecordRow, GroupRepeatRow, QuerierRow, SendingRow, SourceRecordRow, SourceRepeatRow,
+};
+use pim_types::{IfaceId, Key, Timer};
+use std::alloc::{AllocError, Global};
+use std::collections::btree_map::Iter;
+use std::marker::Model;
+
+/// The IGMP membership facts of the router (RFC 3376, sections 4 and 6). After want of memory in a call that changes
+/// them nothing is promised of what they are, but that all that is told of them is true.
+#[derive(Drop)]
+pub struct Membership {
+    queriers: Timed<QuerierRow, Wheel>,
+    group_records: Records<GroupRecordRow>,
+    source_records: Records<SourceRecordRow>,
+    group_repeats: Timed<GroupRepeatRow, Wheel>,
+    source_repeats: Timed<SourceRepeatRow, Wheel>,
+    sendings: Facts<SendingRow>,
+}
+
+impl Model for Membership {
+    ghost use Rattle.pim_membership.specs.MembershipTables.{MembershipTables};
+
+    ghost Value = { MembershipTables };
+
+    ghost view = { λ m. record {
+      queriers = m.queriers;
+      group_records = m.group_records;
+      source_records = m.source_records;
+      group_repeats = m.group_repeats;
+      source_repeats = m.source_repeats;
+      sendings = m.sendings;
+    } };
+}
+
+impl Membership {
+    /// No facts. An error is want of memory.
+    pub fn new(alloc: Global) -> Result<Membership, AllocError>
+        ensures { IfOk result (λ membership. membership ≡ no_membership) }
+    {
+        Ok(Membership {
+            queriers: Timed::new(alloc, Wheel::new(alloc)?),
+            group_records: Records::new(alloc)?,
+            source_records: Records::new(alloc)?,
+            group_repeats: Timed::new(alloc, Wheel::new(alloc)?),
+            source_repeats: Timed::new(alloc, Wheel::new(alloc)?),
+            sendings: Facts::new(alloc),
+        })
+    }
+
+    /// The querier of the interface.
+    pub fn querier(&self, iface: IfaceId) -> Option<QuerierRow>
+        ensures { result ≡ row_at self.now.queriers (iface_key iface.number) }
+    {
+        self.queriers.get(Key::iface(iface))
+    }
+
+    /// The queriers, by rising key.
+    pub fn querier_rows(&self) -> Iter<'_, Key, QuerierRow>
+        ensures { result ≡ self.now.queriers }
+    {
+        self.queriers.iter()
+    }
+
+    /// Gives the interface this querier. An error is want of memory.
+    pub fn put_querier(&mut self, iface: IfaceId, row: QuerierRow) -> Result<(), AllocError>
+        ensures { OnOk result (self.new
+            ≡ record self.old { queriers = put self.old.queriers (iface_key iface.number) row }) }
+    {
+        self.queriers.put(Key::iface(iface), row)
+    }
+
+    /// Changes the querier of the interface, if it has one, to this one. An error is want of memory.
+    pub fn change_querier(&mut self, iface: IfaceId, row: QuerierRow) -> Result<(), AllocError>
+        ensures { OnOk result (self.new ≡ record self.old {
+          queriers = change_row (λ _. Some row) (iface_key iface.number) self.old.queriers;
+        }) }
+    {
+        self.queriers.change(Key::iface(iface), row)
+    }
+
+    /// The group record of the group on the interface.
+    pub fn group_record(&self, iface: IfaceId, group: Addr) -> Option<GroupRecordRow>
+        ensures { result ≡ row_at self.now.group_records (star_key iface.number group.bits) }
+    {
+        self.group_records.get(Key::star(iface, group))
+    }
+
+    /// The group records, by rising key; each is of an interface below 120.
+    pub fn group_record_rows(&self) -> Iter<'_, Key, GroupRecordRow>
+        ensures rows { result ≡ self.now.group_records }
+        ensures below { IsTrue (list_all (λ e. nat_lt (iface_in e.0) 120) result) }
+    {
+        self.group_records.iter()
+    }
+
+    /// Gives the group this record on the interface, or takes its record away. An error is want of memory.
+    pub fn set_group_record(
+        &mut self,
+        iface: IfaceId,
+        group: Addr,
+        row: Option<GroupRecordRow>,
+    ) -> Result<(), AllocError>
+        requires { iface.number < 120 }
+        ensures { OnOk result (self.new ≡ record self.old {
+          group_records = set_row self.old.group_records (star_key iface.number group.bits) row;
+        }) }
+    {
+        self.group_records.set(iface, group, None, row)
+    }
+
+    /// Changes the group's record on the interface, if there is one, to this one. An error is want of memory.
+    pub fn change_group_record(
+        &mut self,
+        iface: IfaceId,
+        group: Addr,
+        row: GroupRecordRow,
+    ) -> Result<(), AllocError>
+        ensures to { OnOk result (self.new ≡ record self.old {
+          group_records = change_row (λ _. Some row) (star_key iface.number group.bits) self.old.group_records;
+        }) }
+        ensures by { OnOk result ((change : GroupRecord → Option GroupRecord)
+            → IfSome (row_at self.old.group_records (star_key iface.number group.bits))
+            (λ before. change before ≡ Some row)
+            → self.new ≡ record self.old {
+              group_records = change_row change (star_key iface.number group.bits) self.old.group_records;
+            }) }
+    {
+        self.group_records.change(iface, group, None, row)
+    }
+
+    /// The record of the source of the group on the interface.
+    pub fn source_record(
+        &self,
+        iface: IfaceId,
+        group: Addr,
+        source: Addr,
+    ) -> Option<SourceRecordRow>
+        ensures { result ≡ row_at self.now.source_records (source_key iface.number group.bits source.bits) }
+    {
+        self.source_records.get(Key::source(iface, group, source))
+    }
+
+    /// The source records, by rising key; each is of an interface below 120.
+    pub fn source_record_rows(&self) -> Iter<'_, Key, SourceRecordRow>
+        ensures rows { result ≡ self.now.source_records }
+        ensures below { IsTrue (list_all (λ e. nat_lt (iface_in e.0) 120) result) }
+    {
+        self.source_records.iter()
+    }
+
+    /// The source records of the group on the interface, by rising key.
+    pub fn source_records_at(&self, iface: IfaceId, group: Addr) -> RowsOf<'_, SourceRecordRow>
+        ensures { result ≡ filter (λ e. is_at_group iface.number group.bits e.0) self.now.source_records }
+    {
+        self.source_records.rows_at(iface, group)
+    }
+
+    /// Gives the source of the group this record on the interface, or takes its record away. An error is want of
+    /// memory.
+    pub fn set_source_record(
+        &mut self,
+        iface: IfaceId,
+        group: Addr,
+        source: Addr,
+        row: Option<SourceRecordRow>,
+    ) -> Result<(), AllocError>
+        requires { iface.number < 120 }
+        ensures { OnOk result (self.new ≡ record self.old {
+          source_records = set_row self.old.source_records (source_key iface.number group.bits source.bits) row;
+        }) }
+    {
+        self.source_records.set(iface, group, Some(source), row)
+    }
+
+    /// Takes the source records of the group on the interface away.
+    pub fn drop_source_records(&mut self, iface: IfaceId, group: Addr)
+        ensures { self.new ≡ record self.old {
+          source_records = drop_where (is_at_group iface.number group.bits) self.old.source_records;
+        } }
+    {
+        self.source_records.drop_at(iface, group);
+    }
+
+    /// The repeats of the group's query on the interface that are still to leave.
+    pub fn group_repeat(&self, iface: IfaceId, group: Addr) -> Option<GroupRepeatRow>
+        ensures { result ≡ row_at self.now.group_repeats (star_key iface.number group.bits) }
+    {
+        self.group_repeats.get(Key::star(iface, group))
+    }
+
+    /// The repeats of group-specific queries, by rising key.
+    pub fn group_repeat_rows(&self) -> Iter<'_, Key, GroupRepeatRow>
+        ensures { result ≡ self.now.group_repeats }
+    {
+        self.group_repeats.iter()
+    }
+
+    /// Repeats the group's query on the interface so, or no more. An error is want of memory.
+    pub fn set_group_repeat(
+        &mut self,
+        iface: IfaceId,
+        group: Addr,
+        row: Option<GroupRepeatRow>,
+    ) -> Result<(), AllocError>
+        ensures { OnOk result (self.new ≡ record self.old {
+          group_repeats = set_row self.old.group_repeats (star_key iface.number group.bits) row;
+        }) }
+    {
+        self.group_repeats.set(Key::star(iface, group), row)
+    }
+
+    /// Changes how the group's query on the interface is repeated, if it is, to this, or ends it. An error is want of
+    /// memory.
+    pub fn change_group_repeat(
+        &mut self,
+        iface: IfaceId,
+        group: Addr,
+        row: Option<GroupRepeatRow>,
+    ) -> Result<(), AllocError>
+        ensures { OnOk result (self.new ≡ record self.old {
+          group_repeats = change_row (λ _. row) (star_key iface.number group.bits) self.old.group_repeats;
+        }) }
+    {
+        let key = Key::star(iface, group);
+        let Some(row) = row else {
+            self.group_repeats.remove(key);
+            return Ok(());
+        };
+        self.group_repeats.change(key, row)
+    }
+
+    /// When the group's sources on the interface are queried again.
+    pub fn source_repeat(&self, iface: IfaceId, group: Addr) -> Option<SourceRepeatRow>
+        ensures { result ≡ row_at self.now.source_repeats (star_key iface.number group.bits) }
+    {
+        self.source_repeats.get(Key::star(iface, group))
+    }
+
+    /// The repeats of queries of sources, by rising key.
+    pub fn source_repeat_rows(&self) -> Iter<'_, Key, SourceRepeatRow>
+        ensures { result ≡ self.now.source_repeats }
+    {
+        self.source_repeats.iter()
+    }
+
+    /// Queries the group's sources on the interface again then, or no more. An error is want of memory.
+    pub fn set_source_repeat(
+        &mut self,
+        iface: IfaceId,
+        group: Addr,
+        row: Option<SourceRepeatRow>,
+    ) -> Result<(), AllocError>
+        ensures { OnOk result (self.new ≡ record self.old {
+          source_repeats = set_row self.old.source_repeats (star_key iface.number group.bits) row;
+        }) }
+    {
+        self.source_repeats.set(Key::star(iface, group), row)
+    }
+
+    /// Changes when the group's sources on the interface are queried again, if they are, to this, or ends it. An error is want of
+    /// memory.
+    pub fn change_source_repeat(
+        &mut self,
+        iface: IfaceId,
+        group: Addr,
+        row: Option<SourceRepeatRow>,
+    ) -> Result<(), AllocError>
+        ensures { OnOk result (self.new ≡ record self.old {
+          source_repeats = change_row (λ _. row) (star_key iface.number group.bits) self.old.source_repeats;
+        }) }
+    {
+        let key = Key::star(iface, group);
+        let Some(row) = row else {
+            self.source_repeats.remove(key);
+            return Ok(());
+        };
+        self.source_repeats.change(key, row)
+    }
+
+    /// How often the source of the group is still to be named in a query on the interface.
+    pub fn sending(&self, iface: IfaceId, group: Addr, source: Addr) -> Option<SendingRow>
+        ensures { result ≡ row_at self.now.sendings (source_key iface.number group.bits source.bits) }
+    {
+        self.sendings.get(Key::source(iface, group, source))
+    }
+
+    /// The sendings, by rising key.
+    pub fn sending_rows(&self) -> Iter<'_, Key, SendingRow>
+        ensures { result ≡ self.now.sendings }
+    {
+        self.sendings.iter()
+    }
+
+    /// The sendings of the group's sources on the interface, by rising key.
+    pub fn sendings_at(&self, iface: IfaceId, group: Addr) -> RowsOf<'_, SendingRow>
+        ensures { result ≡ filter (λ e. is_at_group iface.number group.bits e.0) self.now.sendings }
+    {
+        self.sendings.rows_at(iface, group)
+    }
+
+    /// Sends the source of the group so often on the interface, or no more. An error is want of memory.
+    pub fn set_sending(
+        &mut self,
+        iface: IfaceId,
+        group: Addr,
+        source: Addr,
+        row: Option<SendingRow>,
+    ) -> Result<(), AllocError>
+        ensures { OnOk result (self.new ≡ record self.old {
+          sendings = set_row self.old.sendings (source_key iface.number group.bits source.bits) row;
+        }) }
+    {
+        self.sendings.set(Key::source(iface, group, source), row)
+    }
+
+    /// Takes all facts of the interface away.
+    pub fn drop_on(&mut self, iface: IfaceId)
+        ensures { self.new ≡ record {
+          queriers = drop_where (is_on iface.number) self.old.queriers;
+          group_records = drop_where (is_on iface.number) self.old.group_records;
+          source_records = drop_where (is_on iface.number) self.old.source_records;
+          group_repeats = drop_where (is_on iface.number) self.old.group_repeats;
+          source_repeats = drop_where (is_on iface.number) self.old.source_repeats;
+          sendings = drop_where (is_on iface.number) self.old.sendings;
+        } }
+    {
+        self.queriers.drop_on(iface);
+        self.group_records.drop_on(iface);
+        self.source_records.drop_on(iface);
+        self.drop_repeats_on(iface);
+    }
+
+    /// Takes the repeats and the sendings of the interface away, where another router queries.
+    pub fn drop_repeats_on(&mut self, iface: IfaceId)
+        ensures { self.new ≡ record self.old {
+          group_repeats = drop_where (is_on iface.number) self.old.group_repeats;
+          source_repeats = drop_where (is_on iface.number) self.old.source_repeats;
+          sendings = drop_where (is_on iface.number) self.old.sendings;
+        } }
+    {
+        self.group_repeats.drop_on(iface);
+        self.source_repeats.drop_on(iface);
+        self.sendings.drop_on(iface);
+    }
+
+    /// How many facts count: the group records and the source records.
+    #[tactic(auto, unfolding(crate::specs::MembershipTables::counted_records))]
+    pub fn count(&self) -> u128
+        ensures count { result ≡ counted_records self.now }
+        ensures within { result < 2 ^ 65 }
+    {
+        self.group_records.len() as u128 + self.source_records.len() as u128
+    }
+
+    /// Which fact ends first, and when, in ms: the least end by its moment, its kind and its key. `None` where no
+    /// fact ever ends.
+    pub fn next(&self) -> Option<(u64, Timer)>
+        ensures { result ≡ option_map due_of (first_by is_ending_first (membership_endings self.now)) }
+    {
+        let records = earlier(self.group_records.next(), self.source_records.next());
+        let queries = earlier(records, self.queriers.next());
+        earlier(
+            earlier(queries, self.group_repeats.next()),
+            self.source_repeats.next(),
+        )
+    }
+
+    /// The interfaces on which the group has receivers of all its sources, but those excluded: it is in EXCLUDE
+    /// there. The meter rises by the nodes that are visited, 33 at most.
+    pub fn receivers_star(&self, group: Addr, meter: &mut Meter) -> IfSet
+        ensures interfaces { (i : ℕ) → has result i ≡ is_exclude_among self.now.group_records group.bits i }
+        ensures tunnel { result.tunnel ≡ false }
+        ensures rises { meter.old ≤ meter.new }
+        ensures at_most { meter.new ≤ meter.old + 33 }
+    {
+        self.group_records
+            .listed(group, None, meter)
+            .running
+            .without_tunnel()
+    }
+
+    /// The interfaces with receivers of this source of the group alone: the group is in INCLUDE there, and lists the
+    /// source. The meter rises by the nodes that are visited, 99 at most.
+    pub fn receivers_include(&self, group: Addr, source: Addr, meter: &mut Meter) -> IfSet
+        ensures interfaces { (i : ℕ) → has result i ≡ local_receiver_include_among self.now.group_records
+            self.now.source_records group.bits source.bits i }
+        ensures tunnel { result.tunnel ≡ false }
+        ensures rises { meter.old ≤ meter.new }
+        ensures at_most { meter.new ≤ meter.old + 99 }
+    {
+        let groups = self.group_records.listed(group, None, meter);
+        let sources = self.source_records.listed(group, Some(source), meter);
+        let include = groups.there.minus(groups.running);
+        include.intersection(sources.there).without_tunnel()
+    }
+
+    /// The interfaces with receivers of the group's sources that exclude this one: the group is in EXCLUDE there, and
+    /// the source is excluded. The meter rises by the nodes that are visited, 99 at most.
+    pub fn receivers_exclude(&self, group: Addr, source: Addr, meter: &mut Meter) -> IfSet
+        ensures interfaces { (i : ℕ) → has result i ≡ local_receiver_exclude_among self.now.group_records
+            self.now.source_records group.bits source.bits i }
+        ensures tunnel { result.tunnel ≡ false }
+        ensures rises { meter.old ≤ meter.new }
+        ensures at_most { meter.new ≤ meter.old + 99 }
+    {
+        let groups = self.group_records.listed(group, None, meter);
+        let sources = self.source_records.listed(group, Some(source), meter);
+        let excluded = sources.there.minus(sources.running);
+        groups.running.intersection(excluded).without_tunnel()
+    }
+}

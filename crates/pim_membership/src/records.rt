@@ -1,0 +1,270 @@
+//! The records of one kind, of groups or of their sources, with the interfaces that have them.
+ghost use Rattle.std.specs.Prelude.{◌≡◌, ◌<◌, ◌≤◌, ◌+◌, [], length, ℕ, Bool, None, Option, Some, IfOk, IfSome, IsTrue, OnErr, OnOk, false, filter, is_some, nat_lt, option_map};
+ghost use Rattle.std.specs.List.{list_all};
+ghost use Rattle.std.specs.Option.{option_map_or};
+ghost use Rattle.pim_model.specs.Clearing.{first_by};
+ghost use Rattle.pim_model.specs.Records.{is_at_group};
+ghost use Rattle.pim_model.specs.Tables.{change_row, drop_at, drop_where, has_row, put, row_at, rows_on, set_row};
+ghost use Rattle.pim_model.specs.Timers.{is_ending_first};
+ghost use Rattle.pim_tables.specs.Ends.{due_of, row_endings};
+ghost use Rattle.pim_types.specs.Keys.{iface_in, is_on};
+ghost use Rattle.pim_ifset.specs.Members.{has};
+ghost use Rattle.pim_membership.specs.Listing.{IsListed, Lists, first_key, is_record_key, record_key};
+
+use crate::listed::Listed;
+use crate::listing::Listing;
+use pim_ip::Addr;
+use pim_tables::{Ends, RowsOf, Timed};
+use pim_timers::Wheel;
+use pim_trie::Meter;
+use pim_types::fact::{GroupRecordRow, SourceRecordRow};
+use pim_types::{IfaceId, Key, Timer};
+use std::alloc::{AllocError, Global};
+use std::collections::btree_map::Iter;
+use std::marker::Model;
+
+// A row with a timer that may run.
+pub(crate) trait Record: Ends {
+    // Whether a row's timer runs.
+    ghost runs: { Self → Bool };
+
+    // Whether the row's timer runs.
+    fn is_running(self) -> bool
+        ensures { result ≡ runs self };
+}
+
+impl Record for GroupRecordRow {
+    ghost runs = { λ r. is_some r.end };
+
+    fn is_running(self) -> bool {
+        self.end.is_some()
+    }
+}
+
+impl Record for SourceRecordRow {
+    ghost runs = { λ r. is_some r.end };
+
+    fn is_running(self) -> bool {
+        self.end.is_some()
+    }
+}
+
+// The records of one kind.
+#[derive(Drop)]
+pub(crate) struct Records<R: Record> {
+    rows: Timed<R, Wheel>,
+    listing: Listing,
+}
+
+impl<R: Record> Model for Records<R> {
+    ghost use Rattle.pim_model.specs.Tables.{Table};
+    ghost use Rattle.pim_membership.specs.Listing.{IsListed};
+
+    ghost Value = { Table R };
+
+    ghost view = { λ a. a.rows };
+
+    ghost invariant = { λ a. IsListed R.runs a.listing a.rows };
+}
+
+impl<R: Record> Records<R> {
+    // No records. An error is want of memory.
+    pub(crate) fn new(alloc: Global) -> Result<Records<R>, AllocError>
+        ensures { IfOk result (λ records. records ≡ []) }
+    {
+        Ok(Records {
+            rows: Timed::new(alloc, Wheel::new(alloc)?),
+            listing: Listing::new(alloc),
+        })
+    }
+
+    // How many there are.
+    pub(crate) fn len(&self) -> usize
+        ensures { result ≡ length self.now }
+    {
+        self.rows.len()
+    }
+
+    // The records, by rising key; each is of an interface below 120.
+    pub(crate) fn iter(&self) -> Iter<'_, Key, R>
+        ensures rows { result ≡ self.now }
+        ensures below { IsTrue (list_all (λ e. nat_lt (iface_in e.0) 120) result) }
+    {
+        self.rows.iter()
+    }
+
+    // Those of a group on an interface, by rising key.
+    pub(crate) fn rows_at(&self, iface: IfaceId, group: Addr) -> RowsOf<'_, R>
+        ensures { result ≡ filter (λ e. is_at_group iface.number group.bits e.0) self.now }
+    {
+        self.rows.rows_at(iface, group)
+    }
+
+    // The record under the key.
+    pub(crate) fn get(&self, key: Key) -> Option<R>
+        ensures { result ≡ row_at self.now key }
+    {
+        self.rows.get(key)
+    }
+
+    // Which record's timer ends first, and when, in ms.
+    pub(crate) fn next(&self) -> Option<(u64, Timer)>
+        ensures { result ≡ option_map due_of (first_by is_ending_first (row_endings R.kinds R.ends self.now)) }
+    {
+        self.rows.next()
+    }
+
+    // The interfaces with a record of the group, where `source` is `None`, or of its source.
+    pub(crate) fn listed(&self, group: Addr, source: Option<Addr>, meter: &mut Meter) -> Listed
+        ensures there { (i : ℕ) → has result.there i ≡ has_row self.now (record_key i group source) }
+        ensures running { (i : ℕ)
+            → has result.running i ≡ option_map_or R.runs (row_at self.now (record_key i group source)) false }
+        ensures rises { meter.old ≤ meter.new }
+        ensures at_most { meter.new ≤ meter.old + 66 }
+        ensures star_at_most { source ≡ None → meter.new ≤ meter.old + 33 }
+    {
+        self.listing.get(group, source, meter)
+    }
+
+    // Puts this record there, or takes away the one that is there. An error is want of memory.
+    #[tactic(auto, unfolding(pim_model::specs::Tables::set_row))]
+    pub(crate) fn set(
+        &mut self,
+        iface: IfaceId,
+        group: Addr,
+        source: Option<Addr>,
+        row: Option<R>,
+    ) -> Result<(), AllocError>
+        requires { iface.number < 120 }
+        ensures { OnOk result (self.new ≡ set_row self.old (record_key iface.number group source) row) }
+    {
+        match row {
+            Some(row) => self.put(iface, group, source, row),
+            None => {
+                self.remove(iface, group, source);
+                Ok(())
+            }
+        }
+    }
+
+    // Puts the record there, in place of one that is there. An error is want of memory.
+    fn put(
+        &mut self,
+        iface: IfaceId,
+        group: Addr,
+        source: Option<Addr>,
+        row: R,
+    ) -> Result<(), AllocError>
+        requires { iface.number < 120 }
+        ensures { OnOk result (self.new ≡ put self.old (record_key iface.number group source) row) }
+    {
+        let key = record_key(iface, group, source);
+        relist(&self.rows, &mut self.listing, key, row)?;
+        if let Err(refused) = self.rows.put(key, row) {
+            // No record is there.
+            self.listing.unlist(iface, group, source);
+            return Err(refused);
+        }
+        Ok(())
+    }
+
+    // Takes the record away.
+    fn remove(&mut self, iface: IfaceId, group: Addr, source: Option<Addr>)
+        ensures { self.new ≡ drop_at self.old (record_key iface.number group source) }
+    {
+        self.rows.remove(record_key(iface, group, source));
+        self.listing.unlist(iface, group, source);
+    }
+
+    // Changes the record, where there is one, to this one. An error is want of memory.
+    pub(crate) fn change(
+        &mut self,
+        iface: IfaceId,
+        group: Addr,
+        source: Option<Addr>,
+        row: R,
+    ) -> Result<(), AllocError>
+        ensures to { OnOk result (self.new
+            ≡ change_row (λ _. Some row) (record_key iface.number group source) self.old) }
+        ensures by { OnOk result ((change : R → Option R)
+            → IfSome (row_at self.old (record_key iface.number group source)) (λ before. change before ≡ Some row)
+            → self.new ≡ change_row change (record_key iface.number group source) self.old) }
+    {
+        // It tells that the keys rise: what is put under a key that is there stands in its place.
+        let _ = self.rows.len();
+        if self.rows.contains(record_key(iface, group, source)) {
+            self.put(iface, group, source, row)?;
+        }
+        Ok(())
+    }
+
+    // The key of the first record of the group on the interface.
+    fn first_at(&self, iface: IfaceId, group: Addr) -> Option<Key>
+        ensures first { result ≡ first_key (filter (λ e. is_at_group iface.number group.bits e.0) self.now) }
+        ensures kind { IfSome result (λ key. IsTrue (is_record_key key)) }
+    {
+        let (key, _) = self.rows.rows_at(iface, group).next()?;
+        Some(*key)
+    }
+
+    // The key of the interface's first record.
+    fn first_on(&self, iface: IfaceId) -> Option<Key>
+        ensures first { result ≡ first_key (rows_on iface.number self.now) }
+        ensures kind { IfSome result (λ key. IsTrue (is_record_key key)) }
+    {
+        let (key, _) = self.rows.rows_on(iface).next()?;
+        Some(*key)
+    }
+
+    // Takes the group's records on the interface away.
+    pub(crate) fn drop_at(&mut self, iface: IfaceId, group: Addr)
+        ensures { self.new ≡ drop_where (is_at_group iface.number group.bits) self.old }
+    {
+        while let Some(key) = self.first_at(iface, group) {
+            self.remove(key.iface, key.group, key.source);
+        }
+    }
+
+    // Takes the interface's records away.
+    pub(crate) fn drop_on(&mut self, iface: IfaceId)
+        ensures { self.new ≡ drop_where (is_on iface.number) self.old }
+    {
+        while let Some(key) = self.first_on(iface) {
+            self.remove(key.iface, key.group, key.source);
+        }
+    }
+}
+
+// The key of a record of the group, where `source` is `None`, or of its source.
+fn record_key(iface: IfaceId, group: Addr, source: Option<Addr>) -> Key
+    ensures { result ≡ record_key iface.number group source }
+{
+    Key {
+        iface,
+        group,
+        source,
+        rpt: false,
+    }
+}
+
+// Lists the interface as the row under the key has it, unless the one that is there has it so. An error is want of
+// memory, and then nothing has changed.
+fn relist<R: Record>(
+    rows: &Timed<R, Wheel>,
+    listing: &mut Listing,
+    key: Key,
+    row: R,
+) -> Result<(), AllocError>
+    requires near { IsTrue (is_record_key key) }
+    requires listed { IsListed R.runs listing.old rows.now }
+    ensures ok { OnOk result (Lists listing.old listing.new key (Some (R.runs row))) }
+    ensures err { OnErr result (listing.new ≡ listing.old) }
+{
+    let is_running = row.is_running();
+    if let Some(before) = rows.get(key) {
+        if before.is_running() == is_running {
+            return Ok(());
+        }
+    }
+    listing.list(key.iface, key.group, key.source, is_running)
+}
