@@ -46,17 +46,6 @@ module _ (t : Table Listed) (k : Key) (l : Listed) where
   writes_after t' (Ok x) put = put_writes t' put
   writes_after t' (Err e) put = tt
 
--- a call that is refused only where there is no row
-pub none_there : {T E R : Type 0} (r : Result T E) (t : Table R) (k : Key) → (has_row t k ≡ true → IsOk r)
-    → OnErr r (row_at t k ≡ None)
-unfolding row_at
-none_there (Ok x) t k over = tt
-none_there (Err e) t k over = absent k t (go (has_row t k) refl)
-  where
-    go : (b : Bool) → has_row t k ≡ b → b ≡ false
-    go true is = cc (over is)
-    go false is = refl
-
 -- ---- an interface of an entry
 
 both_equal : (a b : Ordering) → is_eq (ordering_then a b) ≡ (is_eq a && is_eq b)

@@ -199,7 +199,7 @@ impl Membership {
           source_records = drop_where (is_at_group iface.number group.bits) self.old.source_records;
         } }
     {
-        self.source_records.drop_at(iface, group);
+        self.source_records.drop_group(iface, group);
     }
 
     /// The repeats of the group's query on the interface that are still to leave.

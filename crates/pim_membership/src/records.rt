@@ -199,7 +199,7 @@ impl<R: Record> Records<R> {
     }
 
     // The key of the first record of the group on the interface.
-    fn first_at(&self, iface: IfaceId, group: Addr) -> Option<Key>
+    fn first_of_group(&self, iface: IfaceId, group: Addr) -> Option<Key>
         ensures first { result ≡ first_key (filter (λ e. is_at_group iface.number group.bits e.0) self.now) }
         ensures kind { IfSome result (λ key. IsTrue (is_record_key key)) }
     {
@@ -217,10 +217,10 @@ impl<R: Record> Records<R> {
     }
 
     // Takes the group's records on the interface away.
-    pub(crate) fn drop_at(&mut self, iface: IfaceId, group: Addr)
+    pub(crate) fn drop_group(&mut self, iface: IfaceId, group: Addr)
         ensures { self.new ≡ drop_where (is_at_group iface.number group.bits) self.old }
     {
-        while let Some(key) = self.first_at(iface, group) {
+        while let Some(key) = self.first_of_group(iface, group) {
             self.remove(key.iface, key.group, key.source);
         }
     }

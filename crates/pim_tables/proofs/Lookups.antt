@@ -5,6 +5,7 @@ use Rattle.std.specs.List.Sorted.{IsStrictlySortedBy}
 use Rattle.std.specs.Map.{lookup, set_value}
 use Rattle.std.specs.BTreeMap.{insert_entry, is_at}
 use Rattle.std.specs.Option.{IfSome}
+use Rattle.std.specs.Prelude.{Err, IsOk, Ok, OnErr, Result}
 use Rattle.std.specs.Ordering.{is_eq, match_ordering}
 use Rattle.std.specs.declared.cmp.Ordering.{Ordering}
 use Rattle.std.specs.declared.cmp.Ordering.TheVariants.{Less, Equal, Greater}
@@ -113,3 +114,14 @@ absent k t e = go (lookup (is_at (key_cmp k)) t) e
     go : {X : Type 0} (o : Option X) → is_some o ≡ false → o ≡ None
     go None e = refl
     go (Some x) e = cc
+
+-- a call that is refused only where there is no row
+pub none_there : {T E R : Type 0} (r : Result T E) (t : Table R) (k : Key) → (has_row t k ≡ true → IsOk r)
+    → OnErr r (row_at t k ≡ None)
+unfolding row_at
+none_there (Ok x) t k over = tt
+none_there (Err e) t k over = absent k t (go (has_row t k) refl)
+  where
+    go : (b : Bool) → has_row t k ≡ b → b ≡ false
+    go true is = cc (over is)
+    go false is = refl

@@ -1,4 +1,5 @@
-use Rattle.pim_membership.proofs.Writes.{drop_writes, none_there, writes_after}
+use Rattle.pim_tables.proofs.Lookups.{none_there}
+use Rattle.pim_membership.proofs.Writes.{drop_writes, writes_after}
 use Rattle.pim_membership.proofs.listing.Listing.write.Goals as goal
 
 pub returns-then-is_empty-clause-ok : goal.returns-then-is_empty-clause-ok

@@ -1,7 +1,7 @@
 use Rattle.std.proofs.Common.{◌≡◌, length}
 use Rattle.pim_model.specs.Records.{is_at_group}
 use Rattle.pim_model.specs.Tables.{drop_where}
-use Rattle.pim_membership.proofs.records.Records.drop_at.Given as goal
+use Rattle.pim_membership.proofs.records.Records.drop_group.Given as goal
 
 abbrev pub invariant-loop-key : goal.invariant-loop-key
 invariant-loop-key g l =

@@ -1,7 +1,7 @@
 use Rattle.std.proofs.Common.{sym, ◌∙◌}
 use Rattle.pim_model.specs.Records.{is_at_group}
 use Rattle.pim_membership.proofs.Told.{fits_first}
-use Rattle.pim_membership.proofs.records.Records.first_at.Goals as goal
+use Rattle.pim_membership.proofs.records.Records.first_of_group.Goals as goal
 
 pub returns-clause-kind : goal.returns-clause-kind
 returns-clause-kind g c =

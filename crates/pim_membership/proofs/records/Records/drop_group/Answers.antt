@@ -3,7 +3,7 @@ use Rattle.pim_model.specs.Records.{is_at_group}
 use Rattle.pim_model.specs.Tables.{drop_at, drop_where}
 use Rattle.pim_membership.proofs.Gone.{fewer, goes_anyhow, none_goes}
 use Rattle.pim_membership.proofs.Told.{key_again}
-use Rattle.pim_membership.proofs.records.Records.drop_at.Goals as goal
+use Rattle.pim_membership.proofs.records.Records.drop_group.Goals as goal
 
 pub loop-key-smaller : goal.loop-key-smaller
 loop-key-smaller g c =
