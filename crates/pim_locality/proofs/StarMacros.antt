@@ -42,7 +42,7 @@ module _ (sees : Key → Bool) (s : State) (g : ℕ) (stars : (i : ℕ) → sees
       (row_in_scope sees (star_key i g) (stars i) s.group_records j) false
 
   pub is_include_local : is_include (scope sees s) g ≡ is_include s g
-  unfolding scope
+  unfolding is_exclude scope
   is_include_local =
       λ j i. has_row_in_scope sees (star_key i g) (stars i) s.group_records j && not (is_exclude_local j i)
 

@@ -10,7 +10,7 @@ use pim_types::{Addr, IfaceId, Key};
 
 impl World {
     // Whether the group is in EXCLUDE mode on the interface.
-    #[tactic(auto, unfolding(pim_model::specs::Receivers::is_exclude))]
+    #[tactic(auto, unfolding(pim_model::specs::Receivers::is_exclude, pim_model::specs::Receivers::is_exclude_among))]
     fn is_exclude(&self, iface: IfaceId, group: Addr) -> bool
         ensures { result ≡ is_exclude self.now group.bits iface.number }
     {
@@ -19,7 +19,7 @@ impl World {
     }
 
     // local_receiver_include(S,G,I).
-    #[tactic(auto, unfolding(pim_model::specs::Receivers::local_receiver_include, pim_model::specs::Tables::has_row))]
+    #[tactic(auto, unfolding(pim_model::specs::Receivers::local_receiver_include, pim_model::specs::Receivers::local_receiver_include_among, pim_model::specs::Receivers::is_exclude, pim_model::specs::Tables::has_row))]
     fn is_included(&self, iface: IfaceId, group: Addr, source: Addr) -> bool
         ensures { result ≡ local_receiver_include self.now group.bits source.bits iface.number }
     {
@@ -31,7 +31,7 @@ impl World {
     }
 
     // local_receiver_exclude(S,G,I).
-    #[tactic(auto, unfolding(pim_model::specs::Receivers::local_receiver_exclude))]
+    #[tactic(auto, unfolding(pim_model::specs::Receivers::local_receiver_exclude, pim_model::specs::Receivers::local_receiver_exclude_among, pim_model::specs::Receivers::is_exclude))]
     fn is_excluded(&self, iface: IfaceId, group: Addr, source: Addr) -> bool
         ensures { result ≡ local_receiver_exclude self.now group.bits source.bits iface.number }
     {
