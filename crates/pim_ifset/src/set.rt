@@ -45,9 +45,10 @@ impl IfSet {
         ensures interfaces { (q : ℕ) → has result q ≡ nat_lt q number }
         ensures tunnel { result.tunnel ≡ false }
     {
+        let mask = (1 << number) - 1;
         IfSet {
-            mask: (1 << number) - 1,
-            tunnel: false,
+            mask,
+            ..IfSet::new()
         }
     }
 

@@ -1,5 +1,6 @@
 pub mod Accepted
 mod Asserted
+mod ConfiguredMembers
 mod Emptiness
 pub mod Gathered
 pub mod Gathering
