@@ -48,11 +48,12 @@ impl World {
         ensures sight { IsStarSight self.now result }
         ensures group { result.group ≡ group }
     {
-        let rp_path = self.rp_route(group, meter);
+        let rp = self.rp(group, meter);
+        let rp_path = self.route_to_rp(group, rp, meter);
         let marks = self.store.marks(group, None, meter);
         StarSight {
             group,
-            rp: self.rp(group, meter),
+            rp,
             rp_path,
             next_hop: self.nbr(rp_path),
             winner: self.winner_along(rp_path, Key::group(group)),

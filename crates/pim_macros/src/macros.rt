@@ -34,15 +34,29 @@ impl World {
         self.mrib.route(&self.interfaces, address, meter)
     }
 
-    /// The route to the RP of a group.
+    // The route to RP(G), which is this one.
     #[tactic(auto, using(crate::proofs::Options::next_of_some, crate::proofs::Options::next_of_none), unfolding(pim_model::specs::Unicast::rp_route))]
-    pub fn rp_route(&self, group: Addr, meter: &mut Meter) -> Option<Path>
+    pub(crate) fn route_to_rp(
+        &self,
+        group: Addr,
+        rp: Option<Addr>,
+        meter: &mut Meter,
+    ) -> Option<Path>
+        requires { option_map (λ a. a.bits) rp ≡ rp_of self.now group.bits }
         ensures { result ≡ rp_route self.now group.bits }
     {
-        match self.rp(group, meter) {
+        match rp {
             Some(rp) => self.route(rp, meter),
             None => None,
         }
+    }
+
+    /// The route to the RP of a group.
+    pub fn rp_route(&self, group: Addr, meter: &mut Meter) -> Option<Path>
+        ensures { result ≡ rp_route self.now group.bits }
+    {
+        let rp = self.rp(group, meter);
+        self.route_to_rp(group, rp, meter)
     }
 
     /// NBR(I, A) of the next hop of a route.
