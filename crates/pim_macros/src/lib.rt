@@ -4,6 +4,7 @@
 
 pub mod asserts;
 pub mod desires;
+pub mod facts;
 pub mod forwarding;
 pub mod gather;
 pub mod groups;

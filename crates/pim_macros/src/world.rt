@@ -3,7 +3,7 @@ ghost use Rattle.std.specs.Prelude.{◌≡◌, ◌<◌, ◌≤◌, ◌+◌, ◌^
 ghost use Rattle.std.specs.List.{list_any};
 ghost use Rattle.pim_ip.specs.declared.fault.Fault.{Fault};
 ghost use Rattle.pim_ip.specs.declared.refusal.Refusal.{Refusal};
-ghost use Rattle.pim_types.specs.Keys.{group_in, iface_key, is_on, star_key};
+ghost use Rattle.pim_types.specs.Keys.{group_in, iface_key, is_on, rpt_key, star_key};
 ghost use Rattle.pim_model.specs.Downstream.{asserts_after_joins};
 ghost use Rattle.pim_model.specs.Full.{counted, passes_limit};
 ghost use Rattle.pim_model.specs.Hellos.{hellos_triggered, neighbours_replaced};
@@ -21,8 +21,8 @@ use pim_neighbours::Neighbours;
 use pim_store::Store;
 use pim_tables::Facts;
 use pim_types::fact::{
-    DownstreamRow, GroupRecordRow, GroupRepeatRow, InterfaceRow, JoinTimerRow, QuerierRow,
-    SendingRow, SourceRecordRow, SourceRepeatRow,
+    DownstreamRow, GroupRecordRow, GroupRepeatRow, InterfaceRow, JoinTimerRow, OverrideTimerRow,
+    QuerierRow, SendingRow, SourceRecordRow, SourceRepeatRow,
 };
 use pim_types::{Addr, Config, Fault, IfaceId, InterfaceConfig, Key, Refusal, Settings};
 use pim_wire::Hello;
@@ -321,6 +321,27 @@ impl World {
         }) }
     {
         self.store.set_join_timer(group, source, row)
+    }
+
+    /// The override timer with this key.
+    pub fn override_timer(&self, key: Key) -> Option<OverrideTimerRow>
+        ensures { result ≡ row_at self.now.override_timers key }
+    {
+        self.store.override_timer(key)
+    }
+
+    /// Sets the override timer of (S,G,rpt), or takes it away.
+    pub fn set_override_timer(
+        &mut self,
+        group: Addr,
+        source: Addr,
+        row: Option<OverrideTimerRow>,
+    ) -> Result<(), AllocError>
+        ensures { OnOk result (self.new ≡ record self.old {
+          override_timers = set_row self.old.override_timers (rpt_key 0 group.bits source.bits) row;
+        }) }
+    {
+        self.store.set_override_timer(group, source, row)
     }
 
     /// Lowers the Join timer with this key, if there is one, to this end, in ms.

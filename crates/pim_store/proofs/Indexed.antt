@@ -12,7 +12,7 @@ use Rattle.pim_types.specs.declared.fact.SourceRow.{SourceRow}
 use Rattle.pim_model.specs.Sets.{is_loser, is_winner}
 use Rattle.pim_model.specs.Tables.{Table, has_row, row_at}
 use Rattle.pim_store.specs.PimTables.{PimTables}
-use Rattle.pim_store.specs.Said.{IsTold, KeepsOtherMarks, is_of_iface, is_plain_of_iface, is_plain_of_router, is_rpt_of_router, place, said}
+use Rattle.pim_store.specs.Said.{IsTold, KeepsOtherMarks, is_of_iface, is_plain_of_iface, is_plain_of_router, is_rpt_of_router, is_source_of_router, place, said}
 use Rattle.pim_store.specs.Stored.{IsIndexed}
 use Rattle.pim_store.specs.Telling.{assert_says, assert_table, downstream_says, downstream_table, is_there, is_told_by, join_timer_table, override_timer_table, register_table, source_table, table_of}
 use Rattle.pim_store.specs.declared.marks.Mark.{Mark}
@@ -81,7 +81,7 @@ module _ {m m' : Table Marks} {f : PimTables} (is : IsIndexed m f) where
   }
 
   pub after_sources : {t : Table SourceRow} → KeepsOtherMarks (is_told_by source_table) m m'
-      → IsTold (is_told_by source_table) is_there is_plain_of_router m' t
+      → IsTold (is_told_by source_table) is_there is_source_of_router m' t
       → IsIndexed m' (record f { sources = t })
   after_sources others told = record {
     downstream = still source_table others downstream_table refl is.downstream;
@@ -93,7 +93,7 @@ module _ {m m' : Table Marks} {f : PimTables} (is : IsIndexed m f) where
   }
 
   pub after_registers : {t : Table RegisterRow} → KeepsOtherMarks (is_told_by register_table) m m'
-      → IsTold (is_told_by register_table) is_there is_plain_of_router m' t
+      → IsTold (is_told_by register_table) is_there is_source_of_router m' t
       → IsIndexed m' (record f { registers = t })
   after_registers others told = record {
     downstream = still register_table others downstream_table refl is.downstream;

@@ -1,5 +1,6 @@
 -- Which groups and sources have marks: those that have facts.
 use Rattle.std.proofs.Common.{◌≡◌, ◌<◌, ◌≤◌, ◌==◌, ◌&&◌, ◌||◌, ℕ, suc, Bool, true, false, cond, not, List, [], ◌∷◌, ◌++◌, map, nat_lt, Option, Some, None, is_some, refl, sym, ap, ◌∙◌, arith}
+use Rattle.std.specs.Cmp.{first_so}
 use Rattle.std.specs.List.{AllByRecursion, filter, list_any}
 use Rattle.std.specs.List.Sorted.{IsStrictlySortedBy}
 use Rattle.std.specs.Option.{option_cmp, option_map_or}
@@ -25,7 +26,7 @@ use Rattle.pim_tables.proofs.Firsts.{all_found}
 use Rattle.pim_laws.proofs.Numbers.{RisesFrom, any_ascending, members_tell, rises_ascending, same_numbers}
 use Rattle.pim_source_trie.specs.Entries.{entry_key}
 use Rattle.pim_store.specs.PimTables.{PimTables, stored_keys}
-use Rattle.pim_store.specs.Said.{AreEntries, IsTold, is_about, is_plain_of_iface, mark_key, place, row_says, said, seen_in, source_bits}
+use Rattle.pim_store.specs.Said.{AreEntries, IsTold, is_about, is_plain_of_iface, is_plain_of_router, is_source_of_router, mark_key, place, row_says, said, seen_in, source_bits}
 use Rattle.pim_store.specs.Sources.{sources_in}
 use Rattle.pim_store.specs.Stored.{IsIndexed}
 use Rattle.pim_store.specs.Telling.{assert_says, downstream_says, is_told_by}
@@ -237,13 +238,16 @@ module _ (marks : Table Marks) (f : PimTables) (entries : AreEntries marks) (is 
         no_row k is.override_timers
         (λ r fit. record { mark = HasOverrideTimer; tell = refl; about = fit; yes_said = refl }) (at k passes));
     sources = none_among p f.sources (λ k passes.
-        no_row k is.sources (λ r fit. record { mark = HasSource; tell = refl; about = fit; yes_said = refl })
+        no_row k is.sources (λ r fit. record { mark = HasSource; tell = refl; about = plain k fit; yes_said = refl })
         (at k passes));
     registers = none_among p f.registers (λ k passes.
-        no_row k is.registers (λ r fit. record { mark = HasRegister; tell = refl; about = fit; yes_said = refl })
+        no_row k is.registers (λ r fit. record { mark = HasRegister; tell = refl; about = plain k fit; yes_said = refl })
         (at k passes));
   }
     where
+      plain : (k : Key) → is_source_of_router k ≡ true → is_plain_of_router k ≡ true
+      plain k fit = first_so (is_plain_of_router k) (is_some k.source) fit
+
       at : (k : Key) → p k ≡ true → row_at marks (mark_key (group_in k) (source_bits k.source)) ≡ None
       at k passes = none_under p marks (mark_key (group_in k) (source_bits k.source)) none (same k ∙ passes)
 

@@ -1,6 +1,7 @@
 -- The PIM facts of the router, as plain tables.
 use Rattle.std.specs.Option.{option_map_or}
-use Rattle.std.specs.Prelude.{Bool, List, Option, Some, [], false, is_none, length, min, option_map, ℕ, ◌+◌, ◌++◌}
+use Rattle.std.specs.List.{list_all}
+use Rattle.std.specs.Prelude.{Bool, List, Option, Some, [], false, is_none, is_some, length, min, nat_lt, not, option_map, true, ℕ, ◌&&◌, ◌+◌, ◌++◌, ◌==◌, ◌≡◌}
 use Rattle.pim_ip.specs.declared.addr.Addr.{Addr}
 use Rattle.pim_types.specs.declared.fact.AssertRow.{AssertRow}
 use Rattle.pim_types.specs.declared.fact.DownstreamRow.{DownstreamRow}
@@ -10,7 +11,8 @@ use Rattle.pim_types.specs.declared.fact.OverrideTimerRow.{OverrideTimerRow}
 use Rattle.pim_types.specs.declared.fact.RegisterRow.{RegisterRow}
 use Rattle.pim_types.specs.declared.fact.SourceRow.{SourceRow}
 use Rattle.pim_types.specs.declared.timer.TimerKind.{TimerKind}
-use Rattle.pim_types.specs.Keys.{key_of}
+use Rattle.pim_types.specs.Keys.{iface_in, key_of}
+use Rattle.pim_model.specs.State.{State}
 use Rattle.pim_model.specs.Tables.{Table, keys_in}
 use Rattle.pim_model.specs.Timers.{Ending, endings, register_end}
 
@@ -23,6 +25,17 @@ pub record PimTables : Type 0 where
   pub override_timers : Table OverrideTimerRow
   pub sources : Table SourceRow
   pub registers : Table RegisterRow
+
+-- those of a state
+abbrev pub pim_tables : State → PimTables
+pim_tables s = record {
+  downstream = s.downstream;
+  asserts = s.asserts;
+  join_timers = s.join_timers;
+  override_timers = s.override_timers;
+  sources = s.sources;
+  registers = s.registers;
+}
 
 abbrev pub no_facts : PimTables
 no_facts = record {
@@ -37,6 +50,18 @@ no_facts = record {
 -- the key of (*,G), where there is no source, or of a source of the group: of (S,G), or of (S,G,rpt)
 abbrev pub fact_key : ℕ → Addr → Option Addr → Bool → Key
 fact_key i group source rpt = key_of i group.bits (option_map (λ (a : Addr). a.bits) source) rpt
+
+-- an assert is of an interface, and of (*,G) or of (S,G); a source and its register are of the whole router
+abbrev pub is_assert_key : Key → Bool
+is_assert_key k = nat_lt (iface_in k) 120 && not k.rpt
+
+abbrev pub is_source_key : Key → Bool
+is_source_key k = (iface_in k == 0) && not k.rpt && is_some k.source
+
+pub record AreKeyed (f : PimTables) : Type 0 where
+  pub asserts : list_all (λ e. is_assert_key e.0) f.asserts ≡ true
+  pub sources : list_all (λ e. is_source_key e.0) f.sources ≡ true
+  pub registers : list_all (λ e. is_source_key e.0) f.registers ≡ true
 
 -- in Prune, and not Prune-Pending
 abbrev pub is_prune : Option DownstreamRow → Bool

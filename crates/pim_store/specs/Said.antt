@@ -1,6 +1,6 @@
 -- What the marks of a group, or of a source, say of its facts. No public clause cites this module.
 use Rattle.std.specs.Option.{option_map_or}
-use Rattle.std.specs.Prelude.{Bool, None, Option, Some, cond, false, nat_lt, not, option_map, true, ℕ, ◌&&◌, ◌==◌, ◌≡◌}
+use Rattle.std.specs.Prelude.{Bool, None, Option, Some, cond, false, is_some, nat_lt, not, option_map, true, ℕ, ◌&&◌, ◌==◌, ◌≡◌}
 use Rattle.pim_ip.specs.declared.addr.Addr.{Addr}
 use Rattle.pim_ifset.specs.Members.{has}
 use Rattle.pim_types.specs.declared.fact.Key.{Key}
@@ -123,6 +123,9 @@ is_plain_of_iface k = is_of_iface k && not k.rpt
 
 abbrev pub is_plain_of_router : Key → Bool
 is_plain_of_router k = (iface_in k == 0) && not k.rpt
+
+abbrev pub is_source_of_router : Key → Bool
+is_source_of_router k = (iface_in k == 0) && not k.rpt && is_some k.source
 
 abbrev pub is_rpt_of_router : Key → Bool
 is_rpt_of_router k = (iface_in k == 0) && k.rpt

@@ -1,7 +1,7 @@
 -- A store: its tables, and what is marked of them. No public clause cites this module.
 use Rattle.pim_model.specs.Tables.{Table}
 use Rattle.pim_store.specs.PimTables.{PimTables}
-use Rattle.pim_store.specs.Said.{IsTold, is_of_iface, is_plain_of_iface, is_plain_of_router, is_rpt_of_router}
+use Rattle.pim_store.specs.Said.{IsTold, is_of_iface, is_plain_of_iface, is_plain_of_router, is_rpt_of_router, is_source_of_router}
 use Rattle.pim_store.specs.Telling.{assert_says, assert_table, downstream_says, downstream_table, is_there, is_told_by, join_timer_table, override_timer_table, register_table, source_table}
 use Rattle.pim_store.specs.declared.marks.Marks.{Marks}
 use Rattle.pim_store.specs.declared.store.Store.TheInside.{Inside}
@@ -22,5 +22,5 @@ pub record IsIndexed (marks : Table Marks) (f : PimTables) : Type 0 where
   pub asserts : IsTold (is_told_by assert_table) assert_says is_plain_of_iface marks f.asserts
   pub join_timers : IsTold (is_told_by join_timer_table) is_there is_plain_of_router marks f.join_timers
   pub override_timers : IsTold (is_told_by override_timer_table) is_there is_rpt_of_router marks f.override_timers
-  pub sources : IsTold (is_told_by source_table) is_there is_plain_of_router marks f.sources
-  pub registers : IsTold (is_told_by register_table) is_there is_plain_of_router marks f.registers
+  pub sources : IsTold (is_told_by source_table) is_there is_source_of_router marks f.sources
+  pub registers : IsTold (is_told_by register_table) is_there is_source_of_router marks f.registers

@@ -1,7 +1,7 @@
 //! What the rows of each table tell of their groups and sources.
 ghost use Rattle.std.specs.Prelude.{◌≡◌, ◌<◌, ◌&&◌, ℕ, Bool, IsTrue};
 ghost use Rattle.pim_types.specs.declared.fact.Key.{Key as KeyValue};
-ghost use Rattle.pim_store.specs.Said.{is_about, is_of_iface, is_plain_of_iface, is_plain_of_router, is_rpt_of_router};
+ghost use Rattle.pim_store.specs.Said.{is_about, is_of_iface, is_plain_of_iface, is_plain_of_router, is_rpt_of_router, is_source_of_router};
 ghost use Rattle.pim_store.specs.Telling.{assert_says, assert_table, downstream_says, downstream_table, is_set_by_either, is_there, is_told_by, join_timer_table, override_timer_table, register_table, source_table};
 ghost use Rattle.pim_store.specs.declared.marks.Mark.{Mark as MarkValue};
 
@@ -115,7 +115,7 @@ impl Marking for SourceRow {
 
     ghost says = { is_there };
 
-    ghost fits = { is_plain_of_router };
+    ghost fits = { is_source_of_router };
 
     fn told(_key: Key) -> (Mark, Option<Mark>) {
         (Mark::HasSource, None)
@@ -131,7 +131,7 @@ impl Marking for RegisterRow {
 
     ghost says = { is_there };
 
-    ghost fits = { is_plain_of_router };
+    ghost fits = { is_source_of_router };
 
     fn told(_key: Key) -> (Mark, Option<Mark>) {
         (Mark::HasRegister, None)

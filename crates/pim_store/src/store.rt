@@ -11,7 +11,7 @@ ghost use Rattle.pim_model.specs.Upstream.{groups_of, sources_of};
 ghost use Rattle.pim_tables.specs.Ends.{due_of};
 ghost use Rattle.pim_types.specs.Keys.{group_in, iface_in, is_of_group, is_on, names_source, rpt_key, same_key, source_key};
 ghost use Rattle.pim_store.specs.Bare.{IsWithoutTunnel};
-ghost use Rattle.pim_store.specs.PimTables.{counted_facts, fact_key, is_prune, lowered, no_facts, stored_endings, stored_keys};
+ghost use Rattle.pim_store.specs.PimTables.{AreKeyed, counted_facts, fact_key, is_prune, lowered, no_facts, stored_endings, stored_keys};
 
 use crate::index::{Index, row_says};
 use crate::marks::{Mark, Marks};
@@ -358,6 +358,13 @@ impl Store {
         ensures at_most { meter.new ≤ meter.old + 66 }
     {
         self.index.contains(group, source, meter)
+    }
+
+    /// Asserts, sources and registers are under keys of their kind.
+    pub fn are_keyed(&self)
+        ensures { AreKeyed self.now }
+    {
+        let _ = &self.index;
     }
 
     /// How many facts count: the downstream states, the asserts and the sources.

@@ -1,8 +1,6 @@
-use Rattle.std.proofs.Common.{◌+◌, ap, drop, sym, ◌∙◌}
+use Rattle.std.proofs.Common.{sym, ◌∙◌}
 use Rattle.std.proofs.lemmas.List.{drop_all, drop_more}
 use Rattle.pim_types.specs.Keys.{star_key}
-use Rattle.pim_macros.specs.Groups.{gathered, numbers_of}
-use Rattle.pim_macros.specs.Sources.{sources_among}
 use Rattle.pim_opening.proofs.Named.{next_named, none_named}
 use Rattle.pim_opening.proofs.sources.gather_named.Goals as goal
 

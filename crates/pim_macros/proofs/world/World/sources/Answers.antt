@@ -1,7 +1,6 @@
-use Rattle.std.proofs.Common.{[], List, ℕ, ap, ◌∙◌}
+use Rattle.std.proofs.Common.{ap, ◌∙◌}
 use Rattle.pim_store.specs.PimTables.{stored_keys}
 use Rattle.pim_macros.specs.Groups.{gathered, numbers_of}
-use Rattle.pim_macros.specs.Sources.{sources_among}
 use Rattle.pim_macros.proofs.GatheredSources.{facts_in_order, more_gathered}
 use Rattle.pim_macros.proofs.world.World.sources.Goals as goal
 
