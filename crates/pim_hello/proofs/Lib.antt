@@ -1,3 +1,4 @@
 mod Found
 mod Lowering
 mod StartedAnew
+mod Losses

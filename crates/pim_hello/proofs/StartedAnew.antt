@@ -1,43 +1,94 @@
 -- A neighbour that started anew.
-use Rattle.std.proofs.Common.{◌≡◌, ℕ, List, [], ◌+◌, refl, ap, sym, ◌∙◌, filter, map, min}
-use Rattle.std.specs.Prelude.{if◌then◌else◌}
+use Rattle.std.proofs.Common.{◌≡◌, ℕ, Bool, true, false, cond, not, ◌&&◌, List, [], ◌∷◌, ◌+◌, Some, refl, ap, sym, ◌∙◌, filter}
+use Rattle.std.specs.Cmp.{first_so, second_so}
+use Rattle.std.specs.List.Sorted.{IsStrictlySortedBy}
+use Rattle.pim_types.specs.declared.fact.AssertRow.{AssertRow}
 use Rattle.pim_types.specs.declared.fact.JoinTimerRow.{JoinTimerRow}
 use Rattle.pim_types.specs.declared.fact.Key.{Key}
+use Rattle.pim_types.specs.Keys.{is_on, key_cmp}
 use Rattle.pim_wire.specs.declared.hello.Hello.{Hello as HelloValue}
-use Rattle.pim_model.specs.Hellos.{hello_triggered, neighbour_replaced, neighbour_restarted}
+use Rattle.pim_model.specs.Downstream.{asserts_after_joins}
+use Rattle.pim_model.specs.Hellos.{hello_triggered, is_lost_to, neighbour_replaced, neighbour_restarted}
 use Rattle.pim_model.specs.Neighbours.{t_override}
+use Rattle.pim_model.specs.Sets.{is_loser}
 use Rattle.pim_model.specs.State.{State}
 use Rattle.pim_model.specs.Tables.{Table, hop_at, keys_in}
 use Rattle.pim_hello.specs.Towards.{all_lowered, is_towards}
+use Rattle.pim_hello.proofs.Losses.{losses_ended}
 use Rattle.pim_hello.proofs.Lowering.{lowered_where}
+
+-- the keys of the rows whose key passes
+keys_step : {R : Type 0} (e : Key × R) (t : Table R) (b : Bool)
+    → keys_in (cond b (e ∷ t) t) ≡ cond b (e.0 ∷ keys_in t) (keys_in t)
+unfolding keys_in
+keys_step e t true = refl
+keys_step e t false = refl
+
+keys_of_passing : {R : Type 0} (test : Key → Bool) (t : Table R)
+    → keys_in (filter (λ e. test e.0) t) ≡ filter test (keys_in t)
+unfolding keys_in
+keys_of_passing test [] = refl
+keys_of_passing test (e ∷ t) =
+    keys_step e (filter (λ x. test x.0) t) (test e.0)
+    ∙ ap (λ (ks : List Key). cond (test e.0) (e.0 ∷ ks) ks) (keys_of_passing test t)
+
+-- what is lost to somebody is lost
+lost_so : (i a : ℕ) (e : Key × AssertRow) → is_lost_to i a e ≡ true → is_loser (Some e.1) ≡ true
+lost_so i a e lost =
+    second_so (is_on i e.0) (is_loser (Some e.1)) (first_so (is_on i e.0 && is_loser (Some e.1)) _ lost)
+
+asserts_ended : (i a : ℕ) (s : State) → IsStrictlySortedBy key_cmp (keys_in s.asserts)
+    → asserts_after_joins s (keys_in (filter (is_lost_to i a) s.asserts))
+    ≡ filter (λ e. not (is_lost_to i a e)) s.asserts
+unfolding asserts_after_joins
+asserts_ended i a s rises = losses_ended (λ e. is_loser (Some e.1)) (is_lost_to i a) (lost_so i a) s.asserts rises
 
 module _ (s : State) (i a w : ℕ) (h : HelloValue) where
   abbrev pub replaced : State
   replaced = neighbour_replaced (hello_triggered s i w) i a h
 
-  same_asserts : replaced.asserts ≡ s.asserts
-  unfolding neighbour_replaced hello_triggered
-  same_asserts = refl
-
   same_timers : replaced.join_timers ≡ s.join_timers
   unfolding neighbour_replaced hello_triggered
   same_timers = refl
 
-  pub restarted : (r : State) (end : ℕ) (keys : List Key) → r ≡ replaced → s.asserts ≡ []
-      → end ≡ r.present + t_override r i w
-      → keys ≡ filter (is_towards s (hop_at i a)) (keys_in s.join_timers)
-      → (let n : State = record r { join_timers = all_lowered end r.join_timers keys } in n)
-      ≡ neighbour_restarted s i a w replaced
-  unfolding neighbour_restarted
-  restarted r end keys is none ends are =
-      let asserts : r.asserts ≡ [] = ap (λ (x : State). x.asserts) is ∙ same_asserts ∙ none in
+  -- with these timers lowered
+  abbrev low : State → ℕ → List Key → State
+  low t end keys = record t { join_timers = all_lowered end t.join_timers keys }
+
+  abbrev lowered_by_t_override : List Key → State → State
+  lowered_by_t_override keys t = low t (t.present + t_override t i w) keys
+
+  abbrev without_losses : State → Table AssertRow → State
+  without_losses r asserts = record r { asserts = asserts }
+
+  as_restarted : (r : State) (keys : List Key) → IsStrictlySortedBy key_cmp (keys_in r.asserts)
+      → keys ≡ filter (is_towards s (hop_at i a)) (keys_in r.join_timers)
+      → lowered_by_t_override keys
+      (without_losses r (asserts_after_joins r (keys_in (filter (is_lost_to i a) r.asserts))))
+      ≡ neighbour_restarted s i a w r
+  unfolding neighbour_restarted t_override
+  as_restarted r keys rises are =
+      ap (λ (t : Table AssertRow). lowered_by_t_override keys (without_losses r t)) (asserts_ended i a r rises)
+      ∙ ap (λ (ks : List Key).
+      lowered_by_t_override ks (without_losses r (filter (λ e. not (is_lost_to i a e)) r.asserts))) are
+      ∙ ap (λ (t : Table JoinTimerRow). let n : State = record r {
+        asserts = filter (λ e. not (is_lost_to i a e)) r.asserts;
+        join_timers = t;
+      } in n) (lowered_where (is_towards s (hop_at i a)) (r.present + t_override r i w) r.join_timers)
+
+  pub restarted : (r t : State) (end : ℕ) (keys lost : List Key) → r ≡ replaced
+      → IsStrictlySortedBy key_cmp (keys_in r.asserts)
+      → lost ≡ keys_in (filter (is_lost_to i a) r.asserts)
+      → t ≡ without_losses r (asserts_after_joins r lost)
+      → end ≡ t.present + t_override t i w
+      → keys ≡ keys_in (filter (λ e. is_towards s (hop_at i a) e.0) s.join_timers)
+      → low t end keys ≡ neighbour_restarted s i a w replaced
+  restarted r t end keys lost is rises those after ends are =
       let timers : r.join_timers ≡ s.join_timers = ap (λ (x : State). x.join_timers) is ∙ same_timers in
-      let low : all_lowered end r.join_timers keys
-      ≡ map (λ (e : Key × JoinTimerRow). if is_towards s (hop_at i a) e.0 then
-      (e.0, record { end = min (e.1).end end }) else e) r.join_timers =
-      ap (λ (ks : List Key). all_lowered end r.join_timers ks) (are
-      ∙ ap (λ (t : Table JoinTimerRow). filter (is_towards s (hop_at i a)) (keys_in t)) (sym timers))
-      ∙ lowered_where (is_towards s (hop_at i a)) end r.join_timers in
-      ap (λ (t : Table JoinTimerRow). let n : State = record r { join_timers = t } in n) low
-      ∙ rw (ends) (rw (asserts) refl)
+      ap (λ (n : ℕ). low t n keys) ends
+      ∙ ap (lowered_by_t_override keys) (after
+      ∙ ap (λ (ks : List Key). without_losses r (asserts_after_joins r ks)) those)
+      ∙ as_restarted r keys rises
+      (are ∙ keys_of_passing (is_towards s (hop_at i a)) s.join_timers
+      ∙ ap (λ (u : Table JoinTimerRow). filter (is_towards s (hop_at i a)) (keys_in u)) (sym timers))
       ∙ ap (λ (x : State). neighbour_restarted s i a w x) is

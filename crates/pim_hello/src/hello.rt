@@ -1,10 +1,9 @@
 //! A Hello that came from a neighbour, or from one that is new.
 ghost use Rattle.std.specs.Prelude.{◌≡◌, ◌<◌, ◌+◌, OnOk};
 ghost use Rattle.pim_model.specs.Hellos.{hello_received, hello_triggered, neighbour_replaced, neighbour_restarted, triggered_hello_delay};
-ghost use Rattle.pim_macros.specs.Plain.{IsPlain};
 ghost use Rattle.pim_model.specs.Tables.{delay_in};
 
-use crate::restarted::{lower_timers, timers_towards};
+use crate::restarted::{asserts_lost_to, lower_timers, timers_towards};
 use pim_macros::{Turn, World};
 use pim_neighbours::delay_in;
 use pim_types::{Addr, Hop, IfaceId};
@@ -16,8 +15,8 @@ const TRIGGERED_HELLO_DELAY: u32 = 5000;
 
 /// Takes a Hello that came on an interface from an address, with a draw (RFC 7761, section 4.3.1): one
 /// from a new neighbour, or from one that started anew, makes a Hello owed; then the neighbour stands
-/// as the Hello says. Where it started anew, the Join timers towards it are lowered. With holdtime 0
-/// the neighbour goes. Where memory is refused, the Hello may be taken in part.
+/// as the Hello says. Where it started anew, the asserts lost to it end, and the Join timers towards it are
+/// lowered. With holdtime 0 the neighbour goes. Where memory is refused, the Hello may be taken in part.
 #[tactic(auto, unfolding(pim_model::specs::Hellos::hello_received))]
 pub fn received(
     world: &mut World,
@@ -26,7 +25,6 @@ pub fn received(
     from: Addr,
     hello: &Hello,
 ) -> Result<(), AllocError>
-    requires { IsPlain world.old }
     ensures state { OnOk result (world.new ≡ hello_received world.old iface.number from.bits hello.now turn.old.draw) }
     ensures silent { turn.new ≡ turn.old }
 {
@@ -65,7 +63,6 @@ fn restart(
     from: Addr,
     hello: &Hello,
 ) -> Result<(), AllocError>
-    requires { IsPlain world.old }
     ensures state { OnOk result (world.new ≡ neighbour_restarted world.old iface.number from.bits turn.old.draw
         (neighbour_replaced (hello_triggered world.old iface.number turn.old.draw) iface.number from.bits hello.now)) }
     ensures silent { turn.new ≡ turn.old }
@@ -78,6 +75,10 @@ fn restart(
     let towards = timers_towards(world, turn, neighbour)?;
     trigger(world, iface, turn.draw);
     world.replace_neighbour(iface, from, hello)?;
+    // It tells that the keys of asserts rise, so that each stands once.
+    world.are_keyed();
+    let lost = asserts_lost_to(world, turn, neighbour)?;
+    world.end_losses(&lost);
     let end = world.present() + world.override_delay(iface, turn.draw);
     lower_timers(world, &towards, end)?;
     Ok(())

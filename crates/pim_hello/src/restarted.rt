@@ -1,11 +1,12 @@
-//! The Join timers towards a neighbour that started anew.
+//! What ends with a neighbour that started anew: the asserts lost to it, and the wait for the next Join to it.
 ghost use Rattle.std.specs.Prelude.{◌≡◌, IfOk, OnOk, Some, filter, fold};
-ghost use Rattle.pim_model.specs.Hellos.{upstream_of};
+ghost use Rattle.pim_model.specs.Hellos.{is_lost_to, upstream_of};
 ghost use Rattle.pim_model.specs.Tables.{change_row, keys_in, same_hop};
-ghost use Rattle.pim_macros.specs.Plain.{IsPlain};
 ghost use Rattle.pim_hello.specs.Towards.{all_lowered, is_towards};
 
+use pim_macros::desires::is_same_hop;
 use pim_macros::{Turn, World};
+use pim_types::fact::{AssertRole, AssertRow};
 use pim_types::{Hop, Key};
 use std::alloc::AllocError;
 
@@ -15,13 +16,41 @@ pub(crate) fn timers_towards(
     turn: &mut Turn,
     neighbour: Hop,
 ) -> Result<Vec<Key>, AllocError>
-    requires { IsPlain world.now }
     ensures silent { turn.new ≡ turn.old }
-    ensures keys { IfOk result (λ keys. keys.items ≡ filter (is_towards world.now neighbour) (keys_in world.now.join_timers)) }
+    ensures keys { IfOk result (λ keys. keys.items
+        ≡ keys_in (filter (λ e. is_towards world.now neighbour e.0) world.now.join_timers)) }
 {
     let mut keys = Vec::new(turn.alloc);
     for (key, _) in world.join_timers() {
-        if world.is_rpf_star(key.group, neighbour, &mut turn.meter) {
+        let upstream = world.upstream_of(*key, &mut turn.meter);
+        if is_same_hop(upstream, Some(neighbour)) {
+            keys.push(*key)?;
+        }
+    }
+    Ok(keys)
+}
+
+// Whether the assert was lost to it.
+fn is_lost_to(neighbour: Hop, key: Key, row: AssertRow) -> bool
+    ensures { result ≡ is_lost_to neighbour.iface.number neighbour.address.bits (key, row) }
+{
+    key.iface == neighbour.iface
+        && matches!(row.role, AssertRole::Loser)
+        && row.winner.address == neighbour.address
+}
+
+/// The keys of the asserts that were lost to it.
+pub(crate) fn asserts_lost_to(
+    world: &World,
+    turn: &Turn,
+    neighbour: Hop,
+) -> Result<Vec<Key>, AllocError>
+    ensures { IfOk result (λ keys. keys.items
+        ≡ keys_in (filter (is_lost_to neighbour.iface.number neighbour.address.bits) world.now.asserts)) }
+{
+    let mut keys = Vec::new(turn.alloc);
+    for (key, row) in world.asserts() {
+        if is_lost_to(neighbour, *key, *row) {
             keys.push(*key)?;
         }
     }

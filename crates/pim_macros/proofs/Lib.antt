@@ -1,13 +1,12 @@
 pub mod Accepted
 mod Asserted
 mod ConfiguredMembers
+mod Elected
 mod Emptiness
 pub mod Gathered
 pub mod Gathering
 pub mod GatheredSources
 mod NextInterface
 mod Options
-pub mod PlainLaws
 mod Ranges
-pub mod Stars
 pub mod Written

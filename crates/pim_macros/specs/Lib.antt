@@ -1,6 +1,5 @@
 pub mod Configurations
 pub mod Groups
-pub mod Plain
 pub mod Sights
 pub mod Sources
 pub mod Touches

@@ -1,16 +1,18 @@
 -- What a sight shows of a state: each of its fields by the definition.
 use Rattle.std.specs.Option.{option_map_or}
-use Rattle.std.specs.Prelude.{Option, Some, false, nat_lt, not, option_map, ℕ, ◌&&◌, ◌||◌, ◌≡◌}
+use Rattle.std.specs.Prelude.{List, Option, Some, false, nat_lt, not, option_map, ℕ, ◌&&◌, ◌||◌, ◌≡◌}
 use Rattle.pim_ip.specs.declared.addr.Addr.{Addr}
 use Rattle.pim_ifset.specs.Members.{Members, has}
+use Rattle.pim_types.specs.declared.config.InterfaceConfig.{InterfaceConfig}
 use Rattle.pim_types.specs.declared.fact.AssertRow.{AssertRow}
+use Rattle.pim_types.specs.declared.fact.NeighbourRow.{NeighbourRow}
 use Rattle.pim_types.specs.declared.path.Path.{Path}
 use Rattle.pim_model.specs.Desires.{join_desired, join_desired_star, winner_hop}
-use Rattle.pim_model.specs.Neighbours.{is_dr, nbr}
+use Rattle.pim_model.specs.Neighbours.{is_dr, is_dr_among, nbr}
 use Rattle.pim_model.specs.Receivers.{is_exclude, local_receiver_exclude, local_receiver_include}
 use Rattle.pim_model.specs.Sets.{Set, assert_source, assert_star, is_better, is_kept_alive, is_loser, is_winner, joins, joins_star, pim_exclude, pim_include_star, prunes, spt_bit, spt_metric, tunnel, ◌∖◌, ◌∪◌}
-use Rattle.pim_model.specs.State.{State}
-use Rattle.pim_model.specs.Tables.{same_option}
+use Rattle.pim_model.specs.State.{State, address_among, value_among}
+use Rattle.pim_model.specs.Tables.{Table, rows_on, same_option}
 use Rattle.pim_model.specs.Unicast.{is_rpf_interface, is_rpf_interface_rp, route, rp_of, rp_route, rpf_interface, rpf_interface_rp}
 use Rattle.pim_macros.specs.declared.sight.SourceSight.{SourceSight}
 use Rattle.pim_macros.specs.declared.sight.StarSight.{StarSight}
@@ -18,6 +20,11 @@ use Rattle.pim_macros.specs.declared.sight.StarSight.{StarSight}
 -- of the interfaces below 120 those that pass the test are in the set, and no other is
 abbrev pub Shows : Members → Set → Type 0
 Shows set test = (i : ℕ) → has set i ≡ (nat_lt i 120 && test i)
+
+-- the router is the DR of the interface
+abbrev pub is_dr_on : List InterfaceConfig → Table NeighbourRow → Set
+is_dr_on configured neighbours i =
+    is_dr_among (value_among (λ c. c.priority) configured i) (address_among configured i) (rows_on i neighbours)
 
 -- the interface of a route
 abbrev pub is_interface_of : Option Path → Set

@@ -3,13 +3,15 @@
 ghost use Rattle.std.specs.Prelude.{◌≡◌, ℕ, Bool};
 ghost use Rattle.pim_macros.specs.Sights.{IsSourceSight, IsStarSight, Shows};
 ghost use Rattle.pim_model.specs.Desires.{is_immediate_empty, is_inherited_empty, join_desired, join_desired_star, prune_desired, rpf_rpt, rpf_source, rpf_star, tree_state};
+ghost use Rattle.pim_model.specs.Hellos.{upstream_of};
 ghost use Rattle.pim_model.specs.Sets.{is_empty};
 ghost use Rattle.pim_model.specs.Tables.{same_hop};
 
 use crate::sight::{SourceSight, StarSight};
 use crate::world::World;
 use pim_ifset::IfSet;
-use pim_types::{Hop, TreeState};
+use pim_trie::Meter;
+use pim_types::{Hop, Key, TreeState};
 
 /// Whether both are the same neighbour, or none.
 pub fn is_same_hop(first: Option<Hop>, second: Option<Hop>) -> bool
@@ -92,6 +94,18 @@ impl World {
         ensures { result ≡ rpf_source self.now sight.now.star.group.bits sight.now.source.bits }
     {
         sight.winner.or(sight.next_hop)
+    }
+
+    /// The upstream neighbour of the key's Join timer: RPF'(*,G), or RPF'(S,G).
+    #[tactic(auto, unfolding(pim_model::specs::Hellos::upstream_of))]
+    pub fn upstream_of(&self, key: Key, meter: &mut Meter) -> Option<Hop>
+        ensures { result ≡ upstream_of self.now key }
+    {
+        let star = self.gather_star(key.group, meter);
+        match key.source {
+            None => self.rpf_star(&star),
+            Some(source) => self.rpf_source(&self.gather_source(star, source, meter)),
+        }
     }
 
     /// PruneDesired(S,G,rpt).

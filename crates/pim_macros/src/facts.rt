@@ -8,13 +8,21 @@ use crate::world::World;
 use pim_types::fact::{AssertRow, RegisterRow, SourceRow};
 use pim_types::{Addr, IfaceId, Key};
 use std::alloc::AllocError;
+use std::collections::btree_map::Iter;
 
 impl World {
-    /// Asserts, sources and registers are under keys of their kind.
+    /// Asserts, sources and registers are under keys of their kind, which rise.
     pub fn are_keyed(&self)
         ensures { AreKeyed (pim_tables self.now) }
     {
         self.store.are_keyed();
+    }
+
+    /// The asserts, by rising key.
+    pub fn asserts(&self) -> Iter<'_, Key, AssertRow>
+        ensures { result ≡ self.now.asserts }
+    {
+        self.store.assert_rows()
     }
 
     /// The assert under the key.

@@ -3,7 +3,6 @@ ghost use Rattle.std.specs.Prelude.{◌≡◌, ℕ, option_map};
 ghost use Rattle.pim_ifset.specs.Members.{has};
 ghost use Rattle.pim_macros.specs.Sights.{IsSourceSight, IsStarSight, Shows, is_beaten};
 ghost use Rattle.pim_model.specs.Desires.{winner_hop};
-ghost use Rattle.pim_model.specs.Neighbours.{is_dr};
 ghost use Rattle.pim_model.specs.Sets.{is_kept_alive, spt_bit, tunnel};
 ghost use Rattle.pim_model.specs.Tables.{has_row, row_at};
 ghost use Rattle.pim_model.specs.Unicast.{route};
@@ -36,13 +35,6 @@ impl World {
         }
     }
 
-    // I_am_DR.
-    fn dr(&self) -> IfSet
-        ensures { Shows result (is_dr self.now) }
-    {
-        interfaces_where(|iface| self.is_dr(iface))
-    }
-
     /// What the macros of (*,G) read now. The meter rises by the nodes that the look-ups visit.
     pub fn gather_star(&self, group: Addr, meter: &mut Meter) -> StarSight
         ensures sight { IsStarSight self.now result }
@@ -60,8 +52,8 @@ impl World {
             joined: marks.joined.without_tunnel(),
             lost: marks.lost.without_tunnel(),
             won: marks.won.without_tunnel(),
-            receivers: self.receivers(group),
-            dr: self.dr(),
+            receivers: self.receivers(group, meter),
+            dr: self.dr,
         }
     }
 
@@ -147,8 +139,8 @@ impl World {
             lost: marks.lost.without_tunnel(),
             won: marks.won.without_tunnel(),
             beaten: self.beaten(asserted, group, source, path),
-            included: self.included(group, source),
-            excluded: self.excluded(group, source),
+            included: self.included(group, source, meter),
+            excluded: self.excluded(group, source, meter),
             spt: self.spt_bit(group, source),
             is_kept_alive: self.is_kept_alive(group, source),
             tunnel: self.has_tunnel(group, source),

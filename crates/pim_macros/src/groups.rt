@@ -33,11 +33,11 @@ impl World {
     fn gather_groups(&self, found: &mut BTreeMap<Addr, (), Global>) -> Result<(), AllocError>
         ensures { OnOk result (numbers_of found.new.entries ≡ gathered (map group_in (fact_keys self.now)) (numbers_of found.old.entries)) }
     {
-        gather(self.group_records.iter(), found)?;
-        gather(self.source_records.iter(), found)?;
-        gather(self.group_repeats.iter(), found)?;
-        gather(self.source_repeats.iter(), found)?;
-        gather(self.sendings.iter(), found)?;
+        gather(self.membership.group_record_rows(), found)?;
+        gather(self.membership.source_record_rows(), found)?;
+        gather(self.membership.group_repeat_rows(), found)?;
+        gather(self.membership.source_repeat_rows(), found)?;
+        gather(self.membership.sending_rows(), found)?;
         gather(self.store.downstream_rows(), found)?;
         gather(self.store.assert_rows(), found)?;
         gather(self.store.join_timer_rows(), found)?;

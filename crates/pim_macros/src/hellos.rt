@@ -6,6 +6,7 @@ ghost use Rattle.pim_model.specs.Neighbours.{t_override};
 ghost use Rattle.pim_model.specs.State.{my_address, my_override_interval, my_priority, my_propagation_delay};
 ghost use Rattle.pim_neighbours.specs.Refreshed.{is_refreshed};
 
+use crate::interfaces::with_member;
 use crate::world::World;
 use pim_types::{Addr, IfaceId, InterfaceConfig};
 use pim_wire::Hello;
@@ -81,6 +82,10 @@ impl World {
     ) -> Result<(), AllocError>
         ensures { OnOk result (self.new ≡ neighbour_replaced self.old iface.number from.bits hello.now) }
     {
-        self.neighbours.hello(iface, from, hello, self.present)
+        let own = self.own(iface);
+        self.neighbours.hello(iface, from, hello, self.present)?;
+        let is_dr = self.neighbours.is_dr(iface, &own);
+        self.dr = with_member(self.dr, iface, is_dr);
+        Ok(())
     }
 }

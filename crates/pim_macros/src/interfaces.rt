@@ -1,5 +1,6 @@
 //! Sets of the interfaces that pass a test.
-ghost use Rattle.std.specs.Prelude.{◌≡◌, ◌<◌, ℕ, Bool};
+ghost use Rattle.std.specs.Prelude.{◌≡◌, ◌<◌, ◌==◌, ◌&&◌, if◌then◌else◌, nat_lt, ℕ, Bool};
+ghost use Rattle.pim_ifset.specs.Members.{has};
 ghost use Rattle.pim_macros.specs.Sights.{Shows, is_interface_of};
 
 use pim_ifset::IfSet;
@@ -19,6 +20,19 @@ pub(crate) fn interfaces_where<F: Fn(IfaceId) -> bool>(test: F) -> IfSet
         }
     }
     set
+}
+
+/// The set with the interface in it, or without it. No interface from 120 on is in a set.
+pub(crate) fn with_member(set: IfSet, iface: IfaceId, is_in: bool) -> IfSet
+    ensures { (i : ℕ) → has result i ≡ (if iface.number == i then nat_lt i 120 && is_in else has set i) }
+{
+    let mut changed = set;
+    if is_in && iface.number < IfSet::LIMIT {
+        changed.insert(iface);
+    } else {
+        changed.remove(iface);
+    }
+    changed
 }
 
 /// The interface of a route, or none.

@@ -25,11 +25,11 @@ impl World {
         ensures { IfOk result (λ found. numbers_of found.entries ≡ sources_of group.bits (fact_keys self.now)) }
     {
         let mut found = BTreeMap::new(alloc);
-        gather(self.group_records.iter(), group, &mut found)?;
-        gather(self.source_records.iter(), group, &mut found)?;
-        gather(self.group_repeats.iter(), group, &mut found)?;
-        gather(self.source_repeats.iter(), group, &mut found)?;
-        gather(self.sendings.iter(), group, &mut found)?;
+        gather(self.membership.group_record_rows(), group, &mut found)?;
+        gather(self.membership.source_record_rows(), group, &mut found)?;
+        gather(self.membership.group_repeat_rows(), group, &mut found)?;
+        gather(self.membership.source_repeat_rows(), group, &mut found)?;
+        gather(self.membership.sending_rows(), group, &mut found)?;
         gather_all(self.store.sources_of(group), &mut found)?;
         Ok(found)
     }
@@ -38,11 +38,11 @@ impl World {
     fn is_member(&self, group: Addr, source: Addr) -> bool
         ensures { result ≡ is_member self.now group.bits source.bits }
     {
-        is_named(self.group_records.iter(), group, source)
-            || is_named(self.source_records.iter(), group, source)
-            || is_named(self.group_repeats.iter(), group, source)
-            || is_named(self.source_repeats.iter(), group, source)
-            || is_named(self.sendings.iter(), group, source)
+        is_named(self.membership.group_record_rows(), group, source)
+            || is_named(self.membership.source_record_rows(), group, source)
+            || is_named(self.membership.group_repeat_rows(), group, source)
+            || is_named(self.membership.source_repeat_rows(), group, source)
+            || is_named(self.membership.sending_rows(), group, source)
     }
 
     /// Whether there is a fact of the source of the group.

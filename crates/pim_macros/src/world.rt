@@ -16,14 +16,12 @@ ghost use Rattle.pim_store.specs.PimTables.{fact_key, lowered};
 
 use crate::settings::{settings_of, test_settings};
 use pim_ifaces::Interfaces;
+use pim_ifset::IfSet;
+use pim_membership::Membership;
 use pim_mrib::Mrib;
 use pim_neighbours::Neighbours;
 use pim_store::Store;
-use pim_tables::Facts;
-use pim_types::fact::{
-    DownstreamRow, GroupRecordRow, GroupRepeatRow, InterfaceRow, JoinTimerRow, OverrideTimerRow,
-    QuerierRow, SendingRow, SourceRecordRow, SourceRepeatRow,
-};
+use pim_types::fact::{DownstreamRow, InterfaceRow, JoinTimerRow, OverrideTimerRow, QuerierRow};
 use pim_types::{Addr, Config, Fault, IfaceId, InterfaceConfig, Key, Refusal, Settings};
 use pim_wire::Hello;
 use std::alloc::{AllocError, Global};
@@ -40,14 +38,9 @@ pub struct World {
     pub(crate) interfaces: Interfaces,
     pub(crate) mrib: Mrib,
     pub(crate) neighbours: Neighbours,
-    pub(crate) queriers: Facts<QuerierRow>,
-    // IGMP membership.
-    pub(crate) group_records: Facts<GroupRecordRow>,
-    pub(crate) source_records: Facts<SourceRecordRow>,
-    pub(crate) group_repeats: Facts<GroupRepeatRow>,
-    pub(crate) source_repeats: Facts<SourceRepeatRow>,
-    pub(crate) sendings: Facts<SendingRow>,
-    // PIM.
+    // Where the router is the DR, of the interfaces below 120.
+    pub(crate) dr: IfSet,
+    pub(crate) membership: Membership,
     pub(crate) store: Store,
 }
 
@@ -65,12 +58,12 @@ impl Model for World {
       ranges = w.mrib.ranges;
       interfaces = w.interfaces.rows;
       neighbours = w.neighbours;
-      queriers = w.queriers;
-      group_records = w.group_records;
-      source_records = w.source_records;
-      group_repeats = w.group_repeats;
-      source_repeats = w.source_repeats;
-      sendings = w.sendings;
+      queriers = w.membership.queriers;
+      group_records = w.membership.group_records;
+      source_records = w.membership.source_records;
+      group_repeats = w.membership.group_repeats;
+      source_repeats = w.membership.source_repeats;
+      sendings = w.membership.sendings;
       downstream = w.store.downstream;
       asserts = w.store.asserts;
       join_timers = w.store.join_timers;
@@ -79,7 +72,10 @@ impl Model for World {
       registers = w.store.registers;
     } };
 
-    ghost invariant = { λ w. (w.present ≤ 2 ^ 62) × (2 ≤ w.settings.robustness) × (w.settings.robustness ≤ 7) };
+    ghost use Rattle.pim_macros.specs.Sights.{Shows, is_dr_on};
+
+    ghost invariant = { λ w. (w.present ≤ 2 ^ 62) × (2 ≤ w.settings.robustness) × (w.settings.robustness ≤ 7)
+        × Shows w.dr (is_dr_on w.interfaces.configured w.neighbours) };
 }
 
 impl World {
@@ -126,12 +122,8 @@ impl World {
             interfaces,
             mrib,
             neighbours: Neighbours::new(alloc),
-            queriers: Facts::new(alloc),
-            group_records: Facts::new(alloc),
-            source_records: Facts::new(alloc),
-            group_repeats: Facts::new(alloc),
-            source_repeats: Facts::new(alloc),
-            sendings: Facts::new(alloc),
+            dr: IfSet::below(IfSet::LIMIT),
+            membership: Membership::new(alloc)?,
             store: Store::new(alloc)?,
         })
     }
@@ -210,14 +202,13 @@ impl World {
     }
 
     // How many facts count.
-    #[tactic(auto, unfolding(pim_model::specs::Full::counted, pim_store::specs::PimTables::counted_facts))]
+    #[tactic(auto, unfolding(pim_model::specs::Full::counted, pim_membership::specs::MembershipTables::counted_records, pim_store::specs::PimTables::counted_facts))]
     fn counted(&self) -> u128
         ensures count { result ≡ counted self.now }
         ensures within { result < 2 ^ 67 }
     {
         let neighbours = self.neighbours.len() as u128;
-        let records = self.group_records.len() as u128 + self.source_records.len() as u128;
-        neighbours + records + self.store.count()
+        neighbours + self.membership.count() + self.store.count()
     }
 
     /// Whether so many more facts would pass the limit.
@@ -240,7 +231,7 @@ impl World {
     pub fn set_querier(&mut self, iface: IfaceId, row: QuerierRow) -> Result<(), AllocError>
         ensures { OnOk result (self.new ≡ record self.old { queriers = put self.old.queriers (iface_key iface.number) row }) }
     {
-        self.queriers.put(Key::iface(iface), row)
+        self.membership.put_querier(iface, row)
     }
 
     /// The downstream states, by rising key.

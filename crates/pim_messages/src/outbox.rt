@@ -190,7 +190,8 @@ impl Outbox {
 
     /// Puts the packets of all messages, in their order, at the end of the emissions. A Hello that is
     /// owed goes directly before the next Join/Prune or Assert on its interface, and any Hello pays
-    /// what its interface owes. With an `Err` some of the packets are there, and some Hellos may be paid.
+    /// what its interface owes. With an `Err` some of the packets are there, and some Hellos may be paid. What is
+    /// configured stays.
     pub fn write(
         &self,
         interfaces: &mut Interfaces,
@@ -198,6 +199,7 @@ impl Outbox {
     ) -> Result<(), Fault>
         ensures sent { OnOk result (emissions.new.items ≡ emissions.old.items ++ (all_written interfaces.old self.now).1) }
         ensures paid { OnOk result (interfaces.new ≡ (all_written interfaces.old self.now).0) }
+        ensures configured { interfaces.new.configured ≡ interfaces.old.configured }
         ensures fault { IsOkUnless result Fault.Memory }
     {
         write_each(self.alloc, &self.messages, interfaces, emissions)?;
@@ -216,6 +218,7 @@ fn write_each(
     ensures sent { OnOk result (emissions.new.items
         ≡ emissions.old.items ++ (all_written interfaces.old (messages_of messages.now)).1) }
     ensures paid { OnOk result (interfaces.new ≡ (all_written interfaces.old (messages_of messages.now)).0) }
+    ensures configured { interfaces.new.configured ≡ interfaces.old.configured }
 {
     for message in messages {
         write_message(alloc, message, interfaces, emissions)?;
@@ -235,6 +238,7 @@ fn write_message(
     ensures sent { OnOk result (emissions.new.items
         ≡ emissions.old.items ++ (written interfaces.old (message_of message.now)).1) }
     ensures paid { OnOk result (interfaces.new ≡ (written interfaces.old (message_of message.now)).0) }
+    ensures configured { interfaces.new.configured ≡ interfaces.old.configured }
 {
     let packet = packet_of(alloc, interfaces, message)?;
     if let Some(iface) = message.announced_on()

@@ -1,5 +1,4 @@
 mod Configured
-mod PlainLaws
 mod Runs
 mod Settling
 mod Taking

@@ -11,7 +11,6 @@ use Rattle.pim_types.specs.declared.outcome.Ignored.{Ignored}
 use Rattle.pim_types.specs.declared.outcome.Outcome.{Outcome}
 use Rattle.pim_types.specs.declared.outcome.Stop.{Stop}
 use Rattle.pim_types.specs.declared.outcome.Verdict.{Verdict}
-use Rattle.pim_macros.specs.Plain.{IsPlain}
 use Rattle.pim_model.specs.declared.accepted.Accepted.{Accepted}
 use Rattle.pim_macros.specs.Turns.{Taking, saying}
 use Rattle.pim_intake.specs.Memory.{is_tested_in_memory}
@@ -25,15 +24,16 @@ use Rattle.pim_model.specs.Full.{is_full}
 use Rattle.pim_model.specs.Step.{Answered, Change, change, concluded, done, outcome_of, stopped, taken, taken_unless_full}
 use Rattle.pim_model.specs.Sure.{is_sure, needs_no_memory}
 use Rattle.pim_macros.specs.declared.touched.Touched.{Touched}
-use Rattle.pim_upstream.specs.Openings.{Covers, opening_of}
-use Rattle.pim_upstream.specs.declared.opening.GroupView.{GroupView}
+use Rattle.pim_opening.specs.Covers.{Covers}
+use Rattle.pim_opening.specs.Openings.{opening_of}
+use Rattle.pim_opening.specs.declared.opening.GroupOpening.{GroupOpening}
+use Rattle.pim_store.specs.PimTables.{AreKeyed, pim_tables}
+use Rattle.pim_locality.specs.Locality.{IsQuiet as IsQuietState}
 use Rattle.pim_locality.specs.Rest.{IsAtRest}
 use Rattle.pim_locality.proofs.Rest.{built_step_is_at_rest}
-use Rattle.pim_router.specs.Kept.{IsKept}
 use Rattle.pim_router.specs.Settling.{settled_by}
 use Rattle.pim_router.specs.Stops.{stop_outcome}
-use Rattle.pim_router.proofs.PlainLaws.{changed}
-use Rattle.pim_router.proofs.Settling.{settled_as_touched}
+use Rattle.pim_router.proofs.Settling.{settled_as_opened}
 
 module _ (s : State) (w : ℕ) where
   -- no time passes, and no packet of data is forwarded
@@ -67,35 +67,37 @@ module _ (s : State) (w : ℕ) where
   plainly c e f =
       rw (e, f, append-nil (settled s (c.state, c.messages) w).1, append-nil (settled s (c.state, c.messages) w).1) refl
 
-  pub taken_as_touched : (a : Accepted) (touched : Touched) (opening : List GroupView) (t : State)
-      (messages : List Message) → IsPlain s → is_built a ≡ true → Covers touched s (change s w a).state
+  pub taken_as_opened : (a : Accepted) (touched : Touched) (opening : List GroupOpening) (t : State)
+      (messages : List Message) → IsQuietState s → AreKeyed (pim_tables t) → is_built a ≡ true
+      → Covers touched s (change s w a).state
       → opening ≡ opening_of s touched → t ≡ (change s w a).state → messages ≡ (change s w a).messages
       → answered (settled_by opening t messages w) ≡ taken s w a
-  taken_as_touched a touched opening t messages p b covers opens e f =
+  taken_as_opened a touched opening t messages rests keyed b covers opens e f =
       let q = quiet a b in
-      let o : List GroupView = opening_of s touched in
-      ap (λ (vs : List GroupView). answered (settled_by vs t messages w)) opens
+      let o : List GroupOpening = opening_of s touched in
+      ap (λ (vs : List GroupOpening). answered (settled_by vs t messages w)) opens
       ∙ ap (λ (x : State). answered (settled_by o x messages w)) e
       ∙ ap (λ (ms : List Message). answered (settled_by o (change s w a).state ms w)) f
       ∙ ap (λ (sent : State × List Emission). answered sent)
-      (sym (settled_as_touched s (change s w a).state touched (change s w a).messages w p (changed s w a p b) covers))
+      (sym (settled_as_opened s (change s w a).state rests (subst (λ (x : State). AreKeyed (pim_tables x)) e keyed)
+      (change s w a).messages w touched covers))
       ∙ sym (q.is_done ∙ plainly (change s w a) q.no_copies q.unregistered)
 
 -- what is taken in its turn: the turn of the opening, and that after the change
-pub taken_in_turn : (s t : State) (a : Accepted) (touched : Touched) (opening : List GroupView)
-    (first opened changing : Taking) → IsPlain s → is_built a ≡ true
+pub taken_in_turn : (s t : State) (a : Accepted) (touched : Touched) (opening : List GroupOpening)
+    (first opened changing : Taking) → IsQuietState s → AreKeyed (pim_tables t) → is_built a ≡ true
     → ((w : ℕ) → Covers touched s (change s w a).state) → opening ≡ opening_of s touched → first.messages ≡ []
     → opened ≡ first → t ≡ (change s opened.draw a).state
     → changing ≡ saying opened (change s opened.draw a).messages
     → answered s first.draw (settled_by opening t changing.messages changing.draw) ≡ taken s first.draw a
-taken_in_turn s t a touched opening first opened changing p b covers opens none silent state said =
+taken_in_turn s t a touched opening first opened changing rests keyed b covers opens none silent state said =
     let drawn : opened.draw ≡ first.draw = ap (λ (x : Taking). x.draw) silent in
     let after : changing.draw ≡ first.draw = ap (λ (x : Taking). x.draw) said ∙ drawn in
     let sent : changing.messages ≡ (change s first.draw a).messages =
     ap (λ (x : Taking). x.messages) said ∙ ap (λ (x : Taking). x.messages ++ (change s x.draw a).messages) silent
     ∙ ap (λ (ms : List Message). ms ++ (change s first.draw a).messages) none in
     ap (λ (w : ℕ). answered s first.draw (settled_by opening t changing.messages w)) after
-    ∙ taken_as_touched s first.draw a touched opening t changing.messages p b (covers first.draw) opens (state
+    ∙ taken_as_opened s first.draw a touched opening t changing.messages rests keyed b (covers first.draw) opens (state
     ∙ ap (λ (w : ℕ). (change s w a).state) drawn) sent
 
 -- what is taken, or refused for want of room, may want memory
@@ -224,11 +226,9 @@ pub stop_told : (s : State) (stop : Stop) → stop_outcome stop ≡ outcome_of (
 stop_told s (Stop.Refuse refusal) = refl
 stop_told s (Stop.Ignore reason) = refl
 
--- an event leaves the state kept
-pub kept_after : {A E : Type 0} (s t : State) (event : Event) (r : Result A E) → IsKept s
-    → OnOk r (t ≡ (built_step s event).state) → OnOk r (IsPlain t) → OnOk r (IsKept t)
-kept_after s t event (Ok done) kept state plain = record {
-  plain = plain;
-  rest = subst (λ (x : State). IsAtRest x) (sym state) (built_step_is_at_rest s event kept.rest);
-}
-kept_after s t event (Err fault) kept state plain = tt
+-- an event leaves the router at rest
+pub rests_after : {A E : Type 0} (s t : State) (event : Event) (r : Result A E) → IsAtRest s
+    → OnOk r (t ≡ (built_step s event).state) → OnOk r (IsAtRest t)
+rests_after s t event (Ok done) rest state =
+    subst (λ (x : State). IsAtRest x) (sym state) (built_step_is_at_rest s event rest)
+rests_after s t event (Err fault) rest state = tt

@@ -1,76 +1,187 @@
--- Which machines a change concerns.
-use Rattle.std.proofs.Common.{◌≡◌, ℕ, Bool, true, false, List, [], ◌∷◌, ◌&&◌, ◌++◌, ◌==◌, ◌||◌, min, map, not, Option, Some, None, refl, ap, eqb-true, subst, sym, ◌∙◌}
+-- Which machines a change concerns, and of which groups and sources it makes facts.
+use Rattle.std.proofs.Common.{◌≡◌, ℕ, Bool, true, false, cond, List, [], ◌∷◌, ◌&&◌, ◌++◌, ◌==◌, ◌||◌, filter, min, map, not, Option, Some, None, refl, ap, eqb-true, subst, sym, ◌∙◌}
 use Rattle.std.specs.Cmp.{first_so, second_so}
+use Rattle.std.proofs.lemmas.Bool.{or_left, or_right}
 use Rattle.std.proofs.lemmas.List.Folds.{list_any-append}
 use Rattle.std.specs.List.{list_any}
 use Rattle.std.specs.Option.{option_map_or}
-use Rattle.std.specs.Prelude.{if◌then◌else◌}
+use Rattle.std.specs.Prelude.{fold, if◌then◌else◌}
+use Rattle.pim_types.specs.declared.fact.AssertRow.{AssertRow}
+use Rattle.pim_types.specs.declared.fact.DownstreamRow.{DownstreamRow}
 use Rattle.pim_types.specs.declared.fact.JoinTimerRow.{JoinTimerRow}
 use Rattle.pim_types.specs.declared.fact.Key.{Key}
 use Rattle.pim_types.specs.declared.fact.NeighbourRow.{NeighbourRow}
-use Rattle.pim_types.specs.Keys.{group_in, neighbour_key}
+use Rattle.pim_types.specs.Keys.{group_in, is_of_group, is_on, names_source, neighbour_key, same_key, star_key}
 use Rattle.pim_wire.specs.declared.hello.Hello.{Hello as HelloValue}
 use Rattle.pim_types.specs.declared.config.IfaceId.{IfaceId}
 use Rattle.pim_ip.specs.declared.addr.Addr.{Addr}
 use Rattle.pim_wire.specs.Values.{JoinPrune}
 use Rattle.pim_model.specs.Built.{is_built}
 use Rattle.pim_model.specs.declared.accepted.Accepted.{Accepted}
-use Rattle.pim_model.specs.Downstream.{joined_keys, pruned_keys}
-use Rattle.pim_model.specs.Hellos.{hello_holdtime_of, hello_received, hello_triggered, is_generation_changed, neighbour_replaced, neighbour_restarted}
+use Rattle.pim_model.specs.Downstream.{asserts_after_joins, is_named, joined_keys, keys_taken, pruned_keys, row_after, rpt_rows_joined, to_me, touched_keys}
+use Rattle.pim_model.specs.Hellos.{hello_holdtime_of, hello_received, hello_triggered, is_generation_changed, is_lost_to, neighbour_replaced, neighbour_restarted}
 use Rattle.pim_model.specs.Querier.{querier_up, querying}
+use Rattle.pim_model.specs.Sets.{is_loser}
 use Rattle.pim_model.specs.State.{State}
 use Rattle.pim_model.specs.Step.{change, iface_up}
-use Rattle.pim_model.specs.Tables.{Table, is_among, keys_in, row_at, same_option}
-use Rattle.pim_model.specs.Upstream.{fact_keys, groups_of}
-use Rattle.pim_laws.proofs.Numbers.{any_ascending, members_tell}
+use Rattle.pim_model.specs.Tables.{Table, drop_at, drop_where, keys_in, put, row_at, same_option, set_row}
+use Rattle.pim_model.specs.Upstream.{fact_keys}
+use Rattle.pim_laws.proofs.ListLaws.{either}
+use Rattle.pim_laws.proofs.RowLaws.{any_of_put}
 use Rattle.pim_laws.proofs.TableLaws.{any_of_map}
 use Rattle.pim_locality.proofs.EventLaws.{change_touches}
 use Rattle.pim_locality.proofs.RefreshedNeighbours.{hello_again_touches_none}
 use Rattle.pim_locality.specs.Events.{touched_by_event}
 use Rattle.pim_locality.specs.Locality.{AgreesBut, touching}
-use Rattle.pim_macros.specs.Plain.{IsPlain}
+use Rattle.pim_opening.specs.Covers.{Concerns, IsWithin, NewAreNamed}
+use Rattle.pim_opening.specs.Openings.{has_facts}
 use Rattle.pim_neighbours.specs.Refreshed.{is_refreshed}
 use Rattle.pim_ready.specs.Ready.{Rises}
-use Rattle.pim_router.proofs.PlainLaws.{changed}
 use Rattle.pim_router.specs.Naming.{AreNamedBy}
-use Rattle.pim_upstream.proofs.Sources.{facts_are_two_tables}
 
--- ---- changes that leave the groups
+-- ---- facts before and after, by a test of keys
 
--- the same keys of groups
-record SameKeys (s t : State) : Type 0 where
-  downstream : keys_in t.downstream ≡ keys_in s.downstream
-  join_timers : keys_in t.join_timers ≡ keys_in s.join_timers
+or_or : (a b x : Bool) → ((a || x) || (b || x)) ≡ ((a || b) || x)
+or_or true b x = refl
+or_or false true x = or_true x
+  where
+    or_true : (x : Bool) → (x || true) ≡ true
+    or_true true = refl
+    or_true false = refl
+or_or false false true = refl
+or_or false false false = refl
 
-twice : (b : Bool) → (b || b) ≡ b
-twice true = refl
-twice false = refl
+module _ (p : Key → Bool) (x : Bool) where
+  -- what passes after passed before, or there is something else
+  abbrev Grows : List Key → List Key → Type 0
+  Grows before after = list_any p after ≡ true → (list_any p before || x) ≡ true
 
-groups_twice : (ks : List Key) → groups_of (ks ++ ks) ≡ groups_of ks
-unfolding groups_of is_among
-groups_twice ks =
-    members_tell (map group_in (ks ++ ks)) (map group_in ks) (λ n.
-    any_ascending (λ m. m == n) (map group_in (ks ++ ks))
-    ∙ any_of_map (λ m. m == n) group_in (ks ++ ks)
-    ∙ list_any-append (λ k. group_in k == n) ks ks
-    ∙ twice (list_any (λ k. group_in k == n) ks)
-    ∙ sym (any_ascending (λ m. m == n) (map group_in ks) ∙ any_of_map (λ m. m == n) group_in ks))
+  stays : (ks : List Key) → Grows ks ks
+  stays ks e = or_left (list_any p ks) x e
 
-no_other_group : (s t : State) → IsPlain s → IsPlain t → SameKeys s t
-    → groups_of (fact_keys s ++ fact_keys t) ≡ groups_of (fact_keys s)
-no_other_group s t p q same =
-    ap (λ ks. groups_of (fact_keys s ++ ks)) (facts_are_two_tables t q
-    ∙ ap (λ ks. ks ++ keys_in t.join_timers) same.downstream ∙ ap (λ ks. keys_in s.downstream ++ ks) same.join_timers
-    ∙ sym (facts_are_two_tables s p))
-    ∙ groups_twice (fact_keys s)
+  both_grow : (xs ys us vs : List Key) → Grows xs ys → Grows us vs → Grows (xs ++ us) (ys ++ vs)
+  both_grow xs ys us vs first second e =
+      ap (λ b. b || x) (list_any-append p xs us)
+      ∙ sym (or_or (list_any p xs) (list_any p us) x)
+      ∙ either (list_any p ys) (list_any p vs)
+      (λ f. or_left (list_any p xs || x) (list_any p us || x) (first f))
+      (λ f. or_right (list_any p xs || x) (list_any p us || x) (second f))
+      (sym (list_any-append p ys vs) ∙ e)
 
-same_after_up : (s : State) (w i : ℕ) → SameKeys s (iface_up s w i).0
-unfolding iface_up querier_up querying
-same_after_up s w i = record { downstream = refl; join_timers = refl }
+  -- where these three tables alone change
+  facts_grow : (s : State) (rows : Table DownstreamRow) (asserts : Table AssertRow) (timers : Table JoinTimerRow)
+      → Grows (keys_in s.downstream) (keys_in rows) → Grows (keys_in s.asserts) (keys_in asserts)
+      → Grows (keys_in s.join_timers) (keys_in timers)
+      → Grows (fact_keys s) (fact_keys (record s { downstream = rows; asserts = asserts; join_timers = timers }))
+  unfolding fact_keys
+  facts_grow s rows asserts timers first second third =
+      both_grow _ _ _ _ (both_grow _ _ _ _ (both_grow _ _ _ _ (both_grow _ _ _ _ (both_grow _ _ _ _
+      (both_grow _ _ _ _ (stays _) first) second) third) (stays (keys_in s.override_timers)))
+      (stays (keys_in s.sources))) (stays (keys_in s.registers))
 
-pub up_leaves_groups : (s : State) (w i : ℕ) → IsPlain s → IsPlain (iface_up s w i).0
-    → groups_of (fact_keys s ++ fact_keys (iface_up s w i).0) ≡ groups_of (fact_keys s)
-up_leaves_groups s w i p q = no_other_group s (iface_up s w i).0 p q (same_after_up s w i)
+module _ {R : Type 0} (p : Key → Bool) where
+  fewer_step : (test : Bool) (e : Key × R) (t u : Table R)
+      → (list_any p (keys_in u) ≡ true → list_any p (keys_in t) ≡ true)
+      → list_any p (keys_in (cond test (e ∷ u) u)) ≡ true → (p e.0 || list_any p (keys_in t)) ≡ true
+  unfolding keys_in
+  fewer_step true e t u fewer f =
+      either (p e.0) (list_any p (keys_in u)) (or_left (p e.0) (list_any p (keys_in t)))
+      (λ g. or_right (p e.0) (list_any p (keys_in t)) (fewer g)) f
+  fewer_step false e t u fewer f = or_right (p e.0) (list_any p (keys_in t)) (fewer f)
+
+  -- of rows that are left
+  fewer : (test : Key × R → Bool) (t : Table R) → list_any p (keys_in (filter test t)) ≡ true
+      → list_any p (keys_in t) ≡ true
+  unfolding keys_in
+  fewer test [] e = e
+  fewer test (x ∷ t) e = fewer_step (test x) x t (filter test t) (fewer test t) e
+
+  -- of a row that is set
+  one_more : (k : Key) (row : Option R) (t : Table R) → list_any p (keys_in (set_row t k row)) ≡ true
+      → (list_any p (keys_in t) || p k) ≡ true
+  unfolding keys_in set_row drop_at drop_where
+  one_more k None t e = or_left (list_any p (keys_in t)) (p k) (fewer (λ e. not (same_key k e.0)) t e)
+  one_more k (Some r) t e =
+      either (p k) (list_any (λ (e : Key × R). p e.0) t) (or_right (list_any p (keys_in t)) (p k))
+      (λ f. or_left (list_any p (keys_in t)) (p k) (any_of_map p (λ (e : Key × R). e.0) t ∙ f))
+      (any_of_put k r (λ e. p e.0) t (sym (any_of_map p (λ (e : Key × R). e.0) (put t k r)) ∙ e))
+
+  -- and of rows that are set one after the other
+  all_more : (row : Key → Option R) (ks : List Key) (t : Table R)
+      → list_any p (keys_in (fold (λ u k. set_row u k (row k)) t ks)) ≡ true
+      → (list_any p (keys_in t) || list_any p ks) ≡ true
+  all_more row [] t e = or_left (list_any p (keys_in t)) false e
+  all_more row (k ∷ ks) t e =
+      either (list_any p (keys_in (set_row t k (row k)))) (list_any p ks)
+      (λ f. either (list_any p (keys_in t)) (p k) (or_left (list_any p (keys_in t)) (p k || list_any p ks))
+      (λ g. or_right (list_any p (keys_in t)) (p k || list_any p ks) (or_left (p k) (list_any p ks) g))
+      (one_more k (row k) t f))
+      (λ f. or_right (list_any p (keys_in t)) (p k || list_any p ks) (or_right (p k) (list_any p ks) f))
+      (all_more row ks (set_row t k (row k)) e)
+
+filtered : (p q : Key → Bool) (ks : List Key) → list_any p (filter q ks) ≡ true → list_any p ks ≡ true
+filtered p q [] e = e
+filtered p q (k ∷ ks) e = step (q k) (filtered p q ks) e
+  where
+    step : (b : Bool) → (list_any p (filter q ks) ≡ true → list_any p ks ≡ true)
+        → list_any p (cond b (k ∷ filter q ks) (filter q ks)) ≡ true → (p k || list_any p ks) ≡ true
+    step true later f =
+        either (p k) (list_any p (filter q ks)) (or_left (p k) (list_any p ks))
+        (λ g. or_right (p k) (list_any p ks) (later g)) f
+    step false later f = or_right (p k) (list_any p ks) (later f)
+
+-- ---- a Join/Prune
+
+module _ (p : Key → Bool) (s : State) (i holdtime : ℕ) (joined pruned : List Key) where
+  rows_grow : Grows p (list_any p (joined ++ pruned)) (keys_in s.downstream)
+      (keys_in (fold (λ t k. set_row t k (row_after s i holdtime joined pruned k)) s.downstream
+      (touched_keys s i joined pruned)))
+  unfolding touched_keys rpt_rows_joined
+  rows_grow e =
+      either (list_any p (keys_in s.downstream)) (list_any p (touched_keys s i joined pruned))
+      (or_left (list_any p (keys_in s.downstream)) (list_any p (joined ++ pruned)))
+      (λ f. either (list_any p (joined ++ pruned)) (list_any p (rpt_rows_joined s i joined))
+      (or_right (list_any p (keys_in s.downstream)) (list_any p (joined ++ pruned)))
+      (λ g. or_left (list_any p (keys_in s.downstream)) (list_any p (joined ++ pruned))
+      (filtered p (λ k. is_on i k && k.rpt && is_named joined (star_key i (group_in k))) (keys_in s.downstream) g))
+      (sym (list_any-append p (joined ++ pruned) (rpt_rows_joined s i joined)) ∙ f))
+      (all_more p (row_after s i holdtime joined pruned) (touched_keys s i joined pruned) s.downstream e)
+
+  keys_grow : Grows p (list_any p (joined ++ pruned)) (fact_keys s)
+      (fact_keys (keys_taken s i holdtime joined pruned))
+  unfolding keys_taken asserts_after_joins
+  keys_grow =
+      facts_grow p (list_any p (joined ++ pruned)) s _ _ s.join_timers rows_grow
+      (λ e. or_left (list_any p (keys_in s.asserts)) (list_any p (joined ++ pruned))
+      (fewer p (λ e. not (is_loser (Some e.1) && is_named joined e.0)) s.asserts e))
+      (stays p (list_any p (joined ++ pruned)) (keys_in s.join_timers))
+
+taken_named : (s : State) (i : ℕ) (m : JoinPrune) → NewAreNamed (joined_keys s i m ++ pruned_keys i m) s (to_me s i m)
+unfolding to_me
+taken_named s i m g src there =
+    keys_grow (names_source g src) s i m.holdtime (joined_keys s i m) (pruned_keys i m) there
+
+-- ---- changes after which there are no other facts
+
+-- each fact that passes had passed
+record IsFewer (s t : State) : Type 0 where
+  passed : (p : Key → Bool) → list_any p (fact_keys t) ≡ true → list_any p (fact_keys s) ≡ true
+
+no_other : (s t : State) → fact_keys t ≡ fact_keys s → IsFewer s t
+no_other s t same = record { passed = λ p e. sym (ap (λ (ks : List Key). list_any p ks) same) ∙ e }
+
+fewer_both : (s t u : State) → IsFewer s t → IsFewer t u → IsFewer s u
+fewer_both s t u first second = record { passed = λ p e. first.passed p (second.passed p e) }
+
+within_so : (s t : State) → IsFewer s t → IsWithin s t
+within_so s t less = record {
+  groups = λ g e. less.passed (is_of_group g) e;
+  sources = λ g src e. less.passed (names_source g src) e;
+}
+
+up_leaves_facts : (s : State) (w i : ℕ) → IsFewer s (iface_up s w i).0
+unfolding iface_up querier_up querying fact_keys
+up_leaves_facts s w i = no_other s (iface_up s w i).0 refl
 
 -- ---- Hellos
 
@@ -85,35 +196,39 @@ lowered_keys test end (e ∷ t) = one (test e.0) e (keys_in t) _ (lowered_keys t
   one true e ks later is = ap (λ xs. e.0 ∷ xs) is
   one false e ks later is = ap (λ xs. e.0 ∷ xs) is
 
-triggered : (s : State) (i w : ℕ) (b : Bool) → SameKeys s (if b then hello_triggered s i w else s)
-unfolding hello_triggered
-triggered s i w true = record { downstream = refl; join_timers = refl }
-triggered s i w false = record { downstream = refl; join_timers = refl }
+triggered : (s : State) (i w : ℕ) (b : Bool) → fact_keys (if b then hello_triggered s i w else s) ≡ fact_keys s
+unfolding hello_triggered fact_keys
+triggered s i w true = refl
+triggered s i w false = refl
 
-replaced : (s t : State) (i a : ℕ) (h : HelloValue) → SameKeys s t → SameKeys s (neighbour_replaced t i a h)
-unfolding neighbour_replaced
-replaced s t i a h same = record { downstream = same.downstream; join_timers = same.join_timers }
+replaced : (t : State) (i a : ℕ) (h : HelloValue) → fact_keys (neighbour_replaced t i a h) ≡ fact_keys t
+unfolding neighbour_replaced fact_keys
+replaced t i a h = refl
 
-restarted : (s o t : State) (i a w : ℕ) → SameKeys s t → SameKeys s (neighbour_restarted o i a w t)
+or_none : (b : Bool) → (b || false) ≡ true → b ≡ true
+or_none true e = refl
+or_none false e = e
+
+restarted : (o t : State) (i a w : ℕ) → IsFewer t (neighbour_restarted o i a w t)
 unfolding neighbour_restarted
-restarted s o t i a w same = record {
-  downstream = same.downstream;
-  join_timers = lowered_keys _ _ t.join_timers ∙ same.join_timers;
+restarted o t i a w = record {
+  passed = λ p e. or_none (list_any p (fact_keys t))
+      (facts_grow p false t t.downstream _ _ (stays p false (keys_in t.downstream))
+      (λ f. or_left (list_any p (keys_in t.asserts)) false (fewer p (λ e. not (is_lost_to i a e)) t.asserts f))
+      (λ f. or_left (list_any p (keys_in t.join_timers)) false
+      (sym (ap (λ (ks : List Key). list_any p ks) (lowered_keys _ _ t.join_timers)) ∙ f)) e);
 }
 
-either : (b : Bool) (s t u : State) → SameKeys s t → SameKeys s u → SameKeys s (if b then t else u)
-either true s t u p q = p
-either false s t u p q = q
+chosen : (b : Bool) (s t u : State) → IsFewer s t → IsFewer s u → IsFewer s (if b then t else u)
+chosen true s t u p q = p
+chosen false s t u p q = q
 
-heard : (s : State) (i a w : ℕ) (h : HelloValue) → SameKeys s (hello_received s i a h w)
+hello_leaves_facts : (s : State) (i a w : ℕ) (h : HelloValue) → IsFewer s (hello_received s i a h w)
 unfolding hello_received
-heard s i a w h =
-    let after = replaced s (if _ then hello_triggered s i w else s) i a h (triggered s i w _) in
-    either (is_generation_changed s i a h) s _ _ (restarted s s _ i a w after) after
-
-pub hello_leaves_groups : (s : State) (i a w : ℕ) (h : HelloValue) → IsPlain s → IsPlain (hello_received s i a h w)
-    → groups_of (fact_keys s ++ fact_keys (hello_received s i a h w)) ≡ groups_of (fact_keys s)
-hello_leaves_groups s i a w h p q = no_other_group s (hello_received s i a h w) p q (heard s i a w h)
+hello_leaves_facts s i a w h =
+    let after : State = neighbour_replaced (if _ then hello_triggered s i w else s) i a h in
+    let heard : IsFewer s after = no_other s after (replaced _ i a h ∙ triggered s i w _) in
+    chosen (is_generation_changed s i a h) s _ _ (fewer_both s after _ heard (restarted s after i a w)) heard
 
 so_false : (b : Bool) → not b ≡ true → b ≡ false
 so_false false e = refl
@@ -155,46 +270,52 @@ module _ (s : State) (i a : ℕ) (h : HelloValue) where
 module _ (s : State) (a : Accepted) where
   pub named_covered : (i : IfaceId) (m : JoinPrune) (joined pruned keys : List Key) → a ≡ Accepted.JoinPruneToMe i m
       → AreNamedBy s a joined pruned → keys ≡ joined ++ pruned
-      → (w : ℕ) → AgreesBut (touching keys) s (change s w a).state
-  unfolding touched_by_event
+      → (w : ℕ) → Concerns keys s (change s w a).state
+  unfolding touched_by_event change
   named_covered i m joined pruned keys is named all w =
       let both = subst (λ x. AreNamedBy s x joined pruned) is named in
       let those : keys ≡ joined_keys s i.number m ++ pruned_keys i.number m =
       all ∙ ap (λ ks. ks ++ pruned) both.0 ∙ ap (λ ks. joined_keys s i.number m ++ ks) both.1 in
-      subst (λ x. AgreesBut (touching keys) s (change s w x).state) (sym is)
-      (subst (λ ks. AgreesBut (touching ks) s (change s w (Accepted.JoinPruneToMe i m)).state) (sym those)
-      (change_touches s w (Accepted.JoinPruneToMe i m) (joined_keys s i.number m ++ pruned_keys i.number m) refl))
+      subst (λ x. Concerns keys s (change s w x).state) (sym is)
+      (subst (λ ks. Concerns ks s (change s w (Accepted.JoinPruneToMe i m)).state) (sym those)
+      (record {
+        agrees = change_touches s w (Accepted.JoinPruneToMe i m)
+            (joined_keys s i.number m ++ pruned_keys i.number m) refl;
+        named = taken_named s i.number m;
+      }))
 
   pub refreshed_covered : (i : IfaceId) (from : Addr) (h : HelloValue) (none : List Key) (refreshed : Bool)
       → a ≡ Accepted.Hello i from h → Rises s.neighbours → refreshed ≡ is_refreshed s.neighbours i.number from.bits h
-      → refreshed ≡ true → none ≡ [] → (w : ℕ) → AgreesBut (touching none) s (change s w a).state
+      → refreshed ≡ true → none ≡ [] → (w : ℕ) → Concerns none s (change s w a).state
   unfolding change
   refreshed_covered i from h none refreshed is rises tested e empty w =
-      subst (λ x. AgreesBut (touching none) s (change s w x).state) (sym is)
-      (subst (λ ks. AgreesBut (touching ks) s (hello_received s i.number from.bits h w)) (sym empty)
-      (refreshed_touches_none s i.number from.bits h w rises (sym tested ∙ e)))
+      let s' : State = hello_received s i.number from.bits h w in
+      subst (λ x. Concerns none s (change s w x).state) (sym is)
+      (subst (λ ks. Concerns ks s s') (sym empty)
+      (record {
+        agrees = refreshed_touches_none s i.number from.bits h w rises (sym tested ∙ e);
+        named = λ g src there. or_left (has_facts s g src) false
+            ((hello_leaves_facts s i.number from.bits w h).passed (names_source g src) there);
+      }))
 
--- all that is built but a Join/Prune leaves the groups
-pub groups_covered : (s : State) (w : ℕ) (a : Accepted) → IsPlain s → is_built a ≡ true
-    → ((i : IfaceId) (m : JoinPrune) → ¬ (a ≡ Accepted.JoinPruneToMe i m))
-    → groups_of (fact_keys s ++ fact_keys (change s w a).state) ≡ groups_of (fact_keys s)
+-- all that is built but a Join/Prune makes no facts
+pub facts_covered : (s : State) (w : ℕ) (a : Accepted) → is_built a ≡ true
+    → ((i : IfaceId) (m : JoinPrune) → ¬ (a ≡ Accepted.JoinPruneToMe i m)) → IsWithin s (change s w a).state
 unfolding change is_built
-groups_covered s w (Accepted.Up i) p b isnt =
-    up_leaves_groups s w i.number p (changed s w (Accepted.Up i) p b)
-groups_covered s w (Accepted.Hello i from h) p b isnt =
-    hello_leaves_groups s i.number from.bits w h p (changed s w (Accepted.Hello i from h) p b)
-groups_covered s w (Accepted.JoinPruneToMe i m) p b isnt = absurd (isnt i m refl)
-groups_covered s w (Accepted.Advance moment) p b isnt = cc
-groups_covered s w (Accepted.Down i) p b isnt = cc
-groups_covered s w (Accepted.Routes routes) p b isnt = cc
-groups_covered s w (Accepted.Rps ranges) p b isnt = cc
-groups_covered s w (Accepted.JoinPruneSeen i m) p b isnt = cc
-groups_covered s w (Accepted.Assert i from x) p b isnt = cc
-groups_covered s w (Accepted.Query i from q) p b isnt = cc
-groups_covered s w (Accepted.Report i records) p b isnt = cc
-groups_covered s w (Accepted.Data i packet) p b isnt = cc
-groups_covered s w (Accepted.Register packet r) p b isnt = cc
-groups_covered s w (Accepted.RegisterStop from r) p b isnt = cc
+facts_covered s w (Accepted.Up i) b isnt = within_so s _ (up_leaves_facts s w i.number)
+facts_covered s w (Accepted.Hello i from h) b isnt = within_so s _ (hello_leaves_facts s i.number from.bits w h)
+facts_covered s w (Accepted.JoinPruneToMe i m) b isnt = absurd (isnt i m refl)
+facts_covered s w (Accepted.Advance moment) b isnt = cc
+facts_covered s w (Accepted.Down i) b isnt = cc
+facts_covered s w (Accepted.Routes routes) b isnt = cc
+facts_covered s w (Accepted.Rps ranges) b isnt = cc
+facts_covered s w (Accepted.JoinPruneSeen i m) b isnt = cc
+facts_covered s w (Accepted.Assert i from x) b isnt = cc
+facts_covered s w (Accepted.Query i from q) b isnt = cc
+facts_covered s w (Accepted.Report i records) b isnt = cc
+facts_covered s w (Accepted.Data i packet) b isnt = cc
+facts_covered s w (Accepted.Register packet r) b isnt = cc
+facts_covered s w (Accepted.RegisterStop from r) b isnt = cc
 
 pub hello_isnt_join_prune : (a : Accepted) (i : IfaceId) (from : Addr) (h : HelloValue) → a ≡ Accepted.Hello i from h
     → (j : IfaceId) (m : JoinPrune) → ¬ (a ≡ Accepted.JoinPruneToMe j m)

@@ -1,4 +1,3 @@
-pub mod Kept
 pub mod Naming
 pub mod Settling
 pub mod Stops

@@ -1,6 +1,5 @@
 //! The own change of what was accepted.
 ghost use Rattle.std.specs.Prelude.{◌≡◌, ◌<◌, OnOk, true};
-ghost use Rattle.pim_macros.specs.Plain.{IsPlain};
 ghost use Rattle.pim_macros.specs.Turns.{saying};
 ghost use Rattle.pim_model.specs.Built.{is_built};
 ghost use Rattle.pim_model.specs.State.{iface_count};
@@ -39,7 +38,6 @@ pub(crate) fn apply(
     accepted: &Accepted<'_>,
     named: &Named,
 ) -> Result<(), AllocError>
-    requires plain { IsPlain world.old }
     requires built { is_built accepted.now ≡ true }
     requires configured { IsConfigured world.old accepted.now }
     requires named { AreNamedBy world.old accepted.now named.now.joined.items named.now.pruned.items }

@@ -1,11 +1,10 @@
 //! One event: it is judged; what is accepted changes the state, where it is built and there is room for its facts.
 ghost use Rattle.std.specs.Prelude.{◌≡◌, [], IfOk, IsOk, IsOkUnless, IsTrue, OnOk, true};
 ghost use Rattle.pim_ip.specs.declared.fault.Fault.{Fault};
-ghost use Rattle.pim_macros.specs.Plain.{IsPlain};
+ghost use Rattle.pim_locality.specs.Rest.{IsAtRest};
 ghost use Rattle.pim_model.specs.Built.{built_step, is_built, taken_if_built};
 ghost use Rattle.pim_model.specs.Step.{outcome_of, taken, taken_unless_full};
 ghost use Rattle.pim_model.specs.Sure.{is_sure, needs_no_memory};
-ghost use Rattle.pim_router.specs.Kept.{IsKept};
 ghost use Rattle.pim_router.specs.Naming.{AreNamedBy, IsConfigured};
 ghost use Rattle.pim_router.specs.Stops.{stop_outcome};
 
@@ -18,9 +17,9 @@ use pim_downstream::Named;
 use pim_intake::judge;
 use pim_macros::{Turn, World};
 use pim_model::Accepted;
+use pim_opening::Opening;
 use pim_trie::Meter;
 use pim_types::{Event, Fault, Ignored, Outcome, Refusal, Series, Stop, Verdict};
-use pim_upstream::Opening;
 use std::alloc::Global;
 use std::mem::replace;
 
@@ -46,19 +45,20 @@ fn take(
     accepted: &Accepted<'_>,
     named: &Named,
 ) -> Result<Outcome, Fault>
-    requires kept { IsKept world.old }
+    requires rest { IsAtRest world.old }
     requires begun { turn.old.messages ≡ [] }
     requires built { is_built accepted.now ≡ true }
     requires configured { IsConfigured world.old accepted.now }
     requires named { AreNamedBy world.old accepted.now named.now.joined.items named.now.pruned.items }
     ensures outcome { IfOk result (λ outcome. outcome ≡ outcome_of (taken world.old turn.old.draw accepted.now)) }
     ensures state { OnOk result (world.new ≡ (taken world.old turn.old.draw accepted.now).state) }
-    ensures plain { OnOk result (IsPlain world.new) }
     ensures fault { IsOkUnless result Fault.Memory }
 {
     let touched = touched_by(world, turn, accepted, named)?;
     let opening = Opening::of(world, turn, &touched)?;
     apply(world, turn, accepted, named)?;
+    // It tells that asserts, sources and registers are under keys of their kind.
+    world.are_keyed();
     let emissions = settle(world, turn, &opening)?;
     Ok(Outcome {
         answer: Ok(Verdict::Done),
@@ -74,13 +74,12 @@ fn take_unless_full(
     turn: &mut Turn,
     accepted: &Accepted<'_>,
 ) -> Result<Outcome, Fault>
-    requires kept { IsKept world.old }
+    requires rest { IsAtRest world.old }
     requires begun { turn.old.messages ≡ [] }
     requires built { is_built accepted.now ≡ true }
     requires configured { IsConfigured world.old accepted.now }
     ensures outcome { IfOk result (λ outcome. outcome ≡ outcome_of (taken_unless_full world.old turn.old.draw accepted.now)) }
     ensures state { OnOk result (world.new ≡ (taken_unless_full world.old turn.old.draw accepted.now).state) }
-    ensures plain { OnOk result (IsPlain world.new) }
     ensures fault { IsOkUnless result Fault.Memory }
 {
     let named = named_by(world, turn, accepted)?;
@@ -97,12 +96,11 @@ fn take_if_built(
     turn: &mut Turn,
     accepted: &Accepted<'_>,
 ) -> Result<Outcome, Fault>
-    requires kept { IsKept world.old }
+    requires rest { IsAtRest world.old }
     requires begun { turn.old.messages ≡ [] }
     requires configured { IsConfigured world.old accepted.now }
     ensures outcome { IfOk result (λ outcome. outcome ≡ outcome_of (taken_if_built world.old turn.old.draw accepted.now)) }
     ensures state { OnOk result (world.new ≡ (taken_if_built world.old turn.old.draw accepted.now).state) }
-    ensures plain { OnOk result (IsPlain world.new) }
     ensures fault { IsOkUnless result Fault.Memory }
     ensures sure { IsTrue (needs_no_memory (taken_if_built world.old turn.old.draw accepted.now).answer) → IsOk result }
 {
@@ -115,11 +113,10 @@ fn take_if_built(
 // An event in its turn.
 #[tactic(auto, unfolding(pim_model::specs::Built::built_step))]
 fn take_turn(world: &mut World, turn: &mut Turn, event: &Event) -> Result<Outcome, Fault>
-    requires kept { IsKept world.old }
+    requires rest { IsAtRest world.old }
     requires begun { turn.old ≡ record { draw = event.now.draw; messages = [] } }
     ensures outcome { IfOk result (λ outcome. outcome ≡ outcome_of (built_step world.old event.now)) }
     ensures state { OnOk result (world.new ≡ (built_step world.old event.now).state) }
-    ensures plain { OnOk result (IsPlain world.new) }
     ensures fault { IsOkUnless result Fault.Memory }
     ensures sure { IsTrue (is_sure event.now.kind (built_step world.old event.now).answer) → IsOk result }
 {
@@ -136,10 +133,10 @@ pub(crate) fn take_in(
     event: &Event,
     meter: &mut Meter,
 ) -> Result<Outcome, Fault>
-    requires { IsKept world.old }
+    requires { IsAtRest world.old }
     ensures outcome { IfOk result (λ outcome. outcome ≡ outcome_of (built_step world.old event.now)) }
     ensures state { OnOk result (world.new ≡ (built_step world.old event.now).state) }
-    ensures kept { OnOk result (IsKept world.new) }
+    ensures rest { OnOk result (IsAtRest world.new) }
     ensures fault { IsOkUnless result Fault.Memory }
     ensures sure { IsTrue (is_sure event.now.kind (built_step world.old event.now).answer) → IsOk result }
 {

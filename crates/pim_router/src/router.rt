@@ -5,7 +5,7 @@ ghost use Rattle.pim_model.specs.Built.{built_run, built_state_after, built_step
 ghost use Rattle.pim_model.specs.Limits.{config_test};
 ghost use Rattle.pim_model.specs.State.{opening};
 ghost use Rattle.pim_model.specs.Sure.{is_sure};
-ghost use Rattle.pim_router.specs.Kept.{IsKept};
+ghost use Rattle.pim_locality.specs.Rest.{IsAtRest};
 
 use crate::event::take_in;
 use pim_macros::World;
@@ -27,13 +27,13 @@ pub struct Router {
 impl Model for Router {
     ghost use Rattle.std.specs.Prelude.{None, Option, Some, false, if◌then◌else◌, ◌≡◌};
     ghost use Rattle.pim_model.specs.State.{State};
-    ghost use Rattle.pim_router.specs.Kept.{IsKept};
+    ghost use Rattle.pim_locality.specs.Rest.{IsAtRest};
 
     ghost Value = { Option State };
 
     ghost view = { λ r. if r.failed then None else Some r.world };
 
-    ghost invariant = { λ r. r.failed ≡ false → IsKept r.world };
+    ghost invariant = { λ r. r.failed ≡ false → IsAtRest r.world };
 }
 
 impl Router {
@@ -113,10 +113,10 @@ fn run_world(
     events: &[Event],
     meter: &mut Meter,
 ) -> Result<Vec<Outcome>, Fault>
-    requires { IsKept world.old }
+    requires { IsAtRest world.old }
     ensures outcomes { IfOk result (λ outcomes. outcomes.items ≡ built_run world.old events.now) }
     ensures state { OnOk result (world.new ≡ built_state_after world.old events.now) }
-    ensures kept { OnOk result (IsKept world.new) }
+    ensures rest { OnOk result (IsAtRest world.new) }
     ensures fault { IsOkUnless result Fault.Memory }
     ensures sure { events.now ≡ [] → IsOk result }
 {

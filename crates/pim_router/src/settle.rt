@@ -1,27 +1,27 @@
 //! What follows of an event's own change.
 ghost use Rattle.std.specs.Prelude.{◌≡◌, IfOk, IsOkUnless, OnOk};
 ghost use Rattle.pim_ip.specs.declared.fault.Fault.{Fault};
-ghost use Rattle.pim_macros.specs.Plain.{IsPlain};
 ghost use Rattle.pim_router.specs.Settling.{settled_by};
 
 use pim_macros::{Turn, World};
+use pim_opening::Opening;
 use pim_types::{Emission, Fault};
-use pim_upstream::{Opening, changed};
 
-/// Settles a change: what is told upstream after it, by comparison with the opening; then all messages leave, those of
-/// the change first. No assert and no source is kept yet, so nothing is to be cleared.
+/// Settles a change, by comparison with the opening: the registers first, then what must go, then what is told
+/// upstream; then all messages leave, those of the change first.
 #[tactic(auto, unfolding(crate::specs::Settling::settled_by))]
 pub(crate) fn settle(
     world: &mut World,
     turn: &mut Turn,
     opening: &Opening,
 ) -> Result<Vec<Emission>, Fault>
-    requires { IsPlain world.old }
     ensures state { OnOk result (world.new ≡ (settled_by opening.now world.old turn.old.messages turn.old.draw).0) }
     ensures sent { IfOk result (λ sent. sent.items ≡ (settled_by opening.now world.old turn.old.messages turn.old.draw).1) }
     ensures fault { IsOkUnless result Fault.Memory }
 {
-    changed(world, turn, opening)?;
+    pim_register::changed(world, turn, opening)?;
+    pim_asserts::clear(world, turn, opening)?;
+    pim_upstream::changed(world, turn, opening)?;
     let mut emissions = Vec::new(turn.alloc);
     world.write(&turn.out, &mut emissions)?;
     Ok(emissions)

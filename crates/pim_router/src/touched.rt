@@ -2,9 +2,9 @@
 ghost use Rattle.std.specs.Prelude.{◌≡◌, IfOk, true, ℕ};
 ghost use Rattle.pim_model.specs.Built.{is_built};
 ghost use Rattle.pim_model.specs.Step.{change};
-ghost use Rattle.pim_router.specs.Kept.{IsKept};
+ghost use Rattle.pim_locality.specs.Rest.{IsAtRest};
 ghost use Rattle.pim_router.specs.Naming.{AreNamedBy};
-ghost use Rattle.pim_upstream.specs.Openings.{Covers};
+ghost use Rattle.pim_opening.specs.Covers.{Covers};
 
 use pim_downstream::Named;
 use pim_macros::{Touched, Turn, World};
@@ -20,7 +20,7 @@ pub(crate) fn touched_by(
     accepted: &Accepted<'_>,
     named: &Named,
 ) -> Result<Touched, AllocError>
-    requires kept { IsKept world.now }
+    requires rest { IsAtRest world.now }
     requires built { is_built accepted.now ≡ true }
     requires named { AreNamedBy world.now accepted.now named.now.joined.items named.now.pruned.items }
     ensures { IfOk result (λ touched. (w : ℕ) → Covers touched world.now (change world.now w accepted.now).state) }

@@ -1,5 +1,6 @@
 -- The PIM facts of the router, as plain tables.
 use Rattle.std.specs.Option.{option_map_or}
+use Rattle.std.specs.List.Sorted.{IsStrictlySortedBy}
 use Rattle.std.specs.List.{list_all}
 use Rattle.std.specs.Prelude.{Bool, List, Option, Some, [], false, is_none, is_some, length, min, nat_lt, not, option_map, true, ℕ, ◌&&◌, ◌+◌, ◌++◌, ◌==◌, ◌≡◌}
 use Rattle.pim_ip.specs.declared.addr.Addr.{Addr}
@@ -11,7 +12,7 @@ use Rattle.pim_types.specs.declared.fact.OverrideTimerRow.{OverrideTimerRow}
 use Rattle.pim_types.specs.declared.fact.RegisterRow.{RegisterRow}
 use Rattle.pim_types.specs.declared.fact.SourceRow.{SourceRow}
 use Rattle.pim_types.specs.declared.timer.TimerKind.{TimerKind}
-use Rattle.pim_types.specs.Keys.{iface_in, key_of}
+use Rattle.pim_types.specs.Keys.{iface_in, key_cmp, key_of}
 use Rattle.pim_model.specs.State.{State}
 use Rattle.pim_model.specs.Tables.{Table, keys_in}
 use Rattle.pim_model.specs.Timers.{Ending, endings, register_end}
@@ -58,10 +59,14 @@ is_assert_key k = nat_lt (iface_in k) 120 && not k.rpt
 abbrev pub is_source_key : Key → Bool
 is_source_key k = (iface_in k == 0) && not k.rpt && is_some k.source
 
+-- they stand under such keys, and the keys rise
 pub record AreKeyed (f : PimTables) : Type 0 where
   pub asserts : list_all (λ e. is_assert_key e.0) f.asserts ≡ true
   pub sources : list_all (λ e. is_source_key e.0) f.sources ≡ true
   pub registers : list_all (λ e. is_source_key e.0) f.registers ≡ true
+  pub asserts_rise : IsStrictlySortedBy key_cmp (keys_in f.asserts)
+  pub sources_rise : IsStrictlySortedBy key_cmp (keys_in f.sources)
+  pub registers_rise : IsStrictlySortedBy key_cmp (keys_in f.registers)
 
 -- in Prune, and not Prune-Pending
 abbrev pub is_prune : Option DownstreamRow → Bool

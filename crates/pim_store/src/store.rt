@@ -360,11 +360,13 @@ impl Store {
         self.index.contains(group, source, meter)
     }
 
-    /// Asserts, sources and registers are under keys of their kind.
+    /// Asserts, sources and registers are under keys of their kind, which rise.
     pub fn are_keyed(&self)
         ensures { AreKeyed self.now }
     {
-        let _ = &self.index;
+        let _ = self.asserts.len();
+        let _ = self.sources.len();
+        let _ = self.registers.len();
     }
 
     /// How many facts count: the downstream states, the asserts and the sources.

@@ -1,5 +1,6 @@
-pub mod Frames
-mod Progress
-mod Reactions
-pub mod Sources
+pub mod Members
+pub mod Moves
+pub mod Progress
+pub mod Pruned
+pub mod Steps
 pub mod UpstreamLaws

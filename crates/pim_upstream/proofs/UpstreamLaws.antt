@@ -1,74 +1,93 @@
--- What is told upstream in plain states is told by the views of the touched groups at the opening; the state stays plain.
-use Rattle.std.proofs.Common.{◌≡◌, ℕ, List, [], ◌∷◌, ◌++◌, refl, ap, ◌∙◌, append-nil, map, filter}
+-- What is told upstream is told by what was opened.
+use Rattle.std.proofs.Common.{◌≡◌, ◌==◌, ◌||◌, if◌then◌else◌, ℕ, Bool, true, false, List, [], ◌++◌, map, refl, sym, ap, ◌∙◌}
+use Rattle.std.proofs.lemmas.List.Folds.{list_any-append}
+use Rattle.std.specs.List.{filter, list_any}
 use Rattle.pim_types.specs.declared.fact.Key.{Key}
-use Rattle.pim_types.specs.Keys.{star_key}
+use Rattle.pim_types.specs.Keys.{group_in, is_of_group, star_key}
 use Rattle.pim_model.specs.Messages.{Message}
 use Rattle.pim_model.specs.Querier.{each_in_turn}
 use Rattle.pim_model.specs.State.{State}
 use Rattle.pim_model.specs.Upstream.{Told, fact_keys, group_upstream, groups_of, source_upstream, sources_of, star_told, star_view, upstream, with_join_timer}
 use Rattle.pim_locality.specs.Locality.{own_keys, own_upstream, touching}
-use Rattle.pim_locality.proofs.OwnKeys.{upstream_is_own}
-use Rattle.pim_macros.specs.Plain.{IsPlain}
+use Rattle.pim_model.specs.Tables.{is_among}
+use Rattle.pim_laws.proofs.Numbers.{any_ascending, members_tell}
+use Rattle.pim_laws.proofs.TableLaws.{any_of_map}
+use Rattle.pim_locality.proofs.OwnKeys.{own_touched, upstream_is_own}
 use Rattle.pim_macros.specs.declared.touched.Touched.{Touched}
-use Rattle.pim_upstream.specs.Openings.{Covers, group_view, opening_of}
-use Rattle.pim_upstream.specs.Turns.{group_told, upstream_by}
-use Rattle.pim_upstream.specs.declared.opening.GroupView.{GroupView}
-use Rattle.pim_upstream.proofs.Frames.{plain_with_timer}
-use Rattle.pim_upstream.proofs.Sources.{no_own_sources, no_sources_of_both}
+use Rattle.pim_opening.specs.Openings.{group_opening, opening_of, source_opening, touched_sources}
+use Rattle.pim_opening.specs.Covers.{Covers, IsWithin, NewAreNamed}
+use Rattle.pim_upstream.specs.Told.{group_step, source_moved, source_step, upstream_by}
+use Rattle.pim_upstream.proofs.Members.{is_told, told_of_all, told_of_keys}
+use Rattle.pim_upstream.proofs.Steps.{of_values, passing, same_steps}
 
--- ---- the state stays plain
+module _ (o a : State) (w : ℕ) where
+  moved : (g : ℕ) (s : State) (src : ℕ) → source_step a w g s (source_opening o g src)
+      ≡ (if is_told g o a src then source_upstream o a w g s src else (s, []))
+  unfolding source_step source_moved source_upstream
+  moved g s src = refl
 
-pub plain_after_group : (a : State) (w : ℕ) (s : State) (p : GroupView) → IsPlain s → IsPlain (group_told a w s p).0
-unfolding group_told
-plain_after_group a w s p plain =
-    plain_with_timer s (star_key 0 p.group.bits) (star_told a w p.group.bits p.star (star_view a p.group.bits)).timer
-    refl plain
+  sources_told : (touched : Touched) (g : ℕ) (ks : List Key)
+      → sources_of g ks ≡ filter (is_told g o a) (touched_sources o touched g) → (s : State)
+      → each_in_turn (source_upstream o a w g) s (sources_of g ks)
+      ≡ each_in_turn (source_step a w g) s (map (source_opening o g) (touched_sources o touched g))
+  sources_told touched g ks are s =
+      ap (λ ns. each_in_turn (source_upstream o a w g) s ns) are
+      ∙ sym (passing (source_upstream o a w g) (is_told g o a) (touched_sources o touched g) s)
+      ∙ sym (of_values (source_step a w g) (source_opening o g) (touched_sources o touched g) s
+      ∙ same_steps _ _ (moved g) (touched_sources o touched g) s)
 
-plain_after_groups : (a : State) (w : ℕ) (ps : List GroupView) (s : State) → IsPlain s
-    → IsPlain (each_in_turn (group_told a w) s ps).0
-unfolding each_in_turn
-plain_after_groups a w [] s plain = plain
-plain_after_groups a w (p ∷ ps) s plain =
-    plain_after_groups a w ps (group_told a w s p).0 (plain_after_group a w s p plain)
-
-pub plain_after_views : (opening : List GroupView) (a : State) (w : ℕ) → IsPlain a → IsPlain (upstream_by opening a w).0
-unfolding upstream_by
-plain_after_views opening a w plain = plain_after_groups a w opening a plain
-
--- ---- group after group
-
-module _ (o a : State) (w : ℕ) (keys_at : ℕ → List Key) (none : (g : ℕ) → sources_of g (keys_at g) ≡ []) where
-  -- without sources a group's turn is that of (*,G) alone
-  star_alone : (s : State) (g : ℕ) → group_upstream o a w (keys_at g) s g ≡ group_told a w s (group_view o g)
-  unfolding group_upstream each_in_turn group_told
-  star_alone s g =
+  group_is : (touched : Touched) (g : ℕ) (ks : List Key)
+      → sources_of g ks ≡ filter (is_told g o a) (touched_sources o touched g) → (s : State)
+      → group_upstream o a w ks s g ≡ group_step a w s (group_opening o touched g)
+  unfolding group_upstream group_step
+  group_is touched g ks are s =
       let told : Told = star_told a w g (star_view o g) (star_view a g) in
       let first : State = with_join_timer s (star_key 0 g) told.timer in
-      ap (λ gs. let later : State × List Message = each_in_turn (source_upstream o a w g) first gs in
-      let both : State × List Message = (later.0, told.messages ++ later.1) in both) (none g)
-      ∙ ap (λ (ms : List Message). let both : State × List Message = (first, ms) in both) (append-nil told.messages)
+      ap (λ (later : State × List Message).
+      let both : State × List Message = (later.0, told.messages ++ later.1) in both)
+      (sources_told touched g ks are first)
 
-  all_groups : (gs : List ℕ) (s : State)
-      → each_in_turn (λ t g. group_upstream o a w (keys_at g) t g) s gs
-      ≡ each_in_turn (group_told a w) s (map (group_view o) gs)
-  unfolding each_in_turn
-  all_groups [] s = refl
-  all_groups (g ∷ gs) s =
-      ap (λ (first : State × List Message).
-      let later : State × List Message = each_in_turn (λ t h. group_upstream o a w (keys_at h) t h) first.0 gs in
-      let both : State × List Message = (later.0, first.1 ++ later.1) in both) (star_alone s g)
-      ∙ ap (λ (later : State × List Message).
-      let both : State × List Message = (later.0, (group_told a w s (group_view o g)).1 ++ later.1) in both)
-      (all_groups gs (group_told a w s (group_view o g)).0)
+pub upstream_of_keys : (keys : List Key) (o a : State) (w : ℕ) → NewAreNamed keys o a
+    → own_upstream keys o a w ≡ upstream_by (opening_of o (Touched.Keys keys)) a w
+unfolding own_upstream upstream_by opening_of
+upstream_of_keys keys o a w new =
+    same_steps _ _ (λ s g. group_is o a w (Touched.Keys keys) g (filter (touching keys) (own_keys g o ++ own_keys g a))
+    (own_touched g (touching keys) o a ∙ told_of_keys g o a keys new) s) (groups_of keys) a
+    ∙ sym (of_values (group_step a w) (group_opening o (Touched.Keys keys)) (groups_of keys) a)
 
-pub upstream_by_views : (o a : State) (w : ℕ) (touched : Touched) → IsPlain o → IsPlain a → Covers touched o a
+-- ---- all of them
+
+absorbed : (b c : Bool) → (c ≡ true → b ≡ true) → (b || c) ≡ b
+absorbed true c e = refl
+absorbed false true e = sym (e refl)
+absorbed false false e = refl
+
+-- no more groups than there were
+groups_within : (ks ls : List Key) → ((g : ℕ) → list_any (is_of_group g) ls ≡ true → list_any (is_of_group g) ks ≡ true)
+    → groups_of (ks ++ ls) ≡ groups_of ks
+unfolding groups_of is_among
+groups_within ks ls within =
+    members_tell (map group_in (ks ++ ls)) (map group_in ks) (λ n.
+    any_ascending (λ m. m == n) (map group_in (ks ++ ls))
+    ∙ any_of_map (λ m. m == n) group_in (ks ++ ls)
+    ∙ list_any-append (is_of_group n) ks ls
+    ∙ absorbed (list_any (is_of_group n) ks) (list_any (is_of_group n) ls) (within n)
+    ∙ sym (any_ascending (λ m. m == n) (map group_in ks) ∙ any_of_map (λ m. m == n) group_in ks))
+
+pub upstream_of_all : (o a : State) (w : ℕ) → IsWithin o a → upstream o a w ≡ upstream_by (opening_of o Touched.All) a w
+unfolding upstream upstream_by opening_of
+upstream_of_all o a w within =
+    ap (λ gs. each_in_turn (group_upstream o a w (fact_keys o ++ fact_keys a)) a gs)
+    (groups_within (fact_keys o) (fact_keys a) within.groups)
+    ∙ same_steps _ _ (λ s g. group_is o a w Touched.All g (fact_keys o ++ fact_keys a)
+    (told_of_all g o a (within.sources g)) s)
+    (groups_of (fact_keys o)) a
+    ∙ sym (of_values (group_step a w) (group_opening o Touched.All) (groups_of (fact_keys o)) a)
+
+-- ---- what was opened
+
+pub upstream_of_opened : (touched : Touched) (o a : State) (w : ℕ) → Covers touched o a
     → upstream o a w ≡ upstream_by (opening_of o touched) a w
-unfolding upstream upstream_by opening_of own_upstream
-upstream_by_views o a w Touched.All p q covers =
-    let keys : List Key = fact_keys o ++ fact_keys a in
-    ap (λ gs. each_in_turn (group_upstream o a w keys) a gs) covers
-    ∙ all_groups o a w (λ g. keys) (no_sources_of_both o a p q) (groups_of (fact_keys o)) a
-upstream_by_views o a w (Touched.Keys keys) p q covers =
-    upstream_is_own keys o a w covers
-    ∙ all_groups o a w (λ g. filter (touching keys) (own_keys g o ++ own_keys g a))
-    (no_own_sources (touching keys) o a p q) (groups_of keys) a
+upstream_of_opened Touched.All o a w within = upstream_of_all o a w within
+upstream_of_opened (Touched.Keys keys) o a w concerns =
+    upstream_is_own keys o a w concerns.agrees ∙ upstream_of_keys keys o a w concerns.named

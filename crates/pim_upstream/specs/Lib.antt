@@ -1,3 +1,3 @@
-pub mod Openings
-pub mod Stars
-pub mod Turns
+pub mod Laws
+pub mod Timers
+pub mod Told

@@ -1,11 +1,14 @@
-//! The upstream machines (RFC 7761, sections 4.5.4 to 4.5.6): what is told upstream, and the Join timers. So far
-//! those of (*,G).
+//! The upstream machines (RFC 7761, sections 4.5.4 to 4.5.7): what is told upstream, the Join timers and the override
+//! timers.
 #![tactic(auto)]
 
-pub mod opening;
+mod compound;
+pub mod laws;
+mod message;
+mod rpt;
+mod source;
 mod star;
 mod timer;
 pub mod turns;
 
-pub use opening::{GroupView, Opening};
 pub use turns::changed;

@@ -15,10 +15,11 @@ returns-clause-state c =
     c.trigger.ensures in
     c.in_ok-lower_timers.ensures
     ∙ restarted s c.args.iface.number c.args.from.bits w c.args.hello.now c.replace_neighbour.new.self
-    (c.present.result + c.override_delay.result) c.deref.result.now is c.requires.asserts
+    c.end_losses.new.self (c.present.result + c.override_delay.result) c.deref-2.result.now c.deref.result.now is
+    c.are_keyed.ensures.asserts_rise (c.deref.ensures.value ∙ c.in_ok-lost.ensures) c.end_losses.ensures
     (ap (λ n. n + c.override_delay.result) c.present.ensures.present
-    ∙ ap (λ n. c.replace_neighbour.new.self.present + n) c.override_delay.ensures.delay)
-    (c.deref.ensures.value ∙ c.in_ok-towards.ensures.keys)
+    ∙ ap (λ n. c.end_losses.new.self.present + n) c.override_delay.ensures.delay)
+    (c.deref-2.ensures.value ∙ c.in_ok-towards.ensures.keys)
     ∙ ap (λ (d : ℕ). neighbour_restarted s c.args.iface.number c.args.from.bits d
     (replaced s c.args.iface.number c.args.from.bits d c.args.hello.now))
     (ap (λ (t : Taking). t.draw) (c.turn.view_is ∙ c.timers_towards.ensures.silent))

@@ -1,25 +1,30 @@
+use Rattle.std.proofs.Common.{Some, ap, ◌∙◌}
+use Rattle.pim_model.specs.Tables.{same_hop}
+use Rattle.pim_hello.specs.Towards.{is_towards}
 use Rattle.pim_hello.proofs.Found.{all_found, found, passed}
 use Rattle.pim_hello.proofs.restarted.timers_towards.Goals as goal
 
 pub loop-key-preserved-in-Continue-1 : goal.loop-key-preserved-in-Continue-1
 loop-key-preserved-in-Continue-1 c = (
-  found c.args.world.now c.args.neighbour _ c.loop-key.keys.items c.push.new.self.items
+  found (λ e. is_towards c.args.world.now c.args.neighbour e.0) _ c.loop-key.keys.items c.push.new.self.items
       (c.in-Some.key.now, c.in-Some.field-0-1.now)
-      c.loop-key.key-iterator c.next.new.self c.is_rpf_star.result c.in-Some.ensures.steps c.in_ok-push.ensures.items
-      c.is_rpf_star.ensures
-      c.if-is_rpf_star.true c.loop-key.invariant.0,
+      c.loop-key.key-iterator c.next.new.self c.is_same_hop.result c.in-Some.ensures.steps c.in_ok-push.ensures.items
+      (c.is_same_hop.ensures ∙ ap (λ h. same_hop h (Some c.args.neighbour)) c.upstream_of-upstream.ensures)
+      c.if-is_same_hop.true c.loop-key.invariant.0,
   c.loop-key.invariant.1,
 )
 
 pub loop-key-preserved : goal.loop-key-preserved
 loop-key-preserved c = (
-  passed c.args.world.now c.args.neighbour _ c.loop-key.keys.items (c.in-Some.key.now, c.in-Some.field-0-1.now)
-      c.loop-key.key-iterator c.next.new.self c.is_rpf_star.result c.in-Some.ensures.steps c.is_rpf_star.ensures
-      c.if-is_rpf_star.false c.loop-key.invariant.0,
+  passed (λ e. is_towards c.args.world.now c.args.neighbour e.0) _ c.loop-key.keys.items
+      (c.in-Some.key.now, c.in-Some.field-0-1.now) c.loop-key.key-iterator c.next.new.self c.is_same_hop.result
+      c.in-Some.ensures.steps
+      (c.is_same_hop.ensures ∙ ap (λ h. same_hop h (Some c.args.neighbour)) c.upstream_of-upstream.ensures)
+      c.if-is_same_hop.false c.loop-key.invariant.0,
   c.loop-key.invariant.1,
 )
 
 pub returns-clause-keys : goal.returns-clause-keys
 returns-clause-keys c =
-    all_found c.args.world.now c.args.neighbour _ c.loop-key.keys.items c.loop-key.key-iterator
+    all_found (λ e. is_towards c.args.world.now c.args.neighbour e.0) _ c.loop-key.keys.items c.loop-key.key-iterator
     c.in-None.ensures.steps.0 c.loop-key.invariant.0

@@ -1,18 +1,10 @@
-use Rattle.std.proofs.Common.{List, Ok, ap, subst, sym, ◌∙◌}
+use Rattle.std.proofs.Common.{List, Ok, ap, ◌∙◌}
 use Rattle.pim_types.specs.declared.outcome.Emission.{Emission}
 use Rattle.pim_types.specs.declared.outcome.Outcome.{Outcome}
 use Rattle.pim_types.specs.declared.outcome.Verdict.{Verdict}
-use Rattle.pim_macros.specs.Plain.{IsPlain}
-use Rattle.pim_model.specs.State.{State}
 use Rattle.pim_model.specs.Step.{Answered, outcome_of}
-use Rattle.pim_router.proofs.PlainLaws.{changed, settled}
 use Rattle.pim_router.proofs.Taking.{taken_in_turn}
 use Rattle.pim_router.proofs.event.take.Goals as goal
-
-pub settle-requires : goal.settle-requires
-settle-requires c =
-    subst (λ (x : State). IsPlain x) (sym c.in_ok-apply.ensures.state)
-    (changed c.args.world.now c.of.new.turn.draw c.args.accepted.now c.requires.kept.plain c.requires.built)
 
 pub returns-clause-outcome : goal.returns-clause-outcome
 returns-clause-outcome c =
@@ -21,8 +13,8 @@ returns-clause-outcome c =
     (c.from_vec.ensures ∙ c.in_ok-emissions.ensures.sent)
     ∙ ap (λ (x : Answered). outcome_of x)
     (taken_in_turn c.args.world.now c.apply.new.world c.args.accepted.now c.in_ok-touched.touched c.in_ok-opening.opening c.args.turn.now
-    c.of.new.turn c.apply.new.turn
-    c.requires.kept.plain c.requires.built c.in_ok-touched.ensures c.in_ok-opening.ensures.opening c.requires.begun c.of.ensures.silent
+    c.of.new.turn c.apply.new.turn c.requires.rest.quiet c.are_keyed.ensures
+    c.requires.built c.in_ok-touched.ensures c.in_ok-opening.ensures.opening c.requires.begun c.of.ensures.silent
     c.in_ok-apply.ensures.state c.in_ok-apply.ensures.messages)
 
 pub returns-clause-state : goal.returns-clause-state
@@ -30,13 +22,6 @@ returns-clause-state c =
     c.in_ok-emissions.ensures.state
     ∙ ap (λ (x : Answered). x.state)
     (taken_in_turn c.args.world.now c.apply.new.world c.args.accepted.now c.in_ok-touched.touched c.in_ok-opening.opening c.args.turn.now
-    c.of.new.turn c.apply.new.turn
-    c.requires.kept.plain c.requires.built c.in_ok-touched.ensures c.in_ok-opening.ensures.opening c.requires.begun c.of.ensures.silent
+    c.of.new.turn c.apply.new.turn c.requires.rest.quiet c.are_keyed.ensures
+    c.requires.built c.in_ok-touched.ensures c.in_ok-opening.ensures.opening c.requires.begun c.of.ensures.silent
     c.in_ok-apply.ensures.state c.in_ok-apply.ensures.messages)
-
-pub returns-clause-plain : goal.returns-clause-plain
-returns-clause-plain c =
-    subst (λ (x : State). IsPlain x) (sym c.in_ok-emissions.ensures.state)
-    (settled c.in_ok-opening.opening c.apply.new.world c.apply.new.turn.messages c.apply.new.turn.draw
-    (subst (λ (x : State). IsPlain x) (sym c.in_ok-apply.ensures.state)
-    (changed c.args.world.now c.of.new.turn.draw c.args.accepted.now c.requires.kept.plain c.requires.built)))

@@ -1,10 +1,10 @@
-use Rattle.pim_router.proofs.Touching.{groups_covered, hello_isnt_join_prune, named_covered, refreshed_covered}
+use Rattle.pim_router.proofs.Touching.{facts_covered, hello_isnt_join_prune, named_covered, refreshed_covered}
 use Rattle.pim_router.proofs.touched.touched_by.Goals as goal
 
 pub returns-then-is_refreshed : goal.returns-then-is_refreshed
 returns-then-is_refreshed c =
     refreshed_covered c.args.world.now c.args.accepted.now c.in-Hello.iface c.in-Hello.from c.in-Hello.hello
-    c.new.result c.is_refreshed.result c.in-Hello.is c.requires.kept.rest.settled.ordered.neighbours
+    c.new.result c.is_refreshed.result c.in-Hello.is c.requires.rest.settled.ordered.neighbours
     c.is_refreshed.ensures c.if-is_refreshed.true c.new.ensures
 
 pub returns-in_ok-keys-in-JoinPruneToMe : goal.returns-in_ok-keys-in-JoinPruneToMe
@@ -15,10 +15,10 @@ returns-in_ok-keys-in-JoinPruneToMe c =
 
 pub returns-else-is_refreshed : goal.returns-else-is_refreshed
 returns-else-is_refreshed c = λ w.
-    groups_covered c.args.world.now w c.args.accepted.now c.requires.kept.plain c.requires.built
+    facts_covered c.args.world.now w c.args.accepted.now c.requires.built
     (hello_isnt_join_prune c.args.accepted.now c.in-Hello.iface c.in-Hello.from c.in-Hello.hello c.in-Hello.is)
 
 pub returns-in_default : goal.returns-in_default
 returns-in_default c = λ w.
-    groups_covered c.args.world.now w c.args.accepted.now c.requires.kept.plain c.requires.built
+    facts_covered c.args.world.now w c.args.accepted.now c.requires.built
     c.in_default.not-JoinPruneToMe

@@ -16,11 +16,11 @@ returns c =
     let ten = gathered_more _ _ _ _ _ nine c.in_ok-gather-10.ensures in
     rw (
       ← c.self.view_is,
-      ← c.iter.ensures,
-      ← c.iter-2.ensures,
-      ← c.iter-3.ensures,
-      ← c.iter-4.ensures,
-      ← c.iter-5.ensures,
+      ← c.group_record_rows.ensures.rows,
+      ← c.source_record_rows.ensures.rows,
+      ← c.group_repeat_rows.ensures,
+      ← c.source_repeat_rows.ensures,
+      ← c.sending_rows.ensures,
       ← c.downstream_rows.ensures.rows,
       ← c.assert_rows.ensures.rows,
       ← c.join_timer_rows.ensures,

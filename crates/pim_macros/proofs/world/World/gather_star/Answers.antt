@@ -1,5 +1,6 @@
-use Rattle.std.proofs.Common.{ap, arith, rules, ◌∙◌}
+use Rattle.std.proofs.Common.{ap, arith, nat_lt, rules, ◌&&◌, ◌∙◌}
 use Rattle.std.proofs.lemmas.Grind.{common_steps}
+use Rattle.pim_model.specs.Neighbours.{is_dr}
 use Rattle.pim_model.specs.Sets.{assert_star, is_loser, is_winner, joins_star}
 use Rattle.pim_model.specs.State.{State}
 use Rattle.pim_model.specs.Tables.{has_row, row_at}
@@ -9,7 +10,7 @@ use Rattle.pim_macros.proofs.Asserted.{shown_of_all}
 use Rattle.pim_macros.proofs.world.World.gather_star.Goals as goal
 
 pub returns-clause-sight : goal.returns-clause-sight
-unfolding joins_star rpf_interface_rp
+unfolding joins_star rpf_interface_rp is_dr
 returns-clause-sight c =
     let s = c.args.self.now in
     let g = c.args.group.bits in
@@ -28,5 +29,5 @@ returns-clause-sight c =
       won = shown_of_all _ _ (λ i. is_winner (assert_star s g i))
           (λ i. marks.won i ∙ ap (λ t. is_winner (row_at t (star_key i g))) asserts) c.without_tunnel-3.ensures.limit;
       receivers = c.receivers.ensures;
-      dr = c.dr.ensures;
+      dr = λ i. c.self.invariant.3 i ∙ ap (λ (w : State). nat_lt i 120 && is_dr w i) c.self.view_is;
     }

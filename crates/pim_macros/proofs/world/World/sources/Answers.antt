@@ -15,6 +15,12 @@ returns c =
     rw (← c.self.view_is)
     (facts_in_order _ g (numbers_of c.new-found.result.entries) (numbers_of c.gather-5.new.found.entries) _
     (ap (λ es. numbers_of es) c.new-found.ensures.empty)
-    (rw (← c.iter.ensures, ← c.iter-2.ensures, ← c.iter-3.ensures, ← c.iter-4.ensures, ← c.iter-5.ensures) five)
+    (rw (
+      ← c.group_record_rows.ensures.rows,
+      ← c.source_record_rows.ensures.rows,
+      ← c.group_repeat_rows.ensures,
+      ← c.source_repeat_rows.ensures,
+      ← c.sending_rows.ensures,
+    ) five)
     (c.in_ok-gather_all.ensures
     ∙ ap (λ ns. gathered ns (numbers_of c.gather-5.new.found.entries)) c.sources_of.ensures))

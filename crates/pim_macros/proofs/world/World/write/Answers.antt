@@ -1,10 +1,11 @@
-use Rattle.std.proofs.Common.{◌≡◌, List, Ok, Err, OnOk, Result, ap, ◌∙◌}
+use Rattle.std.proofs.Common.{◌≡◌, ◌≤◌, ◌^◌, List, Ok, Err, OnOk, Result, ap, subst, sym, ◌∙◌}
 use Rattle.pim_ip.specs.declared.fault.Fault.{Fault}
 use Rattle.pim_types.specs.declared.config.InterfaceConfig.{InterfaceConfig}
 use Rattle.pim_model.specs.Messages.{Message}
 use Rattle.pim_model.specs.State.{InterfaceTable, State, interfaces_of}
 use Rattle.pim_model.specs.Writing.{all_written, write_all}
 use Rattle.pim_macros.specs.contracts.world.World.{the_view}
+use Rattle.pim_macros.specs.Sights.{Shows, is_dr_on}
 use Rattle.pim_macros.proofs.Written.{keeps_configured}
 use Rattle.pim_macros.proofs.world.World.write.Goals as goal
 
@@ -25,3 +26,9 @@ pub returns-clause-state : goal.returns-clause-state
 returns-clause-state c =
     rw (← c.self.view_is)
     (leaves c.write.result c.write.new.interfaces (the_view c.self.inside) c.args.out.now c.write.ensures.paid)
+
+pub invariant_of-self : goal.invariant_of-self
+invariant_of-self c =
+    let w = c.self.inside in
+    subst (λ (cs : List InterfaceConfig). (w.present ≤ 2 ^ 62) × (2 ≤ w.settings.robustness) × (w.settings.robustness ≤ 7)
+    × Shows w.dr (is_dr_on cs w.neighbours)) (sym c.write.ensures.configured) c.self.invariant

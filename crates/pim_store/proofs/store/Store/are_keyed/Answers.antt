@@ -10,4 +10,7 @@ returns c =
       asserts = all_fit is_assert_key c.self.inside.asserts c.self.invariant.asserts.fit;
       sources = all_fit is_source_key c.self.inside.sources c.self.invariant.sources.fit;
       registers = all_fit is_source_key c.self.inside.registers c.self.invariant.registers.fit;
+      asserts_rise = c.len.ensures.ascending;
+      sources_rise = c.len-2.ensures.ascending;
+      registers_rise = c.len-3.ensures.ascending;
     })

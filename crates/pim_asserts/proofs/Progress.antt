@@ -1,0 +1,81 @@
+-- Where a loop over changes stands: what was cleared so far, and what is left.
+use Rattle.std.proofs.Common.{◌≡◌, None, false, ◌<◌, ◌≤◌, ◌+◌, ℕ, List, [], ◌∷◌, ◌++◌, refl, ap, sym, ◌∙◌, append-nil, append_assoc, drop, get_or, length}
+use Rattle.std.proofs.lemmas.List.{drop_more, drop_all}
+use Rattle.pim_ip.specs.Addr.{addr}
+use Rattle.pim_types.specs.declared.upstream.TreeState.{TreeState}
+use Rattle.pim_opening.specs.declared.opening.SourceOpening.{SourceOpening}
+use Rattle.pim_model.specs.Messages.{Message}
+use Rattle.pim_model.specs.Querier.{each_in_turn}
+use Rattle.pim_model.specs.State.{State}
+use Rattle.pim_macros.specs.Turns.{Taking, saying}
+
+pub said_nothing : (t : Taking) → saying t [] ≡ t
+said_nothing t = ap (λ (ms : List Message). let u : Taking = record t { messages = ms } in u) (append-nil t.messages)
+
+pub said_both : (t : Taking) (ms ns : List Message) → saying (saying t ms) ns ≡ saying t (ms ++ ns)
+said_both t ms ns =
+    ap (λ (xs : List Message). let u : Taking = record t { messages = xs } in u) (append_assoc t.messages ms ns)
+
+-- what is left to do makes of the state and of the turn what the whole makes of those at the beginning
+pub record Stands (left whole : State × List Message) (t before : Taking) : Type 0 where
+  pub state : left.0 ≡ whole.0
+  pub taking : saying t left.1 ≡ saying before whole.1
+
+pub stands_first : (whole : State × List Message) (t : Taking) → Stands whole whole t t
+stands_first whole t = record { state = refl; taking = refl }
+
+-- one change, and then the rest
+pub stands_next : (once : State × List Message) (rest left whole : State × List Message) (t v before : Taking)
+    → left ≡ (let p : State × List Message = (rest.0, once.1 ++ rest.1) in p) → v ≡ saying t once.1
+    → Stands left whole t before → Stands rest whole v before
+stands_next once rest left whole t v before is says at = record {
+  state = sym (ap (λ (p : State × List Message). p.0) is) ∙ at.state;
+  taking =
+      ap (λ (z : Taking). saying z rest.1) says ∙ said_both t once.1 rest.1
+      ∙ sym (ap (λ (p : State × List Message). saying t p.1) is) ∙ at.taking;
+}
+
+-- nothing is left
+pub stands_last : (s : State) (left whole : State × List Message) (t before : Taking)
+    → left ≡ (let p : State × List Message = (s, []) in p) → Stands left whole t before
+    → (s ≡ whole.0) × (t ≡ saying before whole.1)
+stands_last s left whole t before is at = (
+  sym (ap (λ (p : State × List Message). p.0) is) ∙ at.state,
+  sym (said_nothing t) ∙ sym (ap (λ (p : State × List Message). saying t p.1) is) ∙ at.taking,
+)
+
+-- what stands for a source that isn't there
+abbrev pub no_source : SourceOpening
+no_source = record {
+  source = addr 0;
+  has_facts = false;
+  view = record {
+    is_desired = false;
+    iface = None;
+    next_hop = None;
+    upstream = None;
+    star_upstream = None;
+    tree_upstream = None;
+    tree = TreeState.NotJoined;
+  };
+}
+
+pub next_item : {X : Type 0} (xs : List X) (i : ℕ) (x : X) → i < length xs → x ≡ get_or xs i x
+    → drop i xs ≡ x ∷ drop (i + 1) xs
+next_item xs i x below is = drop_more xs i x below ∙ ap (λ y. y ∷ drop (i + 1) xs) (sym is)
+
+module _ {A : Type 0} (step : State → A → State × List Message) where
+  -- the first change of a list, and then the rest
+  pub next_step : (x : A) (left rest : List A) (s t : State) → left ≡ x ∷ rest → t ≡ (step s x).0
+      → each_in_turn step s left
+      ≡ (let later : State × List Message = each_in_turn step t rest in
+      let p : State × List Message = (later.0, (step s x).1 ++ later.1) in p)
+  unfolding each_in_turn
+  next_step x left rest s t is moved =
+      ap (each_in_turn step s) is
+      ∙ ap (λ (u : State). let later : State × List Message = each_in_turn step u rest in
+      let p : State × List Message = (later.0, (step s x).1 ++ later.1) in p) (sym moved)
+
+  pub no_step : (xs : List A) (i : ℕ) (s : State) → length xs ≤ i → each_in_turn step s (drop i xs) ≡ (s, [])
+  unfolding each_in_turn
+  no_step xs i s over = ap (each_in_turn step s) (drop_all i xs over)

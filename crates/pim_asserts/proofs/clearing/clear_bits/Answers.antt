@@ -1,0 +1,45 @@
+use Rattle.std.proofs.Common.{List, ap, drop, get_or, ◌+◌, ◌∙◌}
+use Rattle.std.proofs.lemmas.List.{drop_more}
+use Rattle.pim_macros.specs.Turns.{saying}
+use Rattle.pim_opening.specs.declared.opening.SourceOpening.{SourceOpening}
+use Rattle.pim_model.specs.Querier.{each_in_turn}
+use Rattle.pim_asserts.specs.Opened.{clear_bit, clear_bits}
+use Rattle.pim_asserts.proofs.Progress.{next_step, no_source, no_step, stands_last, stands_next}
+use Rattle.pim_asserts.proofs.clearing.clear_bits.Goals as goal
+
+pub loop-source-preserved : goal.loop-source-preserved
+loop-source-preserved c =
+    let step = clear_bit c.args.opened.now.group.bits in
+    let i = c.loop-source.source-index in
+    let x = (get_or c.as_slice-source-items.result.now i no_source) in
+    let xs = c.as_slice-source-items.result.now in
+    let s = c.loop-source.world in
+    stands_next (step s x) (each_in_turn step c.clear_bit.new.world (drop (i + 1) xs)) (each_in_turn step s (drop i xs))
+    (each_in_turn step c.args.world.now xs) c.loop-source.turn c.clear_bit.new.turn c.args.turn.now
+    (next_step step x _ _ s c.clear_bit.new.world
+    (drop_more c.as_slice-source-items.result.now i no_source c.loop-source-test.true)
+    c.in_ok-clear_bit.ensures.state)
+    c.in_ok-clear_bit.ensures.messages c.loop-source.invariant
+
+pub returns-clause-state : goal.returns-clause-state
+unfolding clear_bits
+returns-clause-state c =
+    let step = clear_bit c.args.opened.now.group.bits in
+    let i = c.loop-source.source-index in
+    let xs = c.as_slice-source-items.result.now in
+    let s = c.loop-source.world in
+    (stands_last s (each_in_turn step s (drop i xs)) (each_in_turn step c.args.world.now xs) c.loop-source.turn
+    c.args.turn.now (no_step step xs i s c.loop-source-test.false) c.loop-source.invariant).0
+    ∙ ap (λ (ys : List SourceOpening). (each_in_turn step c.args.world.now ys).0) c.as_slice-source-items.ensures
+
+pub returns-clause-messages : goal.returns-clause-messages
+unfolding clear_bits
+returns-clause-messages c =
+    let step = clear_bit c.args.opened.now.group.bits in
+    let i = c.loop-source.source-index in
+    let xs = c.as_slice-source-items.result.now in
+    let s = c.loop-source.world in
+    (stands_last s (each_in_turn step s (drop i xs)) (each_in_turn step c.args.world.now xs) c.loop-source.turn
+    c.args.turn.now (no_step step xs i s c.loop-source-test.false) c.loop-source.invariant).1
+    ∙ ap (λ (ys : List SourceOpening). saying c.args.turn.now (each_in_turn step c.args.world.now ys).1)
+    c.as_slice-source-items.ensures

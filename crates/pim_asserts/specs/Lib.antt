@@ -1,0 +1,3 @@
+pub mod Opened
+pub mod Going
+pub mod Laws

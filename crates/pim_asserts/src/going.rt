@@ -1,0 +1,142 @@
+//! Which asserts must go (RFC 7761, sections 4.6.1 and 4.6.2), by sights of the state as it is.
+ghost use Rattle.std.specs.Prelude.{◌≡◌, ◌<◌, ℕ, Bool, None, Some, nat_lt, not, ◌&&◌, ◌||◌};
+ghost use Rattle.pim_macros.specs.Sights.{IsSourceSight, IsStarSight, is_interface_of};
+ghost use Rattle.pim_model.specs.Neighbours.{is_neighbour};
+ghost use Rattle.pim_model.specs.Sets.{is_better};
+ghost use Rattle.pim_model.specs.Tables.{same_option};
+ghost use Rattle.pim_asserts.specs.Going.{first_below, first_where, goes_at, number_of};
+
+use pim_ifset::IfSet;
+use pim_macros::asserts::is_better;
+use pim_macros::{SourceSight, StarSight, World};
+use pim_types::fact::{AssertMetric, AssertRole};
+use pim_types::{IfaceId, Key, Path};
+
+// The first interface of the set, by number, that passes the test.
+fn first_where<F: Fn(IfaceId) -> bool>(set: IfSet, test: F) -> Option<IfaceId>
+    requires { F.IsAlwaysCallable test }
+    ensures { (p : ℕ → Bool)
+        → ((i : ℕ) (b : Bool) → i < 120 → F.post test (record { number = i }) b → b ≡ p i)
+        → result ≡ first_where p set }
+{
+    for iface in set.iter() {
+        if test(iface) {
+            return Some(iface);
+        }
+    }
+    None
+}
+
+// Whether it is the interface.
+fn is_iface(first: Option<IfaceId>, iface: IfaceId) -> bool
+    ensures { result ≡ same_option (number_of first) (Some iface.number) }
+{
+    first.is_some_and(|first| first == iface)
+}
+
+// Whether the route is over the interface.
+fn is_over(path: Option<Path>, iface: IfaceId) -> bool
+    ensures { result ≡ is_interface_of path iface.number }
+{
+    path.is_some_and(|path| path.iface == iface)
+}
+
+// How the router stands in the assert of an interface that it lost.
+#[derive(Clone, Copy)]
+struct Standing {
+    // AssertTrackingDesired.
+    is_tracked: bool,
+    // my_assert_metric.
+    metric: AssertMetric,
+    // The route was over the interface, and isn't any more.
+    has_moved: bool,
+}
+
+// Whether an assert lost to this winner must go.
+fn loss_goes(world: &World, iface: IfaceId, winner: AssertMetric, standing: Standing) -> bool
+    ensures { result ≡ (not (is_neighbour world.now iface.number winner.address.bits) || not standing.is_tracked
+        || is_better standing.metric winner || standing.has_moved) }
+{
+    !world.is_neighbour(iface, winner.address)
+        || !standing.is_tracked
+        || is_better(standing.metric, winner)
+        || standing.has_moved
+}
+
+// Whether there is an assert of (*,G) on the interface that must go.
+#[tactic(auto, unfolding(crate::specs::Going::goes_at, crate::specs::Opened::must_go_since, pim_model::specs::Unicast::rpf_interface_rp))]
+fn goes_of_star(world: &World, star: &StarSight, was: Option<IfaceId>, iface: IfaceId) -> bool
+    requires { IsStarSight world.now star.now }
+    ensures { result ≡ (nat_lt iface.number 120 && goes_at was star.now.group.bits None world.now iface.number) }
+{
+    let Some(row) = world.assert_at(Key::star(iface, star.group)) else {
+        return false;
+    };
+    if iface.number >= IfSet::LIMIT {
+        return false;
+    }
+    match row.role {
+        AssertRole::Winner => !world.could_assert_star(star).contains(iface),
+        AssertRole::Loser => {
+            let standing = Standing {
+                is_tracked: world.tracking_desired_star(star).contains(iface),
+                metric: world.my_metric_star(star, iface),
+                has_moved: is_iface(was, iface) && !is_over(star.rp_path, iface),
+            };
+            loss_goes(world, iface, row.winner, standing)
+        }
+    }
+}
+
+// Whether there is an assert of (S,G) on the interface that must go.
+#[tactic(auto, unfolding(crate::specs::Going::goes_at, crate::specs::Opened::must_go_since, pim_model::specs::Unicast::rpf_interface))]
+fn goes_of_source(world: &World, sight: &SourceSight, was: Option<IfaceId>, iface: IfaceId) -> bool
+    requires { IsSourceSight world.now sight.now }
+    ensures { result ≡ (nat_lt iface.number 120
+        && goes_at was sight.now.star.group.bits (Some sight.now.source.bits) world.now iface.number) }
+{
+    let Some(row) = world.assert_at(Key::source(iface, sight.star.group, sight.source)) else {
+        return false;
+    };
+    if iface.number >= IfSet::LIMIT {
+        return false;
+    }
+    match row.role {
+        AssertRole::Winner => !world.could_assert(sight).contains(iface),
+        AssertRole::Loser => {
+            let standing = Standing {
+                is_tracked: world.tracking_desired(sight).contains(iface),
+                metric: world.my_metric(sight, iface),
+                has_moved: is_iface(was, iface) && !is_over(sight.path, iface),
+            };
+            loss_goes(world, iface, row.winner, standing)
+        }
+    }
+}
+
+/// The first interface with an assert of (*,G) that must go. `was` is RPF_interface(RP(G)) at the opening.
+pub(crate) fn first_of_star(
+    world: &World,
+    star: &StarSight,
+    was: Option<IfaceId>,
+) -> Option<IfaceId>
+    requires { IsStarSight world.now star.now }
+    ensures { number_of result ≡ first_below (goes_at was star.now.group.bits None world.now) }
+{
+    let asserted = star.won.union(star.lost);
+    first_where(asserted, |iface| goes_of_star(world, star, was, iface))
+}
+
+/// The first interface with an assert of (S,G) that must go. `was` is RPF_interface(S) at the opening.
+pub(crate) fn first_of_source(
+    world: &World,
+    sight: &SourceSight,
+    was: Option<IfaceId>,
+) -> Option<IfaceId>
+    requires { IsSourceSight world.now sight.now }
+    ensures { number_of result
+        ≡ first_below (goes_at was sight.now.star.group.bits (Some sight.now.source.bits) world.now) }
+{
+    let asserted = sight.won.union(sight.lost);
+    first_where(asserted, |iface| goes_of_source(world, sight, was, iface))
+}

@@ -1,0 +1,7 @@
+mod RisingTables
+mod Settled
+mod Members
+pub mod Opened
+pub mod Within
+pub mod Keyed
+mod Steps

@@ -1,0 +1,13 @@
+use Rattle.std.proofs.Common.{◌≡◌, drop, fold}
+use Rattle.pim_model.specs.Registers.{settle_register}
+use Rattle.pim_macros.specs.Sights.{IsStarSight}
+use Rattle.pim_register.specs.Steps.{source_keys}
+use Rattle.pim_register.proofs.settling.settle_sources.Given as goal
+
+abbrev pub invariant-loop-opened : goal.invariant-loop-opened
+invariant-loop-opened l = record {
+  state : fold settle_register l.world (source_keys l.star.group.bits (drop l.opened-index l.sources))
+      ≡ fold settle_register l.fn.world (source_keys l.star.group.bits l.sources);
+  sight : IsStarSight l.world l.star;
+  silent : l.turn ≡ l.fn.turn;
+}

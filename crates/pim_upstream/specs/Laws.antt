@@ -1,0 +1,25 @@
+-- What is told upstream is told by what was opened.
+use Rattle.std.specs.Prelude.{List, ℕ, ◌≡◌}
+use Rattle.pim_types.specs.declared.fact.Key.{Key}
+use Rattle.pim_model.specs.State.{State}
+use Rattle.pim_model.specs.Upstream.{upstream}
+use Rattle.pim_locality.specs.Locality.{own_upstream}
+use Rattle.pim_macros.specs.declared.touched.Touched.{Touched}
+use Rattle.pim_opening.specs.Covers.{Covers, IsWithin, NewAreNamed}
+use Rattle.pim_opening.specs.Openings.{opening_of}
+use Rattle.pim_upstream.specs.Told.{upstream_by}
+
+-- by the sources of these keys
+abbrev pub OwnIsOpened : Type 0
+OwnIsOpened = (keys : List Key) (o a : State) (w : ℕ) → NewAreNamed keys o a
+    → own_upstream keys o a w ≡ upstream_by (opening_of o (Touched.Keys keys)) a w
+
+-- where all is touched
+abbrev pub AllIsOpened : Type 0
+AllIsOpened =
+    (o a : State) (w : ℕ) → IsWithin o a → upstream o a w ≡ upstream_by (opening_of o Touched.All) a w
+
+-- whatever is touched
+abbrev pub UpstreamIsOpened : Type 0
+UpstreamIsOpened = (touched : Touched) (o a : State) (w : ℕ) → Covers touched o a
+    → upstream o a w ≡ upstream_by (opening_of o touched) a w

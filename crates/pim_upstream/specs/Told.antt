@@ -1,0 +1,38 @@
+-- What is told upstream, by what was opened: the touched groups and sources as they were.
+use Rattle.std.specs.Prelude.{List, [], if◌then◌else◌, ℕ, ◌++◌, ◌||◌}
+use Rattle.pim_types.specs.Keys.{rpt_key, source_key, star_key}
+use Rattle.pim_types.specs.declared.upstream.SourceView.{SourceView}
+use Rattle.pim_model.specs.Messages.{Message}
+use Rattle.pim_model.specs.Querier.{each_in_turn}
+use Rattle.pim_model.specs.State.{State}
+use Rattle.pim_model.specs.Upstream.{Told, rpt_told, source_told, source_view, star_told, star_view, with_join_timer, with_override_timer}
+use Rattle.pim_opening.specs.Openings.{has_facts}
+use Rattle.pim_opening.specs.declared.opening.GroupOpening.{GroupOpening}
+use Rattle.pim_opening.specs.declared.opening.SourceOpening.{SourceOpening}
+
+-- (S,G) and (S,G,rpt); a is the state after the change, and the timers move in s
+unfoldable pub source_moved : State → ℕ → ℕ → State → ℕ → SourceView → State × List Message
+source_moved a w g s src old =
+    let new : SourceView = source_view a g src in
+    let joins : Told = source_told a w g src old new in
+    let prunes : Told = rpt_told a w g src old new in (
+      with_override_timer (with_join_timer s (source_key 0 g src) joins.timer) (rpt_key 0 g src) prunes.timer,
+      joins.messages ++ prunes.messages,
+    )
+
+-- of a source without facts, before and after, nothing is told
+unfoldable pub source_step : State → ℕ → ℕ → State → SourceOpening → State × List Message
+source_step a w g s before =
+    if before.has_facts || has_facts a g before.source.bits
+    then source_moved a w g s before.source.bits before.view else (s, [])
+
+unfoldable pub group_step : State → ℕ → State → GroupOpening → State × List Message
+group_step a w s before =
+    let g : ℕ = before.group.bits in
+    let star : Told = star_told a w g before.star (star_view a g) in
+    let first : State = with_join_timer s (star_key 0 g) star.timer in
+    let later : State × List Message = each_in_turn (source_step a w g) first before.sources in
+    (later.0, star.messages ++ later.1)
+
+unfoldable pub upstream_by : List GroupOpening → State → ℕ → State × List Message
+upstream_by opening a w = each_in_turn (group_step a w) a opening

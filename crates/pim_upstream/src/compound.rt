@@ -1,0 +1,51 @@
+//! The sources that a Join(*,G) prunes off the shared tree (RFC 7761, section 4.5.6).
+ghost use Rattle.std.specs.Prelude.{◌≡◌, ◌≤◌, IfOk, length};
+ghost use Rattle.pim_macros.specs.Sights.{IsStarSight};
+ghost use Rattle.pim_model.specs.Upstream.{is_pruned_with_star, pruned_with_star};
+
+use pim_macros::{StarSight, Turn, World};
+use pim_types::Addr;
+use pim_wire::{Entry, EntryKind};
+use std::alloc::AllocError;
+
+// The most sources that one Join prunes.
+const MOST_PRUNED: usize = 160;
+
+// Whether a Join(*,G) prunes the source.
+fn is_pruned(world: &World, turn: &mut Turn, star: &StarSight, source: Addr) -> bool
+    requires { IsStarSight world.now star.now }
+    ensures pruned { result ≡ is_pruned_with_star world.now star.now.group.bits source.bits }
+    ensures silent { turn.new ≡ turn.old }
+{
+    let sight = world.gather_source(*star, source, &mut turn.meter);
+    world.is_pruned_with_star(&sight)
+}
+
+/// The entries of the sources that a Join(*,G) prunes: the lowest 160 of them, ascending.
+pub(crate) fn pruned_with_star(
+    world: &World,
+    turn: &mut Turn,
+    star: &StarSight,
+) -> Result<Vec<Entry>, AllocError>
+    requires { IsStarSight world.now star.now }
+    ensures pruned { IfOk result (λ pruned. pruned.items ≡ pruned_with_star world.now star.now.group.bits) }
+    ensures most { IfOk result (λ pruned. length pruned.items ≤ 160) }
+    ensures silent { turn.new ≡ turn.old }
+{
+    let mut pruned = Vec::new(turn.alloc);
+    let sources = world.sources(turn.alloc, star.group)?;
+    let mut room = MOST_PRUNED;
+    for (source, ()) in sources.iter() {
+        if room == 0 {
+            return Ok(pruned);
+        }
+        if is_pruned(world, turn, star, *source) {
+            pruned.push(Entry {
+                kind: EntryKind::SourceRpt,
+                address: *source,
+            })?;
+            room -= 1;
+        }
+    }
+    Ok(pruned)
+}
