@@ -7,6 +7,7 @@ pub mod Membership
 pub mod Asserts
 pub mod Data
 pub mod Causes
+pub mod Changes
 pub mod Routes
 pub mod Limits
 pub mod SourceSpecific

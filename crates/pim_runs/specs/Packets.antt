@@ -246,6 +246,18 @@ prune_star_on_1 = on 1 (
     hex "45 c0 00 36 00 00 00 00 01 67 cd 93 0a 00 01 01 e0 00 00 0d"
     ++ hex "23 00 d1 d3 01 00 0a 00 01 03 00 01 00 d2 01 00 00 20 e1 01 01 01 00 00 00 01 01 00 07 20 0a 09 09 09")
 
+-- Prune(*,G) to 10.0.1.2
+abbrev pub prune_star_of_10_0_1_2_on_1 : Emission
+prune_star_of_10_0_1_2_on_1 = on 1 (
+    hex "45 c0 00 36 00 00 00 00 01 67 cd 93 0a 00 01 01 e0 00 00 0d"
+    ++ hex "23 00 d1 d4 01 00 0a 00 01 02 00 01 00 d2 01 00 00 20 e1 01 01 01 00 00 00 01 01 00 07 20 0a 09 09 09")
+
+-- Join(10.0.3.5,G) to 10.0.1.2
+abbrev pub join_source_on_1 : Emission
+join_source_on_1 = on 1 (
+    hex "45 c0 00 36 00 00 00 00 01 67 cd 93 0a 00 01 01 e0 00 00 0d"
+    ++ hex "23 00 da e1 01 00 0a 00 01 02 00 01 00 d2 01 00 00 20 e1 01 01 01 00 01 00 00 01 00 04 20 0a 00 03 05")
+
 -- Join(10.0.3.200,G) to 10.0.2.9
 abbrev pub join_source_200_on_2 : Emission
 join_source_200_on_2 = on 2 (

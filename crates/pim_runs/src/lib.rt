@@ -4,6 +4,7 @@
 
 pub mod asserts;
 pub mod causes;
+pub mod changes;
 pub mod data;
 pub mod joins;
 pub mod limits;
