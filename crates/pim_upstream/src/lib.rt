@@ -4,8 +4,6 @@
 
 mod compound;
 pub mod laws;
-mod message;
-mod rpt;
 mod source;
 mod star;
 mod timer;

@@ -3,13 +3,13 @@ ghost use Rattle.std.specs.Prelude.{◌≡◌, [], IfOk, OnOk, if◌then◌else�
 ghost use Rattle.pim_model.specs.Upstream.{join_star_to, prune_star_to, star_stays, star_told};
 ghost use Rattle.pim_macros.specs.Sights.{IsStarSight};
 ghost use Rattle.pim_macros.specs.Turns.{saying};
-ghost use Rattle.pim_upstream.specs.Timers.{change_of};
+ghost use Rattle.pim_rpt.specs.Changes.{change_of};
 
 use crate::compound::pruned_with_star;
-use crate::message::{if_neighbour, is_due_to_assert, override_end, say};
-use crate::timer::Change;
 use pim_macros::desires::is_same_hop;
 use pim_macros::{StarSight, Turn, World};
+use pim_rpt::Change;
+use pim_rpt::message::{if_neighbour, is_due_to_assert, override_end, say};
 use pim_types::{Addr, Hop, StarView};
 use pim_wire::{Entry, EntryKind};
 use std::alloc::AllocError;
@@ -69,7 +69,7 @@ fn prune(
 }
 
 // (*,G) was desired, and is.
-#[tactic(auto, unfolding(pim_model::specs::Upstream::star_stays, crate::specs::Timers::change_of))]
+#[tactic(auto, unfolding(pim_model::specs::Upstream::star_stays, pim_rpt::specs::Changes::change_of))]
 fn stay(
     world: &World,
     turn: &mut Turn,
@@ -116,7 +116,7 @@ fn cease(
 }
 
 /// Sends what follows of the views of a group before and after a change, and tells what becomes of its Join timer.
-#[tactic(auto, unfolding(pim_model::specs::Upstream::star_told, crate::specs::Timers::change_of))]
+#[tactic(auto, unfolding(pim_model::specs::Upstream::star_told, pim_rpt::specs::Changes::change_of))]
 pub(crate) fn tell(
     world: &World,
     turn: &mut Turn,

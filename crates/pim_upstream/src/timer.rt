@@ -3,22 +3,14 @@ ghost use Rattle.std.specs.Prelude.{◌≡◌, OnOk, Some};
 ghost use Rattle.pim_types.specs.Keys.{rpt_key};
 ghost use Rattle.pim_model.specs.State.{State};
 ghost use Rattle.pim_model.specs.Upstream.{LowerTo, changed_end, with_join_timer, with_override_timer};
-ghost use Rattle.pim_upstream.specs.Timers.{after_move, after_moves, change_of, join_key};
+ghost use Rattle.pim_upstream.specs.Timers.{after_move, after_moves, join_key};
+ghost use Rattle.pim_rpt.specs.Changes.{change_of};
 
 use pim_macros::World;
+use pim_rpt::Change;
 use pim_types::fact::{JoinTimerRow, OverrideTimerRow};
 use pim_types::{Addr, IfaceId, Key};
 use std::alloc::AllocError;
-
-/// What becomes of a timer; ends in ms.
-#[derive(Clone, Copy)]
-pub(crate) enum Change {
-    Keep,
-    Cancel,
-    SetTo(u64),
-    /// It ends at this moment at the latest; where there is none, it starts.
-    LowerTo(u64),
-}
 
 /// What becomes of the Join timer of (*,G), without a source, or of (S,G), or of the override timer of (S,G,rpt).
 #[derive(Clone, Copy)]
@@ -38,7 +30,7 @@ fn lowered(old: Option<u64>, end: u64) -> u64
 }
 
 // What becomes of a Join timer.
-#[tactic(auto, unfolding(pim_model::specs::Upstream::with_join_timer, pim_model::specs::Upstream::moved_join_timer, crate::specs::Timers::change_of))]
+#[tactic(auto, unfolding(pim_model::specs::Upstream::with_join_timer, pim_model::specs::Upstream::moved_join_timer, pim_rpt::specs::Changes::change_of))]
 fn move_join_timer(
     world: &mut World,
     group: Addr,
@@ -66,7 +58,7 @@ fn move_join_timer(
 }
 
 // What becomes of an override timer.
-#[tactic(auto, unfolding(pim_model::specs::Upstream::with_override_timer, pim_model::specs::Upstream::moved_override_timer, crate::specs::Timers::change_of))]
+#[tactic(auto, unfolding(pim_model::specs::Upstream::with_override_timer, pim_model::specs::Upstream::moved_override_timer, pim_rpt::specs::Changes::change_of))]
 fn move_override_timer(
     world: &mut World,
     group: Addr,

@@ -8,7 +8,7 @@ ghost use Rattle.pim_upstream.specs.Told.{group_step, source_moved, source_step,
 ghost use Rattle.pim_upstream.specs.Timers.{after_moves};
 
 use crate::timer::{Move, move_timers, note_join, note_override};
-use crate::{rpt, source, star};
+use crate::{source, star};
 use pim_macros::{StarSight, Turn, World};
 use pim_opening::{GroupOpening, Opening, SourceOpening};
 use pim_types::{Addr, SourceView};
@@ -35,7 +35,7 @@ fn tell_views(
     let sight = world.gather_source(*star, source, &mut turn.meter);
     let new = world.source_view_of(&sight);
     let joins = source::tell(world, turn, star.group, source, old, new)?;
-    let prunes = rpt::tell(world, turn, star, source, old, new)?;
+    let prunes = pim_rpt::changed(world, turn, star, source, old, new)?;
     note_join(moves, star.group, Some(source), joins)?;
     note_override(moves, star.group, source, prunes)
 }

@@ -12,7 +12,7 @@ use std::alloc::AllocError;
 
 /// Sends a Join/Prune to a neighbour, where there is one.
 #[tactic(auto, unfolding(pim_model::specs::Upstream::join_prune_to))]
-pub(crate) fn say(
+pub fn say(
     turn: &mut Turn,
     upstream: Option<Hop>,
     group: Addr,
@@ -28,9 +28,9 @@ pub(crate) fn say(
     }
 }
 
-/// The router, where it is still a neighbour.
+/// The router that this is, where it is still a neighbour.
 #[tactic(auto, unfolding(pim_model::specs::Upstream::if_neighbour))]
-pub(crate) fn if_neighbour(world: &World, hop: Option<Hop>) -> Option<Hop>
+pub fn if_neighbour(world: &World, hop: Option<Hop>) -> Option<Hop>
     ensures { result ≡ if_neighbour world.now hop }
 {
     match hop {
@@ -46,7 +46,7 @@ pub(crate) fn if_neighbour(world: &World, hop: Option<Hop>) -> Option<Hop>
 }
 
 /// Whether a change of the upstream neighbour is due to an assert: the route and its next hop are as before.
-pub(crate) fn is_due_to_assert(
+pub fn is_due_to_assert(
     old_iface: Option<IfaceId>,
     new_iface: Option<IfaceId>,
     old_hop: Option<Hop>,
@@ -59,7 +59,7 @@ pub(crate) fn is_due_to_assert(
 
 /// t_override on the interface from now, in ms.
 #[tactic(auto, unfolding(pim_model::specs::Upstream::override_on))]
-pub(crate) fn override_end(world: &World, draw: u32, iface: Option<IfaceId>) -> u64
+pub fn override_end(world: &World, draw: u32, iface: Option<IfaceId>) -> u64
     ensures { result ≡ override_on world.now draw iface }
 {
     match iface {

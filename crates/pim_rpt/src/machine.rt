@@ -3,10 +3,10 @@ ghost use Rattle.std.specs.Prelude.{◌≡◌, IfOk, OnOk};
 ghost use Rattle.pim_model.specs.Upstream.{becomes_star, rpt_told};
 ghost use Rattle.pim_macros.specs.Sights.{IsStarSight};
 ghost use Rattle.pim_macros.specs.Turns.{saying};
-ghost use Rattle.pim_upstream.specs.Timers.{change_of};
+ghost use Rattle.pim_rpt.specs.Changes.{change_of};
 
+use crate::change::Change;
 use crate::message::{override_end, say};
-use crate::timer::Change;
 use pim_macros::desires::is_same_hop;
 use pim_macros::{StarSight, Turn, World};
 use pim_types::{Addr, SourceView, TreeState};
@@ -35,8 +35,8 @@ fn becomes_star(old: SourceView, new: SourceView) -> bool
 
 /// Sends what follows of the views of a source before and after a change, and tells what becomes of the override timer
 /// of (S,G,rpt).
-#[tactic(auto, unfolding(pim_model::specs::Upstream::rpt_told, pim_model::specs::Upstream::rpt_told_from, crate::specs::Timers::change_of))]
-pub(crate) fn tell(
+#[tactic(auto, unfolding(pim_model::specs::Upstream::rpt_told, pim_model::specs::Upstream::rpt_told_from, crate::specs::Changes::change_of))]
+pub fn changed(
     world: &World,
     turn: &mut Turn,
     star: &StarSight,
