@@ -251,15 +251,27 @@ fn steps(alloc: Global, router: &mut Router, events: &[Event]) -> bool {
     true
 }
 
+// Whether a router of the scenario carries out the events, all at once and then others one by one.
+fn takes(alloc: Global, text: &str, events: &[Event], others: &[Event]) -> Result<bool, Fail> {
+    let mut router = router_of(alloc, text)?;
+    Ok(runs(&mut router, events) && steps(alloc, &mut router, others))
+}
+
 // By their contracts a run may always answer that memory was refused, and so may a step of most events. Here
 // there is memory.
 #[test]
 fn takes_events_of_all_kinds_where_there_is_memory(rt: HostRuntime) -> Result<(), Fail> {
     let text = format!(in rt.alloc(); "{ONE_ROUTER}{ONE_JOIN}")?;
-    let mut router = router_of(rt.alloc(), text.as_str())?;
-    let mut events = events_of(rt.alloc(), text.as_str())?;
-    assert!(rt; runs(&mut router, events.as_slice()));
-    push_others(rt.alloc(), &mut events)?;
-    assert!(rt; steps(rt.alloc(), &mut router, events.as_slice()));
+    let events = events_of(rt.alloc(), text.as_str())?;
+    let mut others = events_of(rt.alloc(), text.as_str())?;
+    push_others(rt.alloc(), &mut others)?;
+    assert!(rt;
+        takes(
+            rt.alloc(),
+            text.as_str(),
+            events.as_slice(),
+            others.as_slice()
+        )?
+    );
     Ok(())
 }
