@@ -28,7 +28,7 @@ pub fn say(
     }
 }
 
-/// The router that this is, where it is still a neighbour.
+/// The hop, where its router is still a neighbour.
 #[tactic(auto, unfolding(pim_model::specs::Upstream::if_neighbour))]
 pub fn if_neighbour(world: &World, hop: Option<Hop>) -> Option<Hop>
     ensures { result ≡ if_neighbour world.now hop }
