@@ -1,7 +1,9 @@
-//! A Join/Prune to the router as one message (RFC 7761, sections 4.5.1 to 4.5.3): the keys that it names, whether the
-//! rows that it would make pass the limit on facts, and what it leaves of the downstream states.
+//! The downstream states (RFC 7761, sections 4.5.1 to 4.5.3). A Join/Prune to the router as one message: the keys that
+//! it names, whether the rows that it would make pass the limit on facts, and what it leaves of the states. And what
+//! the ends of their timers change.
 #![tactic(auto)]
 
+pub mod ends;
 pub mod entry;
 pub mod full;
 pub mod message;
@@ -9,6 +11,7 @@ pub mod named;
 pub mod row;
 mod rpt;
 
+pub use ends::fired;
 pub use entry::{is_accepted, is_used};
 pub use full::is_full;
 pub use message::to_me;

@@ -32,18 +32,18 @@ pub fn received(
         return restart(world, turn, iface, from, hello);
     }
     if !world.is_neighbour(iface, from) {
-        trigger(world, iface, turn.draw);
+        trigger(world, iface, turn.draw)?;
     }
     world.replace_neighbour(iface, from, hello)
 }
 
 // A Hello is owed, and the Hello timer is lowered to the triggered delay.
 #[tactic(auto, unfolding(pim_model::specs::Hellos::hello_triggered))]
-fn trigger(world: &mut World, iface: IfaceId, draw: u32)
-    ensures { world.new ≡ hello_triggered world.old iface.number draw }
+fn trigger(world: &mut World, iface: IfaceId, draw: u32) -> Result<(), AllocError>
+    ensures { OnOk result (world.new ≡ hello_triggered world.old iface.number draw) }
 {
     let end = triggered_end(world, draw);
-    world.owe_hello(iface, end);
+    world.owe_hello(iface, end)
 }
 
 /// When a Hello leaves at the latest that something triggers now, in ms: after a delay up to
@@ -73,7 +73,7 @@ fn restart(
     };
     // which timers they are is judged by what was known of the neighbour, their end by what is known now
     let towards = timers_towards(world, turn, neighbour)?;
-    trigger(world, iface, turn.draw);
+    trigger(world, iface, turn.draw)?;
     world.replace_neighbour(iface, from, hello)?;
     // It tells that the keys of asserts rise, so that each stands once.
     world.are_keyed();

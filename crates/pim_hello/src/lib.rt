@@ -1,10 +1,12 @@
-//! Hellos (RFC 7761, section 4.3): what one that came changes, and whether there is room for its
-//! neighbour.
+//! Hellos (RFC 7761, section 4.3): what one that came changes, whether there is room for its neighbour, and
+//! what ends with time.
 #![tactic(auto)]
 
+pub mod ended;
 pub mod full;
 pub mod hello;
 mod restarted;
 
+pub use ended::fired;
 pub use full::is_full;
 pub use hello::{received, triggered_end};

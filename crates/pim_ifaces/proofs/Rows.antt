@@ -12,6 +12,7 @@ use Rattle.pim_types.specs.declared.fact.InterfaceRow.{InterfaceRow}
 use Rattle.pim_types.specs.declared.fact.Key.{Key}
 use Rattle.pim_model.specs.Tables.{Table, change_row, changed_entry, drop_at, drop_where, has_row, put, row_at}
 use Rattle.pim_types.specs.Keys.{addr_cmp, iface_in, iface_key, is_on, key_cmp, same_key}
+use Rattle.pim_model.specs.State.{InterfaceTable}
 use Rattle.pim_model.specs.Hellos.{hellos_triggered}
 use Rattle.pim_model.specs.Writing.{hellos_paid}
 use Rattle.pim_ifaces.specs.Interfaces.{InterfacesRise, IsHeld}
@@ -295,3 +296,52 @@ module _ (configured : List InterfaceConfig) (i : ℕ) (rows : Table InterfaceRo
         held = record { within = h.within; rise = rw same (from_left 0 rows h.rise) };
         same = same;
       }
+
+-- ---- a change that memory may be refused to
+
+-- what stays true of the rows, and what they are where memory was there
+pub record Settles (configured : List InterfaceConfig) (E : Type 0) (r : Result (Unit {0}) E)
+    (new wanted : Table InterfaceRow) : Type 0 where
+  pub held : IsHeld configured new
+  pub ok : OnOk r (new ≡ wanted)
+
+module _ (configured : List InterfaceConfig) (rows : Table InterfaceRow) where
+  pub settled : (E : Type 0) (r : Result (Unit {0}) E) (new changed wanted : Table InterfaceRow)
+      → IsHeld configured rows → (new ≡ changed → Becomes configured new wanted)
+      → OnOk r (new ≡ changed) → OnErr r (new ≡ rows) → Settles configured E r new wanted
+  settled E (Ok done) new changed wanted h becomes ok err =
+      record { held = (becomes ok).held; ok = (becomes ok).same }
+  settled E (Err refused) new changed wanted h becomes ok err = record { held = rw err h; ok = tt }
+
+-- a row changed leaves the keys
+module _ (k : Key) (row : InterfaceRow) where
+  set_step : (low count : ℕ) (e : Key × InterfaceRow) (changed : Table InterfaceRow) (b : Bool)
+      → (e.0 ≡ iface_key (iface_in e.0)) × (low ≤ iface_in e.0) × (iface_in e.0 < count)
+      × InterfacesRise (iface_in e.0 + 1) count changed
+      → InterfacesRise low count (cons_option (cond b (Some (e.0, row)) (Some e)) changed)
+  set_step low count e changed true h = h
+  set_step low count e changed false h = h
+
+  InterfacesRise-set : (low count : ℕ) (rows : Table InterfaceRow) → InterfacesRise low count rows
+      → InterfacesRise low count (change_row (λ _. Some row) k rows)
+  unfolding change_row changed_entry
+  InterfacesRise-set low count [] h = tt
+  InterfacesRise-set low count (e ∷ es) h =
+      set_step low count e _ (same_key k e.0) (h.0, h.1, h.2, InterfacesRise-set (iface_in e.0 + 1) count es h.3)
+
+  pub row_set : (configured : List InterfaceConfig) (rows new : Table InterfaceRow) → IsHeld configured rows
+      → new ≡ change_row (λ _. Some row) k rows → Becomes configured new (change_row (λ _. Some row) k rows)
+  row_set configured rows new h e = record {
+    held = record { within = h.within; rise = rw e (InterfacesRise-set 0 (length configured) rows h.rise) };
+    same = e;
+  }
+
+-- the rows as those of a table of interfaces
+pub with_rows : (configured : List InterfaceConfig) (E : Type 0) (r : Result (Unit {0}) E)
+    (new wanted : Table InterfaceRow)
+    → OnOk r (new ≡ wanted)
+    → let table : Table InterfaceRow → InterfaceTable = λ rows. record { configured = configured; rows = rows } in
+    OnOk r (table new ≡ table wanted)
+with_rows configured E (Ok done) new wanted e =
+    ap (λ (rows : Table InterfaceRow). let t : InterfaceTable = record { configured = configured; rows = rows } in t) e
+with_rows configured E (Err refused) new wanted e = tt

@@ -1,25 +1,31 @@
 //! The interfaces of a router.
-ghost use Rattle.std.specs.Prelude.{◌≡◌, ◌<◌, ◌≤◌, [], length, slice_get, option_map, IfSome, IsTrue, OnOk, OnErr};
+ghost use Rattle.std.specs.Prelude.{◌≡◌, ◌<◌, ◌≤◌, [], length, slice_get, option_map, IfSome, IsTrue, IfOk, Ok, OnOk, OnErr, Some};
 ghost use Rattle.pim_model.specs.Hellos.{hellos_triggered};
 ghost use Rattle.pim_model.specs.State.{is_own_among};
-ghost use Rattle.pim_model.specs.Tables.{drop_where, has_row, put, row_at};
+ghost use Rattle.pim_model.specs.Clearing.{first_by};
+ghost use Rattle.pim_model.specs.Timers.{endings, is_ending_first};
+ghost use Rattle.pim_tables.specs.Ends.{due_of};
+ghost use Rattle.pim_types.specs.declared.timer.TimerKind.{TimerKind as Kind};
+ghost use Rattle.pim_model.specs.Tables.{change_row, drop_where, has_row, put, row_at};
 ghost use Rattle.pim_types.specs.Keys.{iface_key, is_on};
-ghost use Rattle.pim_model.specs.Unicast.{is_on_link_among, link_among};
+ghost use Rattle.pim_model.specs.Unicast.{link_among};
+ghost use Rattle.pim_ifaces.specs.Interfaces.{interfaces_test};
 ghost use Rattle.pim_model.specs.Writing.{hellos_paid};
 
-use crate::limits::{MOST_INTERFACES, subnet};
-use arrayvec::ArrayVec;
-use pim_tables::Facts;
+use crate::configured::Configured;
+use crate::limits::MOST_INTERFACES;
+use pim_tables::Timed;
+use pim_timers::Wheel;
 use pim_types::fact::InterfaceRow;
-use pim_types::{Addr, IfaceId, InterfaceConfig, Key};
+use pim_types::{Addr, IfaceId, InterfaceConfig, Key, Timer};
 use std::alloc::{AllocError, Global};
 use std::marker::Model;
 
 /// The configured interfaces, and the rows of those that are up.
 #[derive(Drop)]
 pub struct Interfaces {
-    configured: ArrayVec<InterfaceConfig, MOST_INTERFACES>,
-    rows: Facts<InterfaceRow>,
+    configured: Configured,
+    rows: Timed<InterfaceRow, Wheel>,
 }
 
 impl Model for Interfaces {
@@ -28,21 +34,21 @@ impl Model for Interfaces {
 
     ghost Value = { InterfaceTable };
 
-    ghost view = { λ a. record { configured = a.configured.items; rows = a.rows } };
+    ghost view = { λ a. record { configured = a.configured; rows = a.rows } };
 
-    ghost invariant = { λ a. IsHeld a.configured.items a.rows };
+    ghost invariant = { λ a. IsHeld a.configured a.rows };
 }
 
 impl Interfaces {
-    /// These interfaces, all down.
-    pub fn new(alloc: Global, configured: &[InterfaceConfig]) -> Self
-        requires { length configured.now ≤ MOST_INTERFACES }
-        ensures { result ≡ record { configured = configured.now; rows = [] } }
+    /// These interfaces, all down. An error is want of memory.
+    pub fn new(alloc: Global, configured: &[InterfaceConfig]) -> Result<Self, AllocError>
+        requires { interfaces_test configured.now ≡ Ok tt }
+        ensures { IfOk result (λ made. made ≡ record { configured = configured.now; rows = [] }) }
     {
-        Interfaces {
-            configured: copied(configured),
-            rows: Facts::new(alloc),
-        }
+        Ok(Interfaces {
+            configured: Configured::new(alloc, configured)?,
+            rows: Timed::new(alloc, Wheel::new(alloc)?),
+        })
     }
 
     /// How many interfaces are configured.
@@ -50,7 +56,7 @@ impl Interfaces {
         ensures count { result ≡ length self.now.configured }
         ensures within { result ≤ MOST_INTERFACES }
     {
-        self.configured.len() as u32
+        self.configured.as_slice().len() as u32
     }
 
     /// The configured interfaces, by their numbers.
@@ -82,52 +88,65 @@ impl Interfaces {
         self.rows.get(Key::iface(iface))
     }
 
+    /// The row under the key, if there is one.
+    pub fn row_at(&self, key: Key) -> Option<InterfaceRow>
+        ensures { result ≡ row_at self.now.rows key }
+    {
+        self.rows.get(key)
+    }
+
     /// Whether the address is one of the router's, its interface being up or not.
-    #[tactic(auto, unfolding(pim_model::specs::State::is_own_among))]
     pub fn is_own(&self, address: Addr) -> bool
         ensures { result ≡ is_own_among self.now.configured address.bits }
     {
-        for interface in self.configured() {
-            if interface.address == address {
-                return true;
-            }
-        }
-        false
-    }
-
-    /// The first interface that is up and whose subnet the address lies in.
-    #[tactic(auto, unfolding(pim_model::specs::Unicast::link_among))]
-    pub fn link_to(&self, address: Addr) -> Option<IfaceId>
-        ensures first { option_map (λ i. i.number) result ≡ link_among self.now.configured self.now.rows address.bits }
-        ensures configured { IfSome result (λ i. i.number < length self.now.configured) }
-    {
-        for number in 0..self.count() {
-            let iface = IfaceId { number };
-            if self.is_on_link(iface, address) {
-                return Some(iface);
-            }
-        }
-        None
-    }
-
-    // Whether the interface is up and the address lies in its subnet.
-    #[tactic(auto, unfolding(pim_model::specs::Unicast::is_on_link_among))]
-    fn is_on_link(&self, iface: IfaceId, address: Addr) -> bool
-        ensures { result ≡ is_on_link_among self.now.configured self.now.rows address.bits iface.number }
-    {
+        // An own address lies in the subnet of its interface.
+        let Some(iface) = self.configured.subnet_of(address) else {
+            return false;
+        };
         match self.config(iface) {
-            Some(interface) => subnet(interface).contains(address) && self.is_up(iface),
+            Some(interface) => interface.address == address,
             None => false,
         }
     }
 
-    /// Makes the interface up, with this row.
+    /// The first interface that is up and whose subnet the address lies in.
+    pub fn link_to(&self, address: Addr) -> Option<IfaceId>
+        ensures first { option_map (λ i. i.number) result ≡ link_among self.now.configured self.now.rows address.bits }
+        ensures configured { IfSome result (λ i. i.number < length self.now.configured) }
+    {
+        let iface = self.configured.subnet_of(address)?;
+        if !self.is_up(iface) {
+            return None;
+        }
+        Some(iface)
+    }
+
+    /// On which interface the Hello timer ends first, and when, in ms: the least end by its moment and its key.
+    /// `None` where no interface is up.
+    #[tactic(auto, unfolding(pim_tables::specs::Ends::row_endings))]
+    pub fn next(&self) -> Option<(u64, Timer)>
+        ensures { result ≡ option_map due_of (first_by is_ending_first
+            (endings Kind.Hello (λ r. Some r.hello_end) self.now.rows)) }
+    {
+        self.rows.next()
+    }
+
+    /// Makes the interface up, with this row. An error is want of memory, and changes nothing.
     pub fn set_up(&mut self, iface: IfaceId, row: InterfaceRow) -> Result<(), AllocError>
         requires { iface.number < length self.old.configured }
         ensures ok { OnOk result (self.new ≡ record self.old { rows = put self.old.rows (iface_key iface.number) row }) }
         ensures err { OnErr result (self.new ≡ self.old) }
     {
         self.rows.put(Key::iface(iface), row)
+    }
+
+    /// Changes the row under the key, where there is one, to this one. An error is want of memory, and changes nothing.
+    pub fn change(&mut self, key: Key, row: InterfaceRow) -> Result<(), AllocError>
+        ensures to { OnOk result (self.new
+            ≡ record self.old { rows = change_row (λ _. Some row) key self.old.rows }) }
+        ensures err { OnErr result (self.new ≡ self.old) }
+    {
+        self.rows.change(key, row)
     }
 
     /// Makes the interface down: its row goes, if it has one.
@@ -138,44 +157,37 @@ impl Interfaces {
     }
 
     /// Makes a Hello owed on the interface, if it is up, and lets its Hello timer end at this moment
-    /// at the latest, in ms.
-    pub fn owe_hello(&mut self, iface: IfaceId, end: u64)
-        ensures { self.new ≡ record self.old { rows = hellos_triggered iface.number end self.old.rows } }
+    /// at the latest, in ms. An error is want of memory, and changes nothing.
+    pub fn owe_hello(&mut self, iface: IfaceId, end: u64) -> Result<(), AllocError>
+        ensures ok { OnOk result (self.new
+            ≡ record self.old { rows = hellos_triggered iface.number end self.old.rows }) }
+        ensures err { OnErr result (self.new ≡ self.old) }
     {
         let key = Key::iface(iface);
-        if let Some(row) = self.rows.get(key) {
-            let owing = InterfaceRow {
-                hello_end: row.hello_end.min(end),
-                is_hello_owed: true,
-                ..row
-            };
-            self.rows.change(key, owing);
-        }
+        let Some(row) = self.rows.get(key) else {
+            return Ok(());
+        };
+        let owing = InterfaceRow {
+            hello_end: row.hello_end.min(end),
+            is_hello_owed: true,
+            ..row
+        };
+        self.rows.change(key, owing)
     }
 
-    /// Makes no Hello owed on the interface.
-    pub fn pay_hello(&mut self, iface: IfaceId)
-        ensures { self.new ≡ record self.old { rows = hellos_paid iface.number self.old.rows } }
+    /// Makes no Hello owed on the interface. An error is want of memory, and changes nothing.
+    pub fn pay_hello(&mut self, iface: IfaceId) -> Result<(), AllocError>
+        ensures ok { OnOk result (self.new ≡ record self.old { rows = hellos_paid iface.number self.old.rows }) }
+        ensures err { OnErr result (self.new ≡ self.old) }
     {
         let key = Key::iface(iface);
-        if let Some(row) = self.rows.get(key) {
-            let paid = InterfaceRow {
-                is_hello_owed: false,
-                ..row
-            };
-            self.rows.change(key, paid);
-        }
+        let Some(row) = self.rows.get(key) else {
+            return Ok(());
+        };
+        let paid = InterfaceRow {
+            is_hello_owed: false,
+            ..row
+        };
+        self.rows.change(key, paid)
     }
-}
-
-// The same, held in place.
-fn copied(configured: &[InterfaceConfig]) -> ArrayVec<InterfaceConfig, MOST_INTERFACES>
-    requires { length configured.now ≤ MOST_INTERFACES }
-    ensures { result.items ≡ configured.now }
-{
-    let mut held = ArrayVec::new();
-    for interface in configured {
-        held.push(*interface);
-    }
-    held
 }

@@ -3,6 +3,7 @@ pub mod BuiltLaws
 pub mod ClearingLaws
 pub mod DueKept
 pub mod Ends
+pub mod FewerFacts
 pub mod FiringLaws
 pub mod IgmpKept
 pub mod Intervals

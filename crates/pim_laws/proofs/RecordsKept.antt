@@ -25,7 +25,7 @@ use Rattle.pim_laws.proofs.DueKept.{Fires, row_replaced}
 use Rattle.pim_laws.proofs.IgmpKept.{IsSound, still_gone}
 
 -- a member as an entry of the table
-abbrev entry_of : ℕ → ℕ → Member → Key × SourceRecordRow
+abbrev pub entry_of : ℕ → ℕ → Member → Key × SourceRecordRow
 entry_of i g p = (source_key i g p.0, record { end = p.1 })
 
 abbrev shows_source : Mark → Key × SourceRecordRow → Bool
@@ -33,7 +33,7 @@ shows_source mark e = shows_row (λ (r : SourceRecordRow). r.end) is_under_sourc
 
 -- what passes after the members were put passes as a member, or did before
 module _ (q : Key × SourceRecordRow → Bool) (i g : ℕ) where
-  any_of_members : (ms : List Member) (t : Table SourceRecordRow) → list_any q (fold (put_member i g) t ms) ≡ true
+  pub any_of_members : (ms : List Member) (t : Table SourceRecordRow) → list_any q (fold (put_member i g) t ms) ≡ true
       → (list_any (λ p. q (entry_of i g p)) ms || list_any q t) ≡ true
   any_of_members [] t e = e
   any_of_members (p ∷ ps) t e =
@@ -160,7 +160,7 @@ is_source_of src p = p.0 == src
 
 -- a row of the group shows as the member that it is, unless it is under a key of another kind
 module _ (i g : ℕ) where
-  equal_forms : (e : Key × SourceRecordRow) → is_at_group i g e.0 ≡ true → is_under_source e ≡ true
+  pub equal_forms : (e : Key × SourceRecordRow) → is_at_group i g e.0 ≡ true → is_under_source e ≡ true
       → source_key i g (source_in e.0) ≡ e.0
   equal_forms e here good =
       let iface : iface_in e.0

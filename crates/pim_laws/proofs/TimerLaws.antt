@@ -18,9 +18,9 @@ use Rattle.pim_types.proofs.Keys.{equal_keys, same_key_same}
 use Rattle.pim_model.specs.Clearing.{first_by, first_of_both}
 use Rattle.pim_model.specs.State.{State}
 use Rattle.pim_model.specs.Tables.{Table, same_option}
-use Rattle.pim_model.specs.Timers.{Ending, ending, ending_cmp, endings, is_ending_first, next_due, timers}
+use Rattle.pim_model.specs.Timers.{Ending, ending, ending_cmp, endings, is_ending_first, next_due, next_ending, timers}
 use Rattle.pim_laws.proofs.Parts.{end_of, is_sound, part_of, timed_rows}
-use Rattle.pim_laws.specs.Laws.{ends_after, ends_from}
+use Rattle.pim_laws.specs.Laws.{due_by, ends_after, ends_from}
 use Rattle.pim_laws.proofs.ListLaws.{any_more, each_append, each_filter, each_more, each_of_list, each_passes, list_of_each, any_among_all, first_of_all, nothing_first}
 use Rattle.pim_laws.proofs.TableLaws.{any_of_filter_map, any_in_filter}
 use Rattle.pim_laws.proofs.Ends.{Ends, shows_row, shows_in, shows}
@@ -353,6 +353,35 @@ module _ (n m : ℕ) (less : n ≤ m) where
       go false true e f ih =
           let by : x.end ≤ n = leb-true x.end n f in let after : m < x.end = leb-false x.end m e in absurd (omega arith)
       go false false e f ih = ih
+
+-- the first of all, where it is due, and the first of what is due
+module _ (n : ℕ) where
+  all_agree : (xs : List Ending)
+      → Agrees n n (omega arith) (first_by is_ending_first xs) (first_by is_ending_first (filter (is_due n) xs))
+  unfolding Agrees first_by
+  all_agree [] = refl
+  all_agree (x ∷ xs) = go (nat_le x.end n) refl (all_agree xs)
+    where
+      go : (b : Bool) → nat_le x.end n ≡ b
+          → Agrees n n (omega arith) (first_by is_ending_first xs) (first_by is_ending_first (filter (is_due n) xs))
+          → Agrees n n (omega arith) (Some (first_of_both is_ending_first x (first_by is_ending_first xs)))
+          (first_by is_ending_first (cond b (x ∷ filter (is_due n) xs) (filter (is_due n) xs)))
+      go true by ih = both_by n n (omega arith) x _ _ (leb-true x.end n by) ih
+      go false late ih = one_by n n (omega arith) x _ _ (leb-false x.end n late) ih
+
+pub next_due_is_next : (m : ℕ) (s : State) → next_due m s ≡ due_by m (next_ending s)
+unfolding next_due next_ending Agrees
+next_due_is_next m s = go (first_by is_ending_first (timers s)) (all_agree m (timers s))
+  where
+    go : (o : Option Ending) → Agrees m m (omega arith) o (first_by is_ending_first (filter (is_due m) (timers s)))
+        → first_by is_ending_first (filter (is_due m) (timers s)) ≡ due_by m o
+    go None same = same
+    go (Some e) same = pick (nat_le e.end m) refl
+      where
+        pick : (b : Bool) → nat_le e.end m ≡ b
+            → first_by is_ending_first (filter (is_due m) (timers s)) ≡ cond b (Some e) None
+        pick true by = same.0 (leb-true e.end m by)
+        pick false late = same.1 (leb-false e.end m late)
 
 pub first_of_instant : (m : ℕ) (s : State) (e : Ending) → next_due m s ≡ Some e → next_due e.end s ≡ Some e
 unfolding next_due Agrees

@@ -1,6 +1,6 @@
 -- What holds of the definitions for every state.
 use Rattle.std.specs.List.{list_all, list_any}
-use Rattle.std.specs.Prelude.{Bool, Err, List, None, Ok, Some, [], false, nat_le, nat_lt, true, ℕ, ◌&&◌, ◌≡◌, ◌≤◌}
+use Rattle.std.specs.Prelude.{Bool, Err, List, None, Ok, Option, Some, [], false, if◌then◌else◌, nat_le, nat_lt, true, ℕ, ◌&&◌, ◌≡◌, ◌≤◌}
 use Rattle.pim_ip.specs.declared.refusal.Refusal.{Refusal}
 use Rattle.pim_types.specs.declared.config.Config.{Config}
 use Rattle.pim_types.specs.declared.event.Event.{Event}
@@ -18,7 +18,7 @@ use Rattle.pim_model.specs.Step.{Answered, advanced, run, state_after, step}
 use Rattle.pim_types.specs.Keys.{group_in, iface_in, iface_key, is_of_group, same_key, source_in, source_key, star_key}
 use Rattle.pim_model.specs.Desires.{join_desired_star}
 use Rattle.pim_model.specs.Tables.{ascending, is_among}
-use Rattle.pim_model.specs.Timers.{Ending, next_due, timers}
+use Rattle.pim_model.specs.Timers.{Ending, next_due, next_ending, timers}
 use Rattle.pim_model.specs.Upstream.{fact_keys}
 
 -- clearing leaves nothing that must go
@@ -102,6 +102,15 @@ NextIsDue = (m : ℕ) (s : State) (e : Ending) → next_due m s ≡ Some e → e
 
 abbrev pub NextIsLeast : Type 0
 NextIsLeast = (m : ℕ) (s : State) (e : Ending) → next_due m s ≡ Some e → ends_from e.end s ≡ true
+
+-- the ending, if there is one and it is due
+abbrev pub due_by : ℕ → Option Ending → Option Ending
+due_by m None = None
+due_by m (Some e) = if nat_le e.end m then Some e else None
+
+-- it is the least of all, where that is due
+abbrev pub NextIsNextEnding : Type 0
+NextIsNextEnding = (m : ℕ) (s : State) → next_due m s ≡ due_by m (next_ending s)
 
 -- it is the first of its instant
 abbrev pub NextIsFirst : Type 0

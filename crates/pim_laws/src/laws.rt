@@ -1,6 +1,6 @@
 //! Laws of the definitions, each the contract of a function with nothing to do.
 
-ghost use Rattle.pim_laws.specs.Laws.{AbsentIsUndesired, AdvancedIsAhead, AheadIsReady, AscendingAgain, BuiltRunIsRun, BuiltStateIsState, BuiltStepIsStep, ClearingGoesOn, ClearingIsComplete, FiringGoesOn, FiringGoesOnByOne, FiringIsAhead, FiringIsComplete, FiringStops, IgnoredEventChangesNothing, InstantGoesOn, InstantIsComplete, InstantStops, MembersTell, NextIsDue, NextIsFirst, NextIsLeast, OneFiringKeeps, OpeningIsAhead, ReadyAtPresent, RefusedEventChangesNothing};
+ghost use Rattle.pim_laws.specs.Laws.{AbsentIsUndesired, AdvancedIsAhead, AheadIsReady, AscendingAgain, BuiltRunIsRun, BuiltStateIsState, BuiltStepIsStep, ClearingGoesOn, ClearingIsComplete, FiringGoesOn, FiringGoesOnByOne, FiringIsAhead, FiringIsComplete, FiringStops, IgnoredEventChangesNothing, InstantGoesOn, InstantIsComplete, InstantStops, MembersTell, NextIsDue, NextIsFirst, NextIsLeast, NextIsNextEnding, OneFiringKeeps, OpeningIsAhead, ReadyAtPresent, RefusedEventChangesNothing};
 
 /// After clearing no assert and no SPTbit is left that must go.
 #[tactic(auto, using(crate::proofs::ClearingLaws::nothing_to_clear))]
@@ -48,6 +48,12 @@ pub fn next_is_due()
 #[tactic(auto, using(crate::proofs::FiringLaws::next_is_least))]
 pub fn next_is_least()
     ensures { NextIsLeast }
+{}
+
+/// The next timer that is due is the one that ends first, where that is due.
+#[tactic(auto, using(crate::proofs::TimerLaws::next_due_is_next))]
+pub fn next_is_next_ending()
+    ensures { NextIsNextEnding }
 {}
 
 /// The next timer is the first of its instant.

@@ -2,7 +2,7 @@
 use Rattle.std.proofs.Common.{◌≡◌, ◌≤◌, arith, Bool, true, false, Result, Ok, Err, [], refl, ap, ◌∙◌}
 use Rattle.std.proofs.lemmas.Bool.Decides.{nat_tests}
 use Rattle.std.specs.List.{list_all}
-use Rattle.std.specs.Prelude.{if◌then◌else◌, is_err, length, ℕ}
+use Rattle.std.specs.Prelude.{if◌then◌else◌, is_err, length}
 use Rattle.pim_ip.specs.declared.refusal.Refusal.{Refusal}
 use Rattle.pim_ip.specs.Ipv4.{is_unicast}
 use Rattle.pim_ip.specs.Tests.{expect, ◌>>◌}
@@ -61,25 +61,13 @@ pub all_accepted : (c : Config) → settings_test c ≡ Ok tt → are_routes c.i
     → are_rps c.rps ≡ true → config_test c ≡ Ok tt
 all_accepted c e r q = in_two_parts c ∙ rw e (rw r (rw q refl))
 
-within : (a b c d e f g : Bool)
-    → ((expect a Refusal.InterfaceCount >> expect b Refusal.InterfaceAddress >> expect c Refusal.InterfaceLength >>
-    expect d Refusal.Overlap)
-    >> expect e Refusal.BadLimit >> expect f Refusal.BadQuerier >> expect g Refusal.BadDelay) ≡ Ok tt → a ≡ true
-within true b c d e f g h = refl
-within false b c d e f g h = cc
+first_ok : (a b : Result (Unit {0}) Refusal) → (a >> b) ≡ Ok tt → a ≡ Ok tt
+first_ok (Ok done) b h = refl
+first_ok (Err refusal) b h = cc
 
-at_most : (n : ℕ) → is_between 1 most_ifaces n ≡ true → n ≤ 120
-at_most n e = grind (arith, nat_tests, e)
-
-pub interfaces_within : (c : Config) → settings_test c ≡ Ok tt → length c.interfaces ≤ 120
-unfolding settings_test interfaces_test delays_test
-interfaces_within c e =
-    at_most (length c.interfaces)
-    (within (is_between 1 most_ifaces (length c.interfaces))
-    (list_all (λ (i : InterfaceConfig). is_unicast i.address.bits) c.interfaces)
-    (list_all (λ (i : InterfaceConfig). is_between 1 31 i.length) c.interfaces) (are_apart c.interfaces)
-    (is_between 1 1000000 c.limit)
-    (is_querier_config c) (list_all is_delay_config c.interfaces) e)
+pub interfaces_tested : (c : Config) → settings_test c ≡ Ok tt → interfaces_test c.interfaces ≡ Ok tt
+unfolding settings_test
+interfaces_tested c e = first_ok (interfaces_test c.interfaces) _ e
 
 pub test_failed : (b : Bool) (bad : Refusal) (x : Result (Unit {0}) Refusal) → x ≡ (if b then Ok tt else Err bad)
     → is_err x ≡ true → b ≡ false
@@ -113,14 +101,24 @@ sixth true true false d e false g h = cc
 sixth true false c d e false g h = cc
 sixth false b c d e false g h = cc
 
-robust : (c : Config) → is_querier_config c ≡ true → (2 ≤ c.robustness) × (c.robustness ≤ 7)
-unfolding is_querier_config
-robust c e = (grind (arith, nat_tests, e), grind (arith, nat_tests, e))
+-- what a configuration that is accepted says of the querier
+pub record IsPlain (c : Config) : Type 0 where
+  pub least : 2 ≤ c.robustness
+  pub most : c.robustness ≤ 7
+  pub interval : c.query_interval ≤ 31744
 
-pub robustness_within : (c : Config) → settings_test c ≡ Ok tt → (2 ≤ c.robustness) × (c.robustness ≤ 7)
+plain : (c : Config) → is_querier_config c ≡ true → IsPlain c
+unfolding is_querier_config
+plain c e = record {
+  least = grind (arith, nat_tests, e);
+  most = grind (arith, nat_tests, e);
+  interval = grind (arith, nat_tests, e);
+}
+
+pub querier_within : (c : Config) → settings_test c ≡ Ok tt → IsPlain c
 unfolding settings_test interfaces_test delays_test
-robustness_within c e =
-    robust c
+querier_within c e =
+    plain c
     (sixth (is_between 1 most_ifaces (length c.interfaces))
     (list_all (λ (i : InterfaceConfig). is_unicast i.address.bits) c.interfaces)
     (list_all (λ (i : InterfaceConfig). is_between 1 31 i.length) c.interfaces) (are_apart c.interfaces)

@@ -3,10 +3,13 @@ mod Asserted
 mod ConfiguredMembers
 mod Elected
 mod Emptiness
+mod FirstFound
 pub mod Gathered
 pub mod Gathering
 pub mod GatheredSources
+mod NextEnding
 mod NextInterface
 mod Options
 mod Ranges
+mod Short
 pub mod Written

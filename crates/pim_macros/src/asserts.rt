@@ -1,9 +1,11 @@
 //! The macros of the assert machines (RFC 7761, sections 4.6.1 to 4.6.3), by sights of the state as it is.
 ghost use Rattle.std.specs.Option.{option_map_or};
-ghost use Rattle.std.specs.Prelude.{◌≡◌, ◌<◌, false};
+ghost use Rattle.std.specs.Prelude.{◌≡◌, ◌<◌, ◌^◌, ℕ, false};
+ghost use Rattle.pim_macros.specs.Short.{IsShort};
 ghost use Rattle.pim_macros.specs.Sights.{IsSourceSight, IsStarSight, Shows, is_tracked_upstream};
 ghost use Rattle.pim_model.specs.AssertMacros.{could_assert, could_assert_star, infinite, is_infinite, is_tracking_desired, is_tracking_desired_star, my_metric, my_metric_star};
 ghost use Rattle.pim_model.specs.Sets.{is_better, route_metric, rpt_metric, spt_metric};
+ghost use Rattle.pim_model.specs.Unicast.{route, rp_route};
 
 use crate::interfaces::interface_of;
 use crate::sight::{SourceSight, StarSight};
@@ -82,22 +84,34 @@ pub(crate) fn route_metric(
 }
 
 impl World {
+    // The preferences of all routes have 31 bits.
+    fn are_preferences_short(&self)
+        ensures source { (address : ℕ) → IsShort (route self.now address) }
+        ensures group { (group : ℕ) → IsShort (rp_route self.now group) }
+    {
+        self.mrib.are_preferences_short();
+    }
+
     /// spt_assert_metric(S,I).
-    #[tactic(auto, unfolding(pim_model::specs::Sets::spt_metric))]
+    #[tactic(auto, using(crate::proofs::Short::metric_is_short), unfolding(pim_model::specs::Sets::spt_metric))]
     pub fn spt_metric(&self, sight: &SourceSight, iface: IfaceId) -> AssertMetric
         requires { IsSourceSight self.now sight.now }
-        ensures { result ≡ spt_metric self.now sight.now.source.bits iface.number }
+        ensures metric { result ≡ spt_metric self.now sight.now.source.bits iface.number }
+        ensures within { result.preference < 2 ^ 31 }
     {
+        self.are_preferences_short();
         let is_own = self.is_own(sight.source);
         route_metric(false, self.address(iface), is_own, sight.path)
     }
 
     /// rpt_assert_metric(G,I).
-    #[tactic(auto, unfolding(pim_model::specs::Sets::rpt_metric))]
+    #[tactic(auto, using(crate::proofs::Short::metric_is_short), unfolding(pim_model::specs::Sets::rpt_metric))]
     pub fn rpt_metric(&self, star: &StarSight, iface: IfaceId) -> AssertMetric
         requires { IsStarSight self.now star.now }
-        ensures { result ≡ rpt_metric self.now star.now.group.bits iface.number }
+        ensures metric { result ≡ rpt_metric self.now star.now.group.bits iface.number }
+        ensures within { result.preference < 2 ^ 31 }
     {
+        self.are_preferences_short();
         let is_own = self.is_own_rp(star);
         route_metric(true, self.address(iface), is_own, star.rp_path)
     }

@@ -1,11 +1,14 @@
-//! Asserts, sources and registers: looked up, and changed one at a time.
-ghost use Rattle.std.specs.Prelude.{◌≡◌, ◌<◌, OnOk, false};
-ghost use Rattle.pim_model.specs.Tables.{has_row, row_at, set_row};
+//! Asserts, sources and registers: looked up, and changed one at a time. And what the end of a fact's timer changes:
+//! the row under a key, where there is one.
+ghost use Rattle.std.specs.Prelude.{◌≡◌, ◌<◌, OnOk, Some, false, filter};
+ghost use Rattle.pim_model.specs.Neighbours.{t_suppressed};
+ghost use Rattle.pim_model.specs.Tables.{change_row, drop_at, has_row, row_at, set_row};
 ghost use Rattle.pim_store.specs.PimTables.{AreKeyed, fact_key, pim_tables};
-ghost use Rattle.pim_types.specs.Keys.{source_key};
+ghost use Rattle.pim_types.specs.Keys.{is_of_group, source_key};
 
 use crate::world::World;
-use pim_types::fact::{AssertRow, RegisterRow, SourceRow};
+use pim_tables::GroupRows;
+use pim_types::fact::{AssertRow, DownstreamRow, JoinTimerRow, RegisterRow, SourceRow};
 use pim_types::{Addr, IfaceId, Key};
 use std::alloc::AllocError;
 use std::collections::btree_map::Iter;
@@ -69,12 +72,26 @@ impl World {
         self.store.set_source(group, source, row)
     }
 
+    /// The Join timers of the group, by rising key: that of (*,G), then those of its sources.
+    pub fn join_timers_of(&self, group: Addr) -> GroupRows<'_, JoinTimerRow>
+        ensures { result ≡ filter (λ e. is_of_group group.bits e.0) self.now.join_timers }
+    {
+        self.store.join_timers_of(group)
+    }
+
     /// Whether there is a register under the key.
     #[tactic(auto, unfolding(pim_model::specs::Tables::has_row))]
     pub fn has_register(&self, key: Key) -> bool
         ensures { result ≡ has_row self.now.registers key }
     {
         self.store.register(key).is_some()
+    }
+
+    /// The register under the key.
+    pub fn register_at(&self, key: Key) -> Option<RegisterRow>
+        ensures { result ≡ row_at self.now.registers key }
+    {
+        self.store.register(key)
     }
 
     /// Gives the source of the group this register, or takes its register away.
@@ -89,5 +106,75 @@ impl World {
         }) }
     {
         self.store.set_register(group, source, row)
+    }
+
+    /// Where there is a downstream state under the key, puts this one in its place.
+    pub fn change_downstream(&mut self, key: Key, row: DownstreamRow) -> Result<(), AllocError>
+        ensures { OnOk result (self.new
+            ≡ record self.old { downstream = change_row (λ before. Some row) key self.old.downstream }) }
+    {
+        self.store.change_downstream(key, row)
+    }
+
+    /// Takes the downstream state under the key away, if there is one.
+    pub fn drop_downstream(&mut self, key: Key)
+        ensures { self.new ≡ record self.old { downstream = drop_at self.old.downstream key } }
+    {
+        self.store.drop_downstream(key);
+    }
+
+    /// Where there is an assert under the key, puts this one in its place.
+    pub fn change_assert(&mut self, key: Key, row: AssertRow) -> Result<(), AllocError>
+        ensures { OnOk result (self.new
+            ≡ record self.old { asserts = change_row (λ before. Some row) key self.old.asserts }) }
+    {
+        self.store.change_assert(key, row)
+    }
+
+    /// Takes the assert under the key away, if there is one.
+    pub fn drop_assert(&mut self, key: Key)
+        ensures { self.new ≡ record self.old { asserts = drop_at self.old.asserts key } }
+    {
+        self.store.drop_assert(key);
+    }
+
+    /// Where there is a source under the key, gives it this row, or takes its row away.
+    pub fn change_source(&mut self, key: Key, row: Option<SourceRow>) -> Result<(), AllocError>
+        ensures { OnOk result (self.new
+            ≡ record self.old { sources = change_row (λ before. row) key self.old.sources }) }
+    {
+        self.store.change_source(key, row)
+    }
+
+    /// Where there is a register under the key, puts this one in its place.
+    pub fn change_register(&mut self, key: Key, row: RegisterRow) -> Result<(), AllocError>
+        ensures { OnOk result (self.new
+            ≡ record self.old { registers = change_row (λ before. Some row) key self.old.registers }) }
+    {
+        self.store.change_register(key, row)
+    }
+
+    /// Where there is a Join timer under the key, puts this one in its place.
+    pub fn change_join_timer(&mut self, key: Key, row: JoinTimerRow) -> Result<(), AllocError>
+        ensures { OnOk result (self.new
+            ≡ record self.old { join_timers = change_row (λ before. Some row) key self.old.join_timers }) }
+    {
+        self.store.change_join_timer(key, row)
+    }
+
+    /// Takes the override timer under the key away, if there is one.
+    pub fn drop_override_timer(&mut self, key: Key)
+        ensures { self.new ≡ record self.old { override_timers = drop_at self.old.override_timers key } }
+    {
+        self.store.drop_override_timer(key);
+    }
+
+    /// `t_suppressed` on the interface (RFC 7761, section 4.11), in ms, as the number draws it; 0 where Join suppression
+    /// is off.
+    #[tactic(auto, unfolding(pim_model::specs::Neighbours::t_suppressed))]
+    pub fn suppressed_delay(&self, iface: IfaceId, draw: u32) -> u64
+        ensures { result ≡ t_suppressed self.now iface.number draw }
+    {
+        self.neighbours.suppressed_delay(iface, draw)
     }
 }

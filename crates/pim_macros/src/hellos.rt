@@ -66,10 +66,11 @@ impl World {
     }
 
     /// Makes a Hello owed on the interface, and lowers its Hello timer to this end, in ms.
-    pub fn owe_hello(&mut self, iface: IfaceId, end: u64)
-        ensures { self.new ≡ record self.old { interfaces = hellos_triggered iface.number end self.old.interfaces } }
+    pub fn owe_hello(&mut self, iface: IfaceId, end: u64) -> Result<(), AllocError>
+        ensures { OnOk result (self.new
+            ≡ record self.old { interfaces = hellos_triggered iface.number end self.old.interfaces }) }
     {
-        self.interfaces.owe_hello(iface, end);
+        self.interfaces.owe_hello(iface, end)
     }
 
     /// Keeps the neighbour as its Hello says, or drops it where the holdtime is 0.

@@ -1,5 +1,5 @@
 //! The whole state, and the changes that are made in it.
-ghost use Rattle.std.specs.Prelude.{◌≡◌, ◌<◌, ◌≤◌, ◌+◌, ◌^◌, ◌==◌, ◌++◌, ◌&&◌, [], Ok, Err, MatchResult, OnOk, OnErr, IfOk, IfErr, filter, length, option_map, slice_get, false, true};
+ghost use Rattle.std.specs.Prelude.{◌≡◌, ◌<◌, ◌≤◌, ◌+◌, ◌^◌, ◌==◌, ◌++◌, ◌&&◌, [], Ok, Err, MatchResult, OnOk, OnErr, IfOk, IfErr, IsTrue, filter, length, option_map, slice_get, false, true};
 ghost use Rattle.std.specs.List.{list_any};
 ghost use Rattle.pim_ip.specs.declared.fault.Fault.{Fault};
 ghost use Rattle.pim_ip.specs.declared.refusal.Refusal.{Refusal};
@@ -21,7 +21,7 @@ use pim_membership::Membership;
 use pim_mrib::Mrib;
 use pim_neighbours::Neighbours;
 use pim_store::Store;
-use pim_types::fact::{DownstreamRow, InterfaceRow, JoinTimerRow, OverrideTimerRow, QuerierRow};
+use pim_types::fact::{DownstreamRow, InterfaceRow, JoinTimerRow, OverrideTimerRow};
 use pim_types::{Addr, Config, Fault, IfaceId, InterfaceConfig, Key, Refusal, Settings};
 use pim_wire::Hello;
 use std::alloc::{AllocError, Global};
@@ -75,7 +75,7 @@ impl Model for World {
     ghost use Rattle.pim_macros.specs.Sights.{Shows, is_dr_on};
 
     ghost invariant = { λ w. (w.present ≤ 2 ^ 62) × (2 ≤ w.settings.robustness) × (w.settings.robustness ≤ 7)
-        × Shows w.dr (is_dr_on w.interfaces.configured w.neighbours) };
+        × Shows w.dr (is_dr_on w.interfaces.configured w.neighbours) × (w.settings.query_interval ≤ 31744) };
 }
 
 impl World {
@@ -90,7 +90,7 @@ impl World {
         if let Err(refusal) = test_settings(&config) {
             return Ok(Err(refusal));
         }
-        let interfaces = Interfaces::new(alloc, config.interfaces.as_slice());
+        let interfaces = Interfaces::new(alloc, config.interfaces.as_slice())?;
         let mut mrib = Mrib::new(alloc);
         if mrib
             .replace(&interfaces, config.routes.as_slice())?
@@ -114,6 +114,7 @@ impl World {
     ) -> Result<World, AllocError>
         requires least { 2 ≤ settings.robustness }
         requires most { settings.robustness ≤ 7 }
+        requires interval { settings.query_interval ≤ 31744 }
         ensures { IfOk result (λ world. world ≡ without_facts settings interfaces mrib) }
     {
         Ok(World {
@@ -121,7 +122,7 @@ impl World {
             present: 0,
             interfaces,
             mrib,
-            neighbours: Neighbours::new(alloc),
+            neighbours: Neighbours::new(alloc)?,
             dr: IfSet::below(IfSet::LIMIT),
             membership: Membership::new(alloc)?,
             store: Store::new(alloc)?,
@@ -158,9 +159,10 @@ impl World {
     pub fn settings(&self) -> Settings
         ensures value { result ≡ self.now.settings }
 
-        // Of every world: the robustness variable of a configuration that was accepted.
+        // Of every world: the robustness variable and the query interval of a configuration that was accepted.
         ensures least { 2 ≤ result.robustness }
         ensures most { result.robustness ≤ 7 }
+        ensures interval { result.query_interval ≤ 31744 }
     {
         self.settings
     }
@@ -175,7 +177,8 @@ impl World {
 
     /// Whether the interface is up.
     pub fn is_up(&self, iface: IfaceId) -> bool
-        ensures { result ≡ is_up self.now iface.number }
+        ensures up { result ≡ is_up self.now iface.number }
+        ensures configured { IsTrue result → iface.number < iface_count self.now }
     {
         self.interfaces.is_up(iface)
     }
@@ -225,13 +228,6 @@ impl World {
         ensures { OnOk result (self.new ≡ record self.old { interfaces = put self.old.interfaces (iface_key iface.number) row }) }
     {
         self.interfaces.set_up(iface, row)
-    }
-
-    /// Gives the interface's querier this row.
-    pub fn set_querier(&mut self, iface: IfaceId, row: QuerierRow) -> Result<(), AllocError>
-        ensures { OnOk result (self.new ≡ record self.old { queriers = put self.old.queriers (iface_key iface.number) row }) }
-    {
-        self.membership.put_querier(iface, row)
     }
 
     /// The downstream states, by rising key.

@@ -1,4 +1,4 @@
-mod Gone
 mod Receivers
 mod Told
 mod Writes
+mod Robust

@@ -1,5 +1,5 @@
 -- What is listed, and the rows of which it is told.
-use Rattle.std.proofs.Common.{◌≡◌, ◌<◌, ℕ, Bool, true, false, cond, not, [], ◌∷◌, Option, Some, None, is_some, nat_lt, option_map, refl, sym, ap, subst, ◌∙◌, arith}
+use Rattle.std.proofs.Common.{◌≡◌, ◌<◌, ◌==◌, ℕ, Bool, true, false, cond, length, not, [], ◌∷◌, Option, Some, None, is_some, nat_lt, option_map, refl, sym, ap, subst, ◌∙◌, arith}
 use Rattle.std.specs.Bool.{beq}
 use Rattle.std.specs.Cmp.{first_so, second_so}
 use Rattle.std.specs.Cmp.Derive.{both_true}
@@ -10,6 +10,7 @@ use Rattle.pim_ip.specs.declared.addr.Addr.{Addr}
 use Rattle.pim_types.specs.declared.fact.Key.{Key}
 use Rattle.pim_types.specs.Keys.{iface_in, key_of, same_key}
 use Rattle.pim_types.proofs.Keys.{equal_keys}
+use Rattle.pim_model.specs.Records.{is_at_group}
 use Rattle.pim_model.specs.Tables.{Table, drop_at, drop_where, has_row, put, row_at}
 use Rattle.pim_laws.proofs.ListLaws.{each_filter, each_more, list_of_each}
 use Rattle.pim_laws.proofs.RowLaws.{each_put}
@@ -162,3 +163,18 @@ pub fits_first : {R : Type 0} (test : Key × R → Bool) (t : Table R) (e : Key 
 fits_first {R} test t e later f first =
     let all : Fits (e ∷ later) =
     subst Fits first (each_filter (λ (e : Key × R). is_record_key e.0 ≡ true) test t f) in all.0
+
+-- the rows of a group on an interface are of an interface below the limit
+module _ {R : Type 0} (i g : ℕ) where
+  near_step : (e : Key × R) (t : Table R) (b : Bool) → is_at_group i g e.0 ≡ b → is_record_key e.0 ≡ true
+      → (0 < length (filter (λ x. is_at_group i g x.0) t) → i < 120)
+      → 0 < length (cond b (e ∷ filter (λ x. is_at_group i g x.0) t) (filter (λ x. is_at_group i g x.0) t)) → i < 120
+  near_step e t true here fit later some =
+      let same : (iface_in e.0 == i) ≡ true = first_so _ _ here in
+      let below : iface_in e.0 < 120 = limit_below (iface_in e.0) (first_so _ _ fit) in
+      grind (arith, nat_tests)
+  near_step e t false here fit later some = later some
+
+  pub near_rows : (t : Table R) → Fits t → 0 < length (filter (λ e. is_at_group i g e.0) t) → i < 120
+  near_rows [] fits some = absurd (omega arith)
+  near_rows (e ∷ t) fits some = near_step e t (is_at_group i g e.0) refl fits.0 (near_rows t fits.1) some

@@ -1,7 +1,7 @@
 -- What is listed of one group, or of one source, and then of all.
 use Rattle.std.proofs.Common.{◌≡◌, ◌==◌, ◌&&◌, ℕ, Bool, true, false, cond, Option, Some, None, refl, sym, ap, ◌∙◌, arith}
 use Rattle.std.specs.Ordering.{is_eq, nat_cmp, ordering_then}
-use Rattle.std.specs.Prelude.{Err, IsOk, Ok, OnErr, OnOk, Result}
+use Rattle.std.specs.Prelude.{Err, Ok, OnErr, OnOk, Result}
 use Rattle.std.specs.declared.cmp.Ordering.{Ordering}
 use Rattle.std.specs.declared.cmp.Ordering.TheVariants.{Less, Equal, Greater}
 use Rattle.std.proofs.lemmas.Bool.Decides.{nat_tests}
@@ -9,8 +9,8 @@ use Rattle.pim_ip.specs.declared.addr.Addr.{Addr}
 use Rattle.pim_types.specs.declared.fact.Key.{Key}
 use Rattle.pim_types.specs.Keys.{key_cmp, key_of, same_key}
 use Rattle.pim_types.proofs.Keys.{equal_keys}
-use Rattle.pim_model.specs.Tables.{Table, drop_at, has_row, put, row_at}
-use Rattle.pim_tables.proofs.Lookups.{absent, row_at-drop_at, row_at-put}
+use Rattle.pim_model.specs.Tables.{Table, drop_at, put, row_at}
+use Rattle.pim_tables.proofs.Lookups.{row_at-drop_at, row_at-put}
 use Rattle.pim_source_trie.specs.Entries.{entry_key}
 use Rattle.pim_membership.specs.Listing.{Lists, Side, Writes, in_entry, in_side, listed, record_key, source_bits, told_of, There, Running}
 use Rattle.pim_membership.specs.declared.listed.Listed.{Listed}

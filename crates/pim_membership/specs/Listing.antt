@@ -1,7 +1,7 @@
 -- What is listed of a group, or of a source: the interfaces with a record of it, and those where its timer runs. No
 -- public clause cites this module.
 use Rattle.std.specs.List.{AllByRecursion}
-use Rattle.std.specs.Prelude.{Bool, None, Option, Some, [], cond, false, is_some, nat_lt, not, option_map, true, unwrap_or, ℕ, ◌&&◌, ◌∷◌, ◌≡◌}
+use Rattle.std.specs.Prelude.{Bool, None, Option, Some, cond, false, is_some, nat_lt, not, option_map, true, unwrap_or, ℕ, ◌&&◌, ◌≡◌}
 use Rattle.pim_ip.specs.declared.addr.Addr.{Addr}
 use Rattle.pim_ifset.specs.Members.{has}
 use Rattle.pim_types.specs.declared.fact.Key.{Key}
@@ -49,11 +49,6 @@ abbrev pub Lists : (before after : Table Listed) → Key → Option Bool → Typ
 Lists before after k timer =
     (x : Side) (i g : ℕ) (s : Option ℕ)
     → listed after x i g s ≡ cond (same_key (key_of i g s false) k) (told_of x timer) (listed before x i g s)
-
--- the key of the first row
-abbrev pub first_key : {R : Type 0} → Table R → Option Key
-first_key [] = None
-first_key (e ∷ t) = Some e.0
 
 -- of an interface that a set can have, and not of (S,G,rpt)
 abbrev pub is_record_key : Key → Bool

@@ -1,7 +1,9 @@
 -- The IGMP membership facts of the router, as plain tables.
-use Rattle.std.specs.Prelude.{[], length, ℕ, ◌+◌, ◌++◌, List, Some}
+use Rattle.std.specs.List.{AllByRecursion}
+use Rattle.std.specs.Prelude.{[], length, ℕ, ◌+◌, ◌++◌, ◌≤◌, List, Some}
 use Rattle.pim_types.specs.declared.fact.GroupRecordRow.{GroupRecordRow}
 use Rattle.pim_types.specs.declared.fact.GroupRepeatRow.{GroupRepeatRow}
+use Rattle.pim_types.specs.declared.fact.Key.{Key}
 use Rattle.pim_types.specs.declared.fact.QuerierRow.{QuerierRow}
 use Rattle.pim_types.specs.declared.fact.SendingRow.{SendingRow}
 use Rattle.pim_types.specs.declared.fact.SourceRecordRow.{SourceRecordRow}
@@ -19,6 +21,10 @@ pub record MembershipTables : Type 0 where
   pub group_repeats : Table GroupRepeatRow
   pub source_repeats : Table SourceRepeatRow
   pub sendings : Table SendingRow
+
+-- each robustness variable has 3 bits
+abbrev pub AreRobust : Table QuerierRow → Type 0
+AreRobust rows = AllByRecursion (λ (e : Key × QuerierRow). (e.1).robustness ≤ 7) rows
 
 abbrev pub no_membership : MembershipTables
 no_membership = record {

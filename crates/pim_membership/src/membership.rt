@@ -1,14 +1,15 @@
 //! The membership facts.
-ghost use Rattle.std.specs.Prelude.{◌≡◌, ◌<◌, ◌≤◌, ◌+◌, ◌^◌, ℕ, None, Some, IfOk, IfSome, IsTrue, OnErr, OnOk, Option, false, filter, nat_lt, option_map};
+ghost use Rattle.std.specs.Prelude.{◌≡◌, ◌<◌, ◌≤◌, ◌+◌, ◌^◌, ℕ, None, Some, IfOk, IfSome, IsTrue, OnErr, OnOk, Option, false, filter, length, nat_lt, option_map};
 ghost use Rattle.std.specs.List.{list_all};
+ghost use Rattle.std.specs.List.Sorted.{IsStrictlySortedBy};
 ghost use Rattle.pim_ifset.specs.Members.{has};
 ghost use Rattle.pim_model.specs.Clearing.{first_by};
 ghost use Rattle.pim_model.specs.Receivers.{is_exclude_among, local_receiver_exclude_among, local_receiver_include_among};
 ghost use Rattle.pim_model.specs.Records.{is_at_group};
-ghost use Rattle.pim_model.specs.Tables.{change_row, drop_where, put, row_at, set_row};
+ghost use Rattle.pim_model.specs.Tables.{change_row, drop_at, drop_where, has_row, keys_in, put, row_at, set_row};
 ghost use Rattle.pim_model.specs.Timers.{is_ending_first};
 ghost use Rattle.pim_tables.specs.Ends.{due_of};
-ghost use Rattle.pim_types.specs.Keys.{iface_in, iface_key, is_on, source_key, star_key};
+ghost use Rattle.pim_types.specs.Keys.{iface_in, iface_key, is_on, key_cmp, source_key, star_key};
 ghost use Rattle.pim_types.specs.declared.fact.GroupRecordRow.{GroupRecordRow as GroupRecord};
 ghost use Rattle.pim_membership.specs.MembershipTables.{counted_records, membership_endings, no_membership};
 
@@ -51,6 +52,10 @@ impl Model for Membership {
       source_repeats = m.source_repeats;
       sendings = m.sendings;
     } };
+
+    ghost use Rattle.pim_membership.specs.MembershipTables.{AreRobust};
+
+    ghost invariant = { λ m. AreRobust m.queriers };
 }
 
 impl Membership {
@@ -70,9 +75,19 @@ impl Membership {
 
     /// The querier of the interface.
     pub fn querier(&self, iface: IfaceId) -> Option<QuerierRow>
-        ensures { result ≡ row_at self.now.queriers (iface_key iface.number) }
+        ensures row { result ≡ row_at self.now.queriers (iface_key iface.number) }
+
+        // Of every querier: the robustness variable has 3 bits.
+        ensures robust { IfSome result (λ row. row.robustness ≤ 7) }
     {
         self.queriers.get(Key::iface(iface))
+    }
+
+    /// The querier under the key.
+    pub fn querier_at(&self, key: Key) -> Option<QuerierRow>
+        ensures { result ≡ row_at self.now.queriers key }
+    {
+        self.queriers.get(key)
     }
 
     /// The queriers, by rising key.
@@ -82,16 +97,19 @@ impl Membership {
         self.queriers.iter()
     }
 
-    /// Gives the interface this querier. An error is want of memory.
+    /// Gives the interface this querier; its robustness variable has 3 bits. An error is want of memory.
     pub fn put_querier(&mut self, iface: IfaceId, row: QuerierRow) -> Result<(), AllocError>
+        requires { row.robustness ≤ 7 }
         ensures { OnOk result (self.new
             ≡ record self.old { queriers = put self.old.queriers (iface_key iface.number) row }) }
     {
         self.queriers.put(Key::iface(iface), row)
     }
 
-    /// Changes the querier of the interface, if it has one, to this one. An error is want of memory.
+    /// Changes the querier of the interface, if it has one, to this one; its robustness variable has 3 bits. An error
+    /// is want of memory.
     pub fn change_querier(&mut self, iface: IfaceId, row: QuerierRow) -> Result<(), AllocError>
+        requires { row.robustness ≤ 7 }
         ensures { OnOk result (self.new ≡ record self.old {
           queriers = change_row (λ _. Some row) (iface_key iface.number) self.old.queriers;
         }) }
@@ -127,6 +145,15 @@ impl Membership {
         }) }
     {
         self.group_records.set(iface, group, None, row)
+    }
+
+    /// Takes the group's record on the interface away.
+    pub fn remove_group_record(&mut self, iface: IfaceId, group: Addr)
+        ensures { self.new ≡ record self.old {
+          group_records = drop_at self.old.group_records (star_key iface.number group.bits);
+        } }
+    {
+        self.group_records.remove(iface, group, None);
     }
 
     /// Changes the group's record on the interface, if there is one, to this one. An error is want of memory.
@@ -169,9 +196,18 @@ impl Membership {
         self.source_records.iter()
     }
 
-    /// The source records of the group on the interface, by rising key.
+    /// Whether there is a source record under the key.
+    #[tactic(auto, unfolding(pim_model::specs::Tables::has_row))]
+    pub fn has_source_record(&self, key: Key) -> bool
+        ensures { result ≡ has_row self.now.source_records key }
+    {
+        self.source_records.get(key).is_some()
+    }
+
+    /// The source records of the group on the interface, by rising key; where there is one, the interface is below 120.
     pub fn source_records_at(&self, iface: IfaceId, group: Addr) -> RowsOf<'_, SourceRecordRow>
-        ensures { result ≡ filter (λ e. is_at_group iface.number group.bits e.0) self.now.source_records }
+        ensures rows { result ≡ filter (λ e. is_at_group iface.number group.bits e.0) self.now.source_records }
+        ensures near { 0 < length result → iface.number < 120 }
     {
         self.source_records.rows_at(iface, group)
     }
@@ -209,6 +245,13 @@ impl Membership {
         self.group_repeats.get(Key::star(iface, group))
     }
 
+    /// The repeats of a group's query that are still to leave, under the key.
+    pub fn group_repeat_at(&self, key: Key) -> Option<GroupRepeatRow>
+        ensures { result ≡ row_at self.now.group_repeats key }
+    {
+        self.group_repeats.get(key)
+    }
+
     /// The repeats of group-specific queries, by rising key.
     pub fn group_repeat_rows(&self) -> Iter<'_, Key, GroupRepeatRow>
         ensures { result ≡ self.now.group_repeats }
@@ -228,6 +271,15 @@ impl Membership {
         }) }
     {
         self.group_repeats.set(Key::star(iface, group), row)
+    }
+
+    /// Repeats the group's query on the interface no more.
+    pub fn remove_group_repeat(&mut self, iface: IfaceId, group: Addr)
+        ensures { self.new ≡ record self.old {
+          group_repeats = drop_at self.old.group_repeats (star_key iface.number group.bits);
+        } }
+    {
+        self.group_repeats.remove(Key::star(iface, group));
     }
 
     /// Changes how the group's query on the interface is repeated, if it is, to this, or ends it. An error is want of
@@ -276,6 +328,15 @@ impl Membership {
         }) }
     {
         self.source_repeats.set(Key::star(iface, group), row)
+    }
+
+    /// Queries the group's sources on the interface no more.
+    pub fn remove_source_repeat(&mut self, iface: IfaceId, group: Addr)
+        ensures { self.new ≡ record self.old {
+          source_repeats = drop_at self.old.source_repeats (star_key iface.number group.bits);
+        } }
+    {
+        self.source_repeats.remove(Key::star(iface, group));
     }
 
     /// Changes when the group's sources on the interface are queried again, if they are, to this, or ends it. An error is want of
@@ -332,6 +393,23 @@ impl Membership {
         }) }
     {
         self.sendings.set(Key::source(iface, group, source), row)
+    }
+
+    /// Changes the sending under the key, if there is one, to this, or ends it.
+    pub fn change_sending(&mut self, key: Key, row: Option<SendingRow>)
+        ensures { self.new ≡ record self.old { sendings = change_row (λ _. row) key self.old.sendings } }
+    {
+        match row {
+            Some(row) => self.sendings.change(key, row),
+            None => self.sendings.remove(key),
+        }
+    }
+
+    /// Sendings are under keys that rise.
+    pub fn sendings_rise(&self)
+        ensures { IsStrictlySortedBy key_cmp (keys_in self.now.sendings) }
+    {
+        let _ = self.sendings.len();
     }
 
     /// Takes all facts of the interface away.

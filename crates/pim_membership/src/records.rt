@@ -7,9 +7,10 @@ ghost use Rattle.pim_model.specs.Records.{is_at_group};
 ghost use Rattle.pim_model.specs.Tables.{change_row, drop_at, drop_where, has_row, put, row_at, rows_on, set_row};
 ghost use Rattle.pim_model.specs.Timers.{is_ending_first};
 ghost use Rattle.pim_tables.specs.Ends.{due_of, row_endings};
+ghost use Rattle.pim_tables.specs.RowsOf.{first_key};
 ghost use Rattle.pim_types.specs.Keys.{iface_in, is_on};
 ghost use Rattle.pim_ifset.specs.Members.{has};
-ghost use Rattle.pim_membership.specs.Listing.{IsListed, Lists, first_key, is_record_key, record_key};
+ghost use Rattle.pim_membership.specs.Listing.{IsListed, Lists, is_record_key, record_key};
 
 use crate::listed::Listed;
 use crate::listing::Listing;
@@ -93,9 +94,10 @@ impl<R: Record> Records<R> {
         self.rows.iter()
     }
 
-    // Those of a group on an interface, by rising key.
+    // Those of a group on an interface, by rising key; where there is one, the interface is below 120.
     pub(crate) fn rows_at(&self, iface: IfaceId, group: Addr) -> RowsOf<'_, R>
-        ensures { result ≡ filter (λ e. is_at_group iface.number group.bits e.0) self.now }
+        ensures rows { result ≡ filter (λ e. is_at_group iface.number group.bits e.0) self.now }
+        ensures near { 0 < length result → iface.number < 120 }
     {
         self.rows.rows_at(iface, group)
     }
@@ -161,7 +163,8 @@ impl<R: Record> Records<R> {
         let key = record_key(iface, group, source);
         relist(&self.rows, &mut self.listing, key, row)?;
         if let Err(refused) = self.rows.put(key, row) {
-            // No record is there.
+            // The record that was there may be listed otherwise now: it goes.
+            self.rows.remove(key);
             self.listing.unlist(iface, group, source);
             return Err(refused);
         }
@@ -169,7 +172,7 @@ impl<R: Record> Records<R> {
     }
 
     // Takes the record away.
-    fn remove(&mut self, iface: IfaceId, group: Addr, source: Option<Addr>)
+    pub(crate) fn remove(&mut self, iface: IfaceId, group: Addr, source: Option<Addr>)
         ensures { self.new ≡ drop_at self.old (record_key iface.number group source) }
     {
         self.rows.remove(record_key(iface, group, source));

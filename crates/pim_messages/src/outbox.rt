@@ -245,11 +245,11 @@ fn write_message(
         && is_hello_owed(interfaces, iface)
     {
         emissions.push(hello_packet(alloc, interfaces, iface)?)?;
-        interfaces.pay_hello(iface);
+        interfaces.pay_hello(iface)?;
     }
     emissions.push(packet)?;
     if let Message::Hello(iface) = message {
-        interfaces.pay_hello(*iface);
+        interfaces.pay_hello(*iface)?;
     }
     Ok(())
 }

@@ -1,30 +1,22 @@
 -- What the router acts on so far. What it doesn't is ignored as Unbuilt, the last reason to ignore an event: after
 -- every refusal and every other reason but Full, which is asked after all of them.
-use Rattle.std.specs.List.{list_all}
-use Rattle.std.specs.Prelude.{Bool, Err, List, Ok, Some, [], false, true, ℕ, ◌&&◌, ◌∷◌}
+use Rattle.std.specs.Prelude.{Bool, Err, List, Ok, [], false, true, ℕ, ◌&&◌, ◌∷◌}
 use Rattle.pim_types.specs.declared.event.Event.{Event}
 use Rattle.pim_types.specs.declared.outcome.Ignored.{Ignored}
 use Rattle.pim_types.specs.declared.outcome.Outcome.{Outcome}
 use Rattle.pim_types.specs.declared.outcome.Stop.{Stop}
-use Rattle.pim_wire.specs.Values.{Group}
-use Rattle.pim_wire.specs.declared.join_prune.Entry.{Entry}
-use Rattle.pim_wire.specs.declared.join_prune.EntryKind.{EntryKind}
 use Rattle.pim_model.specs.declared.accepted.Accepted.{Accepted}
-use Rattle.pim_model.specs.Downstream.{holdtime_forever, is_kind}
 use Rattle.pim_model.specs.Judging.{Judged, judged}
 use Rattle.pim_model.specs.State.{State}
 use Rattle.pim_model.specs.Step.{Answered, concluded, outcome_of, step, stopped, taken_unless_full}
-use Rattle.pim_model.specs.Tables.{is_empty_list, same_option}
 
--- a group of a Join/Prune that is joined by (*,G) alone
-abbrev pub is_joined_by_star : Group → Bool
-is_joined_by_star g = is_empty_list g.prunes && list_all (λ (e : Entry). is_kind e.kind EntryKind.Star) g.joins
-
--- an interface that goes up, a Hello that never ends, and a Join/Prune to the router of joins of (*,G) alone
+-- time that passes, an interface that goes up or down, a Hello, and a Join/Prune to the router
 unfoldable pub is_built : Accepted → Bool
+is_built (Accepted.Advance moment) = true
 is_built (Accepted.Up i) = true
-is_built (Accepted.Hello i from h) = same_option h.holdtime (Some holdtime_forever)
-is_built (Accepted.JoinPruneToMe i m) = list_all is_joined_by_star m.groups
+is_built (Accepted.Down i) = true
+is_built (Accepted.Hello i from h) = true
+is_built (Accepted.JoinPruneToMe i m) = true
 is_built _ = false
 
 unfoldable pub taken_if_built : State → ℕ → Accepted → Answered

@@ -80,5 +80,9 @@ is_ending_first a b = is_lt (ending_cmp a b)
 unfoldable pub next_ending : State → Option Ending
 next_ending s = first_by is_ending_first (timers s)
 
+-- the moment at which time has to go on, if any timer runs
+unfoldable pub next_moment : State → Option ℕ
+next_moment s = option_map (λ (e : Ending). e.end) (next_ending s)
+
 unfoldable pub next_due : ℕ → State → Option Ending
 next_due moment s = first_by is_ending_first (filter (λ (e : Ending). nat_le e.end moment) (timers s))

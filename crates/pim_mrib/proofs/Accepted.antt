@@ -8,16 +8,16 @@ use Rattle.pim_types.specs.declared.config.RpRange.{RpRange}
 use Rattle.pim_trie.specs.Entries.{is_canonical}
 use Rattle.pim_model.specs.Limits.{are_distinct, are_routes, are_rps, is_route, is_rp_range, most_routes, most_rps}
 
-and_first : (a b : Bool) → (a && b) ≡ true → a ≡ true
+pub and_first : (a b : Bool) → (a && b) ≡ true → a ≡ true
 and_first true b e = refl
 and_first false b e = cc
 
-and_second : (a b : Bool) → (a && b) ≡ true → b ≡ true
+pub and_second : (a b : Bool) → (a && b) ≡ true → b ≡ true
 and_second true b e = e
 and_second false b e = cc
 
 -- a list whose members each pass a stricter test
-all_pass : {X : Type 0} (strict test : X → Bool) → ((x : X) → strict x ≡ true → test x ≡ true) → (xs : List X)
+pub all_pass : {X : Type 0} (strict test : X → Bool) → ((x : X) → strict x ≡ true → test x ≡ true) → (xs : List X)
     → list_all strict xs ≡ true → list_all test xs ≡ true
 all_pass strict test weaker [] h = refl
 all_pass strict test weaker (x ∷ xs) h =

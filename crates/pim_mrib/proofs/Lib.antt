@@ -2,4 +2,5 @@ pub mod Accepted
 pub mod Filled
 pub mod Inserted
 pub mod Longest
+mod Preferences
 pub mod Routed

@@ -1,5 +1,6 @@
 -- The routes and the RP ranges as one value, and how many trie nodes a look-up visits.
-use Rattle.std.specs.Prelude.{ℕ, List, if◌then◌else◌, is_some, ◌||◌}
+use Rattle.std.specs.List.{list_all}
+use Rattle.std.specs.Prelude.{Bool, ℕ, List, if◌then◌else◌, is_some, nat_le, ◌||◌}
 use Rattle.pim_types.specs.declared.config.InterfaceConfig.{InterfaceConfig}
 use Rattle.pim_types.specs.declared.config.Route.{Route}
 use Rattle.pim_types.specs.declared.config.RpRange.{RpRange}
@@ -14,6 +15,10 @@ use Rattle.pim_mrib.specs.Index.{nodes_visited}
 pub record RouteTable : Type 0 where
   pub routes : List Route
   pub ranges : List RpRange
+
+-- the preferences of routes are below that of a router without a route
+abbrev pub are_preferred : List Route → Bool
+are_preferred routes = list_all (λ (r : Route). nat_le r.preference 0x7FFF_FFFE) routes
 
 -- none for an own address and for one on a link: no route is looked up
 unfoldable pub route_nodes : List InterfaceConfig → Table InterfaceRow → List Route → ℕ → ℕ

@@ -1,5 +1,5 @@
 //! The unicast routes and the RP ranges of a router.
-ghost use Rattle.std.specs.Prelude.{◌≡◌, ◌≤◌, [], Ok, Err, IfOk, IfErr, OnErr, if◌then◌else◌, option_map};
+ghost use Rattle.std.specs.Prelude.{◌≡◌, ◌<◌, ◌≤◌, ◌^◌, [], Ok, Err, IfOk, IfErr, IfSome, OnErr, if◌then◌else◌, option_map, ℕ, List};
 ghost use Rattle.pim_ip.specs.declared.fault.Fault.{Fault};
 ghost use Rattle.pim_ip.specs.declared.refusal.Refusal.{Refusal};
 ghost use Rattle.pim_trie.specs.Meter.{raised};
@@ -7,6 +7,9 @@ ghost use Rattle.pim_model.specs.Limits.{are_routes, are_rps};
 ghost use Rattle.pim_model.specs.Unicast.{link_path, route_among, route_path, rp_among};
 ghost use Rattle.pim_ip.specs.Ipv4.{is_source_specific};
 ghost use Rattle.pim_mrib.specs.Routes.{route_nodes, rp_nodes};
+ghost use Rattle.pim_model.specs.Tables.{Table};
+ghost use Rattle.pim_types.specs.declared.config.InterfaceConfig.{InterfaceConfig};
+ghost use Rattle.pim_types.specs.declared.fact.InterfaceRow.{InterfaceRow};
 
 use crate::limits::{each_is_route, each_is_rp_range};
 use crate::prefix_list::{PrefixList, Prefixed};
@@ -40,11 +43,14 @@ pub struct Mrib {
 }
 
 impl Model for Mrib {
-    ghost use Rattle.pim_mrib.specs.Routes.{RouteTable};
+    ghost use Rattle.std.specs.Prelude.{◌≡◌, true};
+    ghost use Rattle.pim_mrib.specs.Routes.{RouteTable, are_preferred};
 
     ghost Value = { RouteTable };
 
     ghost view = { λ a. record { routes = a.routes; ranges = a.ranges } };
+
+    ghost invariant = { λ a. are_preferred a.routes ≡ true };
 }
 
 impl Mrib {
@@ -135,6 +141,15 @@ impl Mrib {
             return None;
         }
         Some(route_path(route))
+    }
+
+    /// The preference of every route has 31 bits, whichever interfaces are up.
+    pub fn are_preferences_short(&self)
+        ensures { (configured : List InterfaceConfig) (up : Table InterfaceRow) (address : ℕ)
+            → IfSome (route_among configured up self.now.routes address) (λ path. path.preference < 2 ^ 31) }
+    {
+        // It tells what is known of the routes.
+        let _ = &self.routes;
     }
 
     /// The RP of the group (RFC 7761, section 4.7): that of the range with the longest prefix. A

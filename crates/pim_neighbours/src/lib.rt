@@ -4,8 +4,6 @@
 
 pub mod delays;
 pub mod neighbours;
-pub mod neighbours_on;
 
 pub use delays::delay_in;
 pub use neighbours::{Neighbours, holdtime_end};
-pub use neighbours_on::NeighboursOn;

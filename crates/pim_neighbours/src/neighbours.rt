@@ -1,18 +1,22 @@
 //! The table of neighbours, and what the router decides by it.
-ghost use Rattle.std.specs.Prelude.{◌≡◌, ◌↔◌, ◌+◌, ◌<◌, ◌≤◌, ◌^◌, [], length, IsTrue, OnErr, OnOk};
+ghost use Rattle.std.specs.Prelude.{◌≡◌, ◌↔◌, ◌+◌, ◌<◌, ◌≤◌, ◌^◌, [], length, option_map, IfOk, IsTrue, OnErr, OnOk};
 ghost use Rattle.std.specs.List.Sorted.{IsStrictlySortedBy};
+ghost use Rattle.pim_model.specs.Clearing.{first_by};
 ghost use Rattle.pim_model.specs.Downstream.{holdtime_end_from};
 ghost use Rattle.pim_model.specs.Hellos.{is_generation_changed_among, neighbours_replaced};
 ghost use Rattle.pim_model.specs.Neighbours.{all_have_priority, is_better_dr, is_dr_among, is_suppression_among, nbr_among, override_interval_among, propagation_delay_among, t_override_among, t_suppressed_among};
 ghost use Rattle.pim_model.specs.Tables.{drop_at, drop_where, has_row, keys_in, row_at, rows_on, same_option};
+ghost use Rattle.pim_model.specs.Timers.{endings, is_ending_first};
 ghost use Rattle.pim_neighbours.specs.Refreshed.{is_refreshed};
+ghost use Rattle.pim_tables.specs.Ends.{due_of};
+ghost use Rattle.pim_types.specs.declared.timer.TimerKind.{TimerKind as Kind};
 ghost use Rattle.pim_types.specs.Keys.{is_on, key_cmp, neighbour_key};
 
 use crate::delays::{Delays, delay_in};
-use crate::neighbours_on::NeighboursOn;
-use pim_tables::Facts;
+use pim_tables::{RowsOf, Timed};
+use pim_timers::Wheel;
 use pim_types::fact::NeighbourRow;
-use pim_types::{Addr, Hop, IfaceId, InterfaceConfig, Key, Path};
+use pim_types::{Addr, Hop, IfaceId, InterfaceConfig, Key, Path, Timer};
 use pim_wire::{DEFAULT_HOLDTIME, HOLDTIME_FOREVER, Hello};
 use std::alloc::{AllocError, Global};
 use std::collections::btree_map::Iter;
@@ -38,7 +42,7 @@ fn is_same_priority(first: Option<u32>, second: Option<u32>) -> bool
 /// The PIM neighbours on all interfaces, each as its last Hello said.
 #[derive(Drop)]
 pub struct Neighbours {
-    rows: Facts<NeighbourRow>,
+    rows: Timed<NeighbourRow, Wheel>,
 }
 
 impl Model for Neighbours {
@@ -82,13 +86,13 @@ fn is_better_dr(by_priority: bool, own: &InterfaceConfig, key: &Key, row: &Neigh
 impl Neighbours {
     ghost use Rattle.pim_neighbours.specs.Delays.{announced_among};
 
-    /// No neighbours; it takes no memory.
-    pub fn new(alloc: Global) -> Neighbours
-        ensures { result ≡ [] }
+    /// No neighbours. An error is want of memory.
+    pub fn new(alloc: Global) -> Result<Neighbours, AllocError>
+        ensures { IfOk result (λ made. made ≡ []) }
     {
-        Neighbours {
-            rows: Facts::new(alloc),
-        }
+        Ok(Neighbours {
+            rows: Timed::new(alloc, Wheel::new(alloc)?),
+        })
     }
 
     /// How many neighbours there are on all interfaces.
@@ -108,6 +112,16 @@ impl Neighbours {
         self.rows.is_empty()
     }
 
+    /// Which neighbour ends first, and when, in ms: the least end by its moment and its key. `None` where none
+    /// ever ends.
+    #[tactic(auto, unfolding(pim_tables::specs::Ends::row_endings))]
+    pub fn next(&self) -> Option<(u64, Timer)>
+        ensures { result ≡ option_map due_of (first_by is_ending_first
+            (endings Kind.Neighbour (λ r. r.end) self.now)) }
+    {
+        self.rows.next()
+    }
+
     /// The neighbours, by interface and address.
     pub fn iter(&self) -> Iter<'_, Key, NeighbourRow>
         ensures { result ≡ self.now }
@@ -116,10 +130,10 @@ impl Neighbours {
     }
 
     /// The neighbours on the interface, by address.
-    pub fn iter_on(&self, iface: IfaceId) -> NeighboursOn<'_>
+    pub fn iter_on(&self, iface: IfaceId) -> RowsOf<'_, NeighbourRow>
         ensures { result ≡ rows_on iface.number self.now }
     {
-        NeighboursOn::among(iface, self.rows.iter())
+        self.rows.rows_on(iface)
     }
 
     /// How many neighbours there are on the interface.
@@ -351,6 +365,13 @@ impl Neighbours {
             generation: hello.generation,
         };
         self.rows.put(key, row)
+    }
+
+    /// Takes the neighbour under the key away.
+    pub fn remove_at(&mut self, key: Key)
+        ensures { self.new ≡ drop_at self.old key }
+    {
+        self.rows.remove(key);
     }
 
     /// Takes the neighbour with the address on the interface away.

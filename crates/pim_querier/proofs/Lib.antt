@@ -1,1 +1,5 @@
+mod EachOnce
+mod Expired
+mod Parts
+mod Sent
 mod Starting

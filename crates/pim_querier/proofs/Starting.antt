@@ -1,84 +1,85 @@
--- How querying starts, with the intervals as numbers.
-use Rattle.std.proofs.Common.{◌≡◌, ℕ, List, [], ◌∷◌, ◌++◌, Result, Ok, Err, OnOk, Some, refl, ap, ◌∙◌, ◌+◌, ◌*◌, ◌/◌, ◌-◌, arith}
-use Rattle.std.specs.BTreeMap.{insert_entry, is_at}
-use Rattle.std.specs.Map.{lookup}
-use Rattle.std.specs.Ordering.{match_ordering}
-use Rattle.std.specs.declared.cmp.Ordering.{Ordering}
-use Rattle.std.specs.declared.cmp.Ordering.TheVariants.{Less, Equal, Greater}
+-- How querying starts and goes on, with the intervals as numbers.
+use Rattle.std.proofs.Common.{◌≡◌, ℕ, Bool, true, false, List, [], ◌∷◌, ◌++◌, Result, Ok, Err, OnOk, Option, Some, None, option_map, refl, ap, subst, ◌∙◌, ◌+◌, ◌*◌, ◌/◌, ◌-◌, arith, append-nil, append_assoc}
 use Rattle.pim_types.specs.declared.fact.Key.{Key}
+use Rattle.pim_types.specs.declared.fact.QuerierRow.{QuerierRow}
+use Rattle.pim_types.specs.Keys.{iface_key, same_key}
 use Rattle.igmp_wire.specs.Written.{query_with}
+use Rattle.igmp_wire.specs.declared.write.QueryHeader.{QueryHeader}
+use Rattle.pim_ip.specs.declared.addr.Addr.{Addr}
 use Rattle.pim_model.specs.Messages.{Message}
-use Rattle.pim_model.specs.Querier.{general_query, querier_on, querier_row, querier_up, query_interval, query_sent, querying, robustness, startup_query_interval}
+use Rattle.pim_model.specs.Querier.{general_query, other_querier_gone, querier_on, querier_row, querier_up, query_interval, query_sent, querying, querying_on, specific_queries, specific_query, startup_query_interval}
 use Rattle.pim_model.specs.State.{State}
-use Rattle.pim_model.specs.Tables.{Table, put, row_at}
-use Rattle.pim_types.specs.Keys.{iface_key, key_cmp}
-use Rattle.pim_types.proofs.Keys.{same_key_same}
+use Rattle.pim_model.specs.Tables.{Table, change_row, changed_entry, row_at}
+use Rattle.pim_laws.proofs.RowLaws.{row_put}
 use Rattle.pim_macros.specs.Turns.{Taking, saying}
-use Rattle.pim_querier.specs.Startup.{general_header}
+use Rattle.pim_querier.specs.Queries.{all_queries, asking, bits_of, general_header, specific_header}
 
 module _ {R : Type 0} (k : Key) (r : R) where
-  placed : (x : Key × R) (xs : Table R) (o : Ordering) → key_cmp k x.0 ≡ o
-      → lookup (is_at (key_cmp k)) (insert_entry key_cmp xs k r) ≡ Some r
-      → lookup (is_at (key_cmp k))
-      (match_ordering o ((k, r) ∷ x ∷ xs) ((x.0, r) ∷ xs) (x ∷ insert_entry key_cmp xs k r)) ≡ Some r
-  placed x xs Less e later = rw (same_key_same k) refl
-  placed x xs Equal e later = rw e refl
-  placed x xs Greater e later = rw e later
+  replaced_step : (e : Key × R) (t : Table R) (b : Bool) → same_key k e.0 ≡ b
+      → row_at (change_row (λ old. Some r) k t) k ≡ option_map (λ old. r) (row_at t k)
+      → row_at (change_row (λ old. Some r) k (e ∷ t)) k ≡ option_map (λ old. r) (row_at (e ∷ t) k)
+  unfolding row_at change_row changed_entry
+  replaced_step e t true is later = rw is (rw is refl)
+  replaced_step e t false is later = rw is (rw is later)
 
-  pub row_of_put : (t : Table R) → row_at (put t k r) k ≡ Some r
-  unfolding row_at put
-  row_of_put [] = rw (same_key_same k) refl
-  row_of_put (x ∷ xs) = placed x xs (key_cmp k x.0) refl (row_of_put xs)
+  -- a row that was replaced by this one
+  pub row_replaced : (t : Table R) → row_at (change_row (λ old. Some r) k t) k ≡ option_map (λ old. r) (row_at t k)
+  unfolding row_at change_row
+  row_replaced [] = refl
+  row_replaced (e ∷ t) = replaced_step e t (same_key k e.0) refl (row_replaced t)
 
--- the querier of an interface that has just started
-module _ (s : State) (i next left : ℕ) where
-  abbrev started : State
-  started = querying s i next left
+module _ (s : State) (i : ℕ) where
+  -- with a querier of the configured values
+  interval_started : query_interval (querying s i 0 0) i ≡ 1000 * s.settings.query_interval
+  unfolding query_interval querying querier_row
+  interval_started = rw (row_put (iface_key i) (querier_row s 0 0) s.queriers) refl
 
-  has_row : querier_on started i ≡ Some (querier_row s next left)
-  unfolding querying
-  has_row = row_of_put (iface_key i) (querier_row s next left) s.queriers
+  -- with one where there was any
+  interval_by : (o : Option QuerierRow) → querier_on (querying_on s i 0 0) i ≡ option_map (λ old. querier_row s 0 0) o
+      → query_interval (querying_on s i 0 0) i ≡ 1000 * s.settings.query_interval
+  unfolding query_interval querying_on querier_row
+  interval_by None is = rw is refl
+  interval_by (Some row) is = rw is refl
 
-  interval : query_interval started i ≡ 1000 * s.settings.query_interval
-  unfolding query_interval querier_row
-  interval = rw has_row refl
+  interval_again : query_interval (querying_on s i 0 0) i ≡ 1000 * s.settings.query_interval
+  unfolding querying_on
+  interval_again = interval_by (querier_on s i) found
+    where
+      found : querier_on (querying_on s i 0 0) i ≡ option_map (λ old. querier_row s 0 0) (querier_on s i)
+      found = row_replaced (iface_key i) (querier_row s 0 0) s.queriers
 
-  robust : robustness started i ≡ s.settings.robustness
-  unfolding robustness querier_row
-  robust = rw has_row refl
-
-  quarter : (n : ℕ) → 1000 * n / 4 ≡ 250 * n
-  quarter n = omega arith
-
-  whole : (n : ℕ) → 1000 * n / 1000 ≡ n
-  whole n = omega arith
-
-  startup : startup_query_interval started i ≡ 250 * s.settings.query_interval
+  startup_started : startup_query_interval (querying s i 0 0) i ≡ 250 * s.settings.query_interval
   unfolding startup_query_interval
-  startup = rw interval (quarter s.settings.query_interval)
+  startup_started = rw interval_started (quarter s.settings.query_interval)
+    where
+      quarter : (n : ℕ) → 1000 * n / 4 ≡ 250 * n
+      quarter n = omega arith
 
-  query : general_query started i ≡ Message.Query i (query_with (general_header s.settings) [])
-  unfolding query_sent querying
-  query = rw (robust, interval, whole s.settings.query_interval) refl
+  abbrev started_at : ℕ → State × List Message
+  started_at n =
+      let after : State = querying s i (s.present + n) (s.settings.robustness - 1) in
+      (after, general_query after i ∷ [])
 
-abbrev pub next_query : State → ℕ
-next_query s = s.present + 250 * s.settings.query_interval
+  pub starts : querier_up s i ≡ started_at (250 * s.settings.query_interval)
+  unfolding querier_up
+  starts = ap started_at startup_started
 
-pub starts : (s : State) (i : ℕ) → querier_up s i
-    ≡ (
-      querying s i (next_query s) (s.settings.robustness - 1),
-      Message.Query i
-          (query_with (general_header s.settings) []) ∷ [],
-    )
-unfolding querier_up
-starts s i =
-    ap (λ (n : ℕ). (
-      querying s i (s.present + n) (s.settings.robustness - 1),
-      general_query
-          (querying s i (s.present + n) (s.settings.robustness - 1)) i ∷ [],
-    )) (startup s i 0 0)
-    ∙ ap (λ (m : Message). (querying s i (next_query s) (s.settings.robustness - 1), m ∷ []))
-    (query s i (next_query s) (s.settings.robustness - 1))
+  abbrev again_at : ℕ → State × List Message
+  again_at n = let after : State = querying_on s i (s.present + n) 0 in (after, general_query after i ∷ [])
+
+  pub starts_again : other_querier_gone s i ≡ again_at (1000 * s.settings.query_interval)
+  unfolding other_querier_gone
+  starts_again = ap again_at interval_again
+
+  pub general_sent : Message.Query i (query_with (general_header s i) []) ≡ general_query s i
+  unfolding query_sent
+  general_sent = refl
+
+  pub specific_sent : (g : ℕ) (suppress : Bool) (sources : List Addr)
+      → Message.Query i (query_with (specific_header s i g suppress) sources)
+      ≡ specific_query s i g suppress (bits_of sources)
+  unfolding query_sent
+  specific_sent g suppress sources = refl
 
 -- what was sent in a turn stands behind what it had sent before
 pub said : {E : Type 0} (r : Result (Unit {0}) E) (draw : ℕ) (before after more : List Message) (t : Taking)
@@ -88,3 +89,44 @@ said (Ok done) draw before after more t is e =
     ap (λ (ms : List Message). let u : Taking = record { draw = draw; messages = ms } in u) e
     ∙ ap (λ (u : Taking). saying u more) is
 said (Err refused) draw before after more t is e = tt
+
+pub nothing_said : (t : Taking) → saying t [] ≡ t
+nothing_said t =
+    ap (λ (ms : List Message). let u : Taking = record { draw = t.draw; messages = ms } in u) (append-nil t.messages)
+
+pub said_twice : (t : Taking) (first second : List Message)
+    → saying (saying t first) second ≡ saying t (first ++ second)
+said_twice t first second =
+    ap (λ (ms : List Message). let u : Taking = record { draw = t.draw; messages = ms } in u)
+    (append_assoc t.messages first second)
+
+-- one message that was put into a turn
+pub said_one : {E : Type 0} (r : Result (Unit {0}) E) (draw : ℕ) (before after : List Message) (put said_is : Message)
+    (t : Taking) → (let u : Taking = record { draw = draw; messages = before } in u) ≡ t → put ≡ said_is
+    → OnOk r (after ≡ before ++ put ∷ [])
+    → OnOk r ((let u : Taking = record { draw = draw; messages = after } in u) ≡ saying t (said_is ∷ []))
+said_one r draw before after put said_is t is same e =
+    said r draw before after (said_is ∷ []) t is (subst (λ (m : Message). OnOk r (after ≡ before ++ m ∷ [])) same e)
+
+module _ (s : State) (i : ℕ) where
+  pub general_by : (h : QueryHeader) → h ≡ general_header s i → Message.Query i (query_with h []) ≡ general_query s i
+  general_by h is = ap (λ (x : QueryHeader). Message.Query i (query_with x [])) is ∙ general_sent s i
+
+  pub specific_by : (g : ℕ) (suppress : Bool) (sources : List Addr) (h : QueryHeader)
+      → h ≡ specific_header s i g suppress
+      → Message.Query i (query_with h sources) ≡ specific_query s i g suppress (bits_of sources)
+  specific_by g suppress sources h is =
+      ap (λ (x : QueryHeader). Message.Query i (query_with x sources)) is ∙ specific_sent s i g suppress sources
+
+  pub all_specific : (g : ℕ) (suppress : Bool) (sources : List ℕ) (h : QueryHeader) → h ≡ specific_header s i g suppress
+      → all_queries (asking i h) sources ≡ specific_queries s i g suppress sources
+  unfolding query_sent
+  all_specific g suppress sources h is = ap (λ (x : QueryHeader). all_queries (asking i x) sources) is
+
+pub on_ok : {A E : Type 0} {P : Type 0} (r : Result A E) → P → OnOk r P
+on_ok (Ok a) p = p
+on_ok (Err e) p = tt
+
+pub then_ok : {A E : Type 0} {P Q : Type 0} (r : Result A E) → (P → Q) → OnOk r P → OnOk r Q
+then_ok (Ok a) f p = f p
+then_ok (Err e) f p = tt

@@ -1,1 +1,3 @@
-pub mod Startup
+pub mod Changes
+pub mod Kinds
+pub mod Queries

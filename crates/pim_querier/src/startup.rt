@@ -1,13 +1,12 @@
-//! How querying starts.
-ghost use Rattle.std.specs.Prelude.{◌≡◌, ◌≤◌, OnOk};
-ghost use Rattle.pim_model.specs.Querier.{querier_up};
+//! How querying starts, and goes on.
+ghost use Rattle.std.specs.Prelude.{◌≡◌, ◌<◌, ◌^◌, OnOk, if◌then◌else◌, nat_lt};
+ghost use Rattle.pim_model.specs.Querier.{general_query_due, querier_up, query_interval, startup_query_interval};
 ghost use Rattle.pim_macros.specs.Turns.{saying};
-ghost use Rattle.pim_querier.specs.Startup.{general_header};
 
-use igmp_wire::{QueryHeader, value_code};
+use crate::intervals::{query_interval, startup_query_interval};
+use crate::queries::general_query;
 use pim_macros::{Turn, World};
-use pim_types::fact::{QuerierRole, QuerierRow};
-use pim_types::{Addr, IfaceId, Settings};
+use pim_types::IfaceId;
 use std::alloc::AllocError;
 
 // [Startup Query Interval] is a quarter of the query interval, in ms here.
@@ -15,35 +14,44 @@ const STARTUP_SHARE: u64 = 1000 / 4;
 
 /// Starts querying on an interface that goes up (RFC 3376, sections 6.6.2 and 8.6): a general query is
 /// to leave at once, the first of [Startup Query Count] ones, and the next in the startup query interval.
-#[tactic(auto, unfolding(pim_model::specs::Querier::querier_up))]
 pub fn up(world: &mut World, turn: &mut Turn, iface: IfaceId) -> Result<(), AllocError>
     ensures state { OnOk result (world.new ≡ (querier_up world.old iface.number).0) }
     ensures messages { OnOk result (turn.new ≡ saying turn.old (querier_up world.old iface.number).1) }
 {
     let settings = world.settings();
     let next_query = world.present() + STARTUP_SHARE * u64::from(settings.query_interval);
-    let row = QuerierRow {
-        role: QuerierRole::Querier {
-            next_query,
-            startup_left: settings.robustness - 1,
-        },
-        robustness: settings.robustness,
-        query_interval: settings.query_interval,
-    };
-    world.set_querier(iface, row)?;
-    turn.out.query(iface, &general_query(settings), &[])
+    world.start_querying(iface, next_query, settings.robustness as u8 - 1)?;
+    turn.out.query(iface, &general_query(world, iface), &[])
 }
 
-// The general query of a querier with the configured values.
-fn general_query(settings: Settings) -> QueryHeader
-    requires { settings.robustness ≤ 7 }
-    ensures { result ≡ general_header settings }
+// How long the router waits after a general query, in ms, where so many of the startup queries were to leave with it.
+fn interval_after(world: &World, iface: IfaceId, startup_left: u8) -> u64
+    ensures value { result ≡ (if nat_lt 1 startup_left then startup_query_interval world.now iface.number
+        else query_interval world.now iface.number) }
+    ensures within { result < 2 ^ 26 }
 {
-    QueryHeader {
-        max_response_code: value_code(settings.query_response_interval),
-        group: Addr::NONE,
-        suppress: false,
-        robustness: settings.robustness as u8,
-        interval_code: value_code(settings.query_interval),
+    if startup_left > 1 {
+        startup_query_interval(world, iface)
+    } else {
+        query_interval(world, iface)
     }
+}
+
+/// A general query is due, of which so many more of the startup queries are to leave with it (RFC 3376, sections 6.6.2,
+/// 8.2 and 8.6).
+#[tactic(auto, unfolding(pim_model::specs::Querier::general_query_due))]
+pub fn general_query_due(
+    world: &mut World,
+    turn: &mut Turn,
+    iface: IfaceId,
+    startup_left: u8,
+) -> Result<(), AllocError>
+    ensures state { OnOk result (world.new ≡ (general_query_due world.old iface.number startup_left).0) }
+    ensures messages { OnOk result (turn.new
+        ≡ saying turn.old (general_query_due world.old iface.number startup_left).1) }
+{
+    let query = general_query(world, iface);
+    let next_query = world.present() + interval_after(world, iface, startup_left);
+    world.keep_querying(iface, next_query, startup_left.saturating_sub(1))?;
+    turn.out.query(iface, &query, &[])
 }

@@ -1,5 +1,6 @@
--- Where what is accepted is about an interface, that is one of the router's.
-use Rattle.std.proofs.Common.{◌≡◌, ◌<◌, ℕ, Bool, true, false, not, nat_le, nat_lt, Result, Ok, Err, List, length, arith, refl, subst, sym, ◌∙◌, ◌==◌, ◌&&◌}
+-- Where what is accepted is about an interface, that is one of the router's; where it is about a moment, that is one
+-- that an event may have.
+use Rattle.std.proofs.Common.{◌≡◌, ◌<◌, ◌≤◌, ℕ, Bool, true, false, not, nat_le, nat_lt, Result, Ok, Err, List, length, arith, refl, subst, sym, ◌∙◌, ◌==◌, ◌&&◌}
 use Rattle.std.proofs.lemmas.Bool.Decides.{nat_tests}
 use Rattle.std.specs.Prelude.{if◌then◌else◌}
 use Rattle.pim_ip.specs.Addr.{addr}
@@ -62,6 +63,9 @@ module _ (s : State) where
 
   below : (i n : ℕ) → nat_le n i ≡ false → i < n
   below i n e = grind (arith, nat_tests, e)
+
+  within : (m n : ℕ) → nat_lt n m ≡ false → m ≤ n
+  within m n e = grind (arith, nat_tests, e)
 
   module _ (i : IfaceId) (known : i.number < iface_count s) where
     join_prune : (m : JoinPrune) (b : Bool)
@@ -149,7 +153,7 @@ module _ (s : State) where
       refusing (nat_lt moment s.present) Refusal.MomentBack
       (refuse_if (nat_lt last_moment moment) Refusal.MomentFar >> Ok (Accepted.Advance moment))
       (λ _. refusing (nat_lt last_moment moment) Refusal.MomentFar (Ok (Accepted.Advance moment))
-      (λ _. record { says = tt }))
+      (λ e. record { says = within moment last_moment e }))
   any (EventKind.Frame i bytes) = frame i bytes
   any (EventKind.Unicast bytes) = unicast bytes
   any (EventKind.Up i) =

@@ -1,4 +1,5 @@
 mod Configured
+mod Instants
 mod Runs
 mod Settling
 mod Taking

@@ -21,7 +21,7 @@ use Rattle.pim_model.specs.Limits.{are_routes, are_rps}
 use Rattle.pim_model.specs.Messages.{Message}
 use Rattle.pim_model.specs.State.{State}
 use Rattle.pim_model.specs.Full.{is_full}
-use Rattle.pim_model.specs.Step.{Answered, Change, change, concluded, done, outcome_of, stopped, taken, taken_unless_full}
+use Rattle.pim_model.specs.Step.{Answered, Change, change, concluded, done, outcome_of, advanced, stopped, taken, taken_unless_full}
 use Rattle.pim_model.specs.Sure.{is_sure, needs_no_memory}
 use Rattle.pim_macros.specs.declared.touched.Touched.{Touched}
 use Rattle.pim_opening.specs.Covers.{Covers}
@@ -42,22 +42,22 @@ module _ (s : State) (w : ℕ) where
     no_copies : (change s w a).copies ≡ []
     unregistered : (change s w a).registered ≡ []
 
-  quiet : (a : Accepted) → is_built a ≡ true → IsQuiet a
+  quiet : (a : Accepted) → is_built a ≡ true → ((m : ℕ) → ¬ (a ≡ Accepted.Advance m)) → IsQuiet a
   unfolding taken change is_built
-  quiet (Accepted.Up i) b = record { is_done = refl; no_copies = refl; unregistered = refl }
-  quiet (Accepted.Hello i from h) b = record { is_done = refl; no_copies = refl; unregistered = refl }
-  quiet (Accepted.JoinPruneToMe i m) b = record { is_done = refl; no_copies = refl; unregistered = refl }
-  quiet (Accepted.Advance moment) b = cc
-  quiet (Accepted.Down i) b = cc
-  quiet (Accepted.Routes routes) b = cc
-  quiet (Accepted.Rps ranges) b = cc
-  quiet (Accepted.JoinPruneSeen i m) b = cc
-  quiet (Accepted.Assert i from a) b = cc
-  quiet (Accepted.Query i from q) b = cc
-  quiet (Accepted.Report i records) b = cc
-  quiet (Accepted.Data i packet) b = cc
-  quiet (Accepted.Register packet r) b = cc
-  quiet (Accepted.RegisterStop from r) b = cc
+  quiet (Accepted.Up i) b timeless = record { is_done = refl; no_copies = refl; unregistered = refl }
+  quiet (Accepted.Down i) b timeless = record { is_done = refl; no_copies = refl; unregistered = refl }
+  quiet (Accepted.Hello i from h) b timeless = record { is_done = refl; no_copies = refl; unregistered = refl }
+  quiet (Accepted.JoinPruneToMe i m) b timeless = record { is_done = refl; no_copies = refl; unregistered = refl }
+  quiet (Accepted.Advance moment) b timeless = absurd (timeless moment refl)
+  quiet (Accepted.Routes routes) b timeless = cc
+  quiet (Accepted.Rps ranges) b timeless = cc
+  quiet (Accepted.JoinPruneSeen i m) b timeless = cc
+  quiet (Accepted.Assert i from a) b timeless = cc
+  quiet (Accepted.Query i from q) b timeless = cc
+  quiet (Accepted.Report i records) b timeless = cc
+  quiet (Accepted.Data i packet) b timeless = cc
+  quiet (Accepted.Register packet r) b timeless = cc
+  quiet (Accepted.RegisterStop from r) b timeless = cc
 
   abbrev answered : State × List Emission → Answered
   answered sent = record { answer = Ok Verdict.Done; emissions = sent.1; copies = 0; state = sent.0 }
@@ -69,11 +69,11 @@ module _ (s : State) (w : ℕ) where
 
   pub taken_as_opened : (a : Accepted) (touched : Touched) (opening : List GroupOpening) (t : State)
       (messages : List Message) → IsQuietState s → AreKeyed (pim_tables t) → is_built a ≡ true
-      → Covers touched s (change s w a).state
+      → ((m : ℕ) → ¬ (a ≡ Accepted.Advance m)) → Covers touched s (change s w a).state
       → opening ≡ opening_of s touched → t ≡ (change s w a).state → messages ≡ (change s w a).messages
       → answered (settled_by opening t messages w) ≡ taken s w a
-  taken_as_opened a touched opening t messages rests keyed b covers opens e f =
-      let q = quiet a b in
+  taken_as_opened a touched opening t messages rests keyed b timeless covers opens e f =
+      let q = quiet a b timeless in
       let o : List GroupOpening = opening_of s touched in
       ap (λ (vs : List GroupOpening). answered (settled_by vs t messages w)) opens
       ∙ ap (λ (x : State). answered (settled_by o x messages w)) e
@@ -86,45 +86,45 @@ module _ (s : State) (w : ℕ) where
 -- what is taken in its turn: the turn of the opening, and that after the change
 pub taken_in_turn : (s t : State) (a : Accepted) (touched : Touched) (opening : List GroupOpening)
     (first opened changing : Taking) → IsQuietState s → AreKeyed (pim_tables t) → is_built a ≡ true
-    → ((w : ℕ) → Covers touched s (change s w a).state) → opening ≡ opening_of s touched → first.messages ≡ []
+    → ((m : ℕ) → ¬ (a ≡ Accepted.Advance m)) → ((w : ℕ) → Covers touched s (change s w a).state) → opening ≡ opening_of s touched → first.messages ≡ []
     → opened ≡ first → t ≡ (change s opened.draw a).state
     → changing ≡ saying opened (change s opened.draw a).messages
     → answered s first.draw (settled_by opening t changing.messages changing.draw) ≡ taken s first.draw a
-taken_in_turn s t a touched opening first opened changing rests keyed b covers opens none silent state said =
+taken_in_turn s t a touched opening first opened changing rests keyed b timeless covers opens none silent state said =
     let drawn : opened.draw ≡ first.draw = ap (λ (x : Taking). x.draw) silent in
     let after : changing.draw ≡ first.draw = ap (λ (x : Taking). x.draw) said ∙ drawn in
     let sent : changing.messages ≡ (change s first.draw a).messages =
     ap (λ (x : Taking). x.messages) said ∙ ap (λ (x : Taking). x.messages ++ (change s x.draw a).messages) silent
     ∙ ap (λ (ms : List Message). ms ++ (change s first.draw a).messages) none in
     ap (λ (w : ℕ). answered s first.draw (settled_by opening t changing.messages w)) after
-    ∙ taken_as_opened s first.draw a touched opening t changing.messages rests keyed b (covers first.draw) opens (state
+    ∙ taken_as_opened s first.draw a touched opening t changing.messages rests keyed b timeless (covers first.draw) opens (state
     ∙ ap (λ (w : ℕ). (change s w a).state) drawn) sent
 
 -- what is taken, or refused for want of room, may want memory
-answer_of : (s : State) (w : ℕ) (a : Accepted) → is_built a ≡ true → needs_no_memory (taken s w a).answer ≡ false
-unfolding done
-answer_of s w a b = ap (λ (x : Answered). needs_no_memory x.answer) (quiet s w a b).is_done
+answered_done : (s : State) (w : ℕ) (a : Accepted) → (taken s w a).answer ≡ Ok Verdict.Done
+unfolding taken done advanced
+answered_done s w (Accepted.Advance moment) = refl
+answered_done s w a = refl
 
-full_or_taken : (s : State) (w : ℕ) (a : Accepted) (full : Bool) → is_built a ≡ true
+full_or_taken : (s : State) (w : ℕ) (a : Accepted) (full : Bool)
     → needs_no_memory (elim full as
     (λ x. Answered) [ true ↦ stopped s (Stop.Refuse Refusal.Full) | false ↦ taken s w a ]).answer ≡ false
-full_or_taken s w a true b = refl
-full_or_taken s w a false b = answer_of s w a b
+full_or_taken s w a true = refl
+full_or_taken s w a false = ap needs_no_memory (answered_done s w a)
 
-taken_or_unbuilt : (s : State) (w : ℕ) (a : Accepted) (built : Bool) → built ≡ true → is_built a ≡ true
+taken_or_unbuilt : (s : State) (w : ℕ) (a : Accepted) (built : Bool) → built ≡ true
     → needs_no_memory (elim built as
     (λ x. Answered) [ true ↦ taken_unless_full s w a | false ↦ stopped s (Stop.Ignore Ignored.Unbuilt) ]).answer ≡ false
 unfolding taken_unless_full
-taken_or_unbuilt s w a true e b = full_or_taken s w a (is_full s a) b
-taken_or_unbuilt s w a false e b = cc
+taken_or_unbuilt s w a true e = full_or_taken s w a (is_full s a)
+taken_or_unbuilt s w a false e = cc
 
 pub wants_memory : {A E : Type 0} (s : State) (w : ℕ) (a : Accepted) (r : Result A E) (b : Bool) → b ≡ is_built a
     → b ≡ true
     → IsTrue (needs_no_memory (taken_if_built s w a).answer) → IsOk r
 unfolding taken_if_built
 wants_memory s w a r b e f sure =
-    let built : is_built a ≡ true = sym e ∙ f in
-    cc (sure, taken_or_unbuilt s w a (is_built a) built built)
+    cc (sure, taken_or_unbuilt s w a (is_built a) (sym e ∙ f))
 
 -- routes and RP ranges are tested in memory, and no answer to them is sure
 no_routes : (s : State) (w : ℕ) (routes : List Route) (bad : Bool)
@@ -182,27 +182,25 @@ stopped_silently : (kind : EventKind) (s : State) (stop : Stop) → IsSilent kin
 stopped_silently kind s (Stop.Refuse refusal) sure = refl
 stopped_silently kind s (Stop.Ignore reason) sure = refl
 
-taken_silently : (kind : EventKind) (s : State) (w : ℕ) (a : Accepted) → is_built a ≡ true → IsSilent kind (taken s w a)
-unfolding done
-taken_silently kind s w a b sure =
-    cc (sure, ap (λ (x : Answered). is_sure kind x.answer) (quiet s w a b).is_done, done_unsurely kind)
+taken_silently : (kind : EventKind) (s : State) (w : ℕ) (a : Accepted) → IsSilent kind (taken s w a)
+taken_silently kind s w a sure = cc (sure, ap (is_sure kind) (answered_done s w a), done_unsurely kind)
 
-full_silently : (kind : EventKind) (s : State) (w : ℕ) (a : Accepted) (full : Bool) → is_built a ≡ true
+full_silently : (kind : EventKind) (s : State) (w : ℕ) (a : Accepted) (full : Bool)
     → IsSilent kind (elim full as (λ x. Answered) [ true ↦ stopped s (Stop.Refuse Refusal.Full) | false ↦ taken s w a ])
-full_silently kind s w a true b = stopped_silently kind s (Stop.Refuse Refusal.Full)
-full_silently kind s w a false b = taken_silently kind s w a b
+full_silently kind s w a true = stopped_silently kind s (Stop.Refuse Refusal.Full)
+full_silently kind s w a false = taken_silently kind s w a
 
-built_silently : (kind : EventKind) (s : State) (w : ℕ) (a : Accepted) (b : Bool) → is_built a ≡ b
+built_silently : (kind : EventKind) (s : State) (w : ℕ) (a : Accepted) (b : Bool)
     → IsSilent kind (elim b as
     (λ x. Answered) [ true ↦ taken_unless_full s w a | false ↦ stopped s (Stop.Ignore Ignored.Unbuilt) ])
 unfolding taken_unless_full
-built_silently kind s w a true e = full_silently kind s w a (is_full s a) e
-built_silently kind s w a false e = stopped_silently kind s (Stop.Ignore Ignored.Unbuilt)
+built_silently kind s w a true = full_silently kind s w a (is_full s a)
+built_silently kind s w a false = stopped_silently kind s (Stop.Ignore Ignored.Unbuilt)
 
 concluded_silently : (kind : EventKind) (s : State) (w : ℕ) (j : Judged)
     → IsSilent kind (concluded s (taken_if_built s w) j)
 unfolding taken_if_built
-concluded_silently kind s w (Ok a) = built_silently kind s w a (is_built a) refl
+concluded_silently kind s w (Ok a) = built_silently kind s w a (is_built a)
 concluded_silently kind s w (Err stop) = stopped_silently kind s stop
 
 -- so there is room for what it sends

@@ -11,7 +11,7 @@ use Rattle.pim_types.specs.declared.fact.DownstreamRow.{DownstreamRow}
 use Rattle.pim_types.specs.declared.fact.JoinTimerRow.{JoinTimerRow}
 use Rattle.pim_types.specs.declared.fact.Key.{Key}
 use Rattle.pim_types.specs.declared.fact.NeighbourRow.{NeighbourRow}
-use Rattle.pim_types.specs.Keys.{group_in, is_of_group, is_on, names_source, neighbour_key, same_key, star_key}
+use Rattle.pim_types.specs.Keys.{group_in, is_of_group, is_on, names_source, neighbour_key, star_key}
 use Rattle.pim_wire.specs.declared.hello.Hello.{Hello as HelloValue}
 use Rattle.pim_types.specs.declared.config.IfaceId.{IfaceId}
 use Rattle.pim_ip.specs.declared.addr.Addr.{Addr}
@@ -19,24 +19,34 @@ use Rattle.pim_wire.specs.Values.{JoinPrune}
 use Rattle.pim_model.specs.Built.{is_built}
 use Rattle.pim_model.specs.declared.accepted.Accepted.{Accepted}
 use Rattle.pim_model.specs.Downstream.{asserts_after_joins, is_named, joined_keys, keys_taken, pruned_keys, row_after, rpt_rows_joined, to_me, touched_keys}
+use Rattle.pim_model.specs.Firing.{fired}
 use Rattle.pim_model.specs.Hellos.{hello_holdtime_of, hello_received, hello_triggered, is_generation_changed, is_lost_to, neighbour_replaced, neighbour_restarted}
 use Rattle.pim_model.specs.Querier.{querier_up, querying}
 use Rattle.pim_model.specs.Sets.{is_loser}
 use Rattle.pim_model.specs.State.{State}
 use Rattle.pim_model.specs.Step.{change, iface_up}
-use Rattle.pim_model.specs.Tables.{Table, drop_at, drop_where, keys_in, put, row_at, same_option, set_row}
+use Rattle.pim_model.specs.Tables.{Table, keys_in, put, row_at, same_option, set_row}
+use Rattle.pim_model.specs.Timers.{Ending}
 use Rattle.pim_model.specs.Upstream.{fact_keys}
+use Rattle.pim_types.specs.declared.timer.TimerKind.{TimerKind}
+use Rattle.pim_laws.proofs.FewerFacts.{IsFewer, down_fewer, ended_fewer, fewer_both, fewer_so, no_other, row_without, rows_left, table_fewer}
 use Rattle.pim_laws.proofs.ListLaws.{either}
+use Rattle.pim_laws.proofs.Parts.{Asserts, JoinTimers}
 use Rattle.pim_laws.proofs.RowLaws.{any_of_put}
 use Rattle.pim_laws.proofs.TableLaws.{any_of_map}
 use Rattle.pim_locality.proofs.EventLaws.{change_touches}
 use Rattle.pim_locality.proofs.RefreshedNeighbours.{hello_again_touches_none}
+use Rattle.pim_locality.proofs.OwnKeys.{present_touches_none}
+use Rattle.pim_locality.proofs.SilentEvents.{timer_touches}
+use Rattle.pim_locality.proofs.Touches.{agrees_then, widened}
 use Rattle.pim_locality.specs.Events.{touched_by_event}
 use Rattle.pim_locality.specs.Locality.{AgreesBut, touching}
-use Rattle.pim_opening.specs.Covers.{Concerns, IsWithin, NewAreNamed}
+use Rattle.pim_locality.specs.Touches.{isnt_neighbour, touched_by}
+use Rattle.pim_opening.specs.Covers.{Concerns, Covers, IsWithin, NewAreNamed}
 use Rattle.pim_opening.specs.Openings.{has_facts}
 use Rattle.pim_neighbours.specs.Refreshed.{is_refreshed}
-use Rattle.pim_ready.specs.Ready.{Rises}
+use Rattle.pim_ready.specs.Ready.{IsLawful, Rises}
+use Rattle.pim_router.specs.Ends.{touched_by_end}
 use Rattle.pim_router.specs.Naming.{AreNamedBy}
 
 -- ---- facts before and after, by a test of keys
@@ -80,27 +90,11 @@ module _ (p : Key → Bool) (x : Bool) where
       (stays (keys_in s.sources))) (stays (keys_in s.registers))
 
 module _ {R : Type 0} (p : Key → Bool) where
-  fewer_step : (test : Bool) (e : Key × R) (t u : Table R)
-      → (list_any p (keys_in u) ≡ true → list_any p (keys_in t) ≡ true)
-      → list_any p (keys_in (cond test (e ∷ u) u)) ≡ true → (p e.0 || list_any p (keys_in t)) ≡ true
-  unfolding keys_in
-  fewer_step true e t u fewer f =
-      either (p e.0) (list_any p (keys_in u)) (or_left (p e.0) (list_any p (keys_in t)))
-      (λ g. or_right (p e.0) (list_any p (keys_in t)) (fewer g)) f
-  fewer_step false e t u fewer f = or_right (p e.0) (list_any p (keys_in t)) (fewer f)
-
-  -- of rows that are left
-  fewer : (test : Key × R → Bool) (t : Table R) → list_any p (keys_in (filter test t)) ≡ true
-      → list_any p (keys_in t) ≡ true
-  unfolding keys_in
-  fewer test [] e = e
-  fewer test (x ∷ t) e = fewer_step (test x) x t (filter test t) (fewer test t) e
-
   -- of a row that is set
   one_more : (k : Key) (row : Option R) (t : Table R) → list_any p (keys_in (set_row t k row)) ≡ true
       → (list_any p (keys_in t) || p k) ≡ true
-  unfolding keys_in set_row drop_at drop_where
-  one_more k None t e = or_left (list_any p (keys_in t)) (p k) (fewer (λ e. not (same_key k e.0)) t e)
+  unfolding keys_in set_row
+  one_more k None t e = or_left (list_any p (keys_in t)) (p k) (row_without k t p e)
   one_more k (Some r) t e =
       either (p k) (list_any (λ (e : Key × R). p e.0) t) (or_right (list_any p (keys_in t)) (p k))
       (λ f. or_left (list_any p (keys_in t)) (p k) (any_of_map p (λ (e : Key × R). e.0) t ∙ f))
@@ -153,7 +147,7 @@ module _ (p : Key → Bool) (s : State) (i holdtime : ℕ) (joined pruned : List
   keys_grow =
       facts_grow p (list_any p (joined ++ pruned)) s _ _ s.join_timers rows_grow
       (λ e. or_left (list_any p (keys_in s.asserts)) (list_any p (joined ++ pruned))
-      (fewer p (λ e. not (is_loser (Some e.1) && is_named joined e.0)) s.asserts e))
+      (rows_left (λ e. not (is_loser (Some e.1) && is_named joined e.0)) s.asserts p e))
       (stays p (list_any p (joined ++ pruned)) (keys_in s.join_timers))
 
 taken_named : (s : State) (i : ℕ) (m : JoinPrune) → NewAreNamed (joined_keys s i m ++ pruned_keys i m) s (to_me s i m)
@@ -162,16 +156,6 @@ taken_named s i m g src there =
     keys_grow (names_source g src) s i m.holdtime (joined_keys s i m) (pruned_keys i m) there
 
 -- ---- changes after which there are no other facts
-
--- each fact that passes had passed
-record IsFewer (s t : State) : Type 0 where
-  passed : (p : Key → Bool) → list_any p (fact_keys t) ≡ true → list_any p (fact_keys s) ≡ true
-
-no_other : (s t : State) → fact_keys t ≡ fact_keys s → IsFewer s t
-no_other s t same = record { passed = λ p e. sym (ap (λ (ks : List Key). list_any p ks) same) ∙ e }
-
-fewer_both : (s t u : State) → IsFewer s t → IsFewer t u → IsFewer s u
-fewer_both s t u first second = record { passed = λ p e. first.passed p (second.passed p e) }
 
 within_so : (s t : State) → IsFewer s t → IsWithin s t
 within_so s t less = record {
@@ -205,30 +189,21 @@ replaced : (t : State) (i a : ℕ) (h : HelloValue) → fact_keys (neighbour_rep
 unfolding neighbour_replaced fact_keys
 replaced t i a h = refl
 
-or_none : (b : Bool) → (b || false) ≡ true → b ≡ true
-or_none true e = refl
-or_none false e = e
-
 restarted : (o t : State) (i a w : ℕ) → IsFewer t (neighbour_restarted o i a w t)
 unfolding neighbour_restarted
-restarted o t i a w = record {
-  passed = λ p e. or_none (list_any p (fact_keys t))
-      (facts_grow p false t t.downstream _ _ (stays p false (keys_in t.downstream))
-      (λ f. or_left (list_any p (keys_in t.asserts)) false (fewer p (λ e. not (is_lost_to i a e)) t.asserts f))
-      (λ f. or_left (list_any p (keys_in t.join_timers)) false
-      (sym (ap (λ (ks : List Key). list_any p ks) (lowered_keys _ _ t.join_timers)) ∙ f)) e);
-}
-
-chosen : (b : Bool) (s t u : State) → IsFewer s t → IsFewer s u → IsFewer s (if b then t else u)
-chosen true s t u p q = p
-chosen false s t u p q = q
+restarted o t i a w =
+    let forgotten : State = record t { asserts = filter (λ e. not (is_lost_to i a e)) t.asserts } in
+    fewer_both t forgotten (neighbour_restarted o i a w t)
+    (table_fewer Asserts t _ (rows_left (λ e. not (is_lost_to i a e)) t.asserts))
+    (table_fewer JoinTimers forgotten _
+    (λ p e. sym (ap (λ (ks : List Key). list_any p ks) (lowered_keys _ _ t.join_timers)) ∙ e))
 
 hello_leaves_facts : (s : State) (i a w : ℕ) (h : HelloValue) → IsFewer s (hello_received s i a h w)
 unfolding hello_received
 hello_leaves_facts s i a w h =
     let after : State = neighbour_replaced (if _ then hello_triggered s i w else s) i a h in
     let heard : IsFewer s after = no_other s after (replaced _ i a h ∙ triggered s i w _) in
-    chosen (is_generation_changed s i a h) s _ _ (fewer_both s after _ heard (restarted s after i a w)) heard
+    fewer_so (is_generation_changed s i a h) s _ _ (fewer_both s after _ heard (restarted s after i a w)) heard
 
 so_false : (b : Bool) → not b ≡ true → b ≡ false
 so_false false e = refl
@@ -302,11 +277,11 @@ module _ (s : State) (a : Accepted) where
 pub facts_covered : (s : State) (w : ℕ) (a : Accepted) → is_built a ≡ true
     → ((i : IfaceId) (m : JoinPrune) → ¬ (a ≡ Accepted.JoinPruneToMe i m)) → IsWithin s (change s w a).state
 unfolding change is_built
+facts_covered s w (Accepted.Advance moment) b isnt = within_so s s (no_other s s refl)
 facts_covered s w (Accepted.Up i) b isnt = within_so s _ (up_leaves_facts s w i.number)
+facts_covered s w (Accepted.Down i) b isnt = within_so s _ (down_fewer s i.number)
 facts_covered s w (Accepted.Hello i from h) b isnt = within_so s _ (hello_leaves_facts s i.number from.bits w h)
 facts_covered s w (Accepted.JoinPruneToMe i m) b isnt = absurd (isnt i m refl)
-facts_covered s w (Accepted.Advance moment) b isnt = cc
-facts_covered s w (Accepted.Down i) b isnt = cc
 facts_covered s w (Accepted.Routes routes) b isnt = cc
 facts_covered s w (Accepted.Rps ranges) b isnt = cc
 facts_covered s w (Accepted.JoinPruneSeen i m) b isnt = cc
@@ -320,3 +295,37 @@ facts_covered s w (Accepted.RegisterStop from r) b isnt = cc
 pub hello_isnt_join_prune : (a : Accepted) (i : IfaceId) (from : Addr) (h : HelloValue) → a ≡ Accepted.Hello i from h
     → (j : IfaceId) (m : JoinPrune) → ¬ (a ≡ Accepted.JoinPruneToMe j m)
 hello_isnt_join_prune a i from h is j m same = cc
+
+-- ---- the end of a timer
+
+module _ (s : State) (lawful : IsLawful s) (e : Ending) where
+  abbrev opened : State
+  opened = record s { present = e.end }
+
+  abbrev ended : State
+  ended = (fired opened e.timer.kind e.timer.key).0
+
+  ended_leaves_facts : IsFewer s ended
+  unfolding fact_keys
+  ended_leaves_facts =
+      fewer_both s opened ended (no_other s opened refl)
+      (ended_fewer opened lawful.firable.source_records e.timer.kind e.timer.key)
+
+  end_concerns : isnt_neighbour e.timer.kind ≡ true → Concerns (touched_by e.timer.kind e.timer.key) s ended
+  end_concerns is =
+      let keys : List Key = touched_by e.timer.kind e.timer.key in
+      record {
+        agrees = agrees_then (touching keys) s opened ended
+            (widened [] keys s opened refl (present_touches_none s e.end))
+            (timer_touches opened e.timer.key e.timer.kind is);
+        named = λ g src there. or_left (has_facts s g src) (list_any (names_source g src) keys)
+            (ended_leaves_facts.passed (names_source g src) there);
+      }
+
+  pub end_covered : Covers (touched_by_end e.timer.kind e.timer.key) s ended
+  end_covered = go e.timer.kind refl
+    where
+      go : (kind : TimerKind) → e.timer.kind ≡ kind → Covers (touched_by_end kind e.timer.key) s ended
+      go TimerKind.Neighbour is = within_so s ended ended_leaves_facts
+      go _ is = subst (λ (kind : TimerKind). Concerns (touched_by kind e.timer.key) s ended) is
+          (end_concerns (ap isnt_neighbour is))

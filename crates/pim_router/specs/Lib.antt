@@ -1,3 +1,4 @@
+pub mod Ends
 pub mod Naming
 pub mod Settling
 pub mod Stops

@@ -1,8 +1,9 @@
 -- The keys that what was accepted names.
-use Rattle.std.specs.Prelude.{List, ◌<◌, ◌≡◌}
+use Rattle.std.specs.Prelude.{List, ◌<◌, ◌≤◌, ◌≡◌}
 use Rattle.pim_types.specs.declared.fact.Key.{Key}
 use Rattle.pim_model.specs.declared.accepted.Accepted.{Accepted}
 use Rattle.pim_model.specs.Downstream.{joined_keys, pruned_keys}
+use Rattle.pim_model.specs.Judging.{last_moment}
 use Rattle.pim_model.specs.State.{State, iface_count}
 
 -- those that a Join/Prune to the router joins and prunes; nothing else names any so far
@@ -10,8 +11,9 @@ abbrev pub AreNamedBy : State → Accepted → List Key → List Key → Type 0
 AreNamedBy s (Accepted.JoinPruneToMe i m) joined pruned = (joined ≡ joined_keys s i.number m) × (pruned ≡ pruned_keys i.number m)
 AreNamedBy s _ joined pruned = Unit {0}
 
--- the interface of an event is one of the router's
+-- the interface of an event is one of the router's, its moment one that an event may have
 abbrev pub IsConfigured : State → Accepted → Type 0
+IsConfigured s (Accepted.Advance moment) = moment ≤ last_moment
 IsConfigured s (Accepted.Up i) = i.number < iface_count s
 IsConfigured s (Accepted.Down i) = i.number < iface_count s
 IsConfigured s (Accepted.Hello i from h) = i.number < iface_count s

@@ -46,6 +46,10 @@ pub(crate) fn apply(
 {
     match accepted {
         Accepted::Up { iface } => go_up(world, turn, *iface),
+        Accepted::Down { iface } => {
+            world.set_down(*iface);
+            Ok(())
+        }
         Accepted::Hello { iface, from, hello } => {
             pim_hello::received(world, turn, *iface, *from, hello)
         }

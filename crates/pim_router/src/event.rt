@@ -1,7 +1,8 @@
 //! One event: it is judged; what is accepted changes the state, where it is built and there is room for its facts.
-ghost use Rattle.std.specs.Prelude.{◌≡◌, [], IfOk, IsOk, IsOkUnless, IsTrue, OnOk, true};
+ghost use Rattle.std.specs.Prelude.{◌≡◌, [], IfOk, IsOk, IsOkUnless, IsTrue, OnOk, true, ℕ};
 ghost use Rattle.pim_ip.specs.declared.fault.Fault.{Fault};
 ghost use Rattle.pim_locality.specs.Rest.{IsAtRest};
+ghost use Rattle.pim_model.specs.declared.accepted.Accepted.{Accepted};
 ghost use Rattle.pim_model.specs.Built.{built_step, is_built, taken_if_built};
 ghost use Rattle.pim_model.specs.Step.{outcome_of, taken, taken_unless_full};
 ghost use Rattle.pim_model.specs.Sure.{is_sure, needs_no_memory};
@@ -11,7 +12,8 @@ ghost use Rattle.pim_router.specs.Stops.{stop_outcome};
 use crate::built::is_built;
 use crate::change::apply;
 use crate::named::{is_full, named_by};
-use crate::settle::settle;
+use crate::settle::settle_change;
+use crate::time::advance;
 use crate::touched::touched_by;
 use pim_downstream::Named;
 use pim_intake::judge;
@@ -38,7 +40,39 @@ fn stopped(alloc: Global, stop: Stop) -> Outcome
     }
 }
 
-// What there is room for: its own change, and what follows of it. No packet of data is copied yet.
+// What there is room for, but for time that passes: its own change, and what follows of it. No packet of data is
+// copied yet.
+fn take_change(
+    world: &mut World,
+    turn: &mut Turn,
+    accepted: &Accepted<'_>,
+    named: &Named,
+) -> Result<Outcome, Fault>
+    requires timeless { (moment : ℕ) → ¬ (accepted.now ≡ Accepted.Advance moment) }
+    requires rest { IsAtRest world.old }
+    requires begun { turn.old.messages ≡ [] }
+    requires built { is_built accepted.now ≡ true }
+    requires configured { IsConfigured world.old accepted.now }
+    requires named { AreNamedBy world.old accepted.now named.now.joined.items named.now.pruned.items }
+    ensures outcome { IfOk result (λ outcome. outcome ≡ outcome_of (taken world.old turn.old.draw accepted.now)) }
+    ensures state { OnOk result (world.new ≡ (taken world.old turn.old.draw accepted.now).state) }
+    ensures fault { IsOkUnless result Fault.Memory }
+{
+    let touched = touched_by(world, turn, accepted, named)?;
+    let opening = Opening::of(world, turn, &touched)?;
+    apply(world, turn, accepted, named)?;
+    // It tells that asserts, sources and registers are under keys of their kind.
+    world.are_keyed();
+    let emissions = settle_change(world, turn, &opening)?;
+    Ok(Outcome {
+        answer: Ok(Verdict::Done),
+        emissions: Series::from_vec(emissions),
+        copies: 0,
+    })
+}
+
+// What there is room for.
+#[tactic(auto, unfolding(pim_model::specs::Step::taken))]
 fn take(
     world: &mut World,
     turn: &mut Turn,
@@ -54,17 +88,10 @@ fn take(
     ensures state { OnOk result (world.new ≡ (taken world.old turn.old.draw accepted.now).state) }
     ensures fault { IsOkUnless result Fault.Memory }
 {
-    let touched = touched_by(world, turn, accepted, named)?;
-    let opening = Opening::of(world, turn, &touched)?;
-    apply(world, turn, accepted, named)?;
-    // It tells that asserts, sources and registers are under keys of their kind.
-    world.are_keyed();
-    let emissions = settle(world, turn, &opening)?;
-    Ok(Outcome {
-        answer: Ok(Verdict::Done),
-        emissions: Series::from_vec(emissions),
-        copies: 0,
-    })
+    match accepted {
+        Accepted::Advance { moment } => advance(world, turn, *moment),
+        _ => take_change(world, turn, accepted, named),
+    }
 }
 
 // What is built: it is refused where there is no room.

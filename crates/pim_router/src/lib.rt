@@ -7,6 +7,7 @@ pub mod event;
 pub mod named;
 pub mod router;
 pub mod settle;
+pub mod time;
 pub mod touched;
 
 pub use router::Router;

@@ -1,9 +1,10 @@
 //! The router.
-ghost use Rattle.std.specs.Prelude.{◌≡◌, ◌++◌, ◌↔◌, [], Err, IfErr, IfOk, IfSome, IsOk, IsOkUnless, IsTrue, None, Ok, OnErr, OnOk, Some};
+ghost use Rattle.std.specs.Prelude.{◌≡◌, ◌++◌, ◌↔◌, [], Err, IfErr, IfOk, IfSome, IsOk, IsOkUnless, IsTrue, None, Ok, OnErr, OnOk, Some, option_and_then};
 ghost use Rattle.pim_ip.specs.declared.fault.Fault.{Fault};
 ghost use Rattle.pim_model.specs.Built.{built_run, built_state_after, built_step};
 ghost use Rattle.pim_model.specs.Limits.{config_test};
 ghost use Rattle.pim_model.specs.State.{opening};
+ghost use Rattle.pim_model.specs.Timers.{next_moment};
 ghost use Rattle.pim_model.specs.Sure.{is_sure};
 ghost use Rattle.pim_locality.specs.Rest.{IsAtRest};
 
@@ -53,6 +54,20 @@ impl Router {
                 meter: Meter::new(),
             })),
             Err(refusal) => Ok(Err(refusal)),
+        }
+    }
+
+    /// The moment, in ms, at which the next timer ends: time goes on there by `Advance`. `None` where no timer runs,
+    /// and where the router has failed. No memory is taken.
+    pub fn next_moment(&self) -> Option<u64>
+        ensures { result ≡ option_and_then next_moment self.now }
+    {
+        if self.failed {
+            return None;
+        }
+        match self.world.next() {
+            Some(due) => Some(due.0),
+            None => None,
         }
     }
 

@@ -2,8 +2,10 @@
 #![tactic(auto)]
 
 pub mod change;
+pub mod ends;
 pub mod machine;
 pub mod message;
 
 pub use change::Change;
+pub use ends::fired;
 pub use machine::changed;

@@ -13,8 +13,8 @@ use pim_types::{Addr, SourceView, TreeState};
 use pim_wire::{Entry, EntryKind};
 use std::alloc::AllocError;
 
-// The entry that names the source on the shared tree.
-fn entry(source: Addr) -> Entry
+/// The entry that names the source on the shared tree.
+pub(crate) fn entry(source: Addr) -> Entry
     ensures { result ≡ record { kind = EntryKind.SourceRpt; address = source } }
 {
     Entry {

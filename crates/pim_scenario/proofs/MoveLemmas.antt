@@ -4,18 +4,33 @@ use Rattle.std.specs.List.{AllZip, position}
 use Rattle.std.specs.Prelude.{string_bytes, option_and_then}
 use Rattle.std.specs.Str.{bytes_eq}
 use Rattle.toml.specs.Data.{Data, Members, as_table}
+use Rattle.pim_types.specs.declared.config.Route.{Route}
+use Rattle.pim_types.specs.declared.config.RpRange.{RpRange}
 use Rattle.pim_types.specs.declared.event.EventKind.{EventKind}
 use Rattle.pim_scenario.specs.declared.scenario.Move.{Move}
 use Rattle.pim_scenario.specs.declared.scenario.Move.TheVariants.{Event}
 use Rattle.pim_scenario.specs.declared.scenario.RouterText.{RouterText}
 use Rattle.pim_scenario.specs.declared.scenario.Scenario.{Scenario}
-use Rattle.pim_scenario.specs.Fields.{text_at, list_or_empty}
-use Rattle.pim_scenario.specs.Scenario.{AreRouters, IsKind, IsMove, IsRouter, IsScenario, IsTable, place_of}
+use Rattle.pim_scenario.specs.Fields.{text_at, list_at, list_or_empty}
+use Rattle.pim_scenario.specs.Scenario.{AreRouteWords, AreRouters, AreRpWords, IsKind, IsMove, IsRouter, IsRoutes, IsRps, IsScenario, IsTable, IsText, place_of}
 use Rattle.pim_scenario.proofs.LinkLemmas.{position-map}
 use Rattle.pim_scenario.proofs.ReadLemmas.{the_same, zip_weaker}
 
 pub kind_of : (routers : List RouterText) (ms : Members) (m : Move) → IsMove routers ms m → (k : EventKind) × IsKind ms k
 kind_of routers ms (Event router e) is = (e.kind, is.2)
+
+-- the list of a move that replaces routes, or RP ranges
+pub routes_of : (ms : Members) (ds : List Data) → Some ds ≡ list_at (codes "list") ms → (kind : EventKind)
+    → IsRoutes ms kind → (routes : List Route) × AllZip (IsText AreRouteWords) ds routes
+routes_of ms ds at (EventKind.Routes routes) is =
+    (routes, rw (the_same (list_at (codes "list") ms) ds is.1.0 at is.1.1) is.1.2)
+routes_of ms ds at kind is = absurd is
+
+pub rps_of : (ms : Members) (ds : List Data) → Some ds ≡ list_at (codes "list") ms → (kind : EventKind)
+    → IsRps ms kind → (rps : List RpRange) × AllZip (IsText AreRpWords) ds rps
+rps_of ms ds at (EventKind.Rps rps) is =
+    (rps, rw (the_same (list_at (codes "list") ms) ds is.1.0 at is.1.1) is.1.2)
+rps_of ms ds at kind is = absurd is
 
 -- a table names one router
 pub one_name : (d : Data) (r s : RouterText) → IsTable IsRouter d r → IsTable IsRouter d s

@@ -12,6 +12,14 @@ number_of_integer (negsuc n) = None
 abbrev pub number_of : Data → Option ℕ
 number_of d = option_and_then number_of_integer (as_integer d)
 
+-- a moment, in ms
+abbrev pub moment_of_integer : ℤ → Option ℕ
+moment_of_integer (pos n) = Some n
+moment_of_integer (negsuc n) = None
+
+abbrev pub moment_of : Data → Option ℕ
+moment_of d = option_and_then moment_of_integer (as_integer d)
+
 -- what a list holds
 abbrev pub values_of : Items → List Data
 values_of no_items = []
@@ -26,6 +34,9 @@ text_at key ms = option_and_then as_str (get_member key ms)
 
 abbrev pub number_at : List ℕ → Members → Option ℕ
 number_at key ms = option_and_then number_of (get_member key ms)
+
+abbrev pub moment_at : List ℕ → Members → Option ℕ
+moment_at key ms = option_and_then moment_of (get_member key ms)
 
 abbrev pub list_at : List ℕ → Members → Option (List Data)
 list_at key ms = option_and_then list_of (get_member key ms)

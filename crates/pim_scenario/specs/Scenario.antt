@@ -18,7 +18,7 @@ use Rattle.pim_scenario.specs.declared.scenario.RouterText.{RouterText}
 use Rattle.pim_scenario.specs.declared.scenario.Move.{Move}
 use Rattle.pim_scenario.specs.declared.scenario.Move.TheVariants.{Event}
 use Rattle.pim_scenario.specs.declared.scenario.Scenario.{Scenario}
-use Rattle.pim_scenario.specs.Fields.{has_only, text_at, optional_text, number_at, number_or, list_at, list_or_empty}
+use Rattle.pim_scenario.specs.Fields.{has_only, text_at, optional_text, number_at, number_or, moment_at, list_at, list_or_empty}
 use Rattle.pim_scenario.specs.Texts.{IsNumberText, IsAddressText, IsPrefixText, hex_of}
 use Rattle.pim_scenario.specs.Words.{AreWords}
 
@@ -150,28 +150,73 @@ pub record AreRouters (ds : List Data) (routers : List RouterText) : Type 0 wher
 abbrev pub place_of : List RouterText → List ℕ → Option ℕ
 place_of routers name = position (λ r. bytes_eq (string_bytes r.name) name) routers
 
-abbrev pub up_keys : List (List ℕ)
-up_keys = codes "do" ∷ codes "router" ∷ codes "draw" ∷ codes "iface" ∷ []
+-- the keys of a move, by what it says of the router
+abbrev pub iface_keys : List (List ℕ)
+iface_keys = codes "do" ∷ codes "router" ∷ codes "draw" ∷ codes "iface" ∷ []
+
+abbrev pub advance_keys : List (List ℕ)
+advance_keys = codes "do" ∷ codes "router" ∷ codes "draw" ∷ codes "moment" ∷ []
+
+abbrev pub list_keys : List (List ℕ)
+list_keys = codes "do" ∷ codes "router" ∷ codes "draw" ∷ codes "list" ∷ []
 
 abbrev pub frame_keys : List (List ℕ)
 frame_keys = codes "do" ∷ codes "router" ∷ codes "draw" ∷ codes "iface" ∷ codes "hex" ∷ []
 
+abbrev pub unicast_keys : List (List ℕ)
+unicast_keys = codes "do" ∷ codes "router" ∷ codes "draw" ∷ codes "hex" ∷ []
+
+abbrev pub bytes_at : Members → Option (List ℕ)
+bytes_at ms = option_and_then hex_of (text_at (codes "hex") ms)
+
+abbrev pub IsAdvance : Members → EventKind → Type 0
+IsAdvance ms (event.Advance moment) =
+    (has_only advance_keys ms ≡ true) × (moment_at (codes "moment") ms ≡ Some moment)
+IsAdvance ms _ = ⊥
+
 abbrev pub IsUp : Members → EventKind → Type 0
 IsUp ms (event.Up iface) =
-    (has_only up_keys ms ≡ true) × (number_at (codes "iface") ms ≡ Some iface.number)
+    (has_only iface_keys ms ≡ true) × (number_at (codes "iface") ms ≡ Some iface.number)
 IsUp ms _ = ⊥
+
+abbrev pub IsDown : Members → EventKind → Type 0
+IsDown ms (event.Down iface) =
+    (has_only iface_keys ms ≡ true) × (number_at (codes "iface") ms ≡ Some iface.number)
+IsDown ms _ = ⊥
+
+abbrev pub IsRoutes : Members → EventKind → Type 0
+IsRoutes ms (event.Routes routes) =
+    (has_only list_keys ms ≡ true) × AreRead (IsText AreRouteWords) (list_at (codes "list") ms) routes
+IsRoutes ms _ = ⊥
+
+abbrev pub IsRps : Members → EventKind → Type 0
+IsRps ms (event.Rps rps) =
+    (has_only list_keys ms ≡ true) × AreRead (IsText AreRpWords) (list_at (codes "list") ms) rps
+IsRps ms _ = ⊥
 
 abbrev pub IsFrame : Members → EventKind → Type 0
 IsFrame ms (event.Frame iface bytes) =
-    (has_only frame_keys ms ≡ true) × (number_at (codes "iface") ms ≡ Some iface.number)
-    × (option_and_then hex_of (text_at (codes "hex") ms) ≡ Some bytes)
+    (has_only frame_keys ms ≡ true) × (number_at (codes "iface") ms ≡ Some iface.number) × (bytes_at ms ≡ Some bytes)
 IsFrame ms _ = ⊥
+
+abbrev pub IsUnicast : Members → EventKind → Type 0
+IsUnicast ms (event.Unicast bytes) = (has_only unicast_keys ms ≡ true) × (bytes_at ms ≡ Some bytes)
+IsUnicast ms _ = ⊥
+
+-- the move is of that name, and says so
+abbrev pub IsNamed : List ℕ → (Members → EventKind → Type 0) → Members → EventKind → Type 0
+IsNamed name Says ms kind = (text_at (codes "do") ms ≡ Some name) × Says ms kind
 
 -- what happens to the router, by the name at `do`
 abbrev pub IsKind : Members → EventKind → Type 0
 IsKind ms kind =
-    ((text_at (codes "do") ms ≡ Some (codes "up")) × IsUp ms kind)
-    ⊎ ((text_at (codes "do") ms ≡ Some (codes "frame")) × IsFrame ms kind)
+    IsNamed (codes "advance") IsAdvance ms kind
+    ⊎ (IsNamed (codes "up") IsUp ms kind
+    ⊎ (IsNamed (codes "down") IsDown ms kind
+    ⊎ (IsNamed (codes "routes") IsRoutes ms kind
+    ⊎ (IsNamed (codes "rps") IsRps ms kind
+    ⊎ (IsNamed (codes "frame") IsFrame ms kind
+    ⊎ IsNamed (codes "unicast") IsUnicast ms kind)))))
 
 abbrev pub IsMove : List RouterText → Members → Move → Type 0
 IsMove routers ms (Event router e) =

@@ -5,8 +5,7 @@ use Rattle.pim_types.specs.declared.fact.Key.{Key}
 use Rattle.pim_types.specs.Keys.{is_on, same_key}
 use Rattle.pim_types.proofs.Keys.{equal_keys, same_key_same}
 use Rattle.pim_model.specs.Tables.{Table, drop_where, has_row, row_at}
-use Rattle.pim_tables.proofs.Lookups.{row_at-drop_on}
-use Rattle.pim_tables.proofs.Stops.{has_row-last}
+use Rattle.pim_tables.proofs.Lookups.{has_row-last, row_at-drop_on}
 use Rattle.pim_store.specs.Said.{IsTold, KeepsOtherMarks, SetsMarks, place, row_says, said}
 use Rattle.pim_store.specs.declared.marks.Mark.{Mark}
 use Rattle.pim_store.specs.declared.marks.Marks.{Marks}

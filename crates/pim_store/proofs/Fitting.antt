@@ -1,11 +1,11 @@
 -- The keys of a table's rows, as the invariant has them.
-use Rattle.std.proofs.Common.{◌≡◌, ◌&&◌, Bool, true, false, cond, not, [], ◌∷◌, Option, Some, is_some, refl}
+use Rattle.std.proofs.Common.{◌≡◌, ◌&&◌, Bool, true, false, cond, not, List, [], ◌∷◌, Option, Some, is_some, filter, refl}
 use Rattle.std.specs.List.{list_all}
 use Rattle.pim_types.specs.declared.fact.Key.{Key}
-use Rattle.pim_types.specs.Keys.{same_key}
+use Rattle.pim_types.specs.Keys.{is_on, same_key}
 use Rattle.pim_types.proofs.Keys.{same_key_same}
 use Rattle.pim_model.specs.Tables.{Table, has_row, row_at}
-use Rattle.pim_store.specs.Said.{is_of_iface, is_plain_of_iface}
+use Rattle.pim_store.specs.Said.{is_of_iface, is_plain_of_iface, is_plain_of_router}
 
 left_true : (a b : Bool) → (a && b) ≡ true → a ≡ true
 left_true true b e = refl
@@ -13,6 +13,26 @@ left_true false b e = cc
 
 pub below_when_plain : (k : Key) → is_plain_of_iface k ≡ true → is_of_iface k ≡ true
 below_when_plain k plain = left_true (is_of_iface k) (not k.rpt) plain
+
+pub of_router_when_plain : (k : Key) → is_plain_of_router k ≡ true → is_on 0 k ≡ true
+of_router_when_plain k plain = left_true (is_on 0 k) (not k.rpt) plain
+
+right_true : (a b : Bool) → (a && b) ≡ true → b ≡ true
+right_true true b e = e
+right_true false b e = cc
+
+-- what all entries pass is no test
+module _ {X : Type 0} (all test : X → Bool) where
+  one_passed : (a b : Bool) (x : X) (xs ys : List X) → a ≡ true → xs ≡ ys
+      → cond (a && b) (x ∷ xs) xs ≡ cond b (x ∷ ys) ys
+  one_passed true b x xs ys passed rest = rw rest refl
+  one_passed false b x xs ys passed rest = cc
+
+  pub passed_by_all : (xs : List X) → list_all all xs ≡ true → filter (λ x. all x && test x) xs ≡ filter test xs
+  passed_by_all [] passed = refl
+  passed_by_all (x ∷ xs) passed =
+      one_passed (all x) (test x) x (filter (λ x. all x && test x) xs) (filter test xs)
+      (left_true (all x) (list_all all xs) passed) (passed_by_all xs (right_true (all x) (list_all all xs) passed))
 
 both : (a b : Bool) → a ≡ true → b ≡ true → (a && b) ≡ true
 both true b first second = second

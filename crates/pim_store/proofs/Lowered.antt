@@ -1,5 +1,5 @@
 -- A row that is there is changed in its place.
-use Rattle.std.proofs.Common.{◌≡◌, true, Option, Some, None, is_some, refl, ap, ◌∙◌}
+use Rattle.std.proofs.Common.{◌≡◌, true, false, Option, Some, None, is_some, refl, sym, ap, ◌∙◌}
 use Rattle.std.specs.List.Sorted.{IsStrictlySortedBy}
 use Rattle.std.specs.Option.{IfSome}
 use Rattle.std.specs.Prelude.{Err, Ok, OnOk, Result}
@@ -7,9 +7,9 @@ use Rattle.pim_types.specs.declared.fact.Key.{Key}
 use Rattle.pim_types.specs.Keys.{key_cmp}
 use Rattle.pim_types.specs.declared.fact.AssertRow.{AssertRow}
 use Rattle.pim_model.specs.Sets.{is_loser}
-use Rattle.pim_model.specs.Tables.{Table, change_row, has_row, keys_in, put, row_at}
+use Rattle.pim_model.specs.Tables.{Table, change_row, drop_at, has_row, keys_in, put, row_at, set_row}
 use Rattle.pim_tables.proofs.Lookups.{absent, put_is_changed}
-use Rattle.pim_tables.proofs.Rows.{absent_is_unchanged}
+use Rattle.pim_tables.proofs.Rows.{absent_is_unchanged, always, dropped_is_changed}
 
 module _ {R : Type 0} (k : Key) (t : Table R) where
   pub is_there : (r : R) → row_at t k ≡ Some r → has_row t k ≡ true
@@ -30,6 +30,22 @@ module _ {R : Type 0} (k : Key) (t : Table R) where
       at : (o : Option R) → o ≡ Some r → IfSome o (λ before. change before ≡ Some row)
       at None found = cc
       at (Some before) found = let same : before ≡ r = cc in ap change same ∙ is
+
+  pub nothing_changed : (change : R → Option R) → has_row t k ≡ false → t ≡ change_row change k t
+  nothing_changed change none = absent_is_unchanged k change t (absent k t none)
+
+  pub nothing_dropped : has_row t k ≡ false → t ≡ drop_at t k
+  nothing_dropped none = nothing_changed (λ _. None) none ∙ sym (dropped_is_changed k t)
+
+  -- what is set under a key that is there
+  pub set_there : {T E : Type 0} (row : Option R) (t' : Table R) (result : Result T E)
+      → IsStrictlySortedBy key_cmp (keys_in t) → has_row t k ≡ true → OnOk result (t' ≡ set_row t k row)
+      → OnOk result (t' ≡ change_row (λ _. row) k t)
+  unfolding set_row
+  set_there row t' (Err e) sorted there set = tt
+  set_there None t' (Ok x) sorted there set = set ∙ dropped_is_changed k t
+  set_there (Some r) t' (Ok x) sorted there set =
+      set ∙ put_is_changed k r (λ _. Some r) t sorted there (always (row_at t k) r)
 
 pub lost_there : (k : Key) (t : Table AssertRow) → is_loser (row_at t k) ≡ true → has_row t k ≡ true
 unfolding has_row

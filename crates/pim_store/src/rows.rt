@@ -1,6 +1,6 @@
 //! A table's rows, changed with the marks that they tell.
 ghost use Rattle.std.specs.Prelude.{◌≡◌, ◌&&◌, ℕ, Some, IsTrue, OnErr, OnOk, true};
-ghost use Rattle.pim_model.specs.Tables.{drop_at, drop_where, put, set_row};
+ghost use Rattle.pim_model.specs.Tables.{change_row, drop_at, drop_where, put, set_row};
 ghost use Rattle.pim_types.specs.Keys.{is_on};
 ghost use Rattle.pim_store.specs.Said.{IsTold, KeepsOtherMarks, SetsMarks, is_about, row_says};
 ghost use Rattle.pim_store.specs.declared.marks.Mark.{Mark as MarkValue};
@@ -65,6 +65,8 @@ pub(crate) fn put_row<R: Marking>(
 {
     mark_row(rows, index, key, row)?;
     if let Err(refused) = rows.put(key, row) {
+        // The row that was there may be marked otherwise now: it goes.
+        rows.remove(key);
         index.unmark::<R>(key);
         return Err(refused);
     }
@@ -103,6 +105,38 @@ pub(crate) fn set_row<R: Marking>(
             remove_row(rows, index, key);
             Ok(())
         }
+    }
+}
+
+// Where there is a row under the key, puts this one in its place, or takes it away. An error is want of memory.
+pub(crate) fn change_row<R: Marking>(
+    rows: &mut Timed<R, Wheel>,
+    index: &mut Index,
+    key: Key,
+    row: Option<R>,
+) -> Result<(), AllocError>
+    requires { IsTold R.tells R.says R.fits index.old rows.old }
+    ensures changed { OnOk result (rows.new ≡ change_row (λ before. row) key rows.old) }
+    ensures told { IsTold R.tells R.says R.fits index.new rows.new }
+    ensures others { KeepsOtherMarks R.tells index.old index.new }
+{
+    // It tells that the keys rise: what is put under a key that is there stands in its place.
+    let _ = rows.len();
+    if !rows.contains(key) {
+        return Ok(());
+    }
+    set_row(rows, index, key, row)
+}
+
+// Takes the row under the key away, if there is one.
+pub(crate) fn drop_row<R: Marking>(rows: &mut Timed<R, Wheel>, index: &mut Index, key: Key)
+    requires { IsTold R.tells R.says R.fits index.old rows.old }
+    ensures dropped { rows.new ≡ drop_at rows.old key }
+    ensures told { IsTold R.tells R.says R.fits index.new rows.new }
+    ensures others { KeepsOtherMarks R.tells index.old index.new }
+{
+    if rows.contains(key) {
+        remove_row(rows, index, key);
     }
 }
 

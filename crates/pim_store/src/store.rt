@@ -5,7 +5,7 @@ ghost use Rattle.pim_ifset.specs.Members.{has};
 ghost use Rattle.pim_model.specs.Clearing.{first_by};
 ghost use Rattle.pim_model.specs.Downstream.{is_named};
 ghost use Rattle.pim_model.specs.Sets.{is_loser, is_winner};
-ghost use Rattle.pim_model.specs.Tables.{change_row, drop_where, has_row, keys_in, row_at, set_row};
+ghost use Rattle.pim_model.specs.Tables.{change_row, drop_at, drop_where, has_row, keys_in, row_at, set_row};
 ghost use Rattle.pim_model.specs.Timers.{is_ending_first};
 ghost use Rattle.pim_model.specs.Upstream.{groups_of, sources_of};
 ghost use Rattle.pim_tables.specs.Ends.{due_of};
@@ -15,11 +15,11 @@ ghost use Rattle.pim_store.specs.PimTables.{AreKeyed, counted_facts, fact_key, i
 
 use crate::index::{Index, row_says};
 use crate::marks::{Mark, Marks};
-use crate::rows::{drop_rows_on, put_row, remove_row, set_row};
+use crate::rows::{change_row, drop_row, drop_rows_on, put_row, remove_row, set_row};
 use crate::walks::Sources;
 use pim_ip::Addr;
 use pim_source_trie::Groups;
-use pim_tables::{RptKeys, Timed, earlier};
+use pim_tables::{GroupRows, RptKeys, Timed, earlier};
 use pim_timers::Wheel;
 use pim_trie::Meter;
 use pim_types::fact::{
@@ -262,6 +262,67 @@ impl Store {
         set_row(&mut self.registers, &mut self.index, key, row)
     }
 
+    /// Where there is a downstream state under the key, puts this one in its place. An error is want of memory.
+    pub fn change_downstream(&mut self, key: Key, row: DownstreamRow) -> Result<(), AllocError>
+        ensures { OnOk result (self.new
+            ≡ record self.old { downstream = change_row (λ before. Some row) key self.old.downstream }) }
+    {
+        change_row(&mut self.downstream, &mut self.index, key, Some(row))
+    }
+
+    /// Takes the downstream state under the key away, if there is one.
+    pub fn drop_downstream(&mut self, key: Key)
+        ensures { self.new ≡ record self.old { downstream = drop_at self.old.downstream key } }
+    {
+        drop_row(&mut self.downstream, &mut self.index, key);
+    }
+
+    /// Where there is an assert under the key, puts this one in its place. An error is want of memory.
+    pub fn change_assert(&mut self, key: Key, row: AssertRow) -> Result<(), AllocError>
+        ensures { OnOk result (self.new
+            ≡ record self.old { asserts = change_row (λ before. Some row) key self.old.asserts }) }
+    {
+        change_row(&mut self.asserts, &mut self.index, key, Some(row))
+    }
+
+    /// Takes the assert under the key away, if there is one.
+    pub fn drop_assert(&mut self, key: Key)
+        ensures { self.new ≡ record self.old { asserts = drop_at self.old.asserts key } }
+    {
+        drop_row(&mut self.asserts, &mut self.index, key);
+    }
+
+    /// Where there is a source under the key, gives it this row, or takes its row away. An error is want of memory.
+    pub fn change_source(&mut self, key: Key, row: Option<SourceRow>) -> Result<(), AllocError>
+        ensures { OnOk result (self.new
+            ≡ record self.old { sources = change_row (λ before. row) key self.old.sources }) }
+    {
+        change_row(&mut self.sources, &mut self.index, key, row)
+    }
+
+    /// Where there is a register under the key, puts this one in its place. An error is want of memory.
+    pub fn change_register(&mut self, key: Key, row: RegisterRow) -> Result<(), AllocError>
+        ensures { OnOk result (self.new
+            ≡ record self.old { registers = change_row (λ before. Some row) key self.old.registers }) }
+    {
+        change_row(&mut self.registers, &mut self.index, key, Some(row))
+    }
+
+    /// Where there is a Join timer under the key, puts this one in its place. An error is want of memory.
+    pub fn change_join_timer(&mut self, key: Key, row: JoinTimerRow) -> Result<(), AllocError>
+        ensures { OnOk result (self.new
+            ≡ record self.old { join_timers = change_row (λ before. Some row) key self.old.join_timers }) }
+    {
+        change_row(&mut self.join_timers, &mut self.index, key, Some(row))
+    }
+
+    /// Takes the override timer under the key away, if there is one.
+    pub fn drop_override_timer(&mut self, key: Key)
+        ensures { self.new ≡ record self.old { override_timers = drop_at self.old.override_timers key } }
+    {
+        drop_row(&mut self.override_timers, &mut self.index, key);
+    }
+
     /// Lowers the Join timer under the key, if there is one, to this end, in ms. An error is want of memory.
     pub fn lower_join_timer(&mut self, key: Key, end: u64) -> Result<(), AllocError>
         ensures { OnOk result (self.new
@@ -349,6 +410,14 @@ impl Store {
             (keys_in self.now.downstream)) }
     {
         self.downstream.push_rpt_keys(iface, groups, keys)
+    }
+
+    /// The Join timers of the group, by rising key: that of (*,G), then those of its sources. No timer of another group
+    /// is looked at, but for the one that comes next.
+    pub fn join_timers_of(&self, group: Addr) -> GroupRows<'_, JoinTimerRow>
+        ensures { result ≡ filter (λ e. is_of_group group.bits e.0) self.now.join_timers }
+    {
+        self.join_timers.of_group(IfaceId::NONE, group)
     }
 
     /// Whether there is a fact of the source of the group. The meter rises by the nodes that it visits.

@@ -1,12 +1,12 @@
 mod Counting
 pub mod Firsts
+pub mod Gone
 mod GroupKeys
 mod GroupRuns
 mod Joined
 pub mod Lookups
 pub mod Losses
-mod Orders
+pub mod Orders
 pub mod Rows
 mod Steps
-pub mod Stops
 mod Walks

@@ -1,5 +1,5 @@
 -- What is found in a table that was changed.
-use Rattle.std.proofs.Common.{◌≡◌, ℕ, Bool, true, false, cond, not, [], ◌∷◌, map, Option, Some, None, is_some, refl, sym, ap, subst, ◌∙◌}
+use Rattle.std.proofs.Common.{◌≡◌, ℕ, ◌||◌, Bool, true, false, cond, not, [], ◌∷◌, ◌++◌, map, Option, Some, None, is_some, refl, sym, ap, subst, ◌∙◌}
 use Rattle.std.specs.Cmp.{eq_by_cmp_equiv}
 use Rattle.std.specs.List.Sorted.{IsStrictlySortedBy}
 use Rattle.std.specs.Map.{lookup, set_value}
@@ -13,10 +13,12 @@ use Rattle.std.proofs.lemmas.Bool.{true≢false}
 use Rattle.std.proofs.lemmas.Map.{lookup-none}
 use Rattle.std.proofs.lemmas.Map.Entries.{lookup-filter-keys, none_below_head}
 use Rattle.pim_types.specs.declared.fact.Key.{Key}
+use Rattle.pim_types.specs.declared.timer.TimerKind.{TimerKind}
 use Rattle.pim_types.specs.Keys.{is_on, key_cmp, same_key}
-use Rattle.pim_types.proofs.Keys.{equal_keys, key_cmp_total}
+use Rattle.pim_types.proofs.Keys.{equal_keys, key_cmp_total, same_key_same}
 use Rattle.pim_model.specs.Tables.{Table, change_row, drop_at, drop_where, has_row, keys_in, put, row_at}
-use Rattle.pim_tables.proofs.Rows.{written_is_changed}
+use Rattle.pim_tables.specs.Ends.{left_at}
+use Rattle.pim_tables.proofs.Rows.{absent_is_unchanged, dropped_is_changed, written_is_changed}
 
 pub same_key_symm : (k q : Key) → same_key k q ≡ same_key q k
 same_key_symm = (eq_by_cmp_equiv key_cmp_total).symm
@@ -125,3 +127,49 @@ none_there (Err e) t k over = absent k t (go (has_row t k) refl)
     go : (b : Bool) → has_row t k ≡ b → b ≡ false
     go true is = cc (over is)
     go false is = refl
+
+-- a row after the others
+module _ {R : Type 0} (q k : Key) (r : R) where
+  last_step : (e : Key × R) (xs : Table R) (b : Bool) → has_row (xs ++ (k, r) ∷ []) q ≡ (has_row xs q || same_key q k)
+      → is_some (cond b (Some e.1) (row_at (xs ++ (k, r) ∷ []) q))
+      ≡ (is_some (cond b (Some e.1) (row_at xs q)) || same_key q k)
+  unfolding has_row
+  last_step e xs true later = refl
+  last_step e xs false later = later
+
+  pub has_row-last : (xs : Table R) → has_row (xs ++ (k, r) ∷ []) q ≡ (has_row xs q || same_key q k)
+  unfolding has_row row_at
+  has_row-last [] = only (same_key q k)
+    where
+      only : (b : Bool) → is_some (cond b (Some r) None) ≡ b
+      only true = refl
+      only false = refl
+  has_row-last (e ∷ xs) = last_step e xs (same_key q e.0) (has_row-last xs)
+
+-- ---- a row that was refused
+
+module _ {R : Type 0} (k : Key) where
+  none_goes : (t : Table R) → row_at t k ≡ None → drop_at t k ≡ t
+  unfolding row_at
+  none_goes t none = dropped_is_changed k t ∙ sym (absent_is_unchanged k (λ _. None) t none)
+
+  gone : (t : Table R) → row_at (drop_at t k) k ≡ None
+  gone t = row_at-drop_at k k t ∙ ap (λ (b : Bool). cond b None (row_at t k)) (same_key_same k)
+
+  -- where no row is there, none goes
+  pub absent_is_left : (second : Option TimerKind) (t : Table R) → row_at t k ≡ None → t ≡ left_at second t k
+  absent_is_left None t none = refl
+  absent_is_left (Some kind) t none = sym (none_goes t none)
+
+  pub absent_is_dropped : (t : Table R) → row_at t k ≡ None
+      → (q : Key) → row_at t q ≡ cond (same_key q k) None (row_at t q)
+  absent_is_dropped t none q = go (same_key q k) refl
+    where
+      go : (b : Bool) → same_key q k ≡ b → row_at t q ≡ cond b None (row_at t q)
+      go true same = ap (λ (x : Key). row_at t x) (equal_keys q k same) ∙ none
+      go false other = refl
+
+  -- what may be left goes too
+  pub left_is_dropped : (second : Option TimerKind) (t : Table R) → drop_at (left_at second t k) k ≡ drop_at t k
+  left_is_dropped None t = refl
+  left_is_dropped (Some kind) t = none_goes (drop_at t k) (gone t)

@@ -1,11 +1,12 @@
 -- The first of a list doesn't depend on the order in which the list is put together.
-use Rattle.std.proofs.Common.{◌≡◌, Bool, true, false, ◌||◌, List, [], ◌∷◌, ◌++◌, append_assoc, Option, Some, None, refl, sym, ap, ◌∙◌}
-use Rattle.std.specs.List.{AllByRecursion, list_any}
+use Rattle.std.proofs.Common.{◌≡◌, ℕ, Bool, true, false, cond, ◌||◌, List, [], ◌∷◌, ◌++◌, length, length-append, nat_lt, Option, Some, None, refl, sym, ap, ◌∙◌, arith}
+use Rattle.std.specs.List.{AllByRecursion, filter, list_any}
 use Rattle.std.specs.Ordering.{is_lt, ordering_reverse}
 use Rattle.std.specs.declared.cmp.Ordering.{Ordering}
 use Rattle.std.specs.declared.cmp.Ordering.TheVariants.{Less, Equal, Greater}
 use Rattle.std.proofs.lemmas.Bool.{true≢false}
-use Rattle.std.proofs.lemmas.List.Folds.{list_any-append}
+use Rattle.std.proofs.lemmas.Bool.Decides.{nat_tests}
+use Rattle.std.proofs.lemmas.List.Elements.{filter-append}
 use Rattle.pim_timers.specs.Order.{due_cmp}
 use Rattle.pim_timers.proofs.Total.{due_cmp_total, due_exact}
 use Rattle.pim_model.specs.Clearing.{first_by}
@@ -68,28 +69,26 @@ same_first xs ys same =
     go (Some c) (Some d) e f first second =
         ap Some (neither c d (no_later ys xs back d c second.1 e) (no_later xs ys same c d first.1 f))
 
-shuffled : (a b c d e : Bool) → ((((a || b) || c) || d) || e) ≡ ((((a || d) || b) || c) || e)
-shuffled true b c d e = refl
-shuffled false true c true e = refl
-shuffled false true c false e = refl
-shuffled false false true true e = refl
-shuffled false false true false e = refl
-shuffled false false false true e = refl
-shuffled false false false false e = refl
+abbrev pub counted : (Ending → Bool) → List Ending → ℕ
+counted p xs = length (filter p xs)
 
-any_moved : (p : Ending → Bool) (v w x y z : List Ending)
-    → list_any p (v ++ w ++ x ++ y ++ z) ≡ list_any p (v ++ y ++ w ++ x ++ z)
-any_moved p v w x y z =
-    simp list_any-append (shuffled (list_any p v) (list_any p w) (list_any p x) (list_any p y) (list_any p z))
+any_counted : (p : Ending → Bool) (xs : List Ending) → list_any p xs ≡ nat_lt 0 (counted p xs)
+any_counted p [] = refl
+any_counted p (x ∷ xs) = go (p x) (any_counted p xs)
+  where
+    go : (b : Bool) → list_any p xs ≡ nat_lt 0 (counted p xs)
+        → (b || list_any p xs) ≡ nat_lt 0 (length (cond b (x ∷ filter p xs) (filter p xs)))
+    go true e = grind (arith, nat_tests)
+    go false e = e
+
+-- two lists in which as many pass, whatever the test
+pub first_of_counted : (xs ys : List Ending) → ((p : Ending → Bool) → counted p xs ≡ counted p ys)
+    → first_by is_ending_first xs ≡ first_by is_ending_first ys
+first_of_counted xs ys same =
+    same_first xs ys (λ p. any_counted p xs ∙ ap (λ n. nat_lt 0 n) (same p) ∙ sym (any_counted p ys))
 
 -- the second ends of two tables, moved to the first
 pub moved : (n p d gr sr a k r o j q g s y h : List Ending)
     → first_by is_ending_first (n ++ p ++ d ++ gr ++ sr ++ a ++ k ++ r ++ o ++ j ++ q ++ g ++ s ++ y ++ h)
     ≡ first_by is_ending_first (n ++ (p ++ d) ++ gr ++ sr ++ a ++ k ++ r ++ o ++ j ++ (q ++ y) ++ g ++ s ++ h)
-moved n p d gr sr a k r o j q g s y h =
-    let before : List Ending = n ++ p ++ d ++ gr ++ sr ++ a ++ k ++ r ++ o ++ j in
-    same_first (before ++ q ++ g ++ s ++ y ++ h) (before ++ q ++ y ++ g ++ s ++ h)
-    (λ t. any_moved t (before ++ q) g s y h)
-    ∙ ap (λ l. first_by is_ending_first (l ++ g ++ s ++ h)) (append_assoc before q y)
-    ∙ ap (λ l. first_by is_ending_first (l ++ gr ++ sr ++ a ++ k ++ r ++ o ++ j ++ (q ++ y) ++ g ++ s ++ h))
-    (append_assoc n p d)
+moved n p d gr sr a k r o j q g s y h = first_of_counted _ _ (λ t. simp (filter-append, length-append) (omega arith))

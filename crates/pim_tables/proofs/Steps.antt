@@ -183,6 +183,11 @@ module _ {R : Type 0} (kinds : Kinds) (ends : R → Option ℕ × Option ℕ) wh
             second_end apart row kind t.kind (ap (λ (q : Kinds). q.1) (sym kinds_are) ∙ is) same
             ∙ ap (λ (e : Option ℕ × Option ℕ). e.1) (sym ends_are)
 
+  pub set_keeps_others : (m0 m1 : Contents) (k : Key) (row : Option R) → SetsRow kinds ends m0 m1 k row
+      → KeepsOthers kinds m0 m1 k
+  set_keeps_others m0 m1 k row set t other =
+      set t ∙ ap (λ (b : Bool). cond b (end_of kinds ends row t.kind) (map.get m0 t)) other
+
   -- in step before; then the timers of one row may have changed, and were set as the row that is there now ends
   pub stepped : (m0 m1 m2 : Contents) (rows after : Table R) (k : Key) (w : Option R) → InStep kinds ends m0 rows
       → KeepsOthers kinds m0 m1 k → SetsRow kinds ends m1 m2 k w

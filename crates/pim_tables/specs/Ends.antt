@@ -7,7 +7,7 @@ use Rattle.pim_types.specs.declared.timer.TimerKind.{TimerKind}
 use Rattle.pim_types.specs.Keys.{same_key}
 use Rattle.pim_types.specs.Timers.{rank}
 use Rattle.pim_timers.specs.Schedule.{Contents}
-use Rattle.pim_model.specs.Tables.{Table, row_at}
+use Rattle.pim_model.specs.Tables.{Table, drop_at, row_at}
 use Rattle.pim_model.specs.Timers.{Ending, endings}
 
 -- the kind of the first end, and that of the second where there is one
@@ -38,6 +38,11 @@ abbrev pub due_of : Ending → ℕ × Timer
 due_of e = (e.end, e.timer)
 
 module _ {R : Type 0} where
+  -- what a row that was refused leaves under its key: what was there, where rows have no second end, else nothing
+  abbrev pub left_at : Option TimerKind → Table R → Key → Table R
+  left_at None rows k = rows
+  left_at (Some kind) rows k = drop_at rows k
+
   abbrev pub second_endings : Option TimerKind → (R → Option ℕ) → Table R → List Ending → List Ending
   second_endings None end_of rows first = first
   second_endings (Some kind) end_of rows first = first ++ endings kind end_of rows

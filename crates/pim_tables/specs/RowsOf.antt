@@ -3,7 +3,7 @@ use Rattle.std.specs.Borrow.{Bor}
 use Rattle.std.specs.List.{AllByRecursion}
 use Rattle.std.specs.List.Sorted.{IsStrictlySortedBy}
 use Rattle.std.specs.Ordering.{is_le}
-use Rattle.std.specs.Prelude.{Bool, None, Option, Some, true, unwrap_or, ℕ, ◌&&◌, ◌≡◌}
+use Rattle.std.specs.Prelude.{Bool, None, Option, Some, [], true, unwrap_or, ℕ, ◌&&◌, ◌≡◌, ◌∷◌}
 use Rattle.pim_ip.specs.Addr.{addr}
 use Rattle.pim_ip.specs.declared.addr.Addr.{Addr}
 use Rattle.pim_types.specs.declared.fact.Key.{Key}
@@ -27,3 +27,8 @@ row_seen e = (e.0.now, e.1.now)
 pub record RiseFrom {R : Type 0} (i : ℕ) (group : Option Addr) (rows : Table R) : Type 0 where
   pub rise : IsStrictlySortedBy key_cmp (keys_in rows)
   pub from : AllByRecursion (λ (e : Key × R). is_le (key_cmp (first_of i group) e.0) ≡ true) rows
+
+-- the key of the first row
+abbrev pub first_key : {R : Type 0} → Table R → Option Key
+first_key [] = None
+first_key (e ∷ t) = Some e.0

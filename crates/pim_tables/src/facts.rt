@@ -1,9 +1,10 @@
-ghost use Rattle.std.specs.Prelude.{◌≡◌, ◌==◌, ◌++◌, ◌↔◌, ◌&&◌, [], filter, length, IsTrue, IfSome, OnOk, OnErr, Option, Some};
+ghost use Rattle.std.specs.Prelude.{◌≡◌, ◌==◌, ◌++◌, ◌↔◌, ◌&&◌, [], filter, length, IsTrue, IfSome, OnOk, OnErr, Option, Some, None};
 ghost use Rattle.std.specs.List.{list_any};
 ghost use Rattle.std.specs.List.Sorted.{IsStrictlySortedBy};
 ghost use Rattle.pim_model.specs.Tables.{keys_in, row_at, has_row, put, drop_at, drop_where, set_row, change_row, rows_on};
 ghost use Rattle.pim_types.specs.Keys.{group_in, is_of_group, key_cmp, is_on};
 ghost use Rattle.pim_model.specs.Records.{is_at_group};
+ghost use Rattle.pim_tables.specs.RowsOf.{first_key};
 
 use crate::group_rows::{GroupRows, RptKeys, push_keys};
 use crate::rows_of::RowsOf;
@@ -130,9 +131,10 @@ impl<R: Copy> Facts<R> {
         self.rows.get(&key).copied()
     }
 
-    /// Puts the fact under the key, in place of one that is there.
+    /// Puts the fact under the key, in place of one that is there. Only a further fact wants memory.
     pub fn put(&mut self, key: Key, row: R) -> Result<(), AllocError>
         ensures ok { OnOk result (self.new ≡ put self.old key row) }
+        ensures absent { OnErr result (row_at self.old key ≡ None) }
         ensures err { OnErr result (self.new ≡ self.old) }
     {
         self.rows.insert(key, row)?;
@@ -171,23 +173,33 @@ impl<R: Copy> Facts<R> {
         }
     }
 
-    /// How many facts are of the interface.
+    /// How many facts are of the interface. Of the others one is looked at.
     pub fn count_on(&self, iface: IfaceId) -> usize
         ensures { result ≡ length (rows_on iface.number self.now) }
     {
+        // It tells that the count fits.
+        let _ = self.len();
         let mut count = 0;
-        for (key, _) in self.rows.iter() {
-            if key.iface == iface {
-                count += 1;
-            }
+        for _row in self.rows_on(iface) {
+            count += 1;
         }
         count
     }
 
-    /// Takes the facts of the interface away.
+    // The key of the interface's first fact.
+    pub(crate) fn first_on(&self, iface: IfaceId) -> Option<Key>
+        ensures { result ≡ first_key (rows_on iface.number self.now) }
+    {
+        let (key, _) = self.rows_on(iface).next()?;
+        Some(*key)
+    }
+
+    /// Takes the facts of the interface away. Of the others one is looked at.
     pub fn drop_on(&mut self, iface: IfaceId)
         ensures { self.new ≡ drop_where (is_on iface.number) self.old }
     {
-        self.rows.retain(|key, _| key.iface != iface);
+        while let Some(first) = self.first_on(iface) {
+            self.remove(first);
+        }
     }
 }

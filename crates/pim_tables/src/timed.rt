@@ -10,7 +10,8 @@ ghost use Rattle.pim_model.specs.Timers.{is_ending_first};
 ghost use Rattle.pim_timers.specs.Ends.{same_timer};
 ghost use Rattle.pim_types.specs.declared.timer.Timer.{Timer as TimerValue};
 ghost use Rattle.pim_types.specs.Keys.{group_in, is_of_group, key_cmp, is_on};
-ghost use Rattle.pim_tables.specs.Ends.{InStep, KeepsOthers, SetsRow, due_of, row_endings};
+ghost use Rattle.pim_tables.specs.Ends.{InStep, KeepsOthers, SetsRow, due_of, left_at, row_endings};
+ghost use Rattle.pim_tables.specs.RowsOf.{first_key};
 
 use crate::ends::Ends;
 use crate::facts::Facts;
@@ -55,10 +56,12 @@ fn set_end<T: Timers>(timers: &mut T, timer: Timer, end: Option<u64>) -> Result<
     Ok(())
 }
 
-// Sets the timers of the row under the key.
+// Sets the timers of the row under the key. An error is want of memory; the timer of a row with one end is then as it
+// was.
 fn set_ends<R: Ends, T: Timers>(timers: &mut T, key: Key, row: R) -> Result<(), AllocError>
     ensures ok { OnOk result (SetsRow R.kinds R.ends (T.contents timers.old) (T.contents timers.new) key (Some row)) }
     ensures err { OnErr result (KeepsOthers R.kinds (T.contents timers.old) (T.contents timers.new) key) }
+    ensures kept { R.kinds.1 ≡ None → OnErr result (T.contents timers.new ≡ T.contents timers.old) }
 {
     let kinds = R::kinds();
     let ends = row.ends();
@@ -80,33 +83,33 @@ fn cancel_ends<R: Ends, T: Timers>(timers: &mut T, key: Key)
     }
 }
 
-// Sets the timers of the row, and then puts it under the key.
+// Sets the timers of the row, and then puts it under the key. An error is want of memory.
 fn put_in_step<R: Ends, T: Timers>(
     rows: &mut Facts<R>,
     timers: &mut T,
     key: Key,
     row: R,
 ) -> Result<(), AllocError>
-    ensures put { OnOk result (rows.new ≡ put rows.old key row) }
-    ensures set { OnOk result (SetsRow R.kinds R.ends (T.contents timers.old) (T.contents timers.new) key (Some row)) }
-    ensures err { OnErr result (rows.new ≡ rows.old) }
-    ensures others { OnErr result (KeepsOthers R.kinds (T.contents timers.old) (T.contents timers.new) key) }
+    requires { InStep R.kinds R.ends (T.contents timers.old) rows.old }
+    ensures ok { OnOk result (rows.new ≡ put rows.old key row) }
+    ensures err { OnErr result (rows.new ≡ left_at R.kinds.1 rows.old key) }
+    ensures in_step { InStep R.kinds R.ends (T.contents timers.new) rows.new }
 {
-    set_ends(timers, key, row)?;
-    rows.put(key, row)?;
-    Ok(())
-}
-
-// Takes the timers of the interface's rows out.
-fn cancel_on<R: Ends, T: Timers>(rows: &Facts<R>, timers: &mut T, iface: IfaceId)
-    requires { InStep R.kinds R.ends (T.contents timers.old) rows.now }
-    ensures { InStep R.kinds R.ends (T.contents timers.new) (drop_where (is_on iface.number) rows.now) }
-{
-    for (key, _) in rows.iter() {
-        if key.iface == iface {
-            cancel_ends::<R, T>(timers, *key);
+    if let Err(refused) = set_ends(timers, key, row) {
+        if R::kinds().1.is_none() {
+            return Err(refused);
         }
+        // The first of the two may be set by now, and can't be set back without memory.
+        rows.remove(key);
+        cancel_ends::<R, T>(timers, key);
+        return Err(refused);
     }
+    if let Err(refused) = rows.put(key, row) {
+        // No row is under the key, since only a further one wants memory.
+        cancel_ends::<R, T>(timers, key);
+        return Err(refused);
+    }
+    Ok(())
 }
 
 impl<R: Ends, T: Timers> Timed<R, T> {
@@ -219,19 +222,13 @@ impl<R: Ends, T: Timers> Timed<R, T> {
         self.timers.next()
     }
 
-    /// Puts the fact under the key, in place of one that is there. An error is want of memory, and
-    /// then no fact is under the key.
+    /// Puts the fact under the key, in place of one that is there. An error is want of memory: facts with one
+    /// end are then as they were, and of those with two none is under the key.
     pub fn put(&mut self, key: Key, row: R) -> Result<(), AllocError>
         ensures ok { OnOk result (self.new ≡ put self.old key row) }
-        ensures err { OnErr result (self.new ≡ drop_at self.old key) }
+        ensures err { OnErr result (self.new ≡ left_at R.kinds.1 self.old key) }
     {
-        if let Err(refused) = put_in_step(&mut self.rows, &mut self.timers, key, row) {
-            // One of the timers may be set by now, and none can be set back without memory.
-            self.rows.remove(key);
-            cancel_ends::<R, T>(&mut self.timers, key);
-            return Err(refused);
-        }
-        Ok(())
+        put_in_step(&mut self.rows, &mut self.timers, key, row)
     }
 
     /// Takes the fact under the key away.
@@ -242,11 +239,11 @@ impl<R: Ends, T: Timers> Timed<R, T> {
         cancel_ends::<R, T>(&mut self.timers, key);
     }
 
-    /// Puts the fact under the key, or takes away the one that is there. An error is want of memory,
-    /// and then no fact is under the key.
+    /// Puts the fact under the key, or takes away the one that is there. An error is want of memory, and leaves
+    /// what one of `put` leaves.
     pub fn set(&mut self, key: Key, row: Option<R>) -> Result<(), AllocError>
         ensures ok { OnOk result (self.new ≡ set_row self.old key row) }
-        ensures err { OnErr result (self.new ≡ drop_at self.old key) }
+        ensures err { OnErr result (self.new ≡ left_at R.kinds.1 self.old key) }
     {
         match row {
             Some(row) => self.put(key, row),
@@ -257,14 +254,14 @@ impl<R: Ends, T: Timers> Timed<R, T> {
         }
     }
 
-    /// Changes the fact under the key, where there is one, to this one. An error is want of memory,
-    /// and then no fact is under the key.
+    /// Changes the fact under the key, where there is one, to this one. An error is want of memory, and leaves
+    /// what one of `put` leaves.
     pub fn change(&mut self, key: Key, row: R) -> Result<(), AllocError>
         ensures to { OnOk result (self.new ≡ change_row (λ _. Some row) key self.old) }
         ensures by { OnOk result ((change : R → Option R)
             → IfSome (row_at self.old key) (λ before. change before ≡ Some row)
             → self.new ≡ change_row change key self.old) }
-        ensures err { OnErr result (self.new ≡ drop_at self.old key) }
+        ensures err { OnErr result (self.new ≡ left_at R.kinds.1 self.old key) }
     {
         // It tells that the keys rise: what is put under a key that is there stands in its place.
         let _ = self.len();
@@ -274,11 +271,19 @@ impl<R: Ends, T: Timers> Timed<R, T> {
         Ok(())
     }
 
-    /// Takes the facts of the interface away.
+    // The key of the interface's first fact.
+    fn first_on(&self, iface: IfaceId) -> Option<Key>
+        ensures { result ≡ first_key (rows_on iface.number self.now) }
+    {
+        self.rows.first_on(iface)
+    }
+
+    /// Takes the facts of the interface away. Of the others one is looked at.
     pub fn drop_on(&mut self, iface: IfaceId)
         ensures { self.new ≡ drop_where (is_on iface.number) self.old }
     {
-        cancel_on(&self.rows, &mut self.timers, iface);
-        self.rows.drop_on(iface);
+        while let Some(first) = self.first_on(iface) {
+            self.remove(first);
+        }
     }
 }

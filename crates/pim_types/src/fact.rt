@@ -111,7 +111,7 @@ pub struct NeighbourRow {
 #[derive(Clone, Copy)]
 pub enum QuerierRole {
     /// The next general query, and how many of the startup queries are still to leave with it.
-    Querier { next_query: u64, startup_left: u32 },
+    Querier { next_query: u64, startup_left: u8 },
     /// Another router queries, unless it is silent until then.
     NonQuerier { end: u64 },
 }
@@ -121,9 +121,9 @@ pub enum QuerierRole {
 pub struct QuerierRow {
     pub role: QuerierRole,
     /// The robustness variable in force.
-    pub robustness: u32,
+    pub robustness: u8,
     /// The query interval in force, in seconds.
-    pub query_interval: u32,
+    pub query_interval: u16,
 }
 
 /// A group record: in EXCLUDE mode exactly while its timer runs.

@@ -1,12 +1,14 @@
-//! The upstream machines (RFC 7761, sections 4.5.4 to 4.5.7): what is told upstream, the Join timers and the override
-//! timers.
+//! The upstream machines (RFC 7761, sections 4.5.4 to 4.5.7): what is told upstream after a change, the Join timers and
+//! the override timers, and what the end of a Join timer changes.
 #![tactic(auto)]
 
 mod compound;
+pub mod ends;
 pub mod laws;
 mod source;
 mod star;
 mod timer;
 pub mod turns;
 
+pub use ends::fired;
 pub use turns::changed;

@@ -22,8 +22,13 @@ fn entry(source: Addr) -> Entry
     }
 }
 
-// Join(S,G) to a neighbour.
-fn join(turn: &mut Turn, upstream: Option<Hop>, group: Addr, source: Addr) -> Result<(), AllocError>
+/// Join(S,G) to a neighbour.
+pub(crate) fn join(
+    turn: &mut Turn,
+    upstream: Option<Hop>,
+    group: Addr,
+    source: Addr,
+) -> Result<(), AllocError>
     ensures { OnOk result (turn.new ≡ saying turn.old (join_source_to upstream group.bits source.bits)) }
 {
     say(turn, upstream, group, &[entry(source)], &[])

@@ -24,9 +24,9 @@ fn entry(rp: Addr) -> Entry
     }
 }
 
-// Join(*,G) to a neighbour, with the sources that it prunes. Without an RP or a neighbour there is nothing to join.
+/// Join(*,G) to a neighbour, with the sources that it prunes. Without an RP or a neighbour there is nothing to join.
 #[tactic(auto, unfolding(pim_model::specs::Upstream::join_star_to, pim_model::specs::Upstream::join_prune_to))]
-fn join(
+pub(crate) fn join(
     world: &World,
     turn: &mut Turn,
     star: &StarSight,

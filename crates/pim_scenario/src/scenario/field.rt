@@ -3,7 +3,7 @@ ghost use Rattle.std.specs.Prelude.{◌≡◌, is_ok, map, option_map};
 ghost use Rattle.std.specs.Result.{result_ok};
 ghost use Rattle.toml.specs.Data.{as_str, as_table, get_member};
 ghost use Rattle.toml.specs.View.{view, table_view};
-ghost use Rattle.pim_scenario.specs.Fields.{number_of, number_at, number_or, list_of, list_at};
+ghost use Rattle.pim_scenario.specs.Fields.{number_of, number_at, number_or, moment_of, moment_at, list_of, list_at};
 ghost use Rattle.pim_scenario.specs.Fields.{list_or_empty, text_at, optional_text, has_only, is_known};
 
 use super::Wrong;
@@ -52,6 +52,14 @@ fn number_of(value: &Value) -> Result<u32, Wrong>
 {
     let number = value.as_integer().ok_or(Wrong)?;
     u32::try_from(number).map_err(|_| Wrong)
+}
+
+/// The moment that a value is, in ms.
+fn moment_of(value: &Value) -> Result<u64, Wrong>
+    ensures { result_ok result ≡ moment_of (view value.now) }
+{
+    let number = value.as_integer().ok_or(Wrong)?;
+    u64::try_from(number).map_err(|_| Wrong)
 }
 
 /// The values of the list that a value is.
@@ -103,6 +111,13 @@ pub(super) fn number_or(table: &Table, key: &str, default: u32) -> Result<u32, W
         Some(value) => number_of(value),
         None => Ok(default),
     }
+}
+
+/// The moment at a key, in ms.
+pub(super) fn moment(table: &Table, key: &str) -> Result<u64, Wrong>
+    ensures { result_ok result ≡ moment_at key.now (table_view table.now) }
+{
+    moment_of(value_at(table, key).ok_or(Wrong)?)
 }
 
 /// The values of the list at a key.

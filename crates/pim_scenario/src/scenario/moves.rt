@@ -4,10 +4,10 @@ ghost use Rattle.std.specs.List.{AllZip};
 ghost use Rattle.std.specs.Result.{result_ok};
 ghost use Rattle.toml.specs.View.{view, table_view};
 ghost use Rattle.pim_scenario.specs.Fields.{number_at};
-ghost use Rattle.pim_scenario.specs.Scenario.{IsFrame, IsKind, IsMove, IsTable, IsUp};
-ghost use Rattle.pim_scenario.specs.Texts.{ReadsExactly};
+ghost use Rattle.pim_scenario.specs.Scenario.{IsAdvance, IsDown, IsFrame, IsKind, IsMove, IsRoutes, IsRps, IsTable, IsUnicast, IsUp, bytes_at};
+ghost use Rattle.pim_scenario.specs.Texts.{Reads, ReadsExactly};
 
-use super::{Move, RouterText, Unread, Wrong, field, hex, router};
+use super::{Move, RouterText, Unread, Wrong, field, hex, router, routes};
 use pim_types::{Event, EventKind, IfaceId, Series};
 use std::alloc::Global;
 use toml::{Table, Value};
@@ -43,10 +43,24 @@ fn kind_in(alloc: Global, table: &Table) -> Result<EventKind, Unread>
     ensures { ReadsExactly (IsKind (table_view table.now)) result }
 {
     match field::text(table, "do")? {
+        "advance" => advance_in(table),
         "up" => up_in(table),
+        "down" => down_in(table),
+        "routes" => routes_in(alloc, table),
+        "rps" => rps_in(alloc, table),
         "frame" => frame_in(alloc, table),
+        "unicast" => unicast_in(alloc, table),
         _ => Err(Unread::Wrong),
     }
+}
+
+fn advance_in(table: &Table) -> Result<EventKind, Unread>
+    ensures { ReadsExactly (IsAdvance (table_view table.now)) result }
+{
+    field::only(table, &["do", "router", "draw", "moment"])?;
+    Ok(EventKind::Advance {
+        moment: field::moment(table, "moment")?,
+    })
 }
 
 fn up_in(table: &Table) -> Result<EventKind, Unread>
@@ -58,14 +72,56 @@ fn up_in(table: &Table) -> Result<EventKind, Unread>
     })
 }
 
+fn down_in(table: &Table) -> Result<EventKind, Unread>
+    ensures { ReadsExactly (IsDown (table_view table.now)) result }
+{
+    field::only(table, &["do", "router", "draw", "iface"])?;
+    Ok(EventKind::Down {
+        iface: interface_in(table)?,
+    })
+}
+
+fn routes_in(alloc: Global, table: &Table) -> Result<EventKind, Unread>
+    ensures { ReadsExactly (IsRoutes (table_view table.now)) result }
+{
+    field::only(table, &["do", "router", "draw", "list"])?;
+    Ok(EventKind::Routes {
+        routes: routes::routes_in(alloc, field::list(table, "list")?)?,
+    })
+}
+
+fn rps_in(alloc: Global, table: &Table) -> Result<EventKind, Unread>
+    ensures { ReadsExactly (IsRps (table_view table.now)) result }
+{
+    field::only(table, &["do", "router", "draw", "list"])?;
+    Ok(EventKind::Rps {
+        rps: routes::rps_in(alloc, field::list(table, "list")?)?,
+    })
+}
+
 fn frame_in(alloc: Global, table: &Table) -> Result<EventKind, Unread>
     ensures { ReadsExactly (IsFrame (table_view table.now)) result }
 {
     field::only(table, &["do", "router", "draw", "iface", "hex"])?;
     Ok(EventKind::Frame {
         iface: interface_in(table)?,
-        bytes: hex::read_hex(alloc, field::text(table, "hex")?)?,
+        bytes: bytes_in(alloc, table)?,
     })
+}
+
+fn unicast_in(alloc: Global, table: &Table) -> Result<EventKind, Unread>
+    ensures { ReadsExactly (IsUnicast (table_view table.now)) result }
+{
+    field::only(table, &["do", "router", "draw", "hex"])?;
+    Ok(EventKind::Unicast {
+        bytes: bytes_in(alloc, table)?,
+    })
+}
+
+fn bytes_in(alloc: Global, table: &Table) -> Result<Series<u8>, Unread>
+    ensures { Reads (λ bytes. bytes) result (bytes_at (table_view table.now)) }
+{
+    hex::read_hex(alloc, field::text(table, "hex")?)
 }
 
 fn interface_in(table: &Table) -> Result<IfaceId, Wrong>

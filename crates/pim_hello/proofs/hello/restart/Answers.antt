@@ -12,7 +12,7 @@ returns-clause-state c =
     let is : c.replace_neighbour.new.self ≡ replaced s c.args.iface.number c.args.from.bits w c.args.hello.now =
     c.in_ok-replace_neighbour.ensures
     ∙ ap (λ (x : State). neighbour_replaced x c.args.iface.number c.args.from.bits c.args.hello.now)
-    c.trigger.ensures in
+    c.in_ok-trigger.ensures in
     c.in_ok-lower_timers.ensures
     ∙ restarted s c.args.iface.number c.args.from.bits w c.args.hello.now c.replace_neighbour.new.self
     c.end_losses.new.self (c.present.result + c.override_delay.result) c.deref-2.result.now c.deref.result.now is

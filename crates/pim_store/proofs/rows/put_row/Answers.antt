@@ -1,4 +1,6 @@
-use Rattle.std.proofs.Common.{None, Some}
+use Rattle.std.proofs.Common.{None, Some, ap, ◌∙◌}
+use Rattle.pim_model.specs.Tables.{drop_at}
+use Rattle.pim_tables.proofs.Lookups.{left_is_dropped}
 use Rattle.pim_store.proofs.Told.{found_dropped, found_put, marks_again, told_after}
 use Rattle.pim_store.proofs.rows.put_row.Goals as goal
 
@@ -8,7 +10,9 @@ returns-in-Err-clause-told g c =
     c.requires.fits
     (marks_again g.R.Marking.tells g.R.Marking.says c.args.key (Some c.args.row) None _ _ _
     c.in_ok-mark_row.ensures.ok c.unmark.ensures)
-    (found_dropped c.args.key _ _ c.in-Err.ensures.err)
+    (found_dropped c.args.key _ _
+    (c.remove.ensures ∙ ap (λ t. drop_at t c.args.key) c.in-Err.ensures.err
+    ∙ left_is_dropped c.args.key g.R.Ends.kinds.1 c.args.rows.now))
 
 pub returns-clause-told : goal.returns-clause-told
 returns-clause-told g c =

@@ -20,4 +20,5 @@ invariant_of-self-2 c =
           ∙ (λ j. is_dr_among (c.own-own.ensures.priority j) (c.own-own.ensures.address j) (rows_on i new))
           ∙ ap (λ (s : State). is_dr_on s.configured new i) (sym c.self.view_is))
           c.with_member-self-inside.ensures,
+      c.self.invariant.4,
     )

@@ -10,6 +10,8 @@ invariant_of-result c = (
   omega (arith),
   c.requires.least,
   c.requires.most,
-  subst (λ (t : Table NeighbourRow). Shows c.below.result (is_dr_on c.args.interfaces.configured t)) (sym c.new.ensures)
+  subst (λ (t : Table NeighbourRow). Shows c.below.result (is_dr_on c.args.interfaces.configured t))
+      (sym c.in_ok-new.ensures)
       (elected_alone c.args.interfaces.configured c.below.result c.below.ensures.interfaces),
+  c.requires.interval,
 )

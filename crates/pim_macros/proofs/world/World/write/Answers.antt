@@ -31,4 +31,4 @@ pub invariant_of-self : goal.invariant_of-self
 invariant_of-self c =
     let w = c.self.inside in
     subst (λ (cs : List InterfaceConfig). (w.present ≤ 2 ^ 62) × (2 ≤ w.settings.robustness) × (w.settings.robustness ≤ 7)
-    × Shows w.dr (is_dr_on cs w.neighbours)) (sym c.write.ensures.configured) c.self.invariant
+    × Shows w.dr (is_dr_on cs w.neighbours) × (w.settings.query_interval ≤ 31744)) (sym c.write.ensures.configured) c.self.invariant

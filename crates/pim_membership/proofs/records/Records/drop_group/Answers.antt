@@ -1,7 +1,7 @@
 use Rattle.std.proofs.Common.{◌<◌, ap, length, subst, sym, ◌∙◌}
 use Rattle.pim_model.specs.Records.{is_at_group}
 use Rattle.pim_model.specs.Tables.{drop_at, drop_where}
-use Rattle.pim_membership.proofs.Gone.{fewer, goes_anyhow, none_goes}
+use Rattle.pim_tables.proofs.Gone.{fewer, goes_anyhow, none_goes}
 use Rattle.pim_membership.proofs.Told.{key_again}
 use Rattle.pim_membership.proofs.records.Records.drop_group.Goals as goal
 

@@ -1,5 +1,7 @@
-use Rattle.std.proofs.Common.{Some, subst, sym, true, ◌≡◌}
+use Rattle.std.proofs.Common.{Some, ap, subst, sym, true, ◌≡◌, ◌∙◌}
 use Rattle.pim_types.specs.declared.fact.Key.{Key}
+use Rattle.pim_model.specs.Tables.{drop_at}
+use Rattle.pim_tables.proofs.Lookups.{left_is_dropped}
 use Rattle.pim_membership.proofs.Told.{fits_at, listed_put, listed_refused}
 use Rattle.pim_membership.specs.Listing.{is_record_key, record_key}
 use Rattle.pim_membership.proofs.records.Records.put.Goals as goal
@@ -13,7 +15,10 @@ pub invariant_of-self-in-Err : goal.invariant_of-self-in-Err
 invariant_of-self-in-Err g c =
     listed_refused g.R.Record.runs _ c.self.inside.rows c.self.invariant c.record_key-key.result
     (Some (g.R.Record.runs c.args.row)) _ _ _ (record_key c.args.iface.number c.args.group c.args.source)
-    c.record_key-key.ensures c.in-Err.ensures.err c.in_ok-relist.ensures.ok c.unlist.ensures
+    c.record_key-key.ensures
+    (c.remove.ensures ∙ ap (λ t. drop_at t c.record_key-key.result) c.in-Err.ensures.err
+    ∙ left_is_dropped c.record_key-key.result g.R.Ends.kinds.1 c.self.inside.rows)
+    c.in_ok-relist.ensures.ok c.unlist.ensures
 
 pub invariant_of-self-in_default : goal.invariant_of-self-in_default
 invariant_of-self-in_default g c =

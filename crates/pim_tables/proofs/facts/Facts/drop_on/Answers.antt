@@ -1,11 +1,23 @@
-use Rattle.std.proofs.Common.{rules, not}
-use Rattle.std.proofs.lemmas.Map.Made.{filter_same_pairs}
-use Rattle.pim_model.specs.Tables.{drop_where}
+use Rattle.std.proofs.Common.{◌<◌, ap, length, subst, sym, ◌∙◌}
 use Rattle.pim_types.specs.Keys.{is_on}
+use Rattle.pim_model.specs.Tables.{drop_where, rows_on}
+use Rattle.pim_tables.proofs.Gone.{fewer, goes_anyhow, none_goes}
 use Rattle.pim_tables.proofs.facts.Facts.drop_on.Goals as goal
 
+pub loop-first-smaller : goal.loop-first-smaller
+unfolding rows_on
+loop-first-smaller g c =
+    subst (λ t. length t < length c.loop-first.self) (sym c.remove.ensures)
+    (fewer (is_on c.args.iface.number) c.in-Some.first c.loop-first.self (sym c.in-Some.ensures))
+
+pub loop-first-preserved : goal.loop-first-preserved
+unfolding rows_on
+loop-first-preserved g c =
+    ap (drop_where (is_on c.args.iface.number)) c.remove.ensures
+    ∙ goes_anyhow (is_on c.args.iface.number) c.in-Some.first c.loop-first.self (sym c.in-Some.ensures)
+    ∙ c.loop-first.invariant
+
 pub returns : goal.returns
-unfolding drop_where
-returns g c = rw (← c.self.view_is)
-    (filter_same_pairs _ (λ e. not (is_on c.args.iface.number e.0)) _
-    (λ k v b w f t. search rules) _ _ c.retain.ensures.filtered)
+unfolding rows_on
+returns g c =
+    sym (none_goes (is_on c.args.iface.number) c.loop-first.self (sym c.in_default.ensures)) ∙ c.loop-first.invariant

@@ -1,0 +1,61 @@
+//! What the end of an assert timer changes (RFC 7761, sections 4.6.1 and 4.6.2).
+ghost use Rattle.std.specs.Prelude.{◌≡◌, ◌<◌, ◌^◌, OnOk};
+ghost use Rattle.pim_types.specs.declared.timer.TimerKind.{TimerKind};
+ghost use Rattle.pim_model.specs.Asserts.{asserted_metric, wins_again};
+ghost use Rattle.pim_model.specs.Firing.{fired};
+ghost use Rattle.pim_macros.specs.Turns.{saying};
+
+use pim_macros::{Turn, World};
+use pim_types::Key;
+use pim_types::fact::{AssertMetric, AssertRole, AssertRow};
+use std::alloc::AllocError;
+
+// Assert_Time less Assert_Override_Interval (RFC 7761, section 4.11), in ms.
+const WINNER_TIME: u64 = 177_000;
+
+// The metric with which the machine of the key asserts.
+fn asserted_metric(world: &World, turn: &mut Turn, key: Key) -> AssertMetric
+    ensures metric { result ≡ asserted_metric world.now key }
+    ensures within { result.preference < 2 ^ 31 }
+    ensures silent { turn.new ≡ turn.old }
+{
+    let star = world.gather_star(key.group, &mut turn.meter);
+    match key.source {
+        None => world.rpt_metric(&star, key.iface),
+        Some(source) => {
+            let sight = world.gather_source(star, source, &mut turn.meter);
+            world.spt_metric(&sight, key.iface)
+        }
+    }
+}
+
+// A winner asserts again.
+#[tactic(auto, unfolding(pim_model::specs::Asserts::wins_again, pim_model::specs::Asserts::assert_message))]
+fn win_again(world: &mut World, turn: &mut Turn, key: Key, row: AssertRow) -> Result<(), AllocError>
+    ensures state { OnOk result (world.new ≡ (wins_again world.old key row).0) }
+    ensures messages { OnOk result (turn.new ≡ saying turn.old (wins_again world.old key row).1) }
+{
+    let metric = asserted_metric(world, turn, key);
+    turn.out.assert(key.iface, key.group, key.source, metric)?;
+    let end = world.present() + WINNER_TIME;
+    world.change_assert(key, AssertRow { end, ..row })
+}
+
+/// What the end of an assert timer changes: a winner asserts again, and a loser forgets the assert. An error is want of
+/// memory.
+#[tactic(auto, unfolding(pim_model::specs::Firing::fired, pim_model::specs::Firing::fire_row, pim_model::specs::Asserts::assert_due, pim_model::specs::Asserts::assert_forgotten))]
+pub fn fired(world: &mut World, turn: &mut Turn, key: Key) -> Result<(), AllocError>
+    ensures state { OnOk result (world.new ≡ (fired world.old TimerKind.Assert key).0) }
+    ensures messages { OnOk result (turn.new ≡ saying turn.old (fired world.old TimerKind.Assert key).1) }
+{
+    let Some(row) = world.assert_at(key) else {
+        return Ok(());
+    };
+    match row.role {
+        AssertRole::Winner => win_again(world, turn, key, row),
+        AssertRole::Loser => {
+            world.drop_assert(key);
+            Ok(())
+        }
+    }
+}

@@ -1,0 +1,8 @@
+-- Which timers are those of a downstream state.
+use Rattle.std.specs.Prelude.{Bool, false, true}
+use Rattle.pim_types.specs.declared.timer.TimerKind.{TimerKind}
+
+abbrev pub is_downstream_kind : TimerKind → Bool
+is_downstream_kind TimerKind.PrunePending = true
+is_downstream_kind TimerKind.DownstreamExpiry = true
+is_downstream_kind _ = false

@@ -1,0 +1,8 @@
+-- The timers that are ended here: those of neighbours, and Hello timers.
+use Rattle.std.specs.Prelude.{Bool, false, true}
+use Rattle.pim_types.specs.declared.timer.TimerKind.{TimerKind}
+
+abbrev pub is_hello_kind : TimerKind → Bool
+is_hello_kind TimerKind.Neighbour = true
+is_hello_kind TimerKind.Hello = true
+is_hello_kind _ = false

@@ -1,0 +1,255 @@
+//! The queriers of the interfaces, and what they know of groups and sources (RFC 3376, section 6).
+ghost use Rattle.std.specs.List.{list_any};
+ghost use Rattle.std.specs.List.Sorted.{IsStrictlySortedBy};
+ghost use Rattle.std.specs.Prelude.{◌≡◌, ◌<◌, ◌≤◌, IfSome, OnOk, filter, length};
+ghost use Rattle.pim_model.specs.Querier.{group_end, is_sending, querier_on, querier_row, querying, querying_on, source_end};
+ghost use Rattle.pim_model.specs.Records.{is_at_group};
+ghost use Rattle.pim_model.specs.Tables.{change_row, drop_at, drop_where, has_row, keys_in, put, row_at, set_row};
+ghost use Rattle.pim_types.specs.Keys.{key_cmp, source_key, star_key};
+
+use crate::world::World;
+use pim_tables::RowsOf;
+use pim_types::fact::{
+    GroupRecordRow, GroupRepeatRow, QuerierRole, QuerierRow, SendingRow, SourceRecordRow,
+    SourceRepeatRow,
+};
+use pim_types::{Addr, IfaceId, Key};
+use std::alloc::AllocError;
+
+impl World {
+    /// The querier of the interface.
+    pub fn querier(&self, iface: IfaceId) -> Option<QuerierRow>
+        ensures row { result ≡ querier_on self.now iface.number }
+
+        // Of every querier.
+        ensures robust { IfSome result (λ row. row.robustness ≤ 7) }
+    {
+        self.membership.querier(iface)
+    }
+
+    /// The querier under the key.
+    pub fn querier_at(&self, key: Key) -> Option<QuerierRow>
+        ensures { result ≡ row_at self.now.queriers key }
+    {
+        self.membership.querier_at(key)
+    }
+
+    // A querier with the configured values; the next general query in ms.
+    #[tactic(auto, unfolding(pim_model::specs::Querier::querier_row))]
+    fn querier_row(&self, next_query: u64, startup_left: u8) -> QuerierRow
+        ensures row { result ≡ querier_row self.now next_query startup_left }
+        ensures robust { result.robustness ≤ 7 }
+    {
+        QuerierRow {
+            role: QuerierRole::Querier {
+                next_query,
+                startup_left,
+            },
+            robustness: self.settings.robustness as u8,
+            query_interval: self.settings.query_interval as u16,
+        }
+    }
+
+    /// Makes the router the querier of the interface, with the configured values: the next general query leaves then,
+    /// in ms, with so many of the startup queries still to leave.
+    #[tactic(auto, unfolding(pim_model::specs::Querier::querying))]
+    pub fn start_querying(
+        &mut self,
+        iface: IfaceId,
+        next_query: u64,
+        startup_left: u8,
+    ) -> Result<(), AllocError>
+        ensures { OnOk result (self.new ≡ querying self.old iface.number next_query startup_left) }
+    {
+        let row = self.querier_row(next_query, startup_left);
+        self.membership.put_querier(iface, row)
+    }
+
+    /// The same on an interface that has a querier; on another it changes nothing.
+    #[tactic(auto, unfolding(pim_model::specs::Querier::querying_on))]
+    pub fn keep_querying(
+        &mut self,
+        iface: IfaceId,
+        next_query: u64,
+        startup_left: u8,
+    ) -> Result<(), AllocError>
+        ensures { OnOk result (self.new ≡ querying_on self.old iface.number next_query startup_left) }
+    {
+        let row = self.querier_row(next_query, startup_left);
+        self.membership.change_querier(iface, row)
+    }
+
+    /// When the group's timer ends on the interface, in ms, where it runs.
+    pub fn group_end(&self, iface: IfaceId, group: Addr) -> Option<u64>
+        ensures { result ≡ group_end self.now iface.number group.bits }
+    {
+        match self.membership.group_record(iface, group) {
+            Some(row) => row.end,
+            None => None,
+        }
+    }
+
+    /// When the source's timer ends on the interface, in ms, where it runs.
+    pub fn source_end(&self, iface: IfaceId, group: Addr, source: Addr) -> Option<u64>
+        ensures { result ≡ source_end self.now iface.number group.bits source.bits }
+    {
+        match self.membership.source_record(iface, group, source) {
+            Some(row) => row.end,
+            None => None,
+        }
+    }
+
+    /// Whether there is a record of the group on the interface.
+    #[tactic(auto, unfolding(pim_model::specs::Tables::has_row))]
+    pub fn has_group_record(&self, iface: IfaceId, group: Addr) -> bool
+        ensures { result ≡ has_row self.now.group_records (star_key iface.number group.bits) }
+    {
+        self.membership.group_record(iface, group).is_some()
+    }
+
+    /// Changes the group's record on the interface, if there is one, to this one.
+    pub fn change_group_record(
+        &mut self,
+        iface: IfaceId,
+        group: Addr,
+        row: GroupRecordRow,
+    ) -> Result<(), AllocError>
+        ensures { OnOk result (self.new ≡ record self.old {
+          group_records = change_row (λ _. Some row) (star_key iface.number group.bits) self.old.group_records;
+        }) }
+    {
+        self.membership.change_group_record(iface, group, row)
+    }
+
+    /// Takes the group's record on the interface away.
+    pub fn remove_group_record(&mut self, iface: IfaceId, group: Addr)
+        ensures { self.new ≡ record self.old {
+          group_records = drop_at self.old.group_records (star_key iface.number group.bits);
+        } }
+    {
+        self.membership.remove_group_record(iface, group);
+    }
+
+    /// Whether there is a source record under the key.
+    pub fn has_source_record(&self, key: Key) -> bool
+        ensures { result ≡ has_row self.now.source_records key }
+    {
+        self.membership.has_source_record(key)
+    }
+
+    /// The source records of the group on the interface, by rising key; where there is one, the interface is below 120.
+    pub fn source_records_at(&self, iface: IfaceId, group: Addr) -> RowsOf<'_, SourceRecordRow>
+        ensures rows { result ≡ filter (λ e. is_at_group iface.number group.bits e.0) self.now.source_records }
+        ensures near { 0 < length result → iface.number < 120 }
+    {
+        self.membership.source_records_at(iface, group)
+    }
+
+    /// Gives the source of the group this record on the interface.
+    #[tactic(auto, unfolding(pim_model::specs::Tables::set_row))]
+    pub fn put_source_record(
+        &mut self,
+        iface: IfaceId,
+        group: Addr,
+        source: Addr,
+        row: SourceRecordRow,
+    ) -> Result<(), AllocError>
+        requires { iface.number < 120 }
+        ensures { OnOk result (self.new ≡ record self.old {
+          source_records = put self.old.source_records (source_key iface.number group.bits source.bits) row;
+        }) }
+    {
+        self.membership
+            .set_source_record(iface, group, source, Some(row))
+    }
+
+    /// Takes the source records of the group on the interface away.
+    pub fn drop_source_records(&mut self, iface: IfaceId, group: Addr)
+        ensures { self.new ≡ record self.old {
+          source_records = drop_where (is_at_group iface.number group.bits) self.old.source_records;
+        } }
+    {
+        self.membership.drop_source_records(iface, group);
+    }
+
+    /// The repeats of a group's query that are still to leave, under the key.
+    pub fn group_repeat_at(&self, key: Key) -> Option<GroupRepeatRow>
+        ensures { result ≡ row_at self.now.group_repeats key }
+    {
+        self.membership.group_repeat_at(key)
+    }
+
+    /// Changes how the group's query on the interface is repeated, if it is, to this, or ends it.
+    pub fn change_group_repeat(
+        &mut self,
+        iface: IfaceId,
+        group: Addr,
+        row: Option<GroupRepeatRow>,
+    ) -> Result<(), AllocError>
+        ensures { OnOk result (self.new ≡ record self.old {
+          group_repeats = change_row (λ _. row) (star_key iface.number group.bits) self.old.group_repeats;
+        }) }
+    {
+        self.membership.change_group_repeat(iface, group, row)
+    }
+
+    /// Repeats the group's query on the interface no more.
+    pub fn remove_group_repeat(&mut self, iface: IfaceId, group: Addr)
+        ensures { self.new ≡ record self.old {
+          group_repeats = drop_at self.old.group_repeats (star_key iface.number group.bits);
+        } }
+    {
+        self.membership.remove_group_repeat(iface, group);
+    }
+
+    /// Changes when the group's sources on the interface are queried again, if they are, to this, or ends it.
+    pub fn change_source_repeat(
+        &mut self,
+        iface: IfaceId,
+        group: Addr,
+        row: Option<SourceRepeatRow>,
+    ) -> Result<(), AllocError>
+        ensures { OnOk result (self.new ≡ record self.old {
+          source_repeats = change_row (λ _. row) (star_key iface.number group.bits) self.old.source_repeats;
+        }) }
+    {
+        self.membership.change_source_repeat(iface, group, row)
+    }
+
+    /// Queries the group's sources on the interface no more.
+    pub fn remove_source_repeat(&mut self, iface: IfaceId, group: Addr)
+        ensures { self.new ≡ record self.old {
+          source_repeats = drop_at self.old.source_repeats (star_key iface.number group.bits);
+        } }
+    {
+        self.membership.remove_source_repeat(iface, group);
+    }
+
+    /// The sendings of the group's sources on the interface, by rising key.
+    pub fn sendings_at(&self, iface: IfaceId, group: Addr) -> RowsOf<'_, SendingRow>
+        ensures { result ≡ filter (is_sending iface.number group.bits) self.now.sendings }
+    {
+        self.membership.sendings_at(iface, group)
+    }
+
+    /// Whether a source of the group has sendings left on the interface.
+    pub fn has_sendings(&self, iface: IfaceId, group: Addr) -> bool
+        ensures { result ≡ list_any (is_sending iface.number group.bits) self.now.sendings }
+    {
+        self.membership.sendings_at(iface, group).next().is_some()
+    }
+
+    /// Changes the sending under the key, if there is one, to this, or ends it.
+    pub fn change_sending(&mut self, key: Key, row: Option<SendingRow>)
+        ensures { self.new ≡ record self.old { sendings = change_row (λ _. row) key self.old.sendings } }
+    {
+        self.membership.change_sending(key, row);
+    }
+
+    /// Sendings are under keys that rise.
+    pub fn sendings_rise(&self)
+        ensures { IsStrictlySortedBy key_cmp (keys_in self.now.sendings) }
+    {
+        self.membership.sendings_rise();
+    }
+}

@@ -1,0 +1,61 @@
+-- The robustness variables of queriers that are put, changed and taken away.
+use Rattle.std.proofs.Common.{◌≡◌, ◌≤◌, Bool, true, false, not, Option, Some, None, refl, sym, subst}
+use Rattle.std.specs.Option.{IfSome}
+use Rattle.std.specs.Prelude.{Err, Ok, OnErr, OnOk, Result, if◌then◌else◌}
+use Rattle.pim_types.specs.declared.fact.Key.{Key}
+use Rattle.pim_types.specs.declared.fact.QuerierRow.{QuerierRow}
+use Rattle.pim_types.specs.Keys.{same_key}
+use Rattle.pim_model.specs.Tables.{Table, change_row, changed_entry, drop_at, drop_where, put, row_at}
+use Rattle.pim_laws.proofs.ListLaws.{each_filter, each_filter_map}
+use Rattle.pim_laws.proofs.RowLaws.{each_put}
+use Rattle.pim_laws.proofs.TableLaws.{row_of_each}
+use Rattle.pim_membership.specs.MembershipTables.{AreRobust}
+
+abbrev IsRobust : Key × QuerierRow → Type 0
+IsRobust e = (e.1).robustness ≤ 7
+
+pub robust_found : (k : Key) (t : Table QuerierRow) → AreRobust t → IfSome (row_at t k) (λ row. row.robustness ≤ 7)
+robust_found k t all = go (row_at t k) refl
+  where
+    go : (o : Option QuerierRow) → row_at t k ≡ o → IfSome o (λ row. row.robustness ≤ 7)
+    go None found = tt
+    go (Some row) found = row_of_each IsRobust k row t all found
+
+pub robust_dropped : (test : Key → Bool) (t : Table QuerierRow) → AreRobust t → AreRobust (drop_where test t)
+unfolding drop_where
+robust_dropped test t all = each_filter IsRobust (λ e. not (test e.0)) t all
+
+robust_changed : (k : Key) (row : QuerierRow) (t : Table QuerierRow) → row.robustness ≤ 7 → AreRobust t
+    → AreRobust (change_row (λ _. Some row) k t)
+unfolding change_row changed_entry
+robust_changed k row t new all = each_filter_map IsRobust IsRobust (changed_entry (λ _. Some row) k) entry t all
+  where
+    entry_by : (x y : Key × QuerierRow) (b : Bool) → (if b then Some (x.0, row) else Some x) ≡ Some y → IsRobust x
+        → IsRobust y
+    entry_by x y true is before =
+        let same : (let z : Key × QuerierRow = (x.0, row) in z) ≡ y = cc in subst IsRobust same new
+    entry_by x y false is before = let same : x ≡ y = cc in subst IsRobust same before
+
+    entry : (x y : Key × QuerierRow) → changed_entry (λ _. Some row) k x ≡ Some y → IsRobust x → IsRobust y
+    entry x y is before = entry_by x y (same_key k x.0) is before
+
+module _ {T E : Type 0} (r : Result T E) (k : Key) (row : QuerierRow) (t t' : Table QuerierRow)
+    (new : row.robustness ≤ 7) (all : AreRobust t) where
+  pub robust_after_put : OnOk r (t' ≡ put t k row) → OnErr r (t' ≡ drop_at t k) → AreRobust t'
+  unfolding drop_at
+  robust_after_put =
+      elim r as (λ r. OnOk r (t' ≡ put t k row) → OnErr r (t' ≡ drop_at t k) → AreRobust t') [
+        | Ok x ↦ λ put err. subst AreRobust (sym put) (each_put k row IsRobust new t all)
+        | Err e ↦ λ put err. subst AreRobust (sym err) (robust_dropped (same_key k) t all)
+      ]
+
+  abbrev IsChanged : Result T E → Type 0
+  IsChanged r = OnOk r (t' ≡ change_row (λ _. Some row) k t)
+
+  pub robust_after_change : IsChanged r → OnErr r (t' ≡ drop_at t k) → AreRobust t'
+  unfolding drop_at
+  robust_after_change =
+      elim r as (λ r. IsChanged r → OnErr r (t' ≡ drop_at t k) → AreRobust t') [
+        | Ok x ↦ λ changed err. subst AreRobust (sym changed) (robust_changed k row t new all)
+        | Err e ↦ λ changed err. subst AreRobust (sym err) (robust_dropped (same_key k) t all)
+      ]

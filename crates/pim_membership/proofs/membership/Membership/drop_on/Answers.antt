@@ -1,0 +1,10 @@
+use Rattle.std.proofs.Common.{subst, sym}
+use Rattle.pim_types.specs.Keys.{is_on}
+use Rattle.pim_membership.specs.MembershipTables.{AreRobust}
+use Rattle.pim_membership.proofs.Robust.{robust_dropped}
+use Rattle.pim_membership.proofs.membership.Membership.drop_on.Goals as goal
+
+pub invariant_of-self : goal.invariant_of-self
+invariant_of-self c =
+    subst AreRobust (sym c.drop_on.ensures)
+    (robust_dropped (is_on c.args.iface.number) c.self.inside.queriers c.self.invariant)

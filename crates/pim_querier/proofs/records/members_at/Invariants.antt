@@ -1,0 +1,9 @@
+use Rattle.std.proofs.Common.{◌≡◌, ◌++◌}
+use Rattle.pim_filters.specs.Members.{entries_of}
+use Rattle.pim_model.specs.Records.{members_of, record_of}
+use Rattle.pim_querier.proofs.records.members_at.Given as goal
+
+abbrev pub invariant-loop-key : goal.invariant-loop-key
+invariant-loop-key l =
+    entries_of l.members.items ++ members_of l.key-iterator
+    ≡ (record_of l.world l.fn.iface.number l.fn.group.bits).members

@@ -1,0 +1,62 @@
+-- Rows that are changed key by key, and the members of a group's record.
+use Rattle.std.specs.List.{list_any}
+use Rattle.std.specs.Prelude.{Bool, List, None, Option, Some, fold, if◌then◌else◌, map, nat_lt, ℕ, ◌+◌, ◌-◌}
+use Rattle.pim_filters.specs.Members.{entry_of}
+use Rattle.pim_filters.specs.declared.member.Member.{Member}
+use Rattle.pim_types.specs.declared.fact.GroupRepeatRow.{GroupRepeatRow}
+use Rattle.pim_types.specs.declared.fact.Key.{Key}
+use Rattle.pim_types.specs.declared.fact.SendingRow.{SendingRow}
+use Rattle.pim_types.specs.Keys.{source_in, star_key}
+use Rattle.pim_model.specs.Querier.{is_sending, last_member_query_interval}
+use Rattle.pim_model.specs.Records.{put_member}
+use Rattle.pim_model.specs.State.{State}
+use Rattle.pim_model.specs.Tables.{Table, change_row, drop_at, has_row}
+
+-- a sending with one less, or none where it was the last
+abbrev pub one_less : SendingRow → Option SendingRow
+one_less r = if nat_lt 1 r.left then Some (record { left = r.left - 1 }) else None
+
+-- what is repeated of a group's query after one of so many
+abbrev pub one_repeat_less : State → ℕ → Option GroupRepeatRow
+one_repeat_less s left =
+    if nat_lt 1 left then Some (record { next = s.present + last_member_query_interval s; left = left - 1 }) else None
+
+-- the rows under these entries' keys changed, one after the other
+unfoldable pub each_changed : {R : Type 0} → (R → Option R) → Table R → Table R → Table R
+each_changed change t entries = fold (λ u e. change_row (λ _. change e.1) e.0 u) t entries
+
+-- the sendings under these entries' keys changed, one after the other
+unfoldable pub sending_changed : (SendingRow → Option SendingRow) → State → Key × SendingRow → State
+sending_changed change s e = record s { sendings = change_row (λ _. change e.1) e.0 s.sendings }
+
+unfoldable pub sendings_changed : (SendingRow → Option SendingRow) → State → Table SendingRow → State
+sendings_changed change s entries = fold (sending_changed change) s entries
+
+-- the sources of these entries
+abbrev pub sources_in : {R : Type 0} → Table R → List ℕ
+sources_in entries = map (λ e. source_in e.0) entries
+
+-- the records of these sources of a group put on an interface, one after the other
+unfoldable pub member_put : ℕ → ℕ → State → Member → State
+member_put i g s m = record s { source_records = put_member i g s.source_records (entry_of m) }
+
+unfoldable pub members_put : ℕ → ℕ → State → List Member → State
+members_put i g s ms = fold (member_put i g) s ms
+
+-- without the group's record on the interface, where it is none
+abbrev pub without_empty : Bool → ℕ → ℕ → State → State
+without_empty is_none i g s =
+    record s { group_records = (if is_none then drop_at s.group_records (star_key i g) else s.group_records) }
+
+-- without the repeats of what has no sendings, and of what has no record
+abbrev pub without_source_repeat : ℕ → ℕ → State → State
+without_source_repeat i g s = record s {
+  source_repeats = (if list_any (is_sending i g) s.sendings then s.source_repeats
+      else drop_at s.source_repeats (star_key i g));
+}
+
+abbrev pub without_group_repeat : ℕ → ℕ → State → State
+without_group_repeat i g s = record s {
+  group_repeats = (if has_row s.group_records (star_key i g) then s.group_repeats
+      else drop_at s.group_repeats (star_key i g));
+}

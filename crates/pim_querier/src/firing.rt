@@ -1,0 +1,76 @@
+//! The ends of a querier's timers.
+ghost use Rattle.std.specs.Prelude.{◌≡◌, OnOk, true};
+ghost use Rattle.pim_macros.specs.Turns.{saying};
+ghost use Rattle.pim_model.specs.Firing.{fired, startup_left};
+ghost use Rattle.pim_types.specs.declared.timer.TimerKind.{TimerKind};
+ghost use Rattle.pim_querier.specs.Kinds.{is_igmp_kind};
+
+use crate::election::other_querier_gone;
+use crate::records::{group_record_due, source_record_due};
+use crate::repeats::{group_repeat_due, source_repeat_due};
+use crate::sendings::source_in;
+use crate::startup::general_query_due;
+use pim_macros::{Turn, World};
+use pim_types::fact::QuerierRole;
+use pim_types::{Key, TimerKind};
+use std::alloc::AllocError;
+
+// How many of the startup queries are still to leave.
+fn startup_left(role: QuerierRole) -> u8
+    ensures { result ≡ startup_left role }
+{
+    match role {
+        QuerierRole::Querier { startup_left, .. } => startup_left,
+        QuerierRole::NonQuerier { .. } => 0,
+    }
+}
+
+// The timer under the key ends by which a query of a group is repeated.
+#[tactic(auto, unfolding(pim_model::specs::Firing::fire_row))]
+fn group_repeat_fired(world: &mut World, turn: &mut Turn, key: Key) -> Result<(), AllocError>
+    ensures state { OnOk result (world.new ≡ (fired world.old TimerKind.GroupRepeat key).0) }
+    ensures messages { OnOk result (turn.new ≡ saying turn.old (fired world.old TimerKind.GroupRepeat key).1) }
+{
+    match world.group_repeat_at(key) {
+        Some(row) => group_repeat_due(world, turn, key.iface, key.group, row.left),
+        None => Ok(()),
+    }
+}
+
+// The timer under the key ends by which general queries leave.
+#[tactic(auto, unfolding(pim_model::specs::Firing::fire_row))]
+fn general_query_fired(world: &mut World, turn: &mut Turn, key: Key) -> Result<(), AllocError>
+    ensures state { OnOk result (world.new ≡ (fired world.old TimerKind.GeneralQuery key).0) }
+    ensures messages { OnOk result (turn.new ≡ saying turn.old (fired world.old TimerKind.GeneralQuery key).1) }
+{
+    match world.querier_at(key) {
+        Some(row) => general_query_due(world, turn, key.iface, startup_left(row.role)),
+        None => Ok(()),
+    }
+}
+
+/// A timer of a querier ends: of a group or a source of its records, of the other querier, or one by which a query
+/// leaves. Where memory is refused, some of what it changes may be changed.
+#[tactic(auto, unfolding(pim_model::specs::Firing::fired))]
+pub fn fired(
+    world: &mut World,
+    turn: &mut Turn,
+    kind: TimerKind,
+    key: Key,
+) -> Result<(), AllocError>
+    requires { is_igmp_kind kind ≡ true }
+    ensures state { OnOk result (world.new ≡ (fired world.old kind key).0) }
+    ensures messages { OnOk result (turn.new ≡ saying turn.old (fired world.old kind key).1) }
+{
+    match kind {
+        TimerKind::GroupRecord => group_record_due(world, turn.alloc, key.iface, key.group),
+        TimerKind::SourceRecord => {
+            source_record_due(world, turn.alloc, key.iface, key.group, source_in(key))
+        }
+        TimerKind::OtherQuerier => other_querier_gone(world, turn, key.iface),
+        TimerKind::GroupRepeat => group_repeat_fired(world, turn, key),
+        TimerKind::SourceRepeat => source_repeat_due(world, turn, key.iface, key.group),
+        TimerKind::GeneralQuery => general_query_fired(world, turn, key),
+        _ => unreachable!(),
+    }
+}

@@ -1,0 +1,82 @@
+//! Queries as they are put together (RFC 3376, section 4.1).
+ghost use Rattle.std.specs.Prelude.{◌≡◌, ◌<◌, ◌++◌, OnOk, false};
+ghost use Rattle.pim_model.specs.Querier.{specific_queries};
+ghost use Rattle.pim_macros.specs.Turns.{saying};
+ghost use Rattle.pim_querier.specs.Queries.{all_queries, asking, bits_of, general_header, header_of, specific_header};
+
+use crate::intervals::{query_interval, robustness};
+use igmp_wire::{QueryHeader, value_code};
+use pim_macros::{Turn, World};
+use pim_messages::{MOST_SOURCES, Outbox};
+use pim_types::{Addr, IfaceId};
+use std::alloc::AllocError;
+
+// A query before its sources; hosts answer within so many tenths of a second.
+fn header(world: &World, iface: IfaceId, response: u32, group: Addr, suppress: bool) -> QueryHeader
+    ensures header { result ≡ header_of world.now iface.number response group.bits suppress }
+    ensures robust { result.robustness < 8 }
+{
+    let interval = query_interval(world, iface) / 1000;
+    QueryHeader {
+        max_response_code: value_code(response),
+        group,
+        suppress,
+        robustness: robustness(world, iface),
+        interval_code: value_code(interval as u32),
+    }
+}
+
+/// The query of all groups (RFC 3376, section 4.1.9).
+pub fn general_query(world: &World, iface: IfaceId) -> QueryHeader
+    ensures header { result ≡ general_header world.now iface.number }
+    ensures robust { result.robustness < 8 }
+{
+    let response = world.settings().query_response_interval;
+    header(world, iface, response, Addr::NONE, false)
+}
+
+/// The query of a group, or of sources of it, before its sources (RFC 3376, section 4.1.9). With S set routers that
+/// hear it leave their timers as they are.
+pub fn specific_query(world: &World, iface: IfaceId, group: Addr, suppress: bool) -> QueryHeader
+    ensures header { result ≡ specific_header world.now iface.number group.bits suppress }
+    ensures robust { result.robustness < 8 }
+{
+    let response = world.settings().last_member_query_interval;
+    header(world, iface, response, group, suppress)
+}
+
+// Puts the queries of these sources at the end, each of as many as a frame holds.
+fn put_queries(
+    out: &mut Outbox,
+    iface: IfaceId,
+    header: &QueryHeader,
+    sources: &[Addr],
+) -> Result<(), AllocError>
+    requires { header.now.robustness < 8 }
+    ensures { OnOk result (out.new ≡ out.old
+        ++ all_queries (asking iface.number header.now) (bits_of sources.now)) }
+{
+    let mut left = sources;
+    while !left.is_empty() {
+        let (first, later) = left.split_at(left.len().min(MOST_SOURCES));
+        out.query(iface, header, first)?;
+        left = later;
+    }
+    Ok(())
+}
+
+/// Sends the queries of these sources of the group, in as many messages as they take.
+pub fn say_sources(
+    world: &World,
+    turn: &mut Turn,
+    iface: IfaceId,
+    group: Addr,
+    suppress: bool,
+    sources: &[Addr],
+) -> Result<(), AllocError>
+    ensures { OnOk result (turn.new ≡ saying turn.old
+        (specific_queries world.now iface.number group.bits suppress (bits_of sources.now))) }
+{
+    let header = specific_query(world, iface, group, suppress);
+    put_queries(&mut turn.out, iface, &header, sources)
+}

@@ -1,0 +1,99 @@
+//! Queries that are repeated (RFC 3376, section 6.6.3).
+ghost use Rattle.std.specs.Prelude.{◌≡◌, OnOk};
+ghost use Rattle.pim_model.specs.Querier.{group_repeat_due, next_sending, source_repeat_due, sources_sent};
+ghost use Rattle.pim_macros.specs.Turns.{saying};
+ghost use Rattle.pim_querier.specs.Changes.{one_repeat_less};
+
+use crate::intervals::{exceeds, last_member_query_interval, query_end};
+use crate::queries::{say_sources, specific_query};
+use crate::sendings::{lessen, sendings_at, sources_by_end};
+use pim_macros::{Turn, World};
+use pim_types::fact::{GroupRepeatRow, SourceRepeatRow};
+use pim_types::{Addr, IfaceId};
+use std::alloc::AllocError;
+
+// What is repeated after a query of a group of which so many were still to leave.
+fn one_repeat_less(world: &World, left: u32) -> Option<GroupRepeatRow>
+    ensures { result ≡ one_repeat_less world.now left }
+{
+    if left <= 1 {
+        return None;
+    }
+    let next = world.present() + last_member_query_interval(world);
+    Some(GroupRepeatRow {
+        next,
+        left: left - 1,
+    })
+}
+
+/// The query of the group is due again, of which so many are still to leave. Its S is set where the group's timer runs
+/// beyond what a query would lower it to (RFC 3376, section 6.6.3.1).
+#[tactic(auto, unfolding(pim_model::specs::Querier::group_repeat_due))]
+pub fn group_repeat_due(
+    world: &mut World,
+    turn: &mut Turn,
+    iface: IfaceId,
+    group: Addr,
+    left: u32,
+) -> Result<(), AllocError>
+    ensures state { OnOk result (world.new ≡ (group_repeat_due world.old iface.number group.bits left).0) }
+    ensures messages { OnOk result (turn.new
+        ≡ saying turn.old (group_repeat_due world.old iface.number group.bits left).1) }
+{
+    let suppress = exceeds(query_end(world, iface), world.group_end(iface, group));
+    let query = specific_query(world, iface, group, suppress);
+    world.change_group_repeat(iface, group, one_repeat_less(world, left))?;
+    turn.out.query(iface, &query, &[])
+}
+
+/// Sends the sources of the group that have sendings left, those first whose timers run beyond what a query would lower
+/// them to, with S set, and counts one sending less of each (RFC 3376, section 6.6.3.2).
+pub fn send(
+    world: &mut World,
+    turn: &mut Turn,
+    iface: IfaceId,
+    group: Addr,
+) -> Result<(), AllocError>
+    ensures state { OnOk result (world.new ≡ (sources_sent world.old iface.number group.bits).0) }
+    ensures messages { OnOk result (turn.new ≡ saying turn.old (sources_sent world.old iface.number group.bits).1) }
+{
+    let end = query_end(world, iface);
+    let sendings = sendings_at(world, turn.alloc, iface, group)?;
+    let running = sources_by_end(world, turn.alloc, iface, group, &sendings, end, true)?;
+    let others = sources_by_end(world, turn.alloc, iface, group, &sendings, end, false)?;
+    say_sources(world, turn, iface, group, true, &running)?;
+    say_sources(world, turn, iface, group, false, &others)?;
+    // It tells that each key stands once.
+    world.sendings_rise();
+    lessen(world, &sendings);
+    Ok(())
+}
+
+/// When the group's sources are sent again, if any has sendings left.
+#[tactic(auto, unfolding(pim_model::specs::Querier::next_sending))]
+pub fn next_sending(world: &World, iface: IfaceId, group: Addr) -> Option<SourceRepeatRow>
+    ensures { result ≡ next_sending world.now iface.number group.bits }
+{
+    if !world.has_sendings(iface, group) {
+        return None;
+    }
+    let next = world.present() + last_member_query_interval(world);
+    Some(SourceRepeatRow { next })
+}
+
+/// The query of the group's sources is due again.
+#[tactic(auto, unfolding(pim_model::specs::Querier::source_repeat_due))]
+pub fn source_repeat_due(
+    world: &mut World,
+    turn: &mut Turn,
+    iface: IfaceId,
+    group: Addr,
+) -> Result<(), AllocError>
+    ensures state { OnOk result (world.new ≡ (source_repeat_due world.old iface.number group.bits).0) }
+    ensures messages { OnOk result (turn.new
+        ≡ saying turn.old (source_repeat_due world.old iface.number group.bits).1) }
+{
+    send(world, turn, iface, group)?;
+    let next = next_sending(world, iface, group);
+    world.change_source_repeat(iface, group, next)
+}

@@ -1,0 +1,57 @@
+use Rattle.std.proofs.Common.{◌≤◌, ◌++◌, ap, arith, refl, sym, ◌∙◌}
+use Rattle.pim_laws.proofs.FiringLaws.{next_is_due, next_is_least}
+use Rattle.pim_model.specs.Firing.{fire_instant}
+use Rattle.pim_model.specs.Timers.{next_due}
+use Rattle.pim_router.proofs.Instants.{ending_told, firing_begins, firing_ends, instant_follows, none_told, sooner_after}
+use Rattle.pim_router.proofs.time.fire_all.Goals as goal
+use Rattle.pim_router.specs.Ends.{ending_of}
+
+pub instants-init : goal.instants-init
+instants-init c = (firing_begins c.args.turn.now.draw c.args.moment c.args.world.now c.args.emissions.now.items c.requires.lawful c.requires.quiet c.requires.ready, refl)
+
+pub fire_instant-requires-clause-from : goal.fire_instant-requires-clause-from
+fire_instant-requires-clause-from c =
+    next_is_least c.args.moment c.instants.world (ending_of c.in-Some.first)
+    (ending_told (next_due c.args.moment c.instants.world) c.in-Some.first (sym c.next_due.ensures ∙ c.in-Some.is))
+
+pub fire_instant-requires-clause-within : goal.fire_instant-requires-clause-within
+fire_instant-requires-clause-within c =
+    let by : c.in-Some.first.0 ≤ c.args.moment =
+    next_is_due c.args.moment c.instants.world (ending_of c.in-Some.first)
+    (ending_told (next_due c.args.moment c.instants.world) c.in-Some.first (sym c.next_due.ensures ∙ c.in-Some.is)) in
+    let within = c.requires.within in omega arith
+
+pub instants-smaller : goal.instants-smaller
+instants-smaller c =
+    sooner_after c.args.turn.now.draw c.args.moment c.args.world.now c.args.emissions.now.items
+    c.instants.world c.instants.emissions.items c.instants.invariant.0 (ending_of c.in-Some.first)
+    (ending_told (next_due c.args.moment c.instants.world) c.in-Some.first (sym c.next_due.ensures ∙ c.in-Some.is))
+    c.fire_instant.new.world
+    (c.in_ok-fire_instant.ensures.state
+    ∙ ap (λ w. (fire_instant w c.instants.world (ending_of c.in-Some.first)).0) c.instants.invariant.1)
+
+pub instants-preserved : goal.instants-preserved
+instants-preserved c = (
+  instant_follows c.args.turn.now.draw c.args.moment c.args.world.now c.args.emissions.now.items
+      c.instants.world c.instants.emissions.items c.instants.invariant.0 (ending_of c.in-Some.first)
+      (ending_told (next_due c.args.moment c.instants.world) c.in-Some.first (sym c.next_due.ensures ∙ c.in-Some.is))
+      c.fire_instant.new.world c.fire_instant.new.emissions.items
+      (c.in_ok-fire_instant.ensures.state
+      ∙ ap (λ w. (fire_instant w c.instants.world (ending_of c.in-Some.first)).0) c.instants.invariant.1)
+      (c.in_ok-fire_instant.ensures.sent
+      ∙ ap (λ w. c.instants.emissions.items ++ (fire_instant w c.instants.world (ending_of c.in-Some.first)).1)
+      c.instants.invariant.1),
+  c.in_ok-fire_instant.ensures.draw ∙ c.instants.invariant.1,
+)
+
+pub returns-clause-state : goal.returns-clause-state
+returns-clause-state c =
+    (firing_ends c.args.turn.now.draw c.args.moment c.args.world.now c.args.emissions.now.items
+    c.instants.world c.instants.emissions.items c.instants.invariant.0
+    (none_told (next_due c.args.moment c.instants.world) (sym c.next_due.ensures ∙ c.in_default.is))).0
+
+pub returns-clause-sent : goal.returns-clause-sent
+returns-clause-sent c =
+    (firing_ends c.args.turn.now.draw c.args.moment c.args.world.now c.args.emissions.now.items
+    c.instants.world c.instants.emissions.items c.instants.invariant.0
+    (none_told (next_due c.args.moment c.instants.world) (sym c.next_due.ensures ∙ c.in_default.is))).1

@@ -1,0 +1,182 @@
+//! Time that passes: timers end one after the other, and what follows of each end is settled before the next one.
+ghost use Rattle.std.specs.Prelude.{◌≡◌, ◌≤◌, ◌^◌, ◌++◌, [], IfOk, IsOkUnless, OnOk, option_map, true};
+ghost use Rattle.pim_ip.specs.declared.fault.Fault.{Fault};
+ghost use Rattle.pim_laws.specs.Laws.{IsReady, ends_from};
+ghost use Rattle.pim_locality.specs.Locality.{IsQuiet};
+ghost use Rattle.pim_locality.specs.Rest.{IsAtRest};
+ghost use Rattle.pim_macros.specs.Turns.{saying};
+ghost use Rattle.pim_model.specs.Firing.{fire_all, fire_instant, fire_once, fired};
+ghost use Rattle.pim_model.specs.Step.{advanced, outcome_of};
+ghost use Rattle.pim_model.specs.Timers.{next_due};
+ghost use Rattle.pim_ready.specs.Ready.{IsLawful};
+ghost use Rattle.pim_router.specs.Ends.{ending_of, touched_by_end};
+ghost use Rattle.pim_tables.specs.Ends.{due_of};
+
+use crate::settle::settle;
+use pim_macros::{Touched, Turn, World};
+use pim_messages::Outbox;
+use pim_opening::Opening;
+use pim_types::{Emission, Fault, Key, Outcome, Series, Timer, TimerKind, Verdict};
+use std::alloc::{AllocError, Global};
+
+// The timer that ends first, with its end in ms, where that is due by the moment.
+fn next_due(world: &World, moment: u64) -> Option<(u64, Timer)>
+    ensures { result ≡ option_map due_of (next_due moment world.now) }
+{
+    let due = world.next()?;
+    if due.0 <= moment { Some(due) } else { None }
+}
+
+// The keys that the end of a timer touches.
+fn touched_by_end(alloc: Global, timer: Timer) -> Result<Touched, AllocError>
+    ensures { IfOk result (λ touched. touched ≡ touched_by_end timer.kind timer.key) }
+{
+    let key = match timer.kind {
+        TimerKind::Neighbour => return Ok(Touched::All),
+        TimerKind::PrunePending
+        | TimerKind::DownstreamExpiry
+        | TimerKind::Assert
+        | TimerKind::Keepalive
+        | TimerKind::Register => timer.key,
+        TimerKind::GroupRecord | TimerKind::SourceRecord => Key::group(timer.key.group),
+        _ => return Ok(Touched::Keys(Series::new(alloc))),
+    };
+    let mut keys = Vec::new(alloc);
+    keys.push(key)?;
+    Ok(Touched::Keys(Series::from_vec(keys)))
+}
+
+// The change of a timer's end.
+fn fired(world: &mut World, turn: &mut Turn, timer: Timer) -> Result<(), AllocError>
+    ensures state { OnOk result (world.new ≡ (fired world.old timer.kind timer.key).0) }
+    ensures messages { OnOk result (turn.new ≡ saying turn.old (fired world.old timer.kind timer.key).1) }
+{
+    let Timer { kind, key } = timer;
+    match kind {
+        TimerKind::Neighbour | TimerKind::Hello => pim_hello::fired(world, turn, kind, key),
+        TimerKind::PrunePending | TimerKind::DownstreamExpiry => {
+            pim_downstream::fired(world, turn, kind, key)
+        }
+        TimerKind::Assert => pim_asserts::fired(world, turn, key),
+        TimerKind::Keepalive => pim_register::keepalive_due(world, key),
+        TimerKind::Register => pim_register::fired(world, turn, key),
+        TimerKind::Override => pim_rpt::fired(world, turn, key),
+        TimerKind::Join => pim_upstream::fired(world, turn, key),
+        TimerKind::GroupRecord
+        | TimerKind::SourceRecord
+        | TimerKind::OtherQuerier
+        | TimerKind::GroupRepeat
+        | TimerKind::SourceRepeat
+        | TimerKind::GeneralQuery => pim_querier::fired(world, turn, kind, key),
+    }
+}
+
+// The end of a timer at its moment, with what follows of it.
+fn fire_in_turn(
+    world: &mut World,
+    turn: &mut Turn,
+    due: (u64, Timer),
+    emissions: &mut Vec<Emission>,
+) -> Result<(), Fault>
+    requires lawful { IsLawful world.old }
+    requires quiet { IsQuiet world.old }
+    requires begun { turn.old.messages ≡ [] }
+    requires within { due.0 ≤ 2 ^ 62 }
+    ensures state { OnOk result (world.new ≡ (fire_once turn.old.draw world.old (ending_of due)).0) }
+    ensures sent { OnOk result (emissions.new.items
+        ≡ emissions.old.items ++ (fire_once turn.old.draw world.old (ending_of due)).1) }
+    ensures draw { OnOk result (turn.new.draw ≡ turn.old.draw) }
+    ensures fault { IsOkUnless result Fault.Memory }
+{
+    let touched = touched_by_end(turn.alloc, due.1)?;
+    let opening = Opening::of(world, turn, &touched)?;
+    world.set_present(due.0);
+    fired(world, turn, due.1)?;
+    // It tells that asserts, sources and registers are under keys of their kind.
+    world.are_keyed();
+    settle(world, turn, &opening, emissions)
+}
+
+// The same, whatever was sent in the turn before.
+fn fire_once(
+    world: &mut World,
+    turn: &mut Turn,
+    due: (u64, Timer),
+    emissions: &mut Vec<Emission>,
+) -> Result<(), Fault>
+    requires lawful { IsLawful world.old }
+    requires quiet { IsQuiet world.old }
+    requires within { due.0 ≤ 2 ^ 62 }
+    ensures state { OnOk result (world.new ≡ (fire_once turn.old.draw world.old (ending_of due)).0) }
+    ensures sent { OnOk result (emissions.new.items
+        ≡ emissions.old.items ++ (fire_once turn.old.draw world.old (ending_of due)).1) }
+    ensures draw { OnOk result (turn.new.draw ≡ turn.old.draw) }
+    ensures fault { IsOkUnless result Fault.Memory }
+{
+    turn.out = Outbox::new(turn.alloc);
+    fire_in_turn(world, turn, due, emissions)
+}
+
+// All that is due at the moment of a timer's end.
+fn fire_instant(
+    world: &mut World,
+    turn: &mut Turn,
+    first: (u64, Timer),
+    emissions: &mut Vec<Emission>,
+) -> Result<(), Fault>
+    requires lawful { IsLawful world.old }
+    requires quiet { IsQuiet world.old }
+    requires from { ends_from first.0 world.old ≡ true }
+    requires within { first.0 ≤ 2 ^ 62 }
+    ensures state { OnOk result (world.new ≡ (fire_instant turn.old.draw world.old (ending_of first)).0) }
+    ensures sent { OnOk result (emissions.new.items
+        ≡ emissions.old.items ++ (fire_instant turn.old.draw world.old (ending_of first)).1) }
+    ensures draw { OnOk result (turn.new.draw ≡ turn.old.draw) }
+    ensures fault { IsOkUnless result Fault.Memory }
+{
+    'firings: while let Some(due) = next_due(world, first.0) {
+        fire_once(world, turn, due, emissions)?;
+    }
+    Ok(())
+}
+
+// Instant after instant, all that is due by the moment.
+fn fire_all(
+    world: &mut World,
+    turn: &mut Turn,
+    moment: u64,
+    emissions: &mut Vec<Emission>,
+) -> Result<(), Fault>
+    requires lawful { IsLawful world.old }
+    requires quiet { IsQuiet world.old }
+    requires ready { IsReady world.old.present world.old }
+    requires within { moment ≤ 2 ^ 62 }
+    ensures state { OnOk result (world.new ≡ (fire_all turn.old.draw moment world.old).0) }
+    ensures sent { OnOk result (emissions.new.items
+        ≡ emissions.old.items ++ (fire_all turn.old.draw moment world.old).1) }
+    ensures fault { IsOkUnless result Fault.Memory }
+{
+    'instants: while let Some(first) = next_due(world, moment) {
+        fire_instant(world, turn, first, emissions)?;
+    }
+    Ok(())
+}
+
+/// Time passes until the moment (ms): all that is due by then ends in its order.
+#[tactic(auto, unfolding(pim_model::specs::Step::advanced))]
+pub(crate) fn advance(world: &mut World, turn: &mut Turn, moment: u64) -> Result<Outcome, Fault>
+    requires rest { IsAtRest world.old }
+    requires within { moment ≤ 2 ^ 62 }
+    ensures outcome { IfOk result (λ outcome. outcome ≡ outcome_of (advanced world.old turn.old.draw moment)) }
+    ensures state { OnOk result (world.new ≡ (advanced world.old turn.old.draw moment).state) }
+    ensures fault { IsOkUnless result Fault.Memory }
+{
+    let mut emissions = Vec::new(turn.alloc);
+    fire_all(world, turn, moment, &mut emissions)?;
+    world.set_present(moment);
+    Ok(Outcome {
+        answer: Ok(Verdict::Done),
+        emissions: Series::from_vec(emissions),
+        copies: 0,
+    })
+}

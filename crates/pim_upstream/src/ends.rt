@@ -1,0 +1,37 @@
+//! What the end of a Join timer changes (RFC 7761, sections 4.5.4 and 4.5.5).
+ghost use Rattle.std.specs.Prelude.{◌≡◌, OnOk};
+ghost use Rattle.pim_types.specs.declared.timer.TimerKind.{TimerKind};
+ghost use Rattle.pim_model.specs.Firing.{fired};
+ghost use Rattle.pim_macros.specs.Turns.{saying};
+
+use crate::{source, star};
+use pim_macros::{Turn, World};
+use pim_types::Key;
+use pim_types::fact::JoinTimerRow;
+use std::alloc::AllocError;
+
+// Join(*,G) with its prunes, or Join(S,G), to the upstream neighbour.
+#[tactic(auto, unfolding(pim_model::specs::Firing::fired, pim_model::specs::Upstream::join_timer_due))]
+fn join_again(world: &World, turn: &mut Turn, key: Key) -> Result<(), AllocError>
+    ensures { OnOk result (turn.new ≡ saying turn.old (fired world.now TimerKind.Join key).1) }
+{
+    let star = world.gather_star(key.group, &mut turn.meter);
+    match key.source {
+        None => star::join(world, turn, &star, star.rp, world.rpf_star(&star)),
+        Some(source) => {
+            let sight = world.gather_source(star, source, &mut turn.meter);
+            source::join(turn, world.rpf_source(&sight), key.group, source)
+        }
+    }
+}
+
+/// What the end of a Join timer changes: the Join leaves again, and the timer starts anew. An error is want of memory.
+#[tactic(auto, unfolding(pim_model::specs::Firing::fired, pim_model::specs::Upstream::join_timer_due))]
+pub fn fired(world: &mut World, turn: &mut Turn, key: Key) -> Result<(), AllocError>
+    ensures state { OnOk result (world.new ≡ (fired world.old TimerKind.Join key).0) }
+    ensures messages { OnOk result (turn.new ≡ saying turn.old (fired world.old TimerKind.Join key).1) }
+{
+    join_again(world, turn, key)?;
+    let end = world.periodic_end();
+    world.change_join_timer(key, JoinTimerRow { end })
+}
