@@ -1,5 +1,5 @@
 -- The values of the codes rise, so that a value between two of them has the lower one's code.
-use Rattle.std.proofs.Common.{◌≡◌, ℕ, zero, suc, ◌+◌, ◌-◌, ◌*◌, ◌/◌, ◌%◌, ◌^◌, ◌<◌, ◌≤◌, Bool, true, false, ltb, ◌&&◌, refl, sym, ◌∙◌, inl, inr, arith}
+use Rattle.std.proofs.Common.{◌≡◌, ℕ, zero, suc, ◌+◌, ◌-◌, ◌*◌, ◌/◌, ◌%◌, ◌^◌, ◌<◌, ◌≤◌, Bool, true, false, ltb, lit<, ◌&&◌, ap, refl, sym, ◌∙◌, inl, inr, arith}
 use Rattle.std.proofs.lemmas.Bool.{cases_lt}
 use Rattle.std.proofs.lemmas.Bool.Decides.{nat_tests, Decides-below_and, Decides-ltb}
 use Rattle.std.proofs.lemmas.Nat.{leading_top, le-div, div_below, pow_pos, mod_below, div-add-mod', pow-add, shl_whole}
@@ -167,3 +167,22 @@ code_value-shifted c low high =
     let same : 128 + 16 * e + m ≡ c = omega arith in
     let fits : (m + 16) * 2 ^ (e + 3) % 2 ^ 32 ≡ (m + 16) * 2 ^ (e + 3) = shl_whole (m + 16) 5 (e + 3) 32 (omega arith) (omega arith) in
     fits ∙ (rw same at (sym (code_value-high e m (omega arith) (omega arith))))
+
+code_value-greatest : code_value 255 ≡ 31744
+unfolding code_value
+code_value-greatest = refl
+
+pub code_value-within : (c : ℕ) → c < 256 → code_value c ≤ 31744
+code_value-within c fits = go (ltb c 255) refl
+  where
+    go : (b : Bool) → ltb c 255 ≡ b → code_value c ≤ 31744
+    go true e =
+        let less : c < 255 = grind (arith, nat_tests, e) in
+        let below : code_value c < code_value 255 = code_value-rises 255 c less (lit< tt) in
+        let greatest : code_value 255 ≡ 31744 = code_value-greatest in
+        omega (arith, below, greatest)
+    go false e =
+        let last : c ≡ 255 = grind (arith, nat_tests, e, fits) in
+        let same : code_value c ≡ code_value 255 = ap code_value last in
+        let greatest : code_value 255 ≡ 31744 = code_value-greatest in
+        omega (arith, same, greatest)

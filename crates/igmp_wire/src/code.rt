@@ -10,6 +10,7 @@ const GREATEST_VALUE: u32 = 31744;
 pub fn code_value(code: u8) -> u32
     ensures value { result ≡ code_value code }
     ensures rises { (lower : ℕ) → lower < code → code_value lower < result }
+    ensures within { result ≤ 31744 }
 {
     if code < 128 {
         return u32::from(code);

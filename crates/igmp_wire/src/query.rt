@@ -75,7 +75,8 @@ impl<'a> QueryView<'a> {
 
     /// The robustness variable of the querier, or 0 where it has more than 3 bits.
     pub fn robustness(&self) -> u8
-        ensures { result ≡ self.now.robustness }
+        ensures value { result ≡ self.now.robustness }
+        ensures within { result ≤ 7 }
     {
         self.message[8] % 8
     }

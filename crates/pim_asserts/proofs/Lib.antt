@@ -19,3 +19,5 @@ mod PartToClear
 mod Fuel
 mod Progress
 mod SptBit
+mod Receiving
+mod Needed

@@ -10,11 +10,11 @@ use pim_types::Key;
 use pim_types::fact::{AssertMetric, AssertRole, AssertRow};
 use std::alloc::AllocError;
 
-// Assert_Time less Assert_Override_Interval (RFC 7761, section 4.11), in ms.
-const WINNER_TIME: u64 = 177_000;
+/// Assert_Time less Assert_Override_Interval (RFC 7761, section 4.11), in ms.
+pub(crate) const WINNER_TIME: u64 = 177_000;
 
-// The metric with which the machine of the key asserts.
-fn asserted_metric(world: &World, turn: &mut Turn, key: Key) -> AssertMetric
+/// The metric with which the machine of the key asserts.
+pub(crate) fn asserted_metric(world: &World, turn: &mut Turn, key: Key) -> AssertMetric
     ensures metric { result ≡ asserted_metric world.now key }
     ensures within { result.preference < 2 ^ 31 }
     ensures silent { turn.new ≡ turn.old }
@@ -29,9 +29,14 @@ fn asserted_metric(world: &World, turn: &mut Turn, key: Key) -> AssertMetric
     }
 }
 
-// A winner asserts again.
+/// A winner asserts again.
 #[tactic(auto, unfolding(pim_model::specs::Asserts::wins_again, pim_model::specs::Asserts::assert_message))]
-fn win_again(world: &mut World, turn: &mut Turn, key: Key, row: AssertRow) -> Result<(), AllocError>
+pub(crate) fn win_again(
+    world: &mut World,
+    turn: &mut Turn,
+    key: Key,
+    row: AssertRow,
+) -> Result<(), AllocError>
     ensures state { OnOk result (world.new ≡ (wins_again world.old key row).0) }
     ensures messages { OnOk result (turn.new ≡ saying turn.old (wins_again world.old key row).1) }
 {

@@ -34,8 +34,8 @@ fn is_iface(first: Option<IfaceId>, iface: IfaceId) -> bool
     first.is_some_and(|first| first == iface)
 }
 
-// Whether the route is over the interface.
-fn is_over(path: Option<Path>, iface: IfaceId) -> bool
+/// Whether the route is over the interface.
+pub(crate) fn is_over(path: Option<Path>, iface: IfaceId) -> bool
     ensures { result ≡ is_interface_of path iface.number }
 {
     path.is_some_and(|path| path.iface == iface)

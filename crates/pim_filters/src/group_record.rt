@@ -33,7 +33,7 @@ impl Model for GroupRecord {
 }
 
 impl GroupRecord {
-    ghost use Rattle.std.specs.Prelude.{◌≡◌, OnErr, OnOk, is_some};
+    ghost use Rattle.std.specs.Prelude.{◌≡◌, IfOk, OnErr, OnOk, is_some};
     ghost use Rattle.pim_filters.specs.Lowering.{group_lowered, sources_lowered};
     ghost use Rattle.pim_filters.specs.Members.{IsAscending, entries_of, fate_of};
     ghost use Rattle.pim_model.specs.Records.{apply_record, fate_in, group_expired, is_no_record, no_record, source_expired};
@@ -46,6 +46,19 @@ impl GroupRecord {
             timer: None,
             members: SmallVec::new(alloc),
         }
+    }
+
+    /// The record whose group timer ends then, in milliseconds, where it runs, of these sources, which ascend.
+    pub fn with(
+        alloc: Global,
+        timer: Option<u64>,
+        members: &[Member],
+    ) -> Result<GroupRecord, AllocError>
+        requires { IsAscending (entries_of members.now) }
+        ensures { IfOk result (λ made. made ≡ record { timer = timer; members = entries_of members.now }) }
+    {
+        let members = SmallVec::from_slice(alloc, members)?;
+        Ok(GroupRecord { timer, members })
     }
 
     /// Whether there is no record: INCLUDE of no source.

@@ -1,4 +1,3 @@
-mod Found
 mod Lowering
 mod StartedAnew
 mod Losses

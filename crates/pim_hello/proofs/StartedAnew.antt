@@ -13,24 +13,12 @@ use Rattle.pim_model.specs.Neighbours.{t_override}
 use Rattle.pim_model.specs.Sets.{is_loser}
 use Rattle.pim_model.specs.State.{State}
 use Rattle.pim_model.specs.Tables.{Table, hop_at, keys_in}
-use Rattle.pim_hello.specs.Towards.{all_lowered, is_towards}
+use Rattle.pim_laws.specs.Rows.{all_changed}
+use Rattle.pim_laws.proofs.ChosenRows.{keys_of_passing}
+use Rattle.pim_store.specs.PimTables.{lowered}
+use Rattle.pim_hello.specs.Towards.{is_towards}
 use Rattle.pim_hello.proofs.Losses.{losses_ended}
 use Rattle.pim_hello.proofs.Lowering.{lowered_where}
-
--- the keys of the rows whose key passes
-keys_step : {R : Type 0} (e : Key × R) (t : Table R) (b : Bool)
-    → keys_in (cond b (e ∷ t) t) ≡ cond b (e.0 ∷ keys_in t) (keys_in t)
-unfolding keys_in
-keys_step e t true = refl
-keys_step e t false = refl
-
-keys_of_passing : {R : Type 0} (test : Key → Bool) (t : Table R)
-    → keys_in (filter (λ e. test e.0) t) ≡ filter test (keys_in t)
-unfolding keys_in
-keys_of_passing test [] = refl
-keys_of_passing test (e ∷ t) =
-    keys_step e (filter (λ x. test x.0) t) (test e.0)
-    ∙ ap (λ (ks : List Key). cond (test e.0) (e.0 ∷ ks) ks) (keys_of_passing test t)
 
 -- what is lost to somebody is lost
 lost_so : (i a : ℕ) (e : Key × AssertRow) → is_lost_to i a e ≡ true → is_loser (Some e.1) ≡ true
@@ -53,7 +41,7 @@ module _ (s : State) (i a w : ℕ) (h : HelloValue) where
 
   -- with these timers lowered
   abbrev low : State → ℕ → List Key → State
-  low t end keys = record t { join_timers = all_lowered end t.join_timers keys }
+  low t end keys = record t { join_timers = all_changed (lowered end) t.join_timers keys }
 
   abbrev lowered_by_t_override : List Key → State → State
   lowered_by_t_override keys t = low t (t.present + t_override t i w) keys

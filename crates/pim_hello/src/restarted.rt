@@ -1,8 +1,10 @@
 //! What ends with a neighbour that started anew: the asserts lost to it, and the wait for the next Join to it.
-ghost use Rattle.std.specs.Prelude.{◌≡◌, IfOk, OnOk, Some, filter, fold};
+ghost use Rattle.std.specs.Prelude.{◌≡◌, IfOk, OnOk, Some, filter};
 ghost use Rattle.pim_model.specs.Hellos.{is_lost_to, upstream_of};
 ghost use Rattle.pim_model.specs.Tables.{change_row, keys_in, same_hop};
-ghost use Rattle.pim_hello.specs.Towards.{all_lowered, is_towards};
+ghost use Rattle.pim_hello.specs.Towards.{is_towards};
+ghost use Rattle.pim_laws.specs.Rows.{all_changed};
+ghost use Rattle.pim_store.specs.PimTables.{lowered};
 
 use pim_macros::desires::is_same_hop;
 use pim_macros::{Turn, World};
@@ -60,7 +62,7 @@ pub(crate) fn asserts_lost_to(
 /// Lowers the Join timers with these keys to an end, in ms.
 pub(crate) fn lower_timers(world: &mut World, keys: &[Key], end: u64) -> Result<(), AllocError>
     ensures { OnOk result (world.new
-        ≡ record world.old { join_timers = all_lowered end world.old.join_timers keys.now }) }
+        ≡ record world.old { join_timers = all_changed (lowered end) world.old.join_timers keys.now }) }
 {
     for key in keys {
         world.lower_join_timer(*key, end)?;

@@ -1,10 +1,12 @@
 pub mod AbsentGroups
 pub mod BuiltLaws
+pub mod ChosenRows
 pub mod ClearingLaws
 pub mod DueKept
 pub mod Ends
 pub mod FewerFacts
 pub mod FiringLaws
+pub mod FoundRows
 pub mod IgmpKept
 pub mod Intervals
 pub mod ListLaws

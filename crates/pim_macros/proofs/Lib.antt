@@ -7,6 +7,7 @@ mod FirstFound
 pub mod Gathered
 pub mod Gathering
 pub mod GatheredSources
+mod LoweredRows
 mod NextEnding
 mod NextInterface
 mod Options

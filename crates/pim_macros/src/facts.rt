@@ -94,6 +94,20 @@ impl World {
         self.store.register(key)
     }
 
+    /// The registers, by rising key.
+    pub fn registers(&self) -> Iter<'_, Key, RegisterRow>
+        ensures { result ≡ self.now.registers }
+    {
+        self.store.register_rows()
+    }
+
+    /// The registers of the group, ascending by source.
+    pub fn registers_of(&self, group: Addr) -> GroupRows<'_, RegisterRow>
+        ensures { result ≡ filter (λ e. is_of_group group.bits e.0) self.now.registers }
+    {
+        self.store.registers_of(group)
+    }
+
     /// Gives the source of the group this register, or takes its register away.
     pub fn set_register(
         &mut self,

@@ -1,4 +1,5 @@
 mod Receivers
 mod Told
 mod Writes
+mod Rising
 mod Robust

@@ -38,6 +38,11 @@ source_again : (o : Option Addr) → option_map (λ n. record { bits = n }) (opt
 source_again None = refl
 source_again (Some a) = refl
 
+-- a record is of a source where its key has one
+pub source_in_key : (n : ℕ) (group : Addr) (source : Option Addr)
+    → is_some (record_key n group source).source ≡ is_some source
+source_in_key n group source = ap is_some (source_again source)
+
 -- the key of a record, read and written again
 pub key_again : (k : Key) → is_record_key k ≡ true → record_key (iface_in k) k.group k.source ≡ k
 key_again k fit =
@@ -46,6 +51,15 @@ key_again k fit =
 module _ {R : Type 0} where
   abbrev pub Fits : Table R → Type 0
   Fits t = AllByRecursion (λ (e : Key × R). is_record_key e.0 ≡ true) t
+
+  abbrev pub AreOfKind : Bool → Table R → Type 0
+  AreOfKind of_sources t = AllByRecursion (λ (e : Key × R). is_some (e.0).source ≡ of_sources) t
+
+  kind_dropped : (of_sources : Bool) (k : Key) (t : Table R) → AreOfKind of_sources t
+      → AreOfKind of_sources (drop_at t k)
+  unfolding drop_at drop_where
+  kind_dropped of_sources k t f =
+      each_filter (λ (e : Key × R). is_some (e.0).source ≡ of_sources) (λ e. not (same_key k e.0)) t f
 
   fits_dropped : (k : Key) (t : Table R) → Fits t → Fits (drop_at t k)
   unfolding drop_at drop_where
@@ -59,6 +73,15 @@ module _ {R : Type 0} where
       go : (o : Option R) → row_at t k ≡ o → is_some o ≡ true → is_record_key k ≡ true
       go None found e = cc
       go (Some r) found e = row_of_each (λ (e : Key × R). is_record_key e.0 ≡ true) k r t f found
+
+  pub kind_there : (of_sources : Bool) (k : Key) (t : Table R) → AreOfKind of_sources t → has_row t k ≡ true
+      → is_some k.source ≡ of_sources
+  unfolding has_row
+  kind_there of_sources k t f there = go (row_at t k) refl there
+    where
+      go : (o : Option R) → row_at t k ≡ o → is_some o ≡ true → is_some k.source ≡ of_sources
+      go None found e = cc
+      go (Some r) found e = row_of_each (λ (e : Key × R). is_some (e.0).source ≡ of_sources) k r t f found
 
   pub all_below : (t : Table R) → Fits t → list_all (λ e. nat_lt (iface_in e.0) 120) t ≡ true
   all_below t f =
@@ -85,7 +108,8 @@ lists_again k first second t t1 t2 one two x i g s =
     go true = refl
     go false = refl
 
-module _ {R : Type 0} (runs : R → Bool) (t : Table Listed) (rows : Table R) (before : IsListed runs t rows) (k : Key) where
+module _ {R : Type 0} (runs : R → Bool) (of_sources : Bool) (t : Table Listed) (rows : Table R)
+    (before : IsListed runs of_sources t rows) (k : Key) where
   told_after : (row : Option R) (t' : Table Listed) (rows' : Table R) → Lists t t' k (option_map runs row)
       → ((q : Key) → row_at rows' q ≡ cond (same_key q k) row (row_at rows q))
       → (x : Side) (i g : ℕ) (s : Option ℕ) → listed t' x i g s ≡ told_of x (record_at runs rows' (key_of i g s false))
@@ -100,16 +124,20 @@ module _ {R : Type 0} (runs : R → Bool) (t : Table Listed) (rows : Table R) (b
       go true = refl
       go false = refl
 
-  pub listed_put : (row : R) (t' : Table Listed) (rows' : Table R) → is_record_key k ≡ true → rows' ≡ put rows k row
-      → Lists t t' k (Some (runs row)) → IsListed runs t' rows'
-  listed_put row t' rows' fit is lists = record {
+  pub listed_put : (row : R) (t' : Table Listed) (rows' : Table R) → is_record_key k ≡ true
+      → is_some k.source ≡ of_sources → rows' ≡ put rows k row
+      → Lists t t' k (Some (runs row)) → IsListed runs of_sources t' rows'
+  listed_put row t' rows' fit kind is lists = record {
+    kind = subst (AreOfKind of_sources) (sym is)
+        (each_put k row (λ (e : Key × R). is_some (e.0).source ≡ of_sources) kind rows before.kind);
     told = told_after (Some row) t' rows' lists (λ q. ap (λ (u : Table R). row_at u q) is ∙ row_at-put k q rows row);
     fit = subst Fits (sym is) (each_put k row (λ (e : Key × R). is_record_key e.0 ≡ true) fit rows before.fit);
   }
 
   pub listed_dropped : (t' : Table Listed) (rows' : Table R) → rows' ≡ drop_at rows k → Lists t t' k None
-      → IsListed runs t' rows'
+      → IsListed runs of_sources t' rows'
   listed_dropped t' rows' is lists = record {
+    kind = subst (AreOfKind of_sources) (sym is) (kind_dropped of_sources k rows before.kind);
     told = told_after None t' rows' lists (λ q. ap (λ (u : Table R). row_at u q) is ∙ row_at-drop_at k q rows);
     fit = subst Fits (sym is) (fits_dropped k rows before.fit);
   }
@@ -129,15 +157,16 @@ module _ {R : Type 0} (runs : R → Bool) (t : Table Listed) (rows : Table R) (b
 
   -- a row that was refused, and is taken out again
   pub listed_refused : (timer : Option Bool) (t1 t2 : Table Listed) (rows' : Table R) (q : Key) → k ≡ q
-      → rows' ≡ drop_at rows k → Lists t t1 k timer → Lists t1 t2 q None → IsListed runs t2 rows'
+      → rows' ≡ drop_at rows k → Lists t t1 k timer → Lists t1 t2 q None → IsListed runs of_sources t2 rows'
   listed_refused timer t1 t2 rows' q same is one two =
       listed_dropped t2 rows' is
       (lists_again k timer None t t1 t2 one (subst (λ (p : Key). Lists t1 t2 p None) (sym same) two))
 
-pub none_listed : {R : Type 0} (runs : R → Bool) (t : Table Listed) (rows : Table R) → t ≡ [] → rows ≡ []
-    → IsListed runs t rows
+pub none_listed : {R : Type 0} (runs : R → Bool) (of_sources : Bool) (t : Table Listed) (rows : Table R) → t ≡ []
+    → rows ≡ [] → IsListed runs of_sources t rows
 unfolding row_at
-none_listed runs t rows empty none = record {
+none_listed runs of_sources t rows empty none = record {
+  kind = subst (AreOfKind of_sources) (sym none) tt;
   told = λ x i g s. ap (λ (u : Table Listed). listed u x i g s) empty ∙ go x
       ∙ ap (λ (u : Table _). told_of x (record_at runs u (key_of i g s false))) (sym none);
   fit = subst Fits (sym none) tt;

@@ -59,8 +59,9 @@ module _ {R : Type 0} (runs : R → Bool) where
   abbrev pub record_at : Table R → Key → Option Bool
   record_at rows k = option_map runs (row_at rows k)
 
-  -- what is listed is what the rows say, and each is under a key of its kind
-  pub record IsListed (marks : Table Listed) (rows : Table R) : Type 0 where
+  -- what is listed is what the rows say, and each is under a key of its kind: of groups, or of their sources
+  pub record IsListed (of_sources : Bool) (marks : Table Listed) (rows : Table R) : Type 0 where
     pub told : (x : Side) (i g : ℕ) (s : Option ℕ)
         → listed marks x i g s ≡ told_of x (record_at rows (key_of i g s false))
     pub fit : AllByRecursion (λ (e : Key × R). is_record_key e.0 ≡ true) rows
+    pub kind : AllByRecursion (λ (e : Key × R). is_some (e.0).source ≡ of_sources) rows

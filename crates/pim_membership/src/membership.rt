@@ -1,7 +1,8 @@
 //! The membership facts.
-ghost use Rattle.std.specs.Prelude.{◌≡◌, ◌<◌, ◌≤◌, ◌+◌, ◌^◌, ℕ, None, Some, IfOk, IfSome, IsTrue, OnErr, OnOk, Option, false, filter, length, nat_lt, option_map};
+ghost use Rattle.std.specs.Prelude.{◌≡◌, ◌<◌, ◌≤◌, ◌+◌, ◌^◌, ℕ, None, Some, IfOk, IfSome, IsTrue, OnErr, OnOk, Option, false, filter, length, map, nat_lt, option_map};
 ghost use Rattle.std.specs.List.{list_all};
 ghost use Rattle.std.specs.List.Sorted.{IsStrictlySortedBy};
+ghost use Rattle.std.specs.Ordering.{nat_cmp};
 ghost use Rattle.pim_ifset.specs.Members.{has};
 ghost use Rattle.pim_model.specs.Clearing.{first_by};
 ghost use Rattle.pim_model.specs.Receivers.{is_exclude_among, local_receiver_exclude_among, local_receiver_include_among};
@@ -9,7 +10,7 @@ ghost use Rattle.pim_model.specs.Records.{is_at_group};
 ghost use Rattle.pim_model.specs.Tables.{change_row, drop_at, drop_where, has_row, keys_in, put, row_at, set_row};
 ghost use Rattle.pim_model.specs.Timers.{is_ending_first};
 ghost use Rattle.pim_tables.specs.Ends.{due_of};
-ghost use Rattle.pim_types.specs.Keys.{iface_in, iface_key, is_on, key_cmp, source_key, star_key};
+ghost use Rattle.pim_types.specs.Keys.{iface_in, iface_key, is_on, key_cmp, source_in, source_key, star_key};
 ghost use Rattle.pim_types.specs.declared.fact.GroupRecordRow.{GroupRecordRow as GroupRecord};
 ghost use Rattle.pim_membership.specs.MembershipTables.{counted_records, membership_endings, no_membership};
 
@@ -124,6 +125,14 @@ impl Membership {
         self.group_records.get(Key::star(iface, group))
     }
 
+    /// Whether there is a group record under the key.
+    #[tactic(auto, unfolding(pim_model::specs::Tables::has_row))]
+    pub fn has_group_record(&self, key: Key) -> bool
+        ensures { result ≡ has_row self.now.group_records key }
+    {
+        self.group_records.get(key).is_some()
+    }
+
     /// The group records, by rising key; each is of an interface below 120.
     pub fn group_record_rows(&self) -> Iter<'_, Key, GroupRecordRow>
         ensures rows { result ≡ self.now.group_records }
@@ -208,7 +217,13 @@ impl Membership {
     pub fn source_records_at(&self, iface: IfaceId, group: Addr) -> RowsOf<'_, SourceRecordRow>
         ensures rows { result ≡ filter (λ e. is_at_group iface.number group.bits e.0) self.now.source_records }
         ensures near { 0 < length result → iface.number < 120 }
+
+        // Each is under the key of a source, so the sources rise too.
+        ensures rising { IsStrictlySortedBy nat_cmp (map (λ e. source_in e.0) result) }
     {
+        // They tell how the keys are made, and that they rise.
+        self.source_records.are_of_kind();
+        self.source_records.are_rising();
         self.source_records.rows_at(iface, group)
     }
 
@@ -227,6 +242,22 @@ impl Membership {
         }) }
     {
         self.source_records.set(iface, group, Some(source), row)
+    }
+
+    /// Changes the source record under the key, if there is one, to this one. An error is want of memory.
+    pub fn change_source_record(&mut self, key: Key, row: SourceRecordRow) -> Result<(), AllocError>
+        ensures { OnOk result (self.new ≡ record self.old {
+          source_records = change_row (λ _. Some row) key self.old.source_records;
+        }) }
+    {
+        self.source_records.change_at(key, row)
+    }
+
+    /// Source records are under keys that rise.
+    pub fn source_records_rise(&self)
+        ensures { IsStrictlySortedBy key_cmp (keys_in self.now.source_records) }
+    {
+        self.source_records.are_rising();
     }
 
     /// Takes the source records of the group on the interface away.

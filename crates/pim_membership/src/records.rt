@@ -1,14 +1,15 @@
 //! The records of one kind, of groups or of their sources, with the interfaces that have them.
-ghost use Rattle.std.specs.Prelude.{◌≡◌, ◌<◌, ◌≤◌, ◌+◌, [], length, ℕ, Bool, None, Option, Some, IfOk, IfSome, IsTrue, OnErr, OnOk, false, filter, is_some, nat_lt, option_map};
-ghost use Rattle.std.specs.List.{list_all};
+ghost use Rattle.std.specs.Prelude.{◌≡◌, ◌<◌, ◌≤◌, ◌+◌, [], length, ℕ, Bool, None, Option, Some, IfOk, IfSome, IsTrue, OnErr, OnOk, false, true, filter, is_some, nat_lt, option_map};
+ghost use Rattle.std.specs.List.{AllByRecursion, list_all};
+ghost use Rattle.std.specs.List.Sorted.{IsStrictlySortedBy};
 ghost use Rattle.std.specs.Option.{option_map_or};
 ghost use Rattle.pim_model.specs.Clearing.{first_by};
 ghost use Rattle.pim_model.specs.Records.{is_at_group};
-ghost use Rattle.pim_model.specs.Tables.{change_row, drop_at, drop_where, has_row, put, row_at, rows_on, set_row};
+ghost use Rattle.pim_model.specs.Tables.{change_row, drop_at, drop_where, has_row, keys_in, put, row_at, rows_on, set_row};
 ghost use Rattle.pim_model.specs.Timers.{is_ending_first};
 ghost use Rattle.pim_tables.specs.Ends.{due_of, row_endings};
 ghost use Rattle.pim_tables.specs.RowsOf.{first_key};
-ghost use Rattle.pim_types.specs.Keys.{iface_in, is_on};
+ghost use Rattle.pim_types.specs.Keys.{iface_in, is_on, key_cmp};
 ghost use Rattle.pim_ifset.specs.Members.{has};
 ghost use Rattle.pim_membership.specs.Listing.{IsListed, Lists, is_record_key, record_key};
 
@@ -29,6 +30,9 @@ pub(crate) trait Record: Ends {
     // Whether a row's timer runs.
     ghost runs: { Self → Bool };
 
+    // Whether the rows are of sources of groups, and not of the groups.
+    ghost of_sources: { Bool };
+
     // Whether the row's timer runs.
     fn is_running(self) -> bool
         ensures { result ≡ runs self };
@@ -37,6 +41,8 @@ pub(crate) trait Record: Ends {
 impl Record for GroupRecordRow {
     ghost runs = { λ r. is_some r.end };
 
+    ghost of_sources = { false };
+
     fn is_running(self) -> bool {
         self.end.is_some()
     }
@@ -44,6 +50,8 @@ impl Record for GroupRecordRow {
 
 impl Record for SourceRecordRow {
     ghost runs = { λ r. is_some r.end };
+
+    ghost of_sources = { true };
 
     fn is_running(self) -> bool {
         self.end.is_some()
@@ -65,7 +73,7 @@ impl<R: Record> Model for Records<R> {
 
     ghost view = { λ a. a.rows };
 
-    ghost invariant = { λ a. IsListed R.runs a.listing a.rows };
+    ghost invariant = { λ a. IsListed R.runs R.of_sources a.listing a.rows };
 }
 
 impl<R: Record> Records<R> {
@@ -84,6 +92,21 @@ impl<R: Record> Records<R> {
         ensures { result ≡ length self.now }
     {
         self.rows.len()
+    }
+
+    // They are under keys that rise.
+    pub(crate) fn are_rising(&self)
+        ensures { IsStrictlySortedBy key_cmp (keys_in self.now) }
+    {
+        let _ = self.rows.len();
+    }
+
+    // Each is under a key of its kind, and of no (S,G,rpt).
+    pub(crate) fn are_of_kind(&self)
+        ensures fit { AllByRecursion (λ e. is_record_key e.0 ≡ true) self.now }
+        ensures kind { AllByRecursion (λ e. is_some (e.0).source ≡ R.of_sources) self.now }
+    {
+        let _ = self.rows.len();
     }
 
     // The records, by rising key; each is of an interface below 120.
@@ -137,7 +160,8 @@ impl<R: Record> Records<R> {
         source: Option<Addr>,
         row: Option<R>,
     ) -> Result<(), AllocError>
-        requires { iface.number < 120 }
+        requires below { iface.number < 120 }
+        requires kind { is_some source ≡ R.of_sources }
         ensures { OnOk result (self.new ≡ set_row self.old (record_key iface.number group source) row) }
     {
         match row {
@@ -157,7 +181,8 @@ impl<R: Record> Records<R> {
         source: Option<Addr>,
         row: R,
     ) -> Result<(), AllocError>
-        requires { iface.number < 120 }
+        requires below { iface.number < 120 }
+        requires kind { is_some source ≡ R.of_sources }
         ensures { OnOk result (self.new ≡ put self.old (record_key iface.number group source) row) }
     {
         let key = record_key(iface, group, source);
@@ -197,6 +222,18 @@ impl<R: Record> Records<R> {
         let _ = self.rows.len();
         if self.rows.contains(record_key(iface, group, source)) {
             self.put(iface, group, source, row)?;
+        }
+        Ok(())
+    }
+
+    // Changes the record under the key, where there is one, to this one. An error is want of memory.
+    pub(crate) fn change_at(&mut self, key: Key, row: R) -> Result<(), AllocError>
+        ensures { OnOk result (self.new ≡ change_row (λ _. Some row) key self.old) }
+    {
+        // It tells that the keys rise: what is put under a key that is there stands in its place.
+        let _ = self.rows.len();
+        if self.rows.contains(key) {
+            self.put(key.iface, key.group, key.source, row)?;
         }
         Ok(())
     }
@@ -259,7 +296,7 @@ fn relist<R: Record>(
     row: R,
 ) -> Result<(), AllocError>
     requires near { IsTrue (is_record_key key) }
-    requires listed { IsListed R.runs listing.old rows.now }
+    requires listed { IsListed R.runs R.of_sources listing.old rows.now }
     ensures ok { OnOk result (Lists listing.old listing.new key (Some (R.runs row))) }
     ensures err { OnErr result (listing.new ≡ listing.old) }
 {

@@ -10,13 +10,20 @@ use Rattle.pim_model.specs.Judging.{Judged, judged}
 use Rattle.pim_model.specs.State.{State}
 use Rattle.pim_model.specs.Step.{Answered, concluded, outcome_of, step, stopped, taken_unless_full}
 
--- time that passes, an interface that goes up or down, a Hello, and a Join/Prune to the router
+-- all but data and Registers
 unfoldable pub is_built : Accepted → Bool
 is_built (Accepted.Advance moment) = true
 is_built (Accepted.Up i) = true
 is_built (Accepted.Down i) = true
+is_built (Accepted.Routes routes) = true
+is_built (Accepted.Rps ranges) = true
 is_built (Accepted.Hello i from h) = true
 is_built (Accepted.JoinPruneToMe i m) = true
+is_built (Accepted.JoinPruneSeen i m) = true
+is_built (Accepted.Assert i from a) = true
+is_built (Accepted.Query i from q) = true
+is_built (Accepted.Report i records) = true
+is_built (Accepted.RegisterStop from r) = true
 is_built _ = false
 
 unfoldable pub taken_if_built : State → ℕ → Accepted → Answered

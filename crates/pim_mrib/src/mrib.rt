@@ -121,6 +121,13 @@ impl Mrib {
         Ok(Ok(()))
     }
 
+    /// Takes the RP ranges of another in the place of its own.
+    pub fn take_ranges(&mut self, other: Mrib)
+        ensures { self.new ≡ record self.old { ranges = other.ranges } }
+    {
+        self.ranges = other.ranges;
+    }
+
     /// The route to the address: none to one of the router's own, over the first link that it lies
     /// on, or else the route with the longest prefix, none where its interface is down. The meter
     /// counts the trie nodes that were visited.

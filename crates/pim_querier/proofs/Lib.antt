@@ -1,5 +1,12 @@
 mod EachOnce
+mod Electing
 mod Expired
+mod InTurn
+mod Lowered
+mod Missing
+mod Naming
 mod Parts
+mod Queried
+mod Reported
 mod Sent
 mod Starting

@@ -62,7 +62,7 @@ is_some xs e none = grind (arith, nat_tests, e)
 pub is_none : (xs : List Addr) → (length xs == 0) ≡ true → length xs ≡ 0
 is_none xs e = grind (arith, nat_tests, e)
 
-not_empty : (xs : List Addr) → (length xs ≡ 0 → ⊥) → is_empty_list (bits_of xs) ≡ false
+pub not_empty : (xs : List Addr) → (length xs ≡ 0 → ⊥) → is_empty_list (bits_of xs) ≡ false
 not_empty [] some = absurd (some refl)
 not_empty (x ∷ xs) some = refl
 

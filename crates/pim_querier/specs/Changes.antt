@@ -3,14 +3,17 @@ use Rattle.std.specs.List.{list_any}
 use Rattle.std.specs.Prelude.{Bool, List, None, Option, Some, fold, if◌then◌else◌, map, nat_lt, ℕ, ◌+◌, ◌-◌}
 use Rattle.pim_filters.specs.Members.{entry_of}
 use Rattle.pim_filters.specs.declared.member.Member.{Member}
+use Rattle.igmp_wire.specs.Values.{Record}
+use Rattle.pim_ip.specs.declared.addr.Addr.{Addr}
 use Rattle.pim_types.specs.declared.fact.GroupRepeatRow.{GroupRepeatRow}
 use Rattle.pim_types.specs.declared.fact.Key.{Key}
 use Rattle.pim_types.specs.declared.fact.SendingRow.{SendingRow}
-use Rattle.pim_types.specs.Keys.{source_in, star_key}
-use Rattle.pim_model.specs.Querier.{is_sending, last_member_query_interval}
-use Rattle.pim_model.specs.Records.{put_member}
+use Rattle.pim_types.specs.declared.fact.SourceRecordRow.{SourceRecordRow}
+use Rattle.pim_types.specs.Keys.{source_in, source_key, star_key}
+use Rattle.pim_model.specs.Querier.{group_membership_interval, is_sending, last_member_query_interval, lowered}
+use Rattle.pim_model.specs.Records.{Asked, GroupRecord, apply_record, put_member, record_of}
 use Rattle.pim_model.specs.State.{State}
-use Rattle.pim_model.specs.Tables.{Table, change_row, drop_at, has_row}
+use Rattle.pim_model.specs.Tables.{Table, change_row, drop_at, has_row, put}
 
 -- a sending with one less, or none where it was the last
 abbrev pub one_less : SendingRow → Option SendingRow
@@ -60,3 +63,26 @@ without_group_repeat i g s = record s {
   group_repeats = (if has_row s.group_records (star_key i g) then s.group_repeats
       else drop_at s.group_repeats (star_key i g));
 }
+
+-- a source's timer lowered to an end
+abbrev pub source_lowered : ℕ → SourceRecordRow → Option SourceRecordRow
+source_lowered end r = Some (record { end = lowered end r.end })
+
+-- the source records under these entries' keys changed, one after the other
+unfoldable pub record_changed : (SourceRecordRow → Option SourceRecordRow) → State → Key × SourceRecordRow → State
+record_changed change s e = record s { source_records = change_row (λ _. change e.1) e.0 s.source_records }
+
+unfoldable pub records_changed : (SourceRecordRow → Option SourceRecordRow) → State → Table SourceRecordRow → State
+records_changed change s entries = fold (record_changed change) s entries
+
+-- these sources of a group to be named in so many queries, one after the other
+unfoldable pub sending_put : ℕ → ℕ → SendingRow → State → Addr → State
+sending_put i g row s a = record s { sendings = put s.sendings (source_key i g a.bits) row }
+
+unfoldable pub sendings_put : ℕ → ℕ → SendingRow → State → List Addr → State
+sendings_put i g row s sources = fold (sending_put i g row) s sources
+
+-- what a group record of a report makes of what is known of its group, and the queries that it asks for
+abbrev pub applied : State → ℕ → Record → GroupRecord × List Asked
+applied s i r =
+    apply_record (s.present + group_membership_interval s i) (record_of s i r.group) r.type r.sources

@@ -1,6 +1,6 @@
 //! The values of an interface's querier that are in force (RFC 3376, section 8), and the intervals that follow of them.
 ghost use Rattle.std.specs.Prelude.{◌≡◌, ◌≤◌, ◌<◌, ◌^◌};
-ghost use Rattle.pim_model.specs.Querier.{exceeds, last_member_query_interval, query_end, query_interval, robustness, startup_query_interval};
+ghost use Rattle.pim_model.specs.Querier.{exceeds, group_membership_interval, last_member_query_interval, query_end, query_interval, robustness, startup_query_interval};
 
 use pim_macros::World;
 use pim_types::IfaceId;
@@ -29,6 +29,16 @@ pub fn query_interval(world: &World, iface: IfaceId) -> u64
         Some(row) => 1000 * u64::from(row.query_interval),
         None => 1000 * u64::from(settings.query_interval),
     }
+}
+
+/// [Group Membership Interval] (RFC 3376, section 8.4), in ms.
+#[tactic(auto, unfolding(pim_model::specs::Querier::group_membership_interval))]
+pub fn group_membership_interval(world: &World, iface: IfaceId) -> u64
+    ensures value { result ≡ group_membership_interval world.now iface.number }
+    ensures within { result < 2 ^ 40 }
+{
+    let response = 100 * u64::from(world.settings().query_response_interval);
+    u64::from(robustness(world, iface)) * query_interval(world, iface) + response
 }
 
 /// [Startup Query Interval] (RFC 3376, section 8.6), in ms.

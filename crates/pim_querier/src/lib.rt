@@ -1,14 +1,22 @@
 //! The querier of an interface (RFC 3376, sections 6 and 8): how it starts, and what the ends of its timers change.
 #![tactic(auto)]
 
+pub mod asked;
 pub mod election;
 pub mod firing;
 pub mod intervals;
+pub mod lowering;
+pub mod named;
 pub mod queries;
+pub mod query;
 pub mod records;
 pub mod repeats;
+pub mod report;
 pub mod sendings;
 pub mod startup;
 
 pub use firing::fired;
+pub use named::{is_full, named_keys};
+pub use query::query_seen;
+pub use report::{is_skipped, report_seen};
 pub use startup::up;

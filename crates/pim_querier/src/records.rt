@@ -1,14 +1,14 @@
 //! The record of a group, and what the ends of its timers change (RFC 3376, sections 6.2, 6.3 and 6.5).
 ghost use Rattle.std.specs.Option.{option_map_or};
 ghost use Rattle.std.specs.Prelude.{◌≡◌, ◌<◌, ◌==◌, None, Some, IfOk, OnOk, false, filter, length, map, nat_lt, not};
-ghost use Rattle.pim_filters.specs.Members.{entries_of, without_end};
+ghost use Rattle.pim_filters.specs.Members.{IsAscending, entries_of, without_end};
 ghost use Rattle.pim_model.specs.Querier.{group_end, group_record_due, source_record_due};
-ghost use Rattle.pim_model.specs.Records.{is_no_record, record_of, with_members, with_repeats_of_rows};
+ghost use Rattle.pim_model.specs.Records.{is_no_record, record_of, with_members, with_record, with_repeats_of_rows};
 ghost use Rattle.pim_model.specs.Tables.{has_row};
 ghost use Rattle.pim_querier.specs.Changes.{members_put, sendings_changed, without_empty, without_group_repeat, without_source_repeat};
 
 use crate::sendings::{sendings_at, source_in};
-use pim_filters::Member;
+use pim_filters::{GroupRecord, Member};
 use pim_macros::World;
 use pim_types::fact::{GroupRecordRow, SendingRow, SourceRecordRow};
 use pim_types::{Addr, IfaceId, Key};
@@ -27,6 +27,7 @@ pub fn members_at(
     ensures members { IfOk result (λ members. entries_of members.items
         ≡ (record_of world.now iface.number group.bits).members) }
     ensures near { IfOk result (λ members. 0 < length members.items → iface.number < 120) }
+    ensures ascending { IfOk result (λ members. IsAscending (entries_of members.items)) }
 {
     let mut members = Vec::new(alloc);
     for (key, row) in world.source_records_at(iface, group) {
@@ -211,6 +212,37 @@ pub fn set_members(
     world.drop_source_records(iface, group);
     put_members(world, iface, group, members)?;
     drop_repeats(world, alloc, iface, group)
+}
+
+/// The group's record on the interface.
+#[tactic(auto, unfolding(pim_model::specs::Records::record_of))]
+pub fn record_of(
+    world: &World,
+    alloc: Global,
+    iface: IfaceId,
+    group: Addr,
+) -> Result<GroupRecord, AllocError>
+    ensures { IfOk result (λ known. known ≡ record_of world.now iface.number group.bits) }
+{
+    let members = members_at(world, alloc, iface, group)?;
+    GroupRecord::with(alloc, world.group_end(iface, group), &members)
+}
+
+/// Gives the group this record on the interface.
+#[tactic(auto, unfolding(pim_model::specs::Records::with_record))]
+pub fn set_record(
+    world: &mut World,
+    alloc: Global,
+    iface: IfaceId,
+    group: Addr,
+    known: &GroupRecord,
+) -> Result<(), AllocError>
+    requires { iface.number < 120 }
+    ensures { OnOk result (world.new ≡ with_record world.old iface.number group.bits known.now) }
+{
+    let timer = known.timer();
+    world.put_group_record(iface, group, GroupRecordRow { end: timer })?;
+    set_members(world, alloc, iface, group, timer, known.members())
 }
 
 // ---- the ends of its timers

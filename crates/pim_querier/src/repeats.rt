@@ -1,6 +1,6 @@
 //! Queries that are repeated (RFC 3376, section 6.6.3).
 ghost use Rattle.std.specs.Prelude.{◌≡◌, OnOk};
-ghost use Rattle.pim_model.specs.Querier.{group_repeat_due, next_sending, source_repeat_due, sources_sent};
+ghost use Rattle.pim_model.specs.Querier.{group_repeat_due, next_sending, send_sources, source_repeat_due, sources_sent};
 ghost use Rattle.pim_macros.specs.Turns.{saying};
 ghost use Rattle.pim_querier.specs.Changes.{one_repeat_less};
 
@@ -79,6 +79,22 @@ pub fn next_sending(world: &World, iface: IfaceId, group: Addr) -> Option<Source
     }
     let next = world.present() + last_member_query_interval(world);
     Some(SourceRepeatRow { next })
+}
+
+/// Sends the sources of the group that have sendings left, and again while any has.
+#[tactic(auto, unfolding(pim_model::specs::Querier::send_sources))]
+pub fn send_sources(
+    world: &mut World,
+    turn: &mut Turn,
+    iface: IfaceId,
+    group: Addr,
+) -> Result<(), AllocError>
+    ensures state { OnOk result (world.new ≡ (send_sources world.old iface.number group.bits).0) }
+    ensures messages { OnOk result (turn.new ≡ saying turn.old (send_sources world.old iface.number group.bits).1) }
+{
+    send(world, turn, iface, group)?;
+    let next = next_sending(world, iface, group);
+    world.set_source_repeat(iface, group, next)
 }
 
 /// The query of the group's sources is due again.

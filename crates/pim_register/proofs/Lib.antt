@@ -5,3 +5,4 @@ pub mod Opened
 pub mod Within
 pub mod Keyed
 mod Steps
+mod Tunnelled

@@ -147,6 +147,10 @@ module _ (s : State) where
       (λ m. ignoring (not (is_own s p.destination)) Ignored.NotForMe (pim_to_me_judged s p m) (to_me p m)))
       (record { says = tt }))
 
+  so : (b : Bool) → not b ≡ false → b ≡ true
+  so true e = refl
+  so false e = cc
+
   any : (kind : EventKind) → Fits (judged s kind)
   unfolding judged up_judged down_judged advance_judged routes_judged rps_judged
   any (EventKind.Advance moment) =
@@ -166,9 +170,10 @@ module _ (s : State) where
       (record { says = below i.number (iface_count s) e }))
   any (EventKind.Routes routes) =
       refusing (not (are_routes s.configured routes)) Refusal.BadRoutes (Ok (Accepted.Routes routes))
-      (λ _. record { says = tt })
+      (λ e. record { says = so (are_routes s.configured routes) e })
   any (EventKind.Rps ranges) =
-      refusing (not (are_rps ranges)) Refusal.BadRps (Ok (Accepted.Rps ranges)) (λ _. record { says = tt })
+      refusing (not (are_rps ranges)) Refusal.BadRps (Ok (Accepted.Rps ranges))
+      (λ e. record { says = so (are_rps ranges) e })
 
   pub configured : (kind : EventKind) (j : Judged) (a : Accepted) → j ≡ judged s kind → j ≡ Ok a → IsConfigured s a
   configured kind j a e f = subst (λ (x : Judged). Says x) (sym e ∙ f) (any kind).says

@@ -1,6 +1,11 @@
+mod Asserted
 mod Configured
+mod IgmpFacts
+mod Growing
+mod Heard
 mod Instants
 mod Runs
 mod Settling
 mod Taking
 mod Touching
+mod Tunnelled

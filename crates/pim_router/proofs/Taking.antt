@@ -49,15 +49,15 @@ module _ (s : State) (w : ℕ) where
   quiet (Accepted.Hello i from h) b timeless = record { is_done = refl; no_copies = refl; unregistered = refl }
   quiet (Accepted.JoinPruneToMe i m) b timeless = record { is_done = refl; no_copies = refl; unregistered = refl }
   quiet (Accepted.Advance moment) b timeless = absurd (timeless moment refl)
-  quiet (Accepted.Routes routes) b timeless = cc
-  quiet (Accepted.Rps ranges) b timeless = cc
-  quiet (Accepted.JoinPruneSeen i m) b timeless = cc
-  quiet (Accepted.Assert i from a) b timeless = cc
-  quiet (Accepted.Query i from q) b timeless = cc
-  quiet (Accepted.Report i records) b timeless = cc
+  quiet (Accepted.Routes routes) b timeless = record { is_done = refl; no_copies = refl; unregistered = refl }
+  quiet (Accepted.Rps ranges) b timeless = record { is_done = refl; no_copies = refl; unregistered = refl }
+  quiet (Accepted.JoinPruneSeen i m) b timeless = record { is_done = refl; no_copies = refl; unregistered = refl }
+  quiet (Accepted.Assert i from a) b timeless = record { is_done = refl; no_copies = refl; unregistered = refl }
+  quiet (Accepted.Query i from q) b timeless = record { is_done = refl; no_copies = refl; unregistered = refl }
+  quiet (Accepted.Report i records) b timeless = record { is_done = refl; no_copies = refl; unregistered = refl }
   quiet (Accepted.Data i packet) b timeless = cc
   quiet (Accepted.Register packet r) b timeless = cc
-  quiet (Accepted.RegisterStop from r) b timeless = cc
+  quiet (Accepted.RegisterStop from r) b timeless = record { is_done = refl; no_copies = refl; unregistered = refl }
 
   abbrev answered : State × List Emission → Answered
   answered sent = record { answer = Ok Verdict.Done; emissions = sent.1; copies = 0; state = sent.0 }
@@ -127,19 +127,28 @@ wants_memory s w a r b e f sure =
     cc (sure, taken_or_unbuilt s w a (is_built a) (sym e ∙ f))
 
 -- routes and RP ranges are tested in memory, and no answer to them is sure
+taken_unsurely : (s : State) (w : ℕ) (kind : EventKind) (a : Accepted) (full : Bool)
+    → is_sure kind (Err Refusal.Full) ≡ false → is_sure kind (Ok Verdict.Done) ≡ false
+    → is_sure kind (elim full as
+    (λ x. Answered) [ true ↦ stopped s (Stop.Refuse Refusal.Full) | false ↦ taken s w a ]).answer ≡ false
+taken_unsurely s w kind a true when_full when_done = when_full
+taken_unsurely s w kind a false when_full when_done = ap (is_sure kind) (answered_done s w a) ∙ when_done
+
 no_routes : (s : State) (w : ℕ) (routes : List Route) (bad : Bool)
     → is_sure (EventKind.Routes routes)
     (concluded s (taken_if_built s w) (refuse_if bad Refusal.BadRoutes >> Ok (Accepted.Routes routes))).answer ≡ false
-unfolding taken_if_built is_built
+unfolding taken_if_built is_built taken_unless_full
 no_routes s w routes true = refl
-no_routes s w routes false = refl
+no_routes s w routes false =
+    taken_unsurely s w (EventKind.Routes routes) (Accepted.Routes routes) (is_full s (Accepted.Routes routes)) refl refl
 
 no_ranges : (s : State) (w : ℕ) (ranges : List RpRange) (bad : Bool)
     → is_sure (EventKind.Rps ranges)
     (concluded s (taken_if_built s w) (refuse_if bad Refusal.BadRps >> Ok (Accepted.Rps ranges))).answer ≡ false
-unfolding taken_if_built is_built
+unfolding taken_if_built is_built taken_unless_full
 no_ranges s w ranges true = refl
-no_ranges s w ranges false = refl
+no_ranges s w ranges false =
+    taken_unsurely s w (EventKind.Rps ranges) (Accepted.Rps ranges) (is_full s (Accepted.Rps ranges)) refl refl
 
 tested_surely : (s : State) (w : ℕ) (kind : EventKind) (sure : Bool)
     → sure ≡ is_sure kind (concluded s (taken_if_built s w) (judged s kind)).answer → sure ≡ true

@@ -1,43 +1,42 @@
 -- Which machines a change concerns, and of which groups and sources it makes facts.
-use Rattle.std.proofs.Common.{◌≡◌, ℕ, Bool, true, false, cond, List, [], ◌∷◌, ◌&&◌, ◌++◌, ◌==◌, ◌||◌, filter, min, map, not, Option, Some, None, refl, ap, eqb-true, subst, sym, ◌∙◌}
+use Rattle.std.proofs.Common.{◌≡◌, ℕ, Bool, true, false, List, [], ◌∷◌, ◌&&◌, ◌++◌, ◌==◌, filter, min, map, not, Option, Some, None, refl, ap, eqb-true, subst, sym, ◌∙◌}
 use Rattle.std.specs.Cmp.{first_so, second_so}
 use Rattle.std.proofs.lemmas.Bool.{or_left, or_right}
 use Rattle.std.proofs.lemmas.List.Folds.{list_any-append}
 use Rattle.std.specs.List.{list_any}
 use Rattle.std.specs.Option.{option_map_or}
 use Rattle.std.specs.Prelude.{fold, if◌then◌else◌}
-use Rattle.pim_types.specs.declared.fact.AssertRow.{AssertRow}
-use Rattle.pim_types.specs.declared.fact.DownstreamRow.{DownstreamRow}
 use Rattle.pim_types.specs.declared.fact.JoinTimerRow.{JoinTimerRow}
 use Rattle.pim_types.specs.declared.fact.Key.{Key}
 use Rattle.pim_types.specs.declared.fact.NeighbourRow.{NeighbourRow}
-use Rattle.pim_types.specs.Keys.{group_in, is_of_group, is_on, names_source, neighbour_key, star_key}
+use Rattle.pim_types.specs.Keys.{group_in, is_of_group, is_on, is_star, names_source, neighbour_key, star_key}
 use Rattle.pim_wire.specs.declared.hello.Hello.{Hello as HelloValue}
 use Rattle.pim_types.specs.declared.config.IfaceId.{IfaceId}
 use Rattle.pim_ip.specs.declared.addr.Addr.{Addr}
 use Rattle.pim_wire.specs.Values.{JoinPrune}
+use Rattle.pim_wire.specs.declared.assert.Assert.{Assert as AssertMessage}
 use Rattle.pim_model.specs.Built.{is_built}
 use Rattle.pim_model.specs.declared.accepted.Accepted.{Accepted}
 use Rattle.pim_model.specs.Downstream.{asserts_after_joins, is_named, joined_keys, keys_taken, pruned_keys, row_after, rpt_rows_joined, to_me, touched_keys}
 use Rattle.pim_model.specs.Firing.{fired}
+use Rattle.pim_model.specs.Full.{asserted_keys}
 use Rattle.pim_model.specs.Hellos.{hello_holdtime_of, hello_received, hello_triggered, is_generation_changed, is_lost_to, neighbour_replaced, neighbour_restarted}
 use Rattle.pim_model.specs.Querier.{querier_up, querying}
+use Rattle.pim_model.specs.Seen.{seen}
 use Rattle.pim_model.specs.Sets.{is_loser}
 use Rattle.pim_model.specs.State.{State}
 use Rattle.pim_model.specs.Step.{change, iface_up}
-use Rattle.pim_model.specs.Tables.{Table, keys_in, put, row_at, same_option, set_row}
+use Rattle.pim_model.specs.Tables.{Table, keys_in, row_at, same_option, set_row}
 use Rattle.pim_model.specs.Timers.{Ending}
 use Rattle.pim_model.specs.Upstream.{fact_keys}
 use Rattle.pim_types.specs.declared.timer.TimerKind.{TimerKind}
-use Rattle.pim_laws.proofs.FewerFacts.{IsFewer, down_fewer, ended_fewer, fewer_both, fewer_so, no_other, row_without, rows_left, table_fewer}
+use Rattle.pim_laws.proofs.FewerFacts.{IsFewer, down_fewer, ended_fewer, fewer_both, fewer_so, no_other, rows_left, table_fewer}
 use Rattle.pim_laws.proofs.ListLaws.{either}
 use Rattle.pim_laws.proofs.Parts.{Asserts, JoinTimers}
-use Rattle.pim_laws.proofs.RowLaws.{any_of_put}
-use Rattle.pim_laws.proofs.TableLaws.{any_of_map}
 use Rattle.pim_locality.proofs.EventLaws.{change_touches}
 use Rattle.pim_locality.proofs.RefreshedNeighbours.{hello_again_touches_none}
 use Rattle.pim_locality.proofs.OwnKeys.{present_touches_none}
-use Rattle.pim_locality.proofs.SilentEvents.{timer_touches}
+use Rattle.pim_locality.proofs.SilentEvents.{seen_touches_none, timer_touches}
 use Rattle.pim_locality.proofs.Touches.{agrees_then, widened}
 use Rattle.pim_locality.specs.Events.{touched_by_event}
 use Rattle.pim_locality.specs.Locality.{AgreesBut, touching}
@@ -48,81 +47,20 @@ use Rattle.pim_neighbours.specs.Refreshed.{is_refreshed}
 use Rattle.pim_ready.specs.Ready.{IsLawful, Rises}
 use Rattle.pim_router.specs.Ends.{touched_by_end}
 use Rattle.pim_router.specs.Naming.{AreNamedBy}
-
--- ---- facts before and after, by a test of keys
-
-or_or : (a b x : Bool) → ((a || x) || (b || x)) ≡ ((a || b) || x)
-or_or true b x = refl
-or_or false true x = or_true x
-  where
-    or_true : (x : Bool) → (x || true) ≡ true
-    or_true true = refl
-    or_true false = refl
-or_or false false true = refl
-or_or false false false = refl
-
-module _ (p : Key → Bool) (x : Bool) where
-  -- what passes after passed before, or there is something else
-  abbrev Grows : List Key → List Key → Type 0
-  Grows before after = list_any p after ≡ true → (list_any p before || x) ≡ true
-
-  stays : (ks : List Key) → Grows ks ks
-  stays ks e = or_left (list_any p ks) x e
-
-  both_grow : (xs ys us vs : List Key) → Grows xs ys → Grows us vs → Grows (xs ++ us) (ys ++ vs)
-  both_grow xs ys us vs first second e =
-      ap (λ b. b || x) (list_any-append p xs us)
-      ∙ sym (or_or (list_any p xs) (list_any p us) x)
-      ∙ either (list_any p ys) (list_any p vs)
-      (λ f. or_left (list_any p xs || x) (list_any p us || x) (first f))
-      (λ f. or_right (list_any p xs || x) (list_any p us || x) (second f))
-      (sym (list_any-append p ys vs) ∙ e)
-
-  -- where these three tables alone change
-  facts_grow : (s : State) (rows : Table DownstreamRow) (asserts : Table AssertRow) (timers : Table JoinTimerRow)
-      → Grows (keys_in s.downstream) (keys_in rows) → Grows (keys_in s.asserts) (keys_in asserts)
-      → Grows (keys_in s.join_timers) (keys_in timers)
-      → Grows (fact_keys s) (fact_keys (record s { downstream = rows; asserts = asserts; join_timers = timers }))
-  unfolding fact_keys
-  facts_grow s rows asserts timers first second third =
-      both_grow _ _ _ _ (both_grow _ _ _ _ (both_grow _ _ _ _ (both_grow _ _ _ _ (both_grow _ _ _ _
-      (both_grow _ _ _ _ (stays _) first) second) third) (stays (keys_in s.override_timers)))
-      (stays (keys_in s.sources))) (stays (keys_in s.registers))
-
-module _ {R : Type 0} (p : Key → Bool) where
-  -- of a row that is set
-  one_more : (k : Key) (row : Option R) (t : Table R) → list_any p (keys_in (set_row t k row)) ≡ true
-      → (list_any p (keys_in t) || p k) ≡ true
-  unfolding keys_in set_row
-  one_more k None t e = or_left (list_any p (keys_in t)) (p k) (row_without k t p e)
-  one_more k (Some r) t e =
-      either (p k) (list_any (λ (e : Key × R). p e.0) t) (or_right (list_any p (keys_in t)) (p k))
-      (λ f. or_left (list_any p (keys_in t)) (p k) (any_of_map p (λ (e : Key × R). e.0) t ∙ f))
-      (any_of_put k r (λ e. p e.0) t (sym (any_of_map p (λ (e : Key × R). e.0) (put t k r)) ∙ e))
-
-  -- and of rows that are set one after the other
-  all_more : (row : Key → Option R) (ks : List Key) (t : Table R)
-      → list_any p (keys_in (fold (λ u k. set_row u k (row k)) t ks)) ≡ true
-      → (list_any p (keys_in t) || list_any p ks) ≡ true
-  all_more row [] t e = or_left (list_any p (keys_in t)) false e
-  all_more row (k ∷ ks) t e =
-      either (list_any p (keys_in (set_row t k (row k)))) (list_any p ks)
-      (λ f. either (list_any p (keys_in t)) (p k) (or_left (list_any p (keys_in t)) (p k || list_any p ks))
-      (λ g. or_right (list_any p (keys_in t)) (p k || list_any p ks) (or_left (p k) (list_any p ks) g))
-      (one_more k (row k) t f))
-      (λ f. or_right (list_any p (keys_in t)) (p k || list_any p ks) (or_right (p k) (list_any p ks) f))
-      (all_more row ks (set_row t k (row k)) e)
-
-filtered : (p q : Key → Bool) (ks : List Key) → list_any p (filter q ks) ≡ true → list_any p ks ≡ true
-filtered p q [] e = e
-filtered p q (k ∷ ks) e = step (q k) (filtered p q ks) e
-  where
-    step : (b : Bool) → (list_any p (filter q ks) ≡ true → list_any p ks ≡ true)
-        → list_any p (cond b (k ∷ filter q ks) (filter q ks)) ≡ true → (p k || list_any p ks) ≡ true
-    step true later f =
-        either (p k) (list_any p (filter q ks)) (or_left (p k) (list_any p ks))
-        (λ g. or_right (p k) (list_any p ks) (later g)) f
-    step false later f = or_right (p k) (list_any p ks) (later f)
+use Rattle.pim_model.specs.Full.{reported_groups, reported_sources}
+use Rattle.pim_laws.proofs.ListLaws.{each_of_list}
+use Rattle.pim_laws.specs.Laws.{is_under_source}
+use Rattle.igmp_wire.specs.Values.{Query as QueryValue, Record}
+use Rattle.pim_locality.specs.Scopes.{reads}
+use Rattle.pim_ready.specs.Ready.{IsSettled}
+use Rattle.pim_router.proofs.IgmpFacts.{query_leaves_facts, report_names_facts}
+use Rattle.pim_router.proofs.Tunnelled.{routes_leave_facts, rps_leave_facts, stop_leaves_facts}
+use Rattle.pim_model.specs.Registers.{register_stop_seen}
+use Rattle.pim_wire.specs.declared.register.RegisterStop.{RegisterStop as RegisterStopValue}
+use Rattle.pim_types.specs.Keys.{source_key}
+use Rattle.pim_router.proofs.Asserted.{asserted_named}
+use Rattle.pim_router.proofs.Growing.{Grows, all_more, facts_grow, filtered, stays}
+use Rattle.pim_router.proofs.Heard.{seen_named}
 
 -- ---- a Join/Prune
 
@@ -145,10 +83,12 @@ module _ (p : Key → Bool) (s : State) (i holdtime : ℕ) (joined pruned : List
       (fact_keys (keys_taken s i holdtime joined pruned))
   unfolding keys_taken asserts_after_joins
   keys_grow =
-      facts_grow p (list_any p (joined ++ pruned)) s _ _ s.join_timers rows_grow
+      facts_grow p (list_any p (joined ++ pruned)) s _ _ s.join_timers s.override_timers s.sources rows_grow
       (λ e. or_left (list_any p (keys_in s.asserts)) (list_any p (joined ++ pruned))
       (rows_left (λ e. not (is_loser (Some e.1) && is_named joined e.0)) s.asserts p e))
       (stays p (list_any p (joined ++ pruned)) (keys_in s.join_timers))
+      (stays p (list_any p (joined ++ pruned)) (keys_in s.override_timers))
+      (stays p (list_any p (joined ++ pruned)) (keys_in s.sources))
 
 taken_named : (s : State) (i : ℕ) (m : JoinPrune) → NewAreNamed (joined_keys s i m ++ pruned_keys i m) s (to_me s i m)
 unfolding to_me
@@ -240,6 +180,18 @@ module _ (s : State) (i a : ℕ) (h : HelloValue) where
   refreshed_touches_none w rises e =
       refreshed_row w rises (row_at s.neighbours (neighbour_key i a)) refl e
 
+-- what touches some keys touches them and more
+touching_more : (keys more : List Key) (s t : State) → AgreesBut (touching keys) s t
+    → AgreesBut (touching (keys ++ more)) s t
+unfolding touching
+touching_more keys more s t agrees k un = agrees k (go (list_any (reads k) keys) refl)
+  where
+    go : (b : Bool) → list_any (reads k) keys ≡ b → list_any (reads k) keys ≡ false
+    go true is =
+        let no : true ≡ false =
+        sym (list_any-append (reads k) keys more ∙ or_left (list_any (reads k) keys) (list_any (reads k) more) is) ∙ un in cc
+    go false is = is
+
 -- ---- what was accepted
 
 module _ (s : State) (a : Accepted) where
@@ -273,28 +225,106 @@ module _ (s : State) (a : Accepted) where
             ((hello_leaves_facts s i.number from.bits w h).passed (names_source g src) there);
       }))
 
--- all that is built but a Join/Prune makes no facts
-pub facts_covered : (s : State) (w : ℕ) (a : Accepted) → is_built a ≡ true
-    → ((i : IfaceId) (m : JoinPrune) → ¬ (a ≡ Accepted.JoinPruneToMe i m)) → IsWithin s (change s w a).state
+  pub seen_covered : (i : IfaceId) (m : JoinPrune) (joined pruned keys : List Key) → a ≡ Accepted.JoinPruneSeen i m
+      → AreNamedBy s a joined pruned → keys ≡ filter (λ k. not (is_star k)) pruned
+      → (w : ℕ) → Concerns keys s (change s w a).state
+  unfolding change
+  seen_covered i m joined pruned keys is named those w =
+      let both = subst (λ x. AreNamedBy s x joined pruned) is named in
+      let sources : List Key = filter (λ k. not (is_star k)) (pruned_keys i.number m) in
+      let are : keys ≡ sources = those ∙ ap (λ ks. filter (λ k. not (is_star k)) ks) both.1 in
+      subst (λ x. Concerns keys s (change s w x).state) (sym is)
+      (subst (λ ks. Concerns ks s (seen s w i.number m)) (sym are)
+      (record {
+        agrees = widened [] sources s (seen s w i.number m) refl (seen_touches_none s w i.number m);
+        named = seen_named s w i.number m;
+      }))
+
+  pub assert_covered : (i : IfaceId) (from : Addr) (x : AssertMessage) (keys : List Key)
+      → a ≡ Accepted.Assert i from x → keys ≡ asserted_keys i.number x
+      → (w : ℕ) → Concerns keys s (change s w a).state
+  unfolding touched_by_event change
+  assert_covered i from x keys is those w =
+      subst (λ b. Concerns keys s (change s w b).state) (sym is)
+      (subst (λ ks. Concerns ks s (change s w (Accepted.Assert i from x)).state) (sym those)
+      (record {
+        agrees = change_touches s w (Accepted.Assert i from x) (asserted_keys i.number x) refl;
+        named = asserted_named s i.number from.bits x;
+      }))
+
+  pub stop_covered : (from : Addr) (r : RegisterStopValue) (keys : List Key) → a ≡ Accepted.RegisterStop from r
+      → keys ≡ source_key 0 r.group.bits r.source.bits ∷ [] → (w : ℕ) → Concerns keys s (change s w a).state
+  unfolding touched_by_event change
+  stop_covered from r keys is those w =
+      let key : Key = source_key 0 r.group.bits r.source.bits in
+      let s' : State = register_stop_seen s w r.group.bits r.source.bits in
+      subst (λ b. Concerns keys s (change s w b).state) (sym is)
+      (subst (λ ks. Concerns ks s s') (sym those)
+      (record {
+        agrees = change_touches s w (Accepted.RegisterStop from r) (key ∷ []) refl;
+        named = λ g src there. or_left (has_facts s g src) (list_any (names_source g src) (key ∷ []))
+            ((stop_leaves_facts s w r.group.bits r.source.bits).passed (names_source g src) there);
+      }))
+
+  pub queried_covered : (i : IfaceId) (from : Addr) (q : QueryValue) (k : Key) (keys : List Key)
+      → a ≡ Accepted.Query i from q → k ≡ star_key 0 q.group → keys ≡ k ∷ []
+      → (w : ℕ) → Concerns keys s (change s w a).state
+  unfolding touched_by_event change
+  queried_covered i from q k keys is own all w =
+      let those : keys ≡ star_key 0 q.group ∷ [] = all ∙ ap (λ (x : Key). x ∷ []) own in
+      subst (λ x. Concerns keys s (change s w x).state) (sym is)
+      (subst (λ ks. Concerns ks s (change s w (Accepted.Query i from q)).state) (sym those)
+      (record {
+        agrees = change_touches s w (Accepted.Query i from q) (star_key 0 q.group ∷ []) refl;
+        named = λ g src there. or_left (has_facts s g src) (list_any (names_source g src) (star_key 0 q.group ∷ []))
+            ((query_leaves_facts i.number s from.bits q).passed (names_source g src) there);
+      }))
+
+  pub reported_covered : (i : IfaceId) (records : List Record) (keys : List Key) → a ≡ Accepted.Report i records
+      → IsSettled s → keys ≡ reported_groups i.number records ++ reported_sources i.number records
+      → (w : ℕ) → Concerns keys s (change s w a).state
+  unfolding touched_by_event change
+  reported_covered i records keys is settled all w =
+      let groups : List Key = reported_groups i.number records in
+      let sources : List Key = reported_sources i.number records in
+      subst (λ x. Concerns keys s (change s w x).state) (sym is)
+      (subst (λ ks. Concerns ks s (change s w (Accepted.Report i records)).state) (sym all)
+      (record {
+        agrees = touching_more groups sources s _ (change_touches s w (Accepted.Report i records) groups refl);
+        named = report_names_facts s i.number records
+            (each_of_list is_under_source s.source_records settled.ahead.firable.source_records);
+      }))
+
+-- neither a Join/Prune, nor an Assert, nor a report, which may make facts
+pub record MakesNone (a : Accepted) : Type 0 where
+  pub to_me : (i : IfaceId) (m : JoinPrune) → ¬ (a ≡ Accepted.JoinPruneToMe i m)
+  pub seen : (i : IfaceId) (m : JoinPrune) → ¬ (a ≡ Accepted.JoinPruneSeen i m)
+  pub assert : (i : IfaceId) (from : Addr) (x : AssertMessage) → ¬ (a ≡ Accepted.Assert i from x)
+  pub report : (i : IfaceId) (records : List Record) → ¬ (a ≡ Accepted.Report i records)
+
+-- all else that is built makes no facts
+pub facts_covered : (s : State) (w : ℕ) (a : Accepted) → is_built a ≡ true → MakesNone a
+    → IsWithin s (change s w a).state
 unfolding change is_built
 facts_covered s w (Accepted.Advance moment) b isnt = within_so s s (no_other s s refl)
 facts_covered s w (Accepted.Up i) b isnt = within_so s _ (up_leaves_facts s w i.number)
 facts_covered s w (Accepted.Down i) b isnt = within_so s _ (down_fewer s i.number)
 facts_covered s w (Accepted.Hello i from h) b isnt = within_so s _ (hello_leaves_facts s i.number from.bits w h)
-facts_covered s w (Accepted.JoinPruneToMe i m) b isnt = absurd (isnt i m refl)
-facts_covered s w (Accepted.Routes routes) b isnt = cc
-facts_covered s w (Accepted.Rps ranges) b isnt = cc
-facts_covered s w (Accepted.JoinPruneSeen i m) b isnt = cc
-facts_covered s w (Accepted.Assert i from x) b isnt = cc
-facts_covered s w (Accepted.Query i from q) b isnt = cc
-facts_covered s w (Accepted.Report i records) b isnt = cc
+facts_covered s w (Accepted.JoinPruneToMe i m) b isnt = absurd (isnt.to_me i m refl)
+facts_covered s w (Accepted.Routes routes) b isnt = within_so s _ (routes_leave_facts s routes)
+facts_covered s w (Accepted.Rps ranges) b isnt = within_so s _ (rps_leave_facts s ranges)
+facts_covered s w (Accepted.JoinPruneSeen i m) b isnt = absurd (isnt.seen i m refl)
+facts_covered s w (Accepted.Assert i from x) b isnt = absurd (isnt.assert i from x refl)
+facts_covered s w (Accepted.Query i from q) b isnt = within_so s _ (query_leaves_facts i.number s from.bits q)
+facts_covered s w (Accepted.Report i records) b isnt = absurd (isnt.report i records refl)
 facts_covered s w (Accepted.Data i packet) b isnt = cc
 facts_covered s w (Accepted.Register packet r) b isnt = cc
-facts_covered s w (Accepted.RegisterStop from r) b isnt = cc
+facts_covered s w (Accepted.RegisterStop from r) b isnt = within_so s _ (stop_leaves_facts s w r.group.bits r.source.bits)
 
-pub hello_isnt_join_prune : (a : Accepted) (i : IfaceId) (from : Addr) (h : HelloValue) → a ≡ Accepted.Hello i from h
-    → (j : IfaceId) (m : JoinPrune) → ¬ (a ≡ Accepted.JoinPruneToMe j m)
-hello_isnt_join_prune a i from h is j m same = cc
+pub hello_makes_none : (a : Accepted) (i : IfaceId) (from : Addr) (h : HelloValue) → a ≡ Accepted.Hello i from h
+    → MakesNone a
+hello_makes_none a i from h is =
+    record { to_me = λ j m same. cc; seen = λ j m same. cc; assert = λ j other x same. cc; report = λ j records same. cc }
 
 -- ---- the end of a timer
 

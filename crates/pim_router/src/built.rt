@@ -4,8 +4,7 @@ ghost use Rattle.pim_model.specs.Built.{is_built};
 
 use pim_model::Accepted;
 
-/// Whether the router acts on what was accepted: so far on time that passes, an interface that goes up or down, a
-/// Hello, and a Join/Prune to it.
+/// Whether the router acts on what was accepted: so far on all but data and Registers.
 #[tactic(auto, unfolding(pim_model::specs::Built::is_built))]
 pub(crate) fn is_built(accepted: &Accepted<'_>) -> bool
     ensures { result ≡ is_built accepted.now }
@@ -15,7 +14,14 @@ pub(crate) fn is_built(accepted: &Accepted<'_>) -> bool
         Accepted::Advance { .. }
             | Accepted::Up { .. }
             | Accepted::Down { .. }
+            | Accepted::Routes { .. }
+            | Accepted::Rps { .. }
             | Accepted::Hello { .. }
             | Accepted::JoinPruneToMe { .. }
+            | Accepted::JoinPruneSeen { .. }
+            | Accepted::Assert { .. }
+            | Accepted::Query { .. }
+            | Accepted::Report { .. }
+            | Accepted::RegisterStop { .. }
     )
 }

@@ -50,6 +50,8 @@ pub(crate) fn apply(
             world.set_down(*iface);
             Ok(())
         }
+        Accepted::Routes { routes } => world.replace_routes(routes.as_slice()),
+        Accepted::Rps { ranges } => { pim_register::rps_replaced(world, turn, ranges.as_slice()) }
         Accepted::Hello { iface, from, hello } => {
             pim_hello::received(world, turn, *iface, *from, hello)
         }
@@ -57,6 +59,28 @@ pub(crate) fn apply(
             // It tells that the interface is below 120.
             let _ = world.iface_count();
             to_me(world, turn, *iface, message.holdtime(), named)
+        }
+        Accepted::JoinPruneSeen { iface, message } => {
+            pim_upstream::seen(world, turn, *iface, message, named)
+        }
+        Accepted::Assert {
+            iface,
+            from,
+            assert,
+        } => {
+            let _ = world.iface_count();
+            pim_asserts::received(world, turn, *iface, *from, assert)
+        }
+        Accepted::Query { iface, from, query } => {
+            pim_querier::query_seen(world, turn, *iface, *from, query)
+        }
+        Accepted::Report { iface, report } => {
+            // It tells that the interface is below 120.
+            let _ = world.iface_count();
+            pim_querier::report_seen(world, turn, *iface, report)
+        }
+        Accepted::RegisterStop { stop, .. } => {
+            pim_register::stop_seen(world, turn, stop.group, stop.source)
         }
         _ => Ok(()),
     }

@@ -9,7 +9,7 @@ use pim_macros::{Turn, World};
 use pim_model::Accepted;
 use std::alloc::AllocError;
 
-/// The keys that it names.
+/// The keys that a Join/Prune names.
 pub(crate) fn named_by(
     world: &World,
     turn: &mut Turn,
@@ -20,6 +20,7 @@ pub(crate) fn named_by(
 {
     match accepted {
         Accepted::JoinPruneToMe { iface, message } => Named::of(world, turn, *iface, message),
+        Accepted::JoinPruneSeen { iface, message } => Named::of(world, turn, *iface, message),
         _ => Ok(Named {
             joined: Vec::new(turn.alloc),
             pruned: Vec::new(turn.alloc),
@@ -45,6 +46,10 @@ pub(crate) fn is_full(
         }
         Accepted::JoinPruneToMe { message, .. } => {
             pim_downstream::is_full(world, turn, message.holdtime(), named)
+        }
+        Accepted::Assert { iface, assert, .. } => Ok(pim_asserts::is_full(world, *iface, assert)),
+        Accepted::Report { iface, report } => {
+            pim_querier::is_full(world, turn.alloc, *iface, report)
         }
         _ => Ok(false),
     }

@@ -1,19 +1,44 @@
 //! Which machines the change of what was accepted may concern.
-ghost use Rattle.std.specs.Prelude.{◌≡◌, IfOk, true, ℕ};
+ghost use Rattle.std.specs.Prelude.{◌≡◌, ◌∷◌, [], IfOk, filter, not, true, ℕ};
+ghost use Rattle.pim_types.specs.Keys.{is_star};
 ghost use Rattle.pim_model.specs.Built.{is_built};
 ghost use Rattle.pim_model.specs.Step.{change};
 ghost use Rattle.pim_locality.specs.Rest.{IsAtRest};
 ghost use Rattle.pim_router.specs.Naming.{AreNamedBy};
 ghost use Rattle.pim_opening.specs.Covers.{Covers};
 
+use pim_asserts::named_keys;
 use pim_downstream::Named;
 use pim_macros::{Touched, Turn, World};
 use pim_model::Accepted;
-use pim_types::Series;
-use std::alloc::AllocError;
+use pim_types::{IfaceId, Key, Series};
+use std::alloc::{AllocError, Global};
 
-/// The keys that the change touches, or all: a Join/Prune touches those that it names, and a Hello that says no more
-/// of its neighbour than that it lasts none.
+// Those of the keys that name a source.
+fn of_sources(alloc: Global, keys: &[Key]) -> Result<Series<Key>, AllocError>
+    ensures { IfOk result (λ found. found ≡ filter (λ k. not (is_star k)) keys.now) }
+{
+    let mut found = Vec::new(alloc);
+    for key in keys {
+        if key.source.is_some() {
+            found.push(*key)?;
+        }
+    }
+    Ok(Series::from_vec(found))
+}
+
+// A key alone.
+fn only(alloc: Global, key: Key) -> Result<Series<Key>, AllocError>
+    ensures { IfOk result (λ keys. keys ≡ key ∷ []) }
+{
+    let mut keys = Vec::new(alloc);
+    keys.push(key)?;
+    Ok(Series::from_vec(keys))
+}
+
+/// The keys that the change touches, or all: a Join/Prune to the router, or an Assert, touches those that it names. A
+/// Register-Stop touches the source that it names. A Join/Prune to another router touches the sources that it prunes, since the override timer of a source may be the
+/// first fact of it. A Hello that says no more of its neighbour than that it lasts touches none.
 pub(crate) fn touched_by(
     world: &World,
     turn: &Turn,
@@ -27,6 +52,22 @@ pub(crate) fn touched_by(
 {
     match accepted {
         Accepted::JoinPruneToMe { .. } => Ok(Touched::Keys(named.keys(turn.alloc)?)),
+        Accepted::JoinPruneSeen { .. } => {
+            Ok(Touched::Keys(of_sources(turn.alloc, &named.pruned)?))
+        }
+        Accepted::Assert { iface, assert, .. } => {
+            Ok(Touched::Keys(named_keys(turn.alloc, *iface, assert)?))
+        }
+        Accepted::Query { query, .. } => {
+            Ok(Touched::Keys(only(turn.alloc, Key::group(query.group()))?))
+        }
+        Accepted::Report { iface, report } => {
+            Ok(Touched::Keys(pim_querier::named_keys(turn.alloc, *iface, report)?))
+        }
+        Accepted::RegisterStop { stop, .. } => {
+            let key = Key::source(IfaceId::NONE, stop.group, stop.source);
+            Ok(Touched::Keys(only(turn.alloc, key)?))
+        }
         Accepted::Hello { iface, from, hello } => {
             if world.is_refreshed(*iface, *from, hello) {
                 return Ok(Touched::Keys(Series::new(turn.alloc)));

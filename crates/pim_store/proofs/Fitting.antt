@@ -1,11 +1,11 @@
 -- The keys of a table's rows, as the invariant has them.
-use Rattle.std.proofs.Common.{◌≡◌, ◌&&◌, Bool, true, false, cond, not, List, [], ◌∷◌, Option, Some, is_some, filter, refl}
+use Rattle.std.proofs.Common.{◌≡◌, ◌&&◌, ◌==◌, Bool, true, false, cond, not, List, [], ◌∷◌, Option, Some, is_some, filter, refl}
 use Rattle.std.specs.List.{list_all}
 use Rattle.pim_types.specs.declared.fact.Key.{Key}
-use Rattle.pim_types.specs.Keys.{is_on, same_key}
+use Rattle.pim_types.specs.Keys.{iface_in, is_on, same_key}
 use Rattle.pim_types.proofs.Keys.{same_key_same}
 use Rattle.pim_model.specs.Tables.{Table, has_row, row_at}
-use Rattle.pim_store.specs.Said.{is_of_iface, is_plain_of_iface, is_plain_of_router}
+use Rattle.pim_store.specs.Said.{is_of_iface, is_plain_of_iface, is_plain_of_router, is_source_of_router}
 
 left_true : (a b : Bool) → (a && b) ≡ true → a ≡ true
 left_true true b e = refl
@@ -16,6 +16,10 @@ below_when_plain k plain = left_true (is_of_iface k) (not k.rpt) plain
 
 pub of_router_when_plain : (k : Key) → is_plain_of_router k ≡ true → is_on 0 k ≡ true
 of_router_when_plain k plain = left_true (is_on 0 k) (not k.rpt) plain
+
+pub of_router_when_source : (k : Key) → is_source_of_router k ≡ true → is_on 0 k ≡ true
+of_router_when_source k source =
+    left_true (is_on 0 k) (not k.rpt) (left_true (is_on 0 k && not k.rpt) (is_some k.source) source)
 
 right_true : (a b : Bool) → (a && b) ≡ true → b ≡ true
 right_true true b e = e

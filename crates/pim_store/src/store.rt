@@ -420,6 +420,14 @@ impl Store {
         self.join_timers.of_group(IfaceId::NONE, group)
     }
 
+    /// The registers of the group, ascending by source. No register of another group is looked at, but for the one that
+    /// comes next.
+    pub fn registers_of(&self, group: Addr) -> GroupRows<'_, RegisterRow>
+        ensures { result ≡ filter (λ e. is_of_group group.bits e.0) self.now.registers }
+    {
+        self.registers.of_group(IfaceId::NONE, group)
+    }
+
     /// Whether there is a fact of the source of the group. The meter rises by the nodes that it visits.
     pub fn has_facts(&self, group: Addr, source: Addr, meter: &mut Meter) -> bool
         ensures has { result ≡ list_any (names_source group.bits source.bits) (stored_keys self.now) }

@@ -1,3 +1,5 @@
+mod EntryChanges
+mod HeardMessages
 pub mod Members
 pub mod Moves
 pub mod Progress

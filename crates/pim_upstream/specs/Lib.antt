@@ -1,3 +1,4 @@
+pub mod Hearing
 pub mod Laws
 pub mod Timers
 pub mod Told

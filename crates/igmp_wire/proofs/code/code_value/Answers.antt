@@ -1,5 +1,5 @@
 use Rattle.std.proofs.Common.{◌≡◌, ◌/◌, ◌%◌, arith}
-use Rattle.igmp_wire.proofs.CodeLaws.{code_value-low, code_value-shifted, code_value-rises}
+use Rattle.igmp_wire.proofs.CodeLaws.{code_value-low, code_value-shifted, code_value-rises, code_value-within}
 use Rattle.igmp_wire.proofs.code.code_value.Goals as goal
 
 pub returns-then-code-lt128 : goal.returns-then-code-lt128
@@ -8,6 +8,7 @@ returns-then-code-lt128 c =
     record {
       value = omega arith;
       rises = λ lower h. let below = code_value-rises c.args.code lower h (omega arith) in omega arith;
+      within = let most = code_value-within c.args.code (omega arith) in omega arith;
     }
 
 pub returns : goal.returns
@@ -18,4 +19,5 @@ returns c =
     record {
       value = rw (mantissa, exponent) value;
       rises = λ lower h. let below = code_value-rises c.args.code lower h (omega arith) in rw (mantissa, exponent, value) below;
+      within = let most = code_value-within c.args.code (omega arith) in rw (mantissa, exponent, value) most;
     }

@@ -3,8 +3,10 @@ use Rattle.pim_types.specs.declared.fact.JoinTimerRow.{JoinTimerRow}
 use Rattle.pim_model.specs.State.{State}
 use Rattle.pim_model.specs.Tables.{Table}
 use Rattle.pim_types.specs.Keys.{star_key}
-use Rattle.pim_hello.specs.Towards.{all_lowered}
-use Rattle.pim_hello.proofs.Lowering.{kept, none_left_lowered, one_more_lowered}
+use Rattle.pim_laws.specs.Rows.{all_changed}
+use Rattle.pim_laws.proofs.ChosenRows.{none_left_changed, one_more_changed}
+use Rattle.pim_store.specs.PimTables.{lowered}
+use Rattle.pim_hello.proofs.Lowering.{kept}
 use Rattle.pim_hello.proofs.restarted.lower_timers.Goals as goal
 
 pub loop-key-preserved : goal.loop-key-preserved
@@ -13,8 +15,8 @@ loop-key-preserved c =
     let keys = c.args.keys.now in
     let i = c.loop-key.key-index in
     let timers = ap (λ (s : State). s.join_timers) c.in_ok-lower_join_timer.ensures in (
-      ap (λ (t : Table JoinTimerRow). all_lowered end t (drop (i + 1) keys)) timers
-          ∙ one_more_lowered end keys i (star_key 0 0) c.loop-key.world.join_timers c.loop-key-test.true
+      ap (λ (t : Table JoinTimerRow). all_changed (lowered end) t (drop (i + 1) keys)) timers
+          ∙ one_more_changed (lowered end) keys i (star_key 0 0) c.loop-key.world.join_timers c.loop-key-test.true
           ∙ c.loop-key.invariant.0,
       kept c.args.world.now c.loop-key.world c.lower_join_timer.new.self _ c.loop-key.invariant.1
           c.in_ok-lower_join_timer.ensures,
@@ -22,7 +24,7 @@ loop-key-preserved c =
 
 pub returns : goal.returns
 returns c =
-    let timers = sym (none_left_lowered c.args.end c.args.keys.now c.loop-key.key-index c.loop-key.world.join_timers
+    let timers = sym (none_left_changed (lowered c.args.end) c.args.keys.now c.loop-key.key-index c.loop-key.world.join_timers
     c.loop-key-test.false)
     ∙ c.loop-key.invariant.0 in
     c.loop-key.invariant.1

@@ -1,8 +1,9 @@
 use Rattle.std.proofs.Common.{◌≡◌, drop}
-use Rattle.pim_hello.specs.Towards.{all_lowered}
+use Rattle.pim_laws.specs.Rows.{all_changed}
+use Rattle.pim_store.specs.PimTables.{lowered}
 use Rattle.pim_hello.proofs.restarted.lower_timers.Given as goal
 
 abbrev pub invariant-loop-key : goal.invariant-loop-key
 invariant-loop-key l =
-    (all_lowered l.end l.world.join_timers (drop l.key-index l.keys) ≡ all_lowered l.end l.fn.world.join_timers l.keys)
+    (all_changed (lowered l.end) l.world.join_timers (drop l.key-index l.keys) ≡ all_changed (lowered l.end) l.fn.world.join_timers l.keys)
     × (l.world ≡ record l.fn.world { join_timers = l.world.join_timers })

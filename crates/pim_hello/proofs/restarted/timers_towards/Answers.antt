@@ -1,7 +1,7 @@
 use Rattle.std.proofs.Common.{Some, ap, ◌∙◌}
 use Rattle.pim_model.specs.Tables.{same_hop}
 use Rattle.pim_hello.specs.Towards.{is_towards}
-use Rattle.pim_hello.proofs.Found.{all_found, found, passed}
+use Rattle.pim_laws.proofs.FoundRows.{all_found, found, passed}
 use Rattle.pim_hello.proofs.restarted.timers_towards.Goals as goal
 
 pub loop-key-preserved-in-Continue-1 : goal.loop-key-preserved-in-Continue-1

@@ -8,7 +8,7 @@ use Rattle.pim_membership.proofs.records.relist.Goals as goal
 
 pub returns-then-is_running-clause-ok : goal.returns-then-is_running-clause-ok
 returns-then-is_running-clause-ok g c =
-    nothing_new g.R.Record.runs _ c.args.rows.now c.requires.listed c.args.key c.args.row (Some c.in-Some.before)
+    nothing_new g.R.Record.runs g.R.Record.of_sources _ c.args.rows.now c.requires.listed c.args.key c.args.row (Some c.in-Some.before)
     (sym c.get.ensures ∙ c.in-Some.is) (ap Some (sym c.is_running.ensures ∙ tests_alike _ _ c.if-is_running.true ∙ c.is_running-is_running.ensures))
 
 pub returns-clause-ok : goal.returns-clause-ok

@@ -19,3 +19,15 @@ to_me-requires-clause-pruned c =
     c.requires.named in
     subst (λ ks. are_on c.in-JoinPruneToMe.iface.number ks ≡ true) (sym keys.1)
     (pruned_on c.in-JoinPruneToMe.iface.number c.in-JoinPruneToMe.message)
+
+pub seen-requires-clause-joined : goal.seen-requires-clause-joined
+seen-requires-clause-joined c =
+    let named = c.args.named.now in
+    (subst (λ a. AreNamedBy c.args.world.now a named.joined.items named.pruned.items) c.in-JoinPruneSeen.is
+    c.requires.named).0
+
+pub seen-requires-clause-pruned : goal.seen-requires-clause-pruned
+seen-requires-clause-pruned c =
+    let named = c.args.named.now in
+    (subst (λ a. AreNamedBy c.args.world.now a named.joined.items named.pruned.items) c.in-JoinPruneSeen.is
+    c.requires.named).1

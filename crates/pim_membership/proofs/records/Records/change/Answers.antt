@@ -6,15 +6,22 @@ use Rattle.pim_model.specs.Tables.{has_row, keys_in}
 use Rattle.pim_tables.proofs.Lookups.{absent, put_is_changed}
 use Rattle.pim_tables.proofs.Rows.{absent_is_unchanged, always}
 use Rattle.pim_membership.specs.Listing.{record_key}
-use Rattle.pim_membership.proofs.Told.{fits_there, limit_below}
+use Rattle.pim_membership.proofs.Told.{fits_there, kind_there, limit_below, source_in_key}
 use Rattle.pim_membership.proofs.records.Records.change.Goals as goal
 
-pub put-requires : goal.put-requires
-put-requires g c =
+pub put-requires-clause-below : goal.put-requires-clause-below
+put-requires-clause-below g c =
     limit_below c.args.iface.number
     (first_so _ _ (fits_there (record_key c.args.iface.number c.args.group c.args.source) c.self.inside.rows
     c.self.invariant.fit
     (ap (has_row c.self.inside.rows) (sym c.record_key.ensures) ∙ sym c.if-contains.ensures)))
+
+pub put-requires-clause-kind : goal.put-requires-clause-kind
+put-requires-clause-kind g c =
+    sym (source_in_key c.args.iface.number c.args.group c.args.source)
+    ∙ kind_there g.R.Record.of_sources (record_key c.args.iface.number c.args.group c.args.source) c.self.inside.rows
+    c.self.invariant.kind
+    (ap (has_row c.self.inside.rows) (sym c.record_key.ensures) ∙ sym c.if-contains.ensures)
 
 pub returns-in_ok-put-clause-to : goal.returns-in_ok-put-clause-to
 returns-in_ok-put-clause-to g c =

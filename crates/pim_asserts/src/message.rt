@@ -1,0 +1,216 @@
+//! An Assert, and data that asks for one (RFC 7761, sections 4.6.1 and 4.6.2).
+ghost use Rattle.std.specs.Prelude.{◌≡◌, ◌<◌, IfOk, OnOk, false, not, option_and_then, ◌&&◌};
+ghost use Rattle.pim_types.specs.declared.fact.SourceRow.{SourceRow as Row};
+ghost use Rattle.pim_types.specs.Keys.{source_in};
+ghost use Rattle.pim_model.specs.Asserts.{assert_at, assert_received, data_seen, loses, theirs_of, with_spt_bit};
+ghost use Rattle.pim_model.specs.Tables.{has_row};
+ghost use Rattle.pim_macros.specs.Turns.{saying};
+ghost use Rattle.pim_asserts.specs.Receiving.{after_action, goes_on_to_star, source_asserted, wins_with};
+
+use crate::action::{Action, action_of};
+use crate::ends::{WINNER_TIME, asserted_metric, win_again};
+use crate::stance::{Stance, stance_of};
+use pim_macros::{Turn, World};
+use pim_types::fact::{AssertMetric, AssertRole, AssertRow, SourceRow};
+use pim_types::{Addr, IfaceId, Key};
+use pim_wire::Assert;
+use std::alloc::AllocError;
+
+// Assert_Time (RFC 7761, section 4.11), in ms.
+const LOSER_TIME: u64 = 180_000;
+
+// The router wins with this metric of its own, and asserts.
+#[tactic(auto, using(crate::proofs::Receiving::plain_key), unfolding(crate::specs::Receiving::wins_with, pim_model::specs::Asserts::assert_message, pim_model::specs::Tables::set_row))]
+fn win(world: &mut World, turn: &mut Turn, key: Key, mine: AssertMetric) -> Result<(), AllocError>
+    requires plain { key.rpt ≡ false }
+    requires below { key.iface.number < 120 }
+    ensures state { OnOk result (world.new ≡ (wins_with world.old key mine).0) }
+    ensures messages { OnOk result (turn.new ≡ saying turn.old (wins_with world.old key mine).1) }
+{
+    let asserted = asserted_metric(world, turn, key);
+    turn.out.assert(key.iface, key.group, key.source, asserted)?;
+    let row = AssertRow {
+        role: AssertRole::Winner,
+        winner: mine,
+        end: world.present() + WINNER_TIME,
+    };
+    world.set_assert(key.iface, key.group, key.source, Some(row))
+}
+
+// The router lost to this metric.
+#[tactic(auto, using(crate::proofs::Receiving::plain_key), unfolding(pim_model::specs::Asserts::loses, pim_model::specs::Tables::set_row))]
+fn lose(world: &mut World, key: Key, theirs: AssertMetric) -> Result<(), AllocError>
+    requires plain { key.rpt ≡ false }
+    requires below { key.iface.number < 120 }
+    ensures { OnOk result (world.new ≡ loses world.old key theirs) }
+{
+    let row = AssertRow {
+        role: AssertRole::Loser,
+        winner: theirs,
+        end: world.present() + LOSER_TIME,
+    };
+    world.set_assert(key.iface, key.group, key.source, Some(row))
+}
+
+// When the keepalive timer of a source ends, if it runs, in ms.
+fn keepalive_end(row: Option<SourceRow>) -> Option<u64>
+    ensures { result ≡ option_and_then (λ (r : Row). r.keepalive) row }
+{
+    row?.keepalive
+}
+
+// Sets SPTbit(S,G).
+#[tactic(auto, unfolding(pim_model::specs::Asserts::with_spt_bit, pim_model::specs::Tables::set_row))]
+fn set_spt_bit(world: &mut World, group: Addr, source: Addr) -> Result<(), AllocError>
+    ensures { OnOk result (world.new ≡ with_spt_bit world.old group.bits source.bits) }
+{
+    let row = world.source_at(Key::source(IfaceId::NONE, group, source));
+    let row = SourceRow {
+        keepalive: keepalive_end(row),
+        spt: true,
+    };
+    world.set_source(group, source, Some(row))
+}
+
+// The source of a key, or 0.0.0.0.
+fn source_of(key: Key) -> Addr
+    ensures { result.bits ≡ source_in key }
+{
+    key.source.unwrap_or(Addr::NONE)
+}
+
+// Makes what an Assert with this metric makes of the machine.
+#[tactic(auto, unfolding(crate::specs::Receiving::after_action, pim_model::specs::Asserts::assert_forgotten))]
+fn act(
+    world: &mut World,
+    turn: &mut Turn,
+    key: Key,
+    theirs: AssertMetric,
+    action: Action,
+) -> Result<(), AllocError>
+    requires plain { key.rpt ≡ false }
+    requires below { key.iface.number < 120 }
+    ensures state { OnOk result (world.new ≡ (after_action world.old key theirs action).0) }
+    ensures messages { OnOk result (turn.new ≡ saying turn.old (after_action world.old key theirs action).1) }
+{
+    match action {
+        Action::Stay => Ok(()),
+        Action::Win(mine) => win(world, turn, key, mine),
+        Action::WinAgain(row) => win_again(world, turn, key, row),
+        Action::Lose => lose(world, key, theirs),
+        Action::LoseAndSwitch => {
+            lose(world, key, theirs)?;
+            set_spt_bit(world, key.group, source_of(key))
+        }
+        Action::Forget => {
+            world.drop_assert(key);
+            Ok(())
+        }
+    }
+}
+
+/// Whether the machine of a key isn't in NoInfo.
+#[tactic(auto, unfolding(pim_model::specs::Tables::has_row))]
+pub(crate) fn has_assert(world: &World, key: Key) -> bool
+    ensures { result ≡ has_row world.now.asserts key }
+{
+    world.assert_at(key).is_some()
+}
+
+// An Assert with this metric, as an event of one machine.
+fn take(
+    world: &mut World,
+    turn: &mut Turn,
+    key: Key,
+    theirs: AssertMetric,
+) -> Result<(), AllocError>
+    requires plain { key.rpt ≡ false }
+    requires below { key.iface.number < 120 }
+    ensures state { OnOk result (world.new ≡ (assert_at world.old key theirs).0) }
+    ensures messages { OnOk result (turn.new ≡ saying turn.old (assert_at world.old key theirs).1) }
+{
+    let stance = stance_of(world, turn, key);
+    let action = action_of(stance, world.assert_at(key), theirs);
+    act(world, turn, key, theirs, action)
+}
+
+// An Assert of a source, as an event of (S,G): whether it goes on to (*,G). With R set it does where (S,G) was and stays
+// in NoInfo, or where there is no source.
+fn take_by_source(
+    world: &mut World,
+    turn: &mut Turn,
+    iface: IfaceId,
+    from: Addr,
+    assert: &Assert,
+) -> Result<bool, AllocError>
+    requires { iface.number < 120 }
+    ensures further { IfOk result (λ goes_on. goes_on ≡ goes_on_to_star world.old world.new iface.number assert.now) }
+    ensures state { IfOk result (λ goes_on. world.new
+        ≡ (source_asserted world.old iface.number from.bits assert.now).0) }
+    ensures messages { IfOk result (λ goes_on. turn.new
+        ≡ saying turn.old (source_asserted world.old iface.number from.bits assert.now).1) }
+{
+    if assert.source == Addr::NONE {
+        return Ok(assert.rpt);
+    }
+    let key = Key::source(iface, assert.group, assert.source);
+    let was_silent = !has_assert(world, key);
+    take(world, turn, key, metric_of(from, assert))?;
+    Ok(assert.rpt && was_silent && !has_assert(world, key))
+}
+
+/// The metric that a router announces.
+pub(crate) fn metric_of(from: Addr, assert: &Assert) -> AssertMetric
+    ensures { result ≡ theirs_of assert.now from.bits }
+{
+    AssertMetric {
+        rpt: assert.rpt,
+        preference: assert.preference,
+        metric: assert.metric,
+        address: from,
+    }
+}
+
+/// Takes an Assert that came from an address: one of a source goes to (S,G), and with R set on to (*,G) where (S,G) was
+/// and stays in NoInfo; one without a source goes to (*,G) alone. An error is want of memory.
+pub fn received(
+    world: &mut World,
+    turn: &mut Turn,
+    iface: IfaceId,
+    from: Addr,
+    assert: &Assert,
+) -> Result<(), AllocError>
+    requires { iface.number < 120 }
+    ensures state { OnOk result (world.new ≡ (assert_received world.old iface.number from.bits assert.now).0) }
+    ensures messages { OnOk result (turn.new
+        ≡ saying turn.old (assert_received world.old iface.number from.bits assert.now).1) }
+{
+    let goes_on = take_by_source(world, turn, iface, from, assert)?;
+    if !goes_on {
+        return Ok(());
+    }
+    let star = Key::star(iface, assert.group);
+    take(world, turn, star, metric_of(from, assert))
+}
+
+// Whether data makes a winner.
+fn asserts_by_data(world: &World, key: Key, stance: Stance) -> bool
+    ensures { result ≡ (stance.could_assert && not (has_row world.now.asserts key)) }
+{
+    stance.could_assert && !has_assert(world, key)
+}
+
+/// Takes data on an interface on which the router forwards, as an event of the machine of a key: where it could assert
+/// and none has won or lost yet, it wins. An error is want of memory.
+pub fn data_seen(world: &mut World, turn: &mut Turn, key: Key) -> Result<(), AllocError>
+    requires plain { key.rpt ≡ false }
+    requires below { key.iface.number < 120 }
+    ensures state { OnOk result (world.new ≡ (data_seen world.old key).0) }
+    ensures messages { OnOk result (turn.new ≡ saying turn.old (data_seen world.old key).1) }
+{
+    let stance = stance_of(world, turn, key);
+    if !asserts_by_data(world, key, stance) {
+        return Ok(());
+    }
+    win(world, turn, key, stance.metric)
+}

@@ -1,0 +1,72 @@
+//! How the router stands in an assert machine (RFC 7761, sections 4.6.1 to 4.6.3).
+ghost use Rattle.std.specs.Prelude.{◌≡◌, ◌<◌, false};
+ghost use Rattle.pim_types.specs.Keys.{source_key, star_key};
+ghost use Rattle.pim_macros.specs.Sights.{IsSourceSight, IsStarSight, is_interface_of};
+ghost use Rattle.pim_asserts.specs.Receiving.{stance_at};
+
+use crate::going::is_over;
+use pim_macros::{SourceSight, StarSight, Turn, World};
+use pim_types::fact::AssertMetric;
+use pim_types::{IfaceId, Key};
+
+/// What the transitions ask of the router's state.
+#[derive(Clone, Copy)]
+pub(crate) struct Stance {
+    /// The machine is that of (*,G).
+    pub(crate) is_star: bool,
+    pub(crate) could_assert: bool,
+    /// AssertTrackingDesired.
+    pub(crate) is_tracked: bool,
+    /// my_assert_metric.
+    pub(crate) metric: AssertMetric,
+    /// A loser that was in NoInfo sets SPTbit(S,G): the interface is RPF_interface(S), and JoinDesired(S,G).
+    pub(crate) switches: bool,
+}
+
+// That of (*,G).
+fn star_stance(world: &World, star: &StarSight, iface: IfaceId) -> Stance
+    requires sight { IsStarSight world.now star.now }
+    requires below { iface.number < 120 }
+    ensures { result ≡ stance_at world.now (star_key iface.number star.now.group.bits) }
+{
+    Stance {
+        is_star: true,
+        could_assert: world.could_assert_star(star).contains(iface),
+        is_tracked: world.tracking_desired_star(star).contains(iface),
+        metric: world.my_metric_star(star, iface),
+        switches: false,
+    }
+}
+
+// That of (S,G).
+#[tactic(auto, unfolding(pim_model::specs::Unicast::rpf_interface))]
+fn source_stance(world: &World, sight: &SourceSight, iface: IfaceId) -> Stance
+    requires sight { IsSourceSight world.now sight.now }
+    requires below { iface.number < 120 }
+    ensures { result ≡ stance_at world.now (source_key iface.number sight.now.star.group.bits sight.now.source.bits) }
+{
+    Stance {
+        is_star: false,
+        could_assert: world.could_assert(sight).contains(iface),
+        is_tracked: world.tracking_desired(sight).contains(iface),
+        metric: world.my_metric(sight, iface),
+        switches: is_over(sight.path, iface) && world.join_desired(sight),
+    }
+}
+
+/// How the router stands in the machine of a key.
+pub(crate) fn stance_of(world: &World, turn: &mut Turn, key: Key) -> Stance
+    requires plain { key.rpt ≡ false }
+    requires below { key.iface.number < 120 }
+    ensures stance { result ≡ stance_at world.now key }
+    ensures silent { turn.new ≡ turn.old }
+{
+    let star = world.gather_star(key.group, &mut turn.meter);
+    match key.source {
+        None => star_stance(world, &star, key.iface),
+        Some(source) => {
+            let sight = world.gather_source(star, source, &mut turn.meter);
+            source_stance(world, &sight, key.iface)
+        }
+    }
+}

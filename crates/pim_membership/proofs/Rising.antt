@@ -1,0 +1,92 @@
+-- The records of sources of a group on an interface rise by their sources, where their keys rise.
+use Rattle.std.proofs.Common.{◌≡◌, ◌==◌, ℕ, Bool, true, false, cond, not, List, [], ◌∷◌, map, Option, Some, None, is_some, refl, sym, ap, ◌∙◌, arith}
+use Rattle.std.specs.Cmp.{first_so, second_so}
+use Rattle.std.specs.List.{AllByRecursion, filter}
+use Rattle.std.specs.List.Sorted.{IsStrictlySortedBy}
+use Rattle.std.specs.Option.{option_cmp, option_map_or}
+use Rattle.std.specs.Ordering.{bool_cmp, nat_cmp, ordering_then}
+use Rattle.std.specs.declared.cmp.Ordering.{Ordering}
+use Rattle.std.specs.declared.cmp.Ordering.TheVariants.{Less, Equal, Greater}
+use Rattle.std.proofs.lemmas.Bool.Decides.{nat_tests}
+use Rattle.pim_ip.specs.declared.addr.Addr.{Addr}
+use Rattle.pim_types.specs.declared.fact.Key.{Key}
+use Rattle.pim_types.specs.Keys.{addr_cmp, group_in, iface_in, key_cmp, source_in}
+use Rattle.pim_types.proofs.Keys.{nat_cmp_same}
+use Rattle.pim_model.specs.Records.{is_at_group}
+use Rattle.pim_model.specs.Tables.{Table, keys_in}
+use Rattle.pim_membership.specs.Listing.{is_record_key}
+use Rattle.pim_membership.proofs.Told.{AreOfKind, Fits}
+
+-- a comparison of which the first part ties, and of which the second does
+after_tie : (a b c : Ordering) → a ≡ Equal → b ≡ Equal → ordering_then a (ordering_then b c) ≡ c
+after_tie a b c one two = rw (one, two) refl
+
+before_tie : (a : Ordering) → ordering_then a Equal ≡ Less → a ≡ Less
+before_tie Less e = refl
+before_tie Equal e = cc
+before_tie Greater e = cc
+
+tied : (m n i : ℕ) → (m == i) ≡ true → (n == i) ≡ true → nat_cmp m n ≡ Equal
+tied m n i a b =
+    let same : n ≡ m = grind (arith, nat_tests, a, b) in ap (nat_cmp m) same ∙ nat_cmp_same m
+
+by_source : (s t : Option Addr) (p q : Bool) → is_some s ≡ true → is_some t ≡ true → not p ≡ true → not q ≡ true
+    → ordering_then (option_cmp addr_cmp s t) (bool_cmp p q) ≡ Less
+    → nat_cmp (option_map_or (λ (a : Addr). a.bits) s 0) (option_map_or (λ (a : Addr). a.bits) t 0) ≡ Less
+unfolding addr_cmp
+by_source None t p q a b c d e = cc
+by_source (Some x) None p q a b c d e = cc
+by_source (Some x) (Some y) true q a b c d e = cc
+by_source (Some x) (Some y) false true a b c d e = cc
+by_source (Some x) (Some y) false false a b c d e = before_tie (nat_cmp x.bits y.bits) e
+
+module _ (i g : ℕ) where
+  source_below : (k q : Key) → is_at_group i g k ≡ true → is_at_group i g q ≡ true → is_record_key k ≡ true
+      → is_record_key q ≡ true → is_some k.source ≡ true → is_some q.source ≡ true → key_cmp k q ≡ Less
+      → nat_cmp (source_in k) (source_in q) ≡ Less
+  unfolding key_cmp addr_cmp
+  source_below k q here there fit fits of also less =
+      by_source k.source q.source k.rpt q.rpt of also (second_so _ _ fit) (second_so _ _ fits)
+      (sym (after_tie (nat_cmp (iface_in k) (iface_in q)) (nat_cmp (group_in k) (group_in q)) _
+      (tied (iface_in k) (iface_in q) i (first_so _ _ here) (first_so _ _ there))
+      (tied (group_in k) (group_in q) g (second_so _ _ here) (second_so _ _ there)))
+      ∙ less)
+
+  module _ {R : Type 0} where
+    abbrev sources_at : Table R → List ℕ
+    sources_at t = map (λ e. source_in e.0) (filter (λ e. is_at_group i g e.0) t)
+
+    below_step : (k : Key) (e : Key × R) (t : Table R) (b : Bool) → is_at_group i g e.0 ≡ b
+        → (is_at_group i g e.0 ≡ true → nat_cmp (source_in k) (source_in e.0) ≡ Less)
+        → AllByRecursion (λ n. nat_cmp (source_in k) n ≡ Less) (sources_at t)
+        → AllByRecursion (λ n. nat_cmp (source_in k) n ≡ Less) (map (λ x. source_in x.0)
+        (cond b (e ∷ filter (λ x. is_at_group i g x.0) t) (filter (λ x. is_at_group i g x.0) t)))
+    below_step k e t true is first later = (first is, later)
+    below_step k e t false is first later = later
+
+    all_below : (k : Key) (t : Table R) → is_at_group i g k ≡ true → is_record_key k ≡ true → is_some k.source ≡ true
+        → Fits t → AreOfKind true t → AllByRecursion (λ q. key_cmp k q ≡ Less) (map (λ e. e.0) t)
+        → AllByRecursion (λ n. nat_cmp (source_in k) n ≡ Less) (sources_at t)
+    all_below k [] here fit of fits kinds below = tt
+    all_below k (e ∷ t) here fit of fits kinds below =
+        below_step k e t (is_at_group i g e.0) refl
+        (λ there. source_below k e.0 here there fit fits.0 of kinds.0 below.0)
+        (all_below k t here fit of fits.1 kinds.1 below.1)
+
+    rising_step : (e : Key × R) (t : Table R) (b : Bool) → is_at_group i g e.0 ≡ b
+        → (is_at_group i g e.0 ≡ true → AllByRecursion (λ n. nat_cmp (source_in e.0) n ≡ Less) (sources_at t))
+        → IsStrictlySortedBy nat_cmp (sources_at t)
+        → IsStrictlySortedBy nat_cmp (map (λ x. source_in x.0)
+        (cond b (e ∷ filter (λ x. is_at_group i g x.0) t) (filter (λ x. is_at_group i g x.0) t)))
+    unfolding IsStrictlySortedBy
+    rising_step e t true is first later = (first is, later)
+    rising_step e t false is first later = later
+
+    pub sources_rise : (t : Table R) → Fits t → AreOfKind true t → IsStrictlySortedBy key_cmp (keys_in t)
+        → IsStrictlySortedBy nat_cmp (sources_at t)
+    unfolding IsStrictlySortedBy keys_in
+    sources_rise [] fits kinds rise = tt
+    sources_rise (e ∷ t) fits kinds rise =
+        rising_step e t (is_at_group i g e.0) refl
+        (λ here. all_below e.0 t here fits.0 kinds.0 fits.1 kinds.1 rise.0)
+        (sources_rise t fits.1 kinds.1 rise.1)

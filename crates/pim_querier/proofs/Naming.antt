@@ -1,0 +1,67 @@
+-- What the records of a report name, record by record.
+use Rattle.std.proofs.Common.{◌≡◌, ℕ, Bool, true, false, cond, List, [], ◌∷◌, ◌++◌, flat_map, map, not, refl, sym, ap, ◌∙◌, append-nil, append_assoc}
+use Rattle.std.specs.List.{filter}
+use Rattle.igmp_wire.specs.Values.{Record}
+use Rattle.pim_types.specs.declared.fact.Key.{Key}
+use Rattle.pim_types.specs.Keys.{source_key, star_key}
+use Rattle.pim_model.specs.Full.{reported_groups, reported_sources}
+use Rattle.pim_model.specs.Querier.{is_skipped}
+
+module _ (i : ℕ) where
+  groups_by : (b : Bool) (r : Record) (rs : List Record)
+      → map (λ (r : Record). star_key i r.group) (cond b (r ∷ filter (λ r. not (is_skipped r)) rs) (filter (λ r. not (is_skipped r)) rs))
+      ≡ map (λ (r : Record). star_key i r.group) (cond b (r ∷ []) [])
+      ++ map (λ (r : Record). star_key i r.group) (filter (λ r. not (is_skipped r)) rs)
+  groups_by true r rs = refl
+  groups_by false r rs = refl
+
+  groups_next : (r : Record) (rs : List Record)
+      → reported_groups i (r ∷ rs) ≡ reported_groups i (r ∷ []) ++ reported_groups i rs
+  unfolding reported_groups
+  groups_next r rs = groups_by (not (is_skipped r)) r rs
+
+  abbrev sources_of : Record → List Key
+  sources_of r = map (source_key i r.group) r.sources
+
+  sources_by : (b : Bool) (r : Record) (rs : List Record)
+      → flat_map sources_of (cond b (r ∷ filter (λ r. not (is_skipped r)) rs) (filter (λ r. not (is_skipped r)) rs))
+      ≡ flat_map sources_of (cond b (r ∷ []) []) ++ flat_map sources_of (filter (λ r. not (is_skipped r)) rs)
+  sources_by true r rs =
+      ap (λ (ks : List Key). ks ++ flat_map sources_of (filter (λ r. not (is_skipped r)) rs))
+      (sym (append-nil (sources_of r)))
+  sources_by false r rs = refl
+
+  sources_next : (r : Record) (rs : List Record)
+      → reported_sources i (r ∷ rs) ≡ reported_sources i (r ∷ []) ++ reported_sources i rs
+  unfolding reported_sources
+  sources_next r rs = sources_by (not (is_skipped r)) r rs
+
+  -- of all that is named, what isn't listed yet
+  pub record Names (all : List Record) (groups sources : List Key) (left : List Record) : Type 0 where
+    pub groups_left : groups ++ reported_groups i left ≡ reported_groups i all
+    pub sources_left : sources ++ reported_sources i left ≡ reported_sources i all
+
+  pub none_named : (all : List Record) → Names all [] [] all
+  none_named all = record { groups_left = refl; sources_left = refl }
+
+  module _ (all : List Record) (groups sources : List Key) where
+    pub one_named : (groups' sources' : List Key) (left rest : List Record) (r : Record) → left ≡ r ∷ rest
+        → groups' ≡ groups ++ reported_groups i (r ∷ []) → sources' ≡ sources ++ reported_sources i (r ∷ [])
+        → Names all groups sources left → Names all groups' sources' rest
+    one_named groups' sources' left rest r is first second names = record {
+      groups_left =
+          ap (λ (ks : List Key). ks ++ reported_groups i rest) first
+          ∙ append_assoc groups (reported_groups i (r ∷ [])) (reported_groups i rest)
+          ∙ ap (λ (ks : List Key). groups ++ ks) (sym (ap (reported_groups i) is ∙ groups_next r rest)) ∙ names.groups_left;
+      sources_left =
+          ap (λ (ks : List Key). ks ++ reported_sources i rest) second
+          ∙ append_assoc sources (reported_sources i (r ∷ [])) (reported_sources i rest)
+          ∙ ap (λ (ks : List Key). sources ++ ks) (sym (ap (reported_sources i) is ∙ sources_next r rest))
+          ∙ names.sources_left;
+    }
+
+    pub all_named : (left : List Record) → left ≡ [] → Names all groups sources left
+        → (groups ≡ reported_groups i all) × (sources ≡ reported_sources i all)
+    unfolding reported_groups reported_sources
+    all_named [] none names = (sym (append-nil groups) ∙ names.groups_left, sym (append-nil sources) ∙ names.sources_left)
+    all_named (r ∷ rs) none names = cc

@@ -1,0 +1,49 @@
+-- A group record of a report, applied to what is known of its group.
+use Rattle.std.proofs.Common.{◌≡◌, ℕ, ◌+◌, true, false, List, [], ◌∷◌, map, refl, sym, ap, subst, ◌∙◌}
+use Rattle.std.specs.List.Sorted.{IsStrictlySortedBy}
+use Rattle.std.specs.Ordering.{nat_cmp}
+use Rattle.igmp_wire.specs.Values.{Record}
+use Rattle.igmp_wire.specs.declared.report.RecordType.{RecordType}
+use Rattle.pim_filters.specs.Members.{IsAscending, entries_of}
+use Rattle.pim_filters.specs.declared.member.Member.{Member}
+use Rattle.pim_types.specs.declared.fact.Key.{Key}
+use Rattle.pim_types.specs.declared.fact.SourceRecordRow.{SourceRecordRow}
+use Rattle.pim_types.specs.Keys.{source_in}
+use Rattle.pim_model.specs.Querier.{each_in_turn, group_membership_interval, is_querier, query_asked, record_seen}
+use Rattle.pim_model.specs.Records.{Asked, GroupRecord, Member as Entry, apply_record, members_of, record_of, with_record}
+use Rattle.pim_model.specs.State.{State}
+use Rattle.pim_model.specs.Tables.{Table}
+use Rattle.pim_querier.specs.Changes.{applied}
+
+-- the members rise where the sources of the rows do
+pub members_rise : (rows : Table SourceRecordRow) (ms : List Member) → entries_of ms ≡ members_of rows
+    → IsStrictlySortedBy nat_cmp (map (λ e. source_in e.0) rows) → IsAscending (entries_of ms)
+unfolding members_of
+members_rise rows ms are rise = subst IsAscending (sym are) (subst (IsStrictlySortedBy nat_cmp) (sym (of_rows rows)) rise)
+  where
+    of_rows : (rows : Table SourceRecordRow)
+        → map (λ (m : Entry). m.0) (map (λ (e : Key × SourceRecordRow). (source_in e.0, (e.1).end)) rows)
+        ≡ map (λ e. source_in e.0) rows
+    of_rows [] = refl
+    of_rows (e ∷ rows) = ap (λ (ns : List ℕ). source_in e.0 ∷ ns) (of_rows rows)
+
+module _ (s : State) (i : ℕ) (r : Record) where
+  pub record_applied : (full g : ℕ) (known : GroupRecord) (type : RecordType) (sources : List ℕ)
+      → full ≡ s.present + group_membership_interval s i → g ≡ r.group → known ≡ record_of s i g → type ≡ r.type
+      → sources ≡ r.sources → apply_record full known type sources ≡ applied s i r
+  record_applied full g known type sources ends here was kind are =
+      let before : known ≡ record_of s i r.group = was ∙ ap (record_of s i) here in
+      λ j. apply_record (ends j) (before j) (kind j) (are j)
+
+  abbrev written : State
+  written = with_record s i r.group (applied s i r).0
+
+  pub seen_by_querier : (w : State) (g : ℕ) (asked : List Asked) → is_querier s i ≡ true → g ≡ r.group → w ≡ written
+      → asked ≡ (applied s i r).1 → each_in_turn (query_asked i g) w asked ≡ record_seen i s r
+  unfolding record_seen
+  seen_by_querier w g asked queries group is those =
+      (λ j. each_in_turn (query_asked i (group j)) (is j) (those j)) ∙ rw queries refl
+
+  pub seen_by_other : is_querier s i ≡ false → record_seen i s r ≡ (written, [])
+  unfolding record_seen
+  seen_by_other queries = rw queries refl

@@ -1,0 +1,35 @@
+use Rattle.std.proofs.Common.{[], ◌+◌, fold, refl, subst, sym, take}
+use Rattle.std.proofs.lemmas.List.{take_all}
+use Rattle.pim_types.specs.Keys.{addr_cmp, key_cmp}
+use Rattle.pim_model.specs.Downstream.{is_named}
+use Rattle.pim_model.specs.Full.{distinct, once_more}
+use Rattle.pim_querier.proofs.Missing.{Counts, all_counted, next_once, passed, put_once}
+use Rattle.pim_querier.proofs.named.missing_groups.Goals as goal
+use Rattle.pim_querier.proofs.named.missing_groups.Goals.{then-not-has_group_record_at+in_ok-insert, else-not-has_group_record_at}
+
+pub loop-key-preserved : goal.loop-key-preserved
+unfolding key_cmp addr_cmp is_named
+loop-key-preserved c =
+    let rows = c.args.world.now.group_records in
+    let keys = c.args.keys.now in
+    let n = c.loop-key.key-index in
+    elim c.if-not-has_group_record_at.branch [
+      | then-not-has_group_record_at+in_ok-insert w ↦
+          subst (λ set. Counts rows (fold once_more [] (take (n + 1) keys)) set.keys) (sym w.missing-is)
+          (subst (λ found. Counts rows found w.insert.new.self.keys) (next_once rows keys n _ _ c.loop-key-test.true refl)
+          (put_once rows (fold once_more [] (take n keys)) c.loop-key.missing.keys c.loop-key.invariant _
+          w.insert.new.self.keys _ (sym w.if-not-has_group_record_at.ensures) w.in_ok-insert.ensures.added
+          w.in_ok-insert.ensures.updates.0 w.in_ok-insert.ensures.len))
+      | else-not-has_group_record_at w ↦
+          subst (λ set. Counts rows (fold once_more [] (take (n + 1) keys)) set.keys) (sym w.missing-is)
+          (subst (λ found. Counts rows found c.loop-key.missing.keys) (next_once rows keys n _ _ c.loop-key-test.true refl)
+          (passed rows (fold once_more [] (take n keys)) c.loop-key.missing.keys c.loop-key.invariant _
+          (sym w.if-not-has_group_record_at.ensures)))
+    ]
+
+pub returns-clause-missing : goal.returns-clause-missing
+unfolding distinct
+returns-clause-missing c =
+    all_counted c.args.world.now.group_records c.args.keys.now c.loop-key.missing.keys c.len.result c.len.ensures.len
+    (subst (λ ks. Counts c.args.world.now.group_records (fold once_more [] ks) c.loop-key.missing.keys)
+    (take_all c.loop-key.key-index c.args.keys.now c.loop-key-test.false) c.loop-key.invariant)

@@ -1,0 +1,10 @@
+use Rattle.pim_querier.proofs.Queried.{sources_repeated}
+use Rattle.pim_querier.proofs.Starting.{then_ok}
+use Rattle.pim_querier.proofs.repeats.send_sources.Goals as goal
+
+pub returns-clause-state : goal.returns-clause-state
+returns-clause-state c =
+    then_ok c.set_source_repeat.result
+    (sources_repeated c.args.iface.number c.args.group.bits c.args.world.now c.send.new.world
+    c.set_source_repeat.new.self c.next_sending-next.result c.in_ok-send.ensures.state c.next_sending-next.ensures)
+    c.set_source_repeat.ensures

@@ -1,0 +1,145 @@
+//! The queries that a record of a report asks for (RFC 3376, section 6.6.3).
+ghost use Rattle.std.specs.Prelude.{◌≡◌, IfOk, OnOk, filter, option_map};
+ghost use Rattle.pim_filters.specs.Asking.{source_queries};
+ghost use Rattle.pim_macros.specs.Turns.{saying};
+ghost use Rattle.pim_model.specs.Querier.{each_in_turn, exceeds, query_asked, query_group, query_sources, source_end};
+ghost use Rattle.pim_querier.specs.Changes.{sendings_put};
+ghost use Rattle.pim_querier.specs.Queries.{bits_of};
+
+use crate::intervals::{exceeds, last_member_query_interval, query_end, robustness};
+use crate::lowering::lower_sources;
+use crate::queries::specific_query;
+use crate::repeats::send_sources;
+use pim_filters::Asking;
+use pim_macros::{Turn, World};
+use pim_types::fact::{GroupRepeatRow, SendingRow};
+use pim_types::{Addr, IfaceId};
+use std::alloc::{AllocError, Global};
+
+// Queries the group at once, and again [Last Member Query Count] - 1 times; lowers its timer (RFC 3376, section
+// 6.6.3.1).
+#[tactic(auto, unfolding(pim_model::specs::Querier::query_group))]
+fn query_group(
+    world: &mut World,
+    turn: &mut Turn,
+    iface: IfaceId,
+    group: Addr,
+) -> Result<(), AllocError>
+    ensures state { OnOk result (world.new ≡ (query_group world.old iface.number group.bits).0) }
+    ensures messages { OnOk result (turn.new ≡ saying turn.old (query_group world.old iface.number group.bits).1) }
+{
+    let query = specific_query(world, iface, group, false);
+    let repeat = GroupRepeatRow {
+        next: world.present() + last_member_query_interval(world),
+        left: u32::from(robustness(world, iface)).saturating_sub(1),
+    };
+    world.lower_group(iface, group, query_end(world, iface))?;
+    world.put_group_repeat(iface, group, repeat)?;
+    turn.out.query(iface, &query, &[])
+}
+
+// Those of the sources whose timers run on past this moment, in ms.
+fn running_past(
+    world: &World,
+    alloc: Global,
+    iface: IfaceId,
+    group: Addr,
+    sources: &[Addr],
+    moment: u64,
+) -> Result<Vec<Addr>, AllocError>
+    ensures { IfOk result (λ running. bits_of running.items
+        ≡ filter (λ src. exceeds moment (source_end world.now iface.number group.bits src)) (bits_of sources.now)) }
+{
+    let mut running = Vec::new(alloc);
+    for source in sources {
+        if exceeds(moment, world.source_end(iface, group, *source)) {
+            running.push(*source)?;
+        }
+    }
+    Ok(running)
+}
+
+// Each of the sources is to be named in so many queries.
+#[tactic(auto, unfolding(crate::specs::Changes::sending_put, crate::specs::Changes::sendings_put))]
+fn put_sendings(
+    world: &mut World,
+    iface: IfaceId,
+    group: Addr,
+    sources: &[Addr],
+    row: SendingRow,
+) -> Result<(), AllocError>
+    ensures { OnOk result (world.new ≡ sendings_put iface.number group.bits row world.old sources.now) }
+{
+    for source in sources {
+        world.put_sending(iface, group, *source, row)?;
+    }
+    Ok(())
+}
+
+// Queries those of the group's sources whose timers run beyond what a query lowers them to, at once and again [Last
+// Member Query Count] - 1 times, with all others that are still to be named; lowers their timers (RFC 3376, section
+// 6.6.3.2).
+fn query_sources(
+    world: &mut World,
+    turn: &mut Turn,
+    iface: IfaceId,
+    group: Addr,
+    asked: &[Addr],
+) -> Result<(), AllocError>
+    ensures state { OnOk result (world.new
+        ≡ (query_sources world.old iface.number group.bits (bits_of asked.now)).0) }
+    ensures messages { OnOk result (turn.new
+        ≡ saying turn.old (query_sources world.old iface.number group.bits (bits_of asked.now)).1) }
+{
+    let end = query_end(world, iface);
+    let sources = running_past(world, turn.alloc, iface, group, asked, end)?;
+    if sources.is_empty() {
+        return Ok(());
+    }
+    let row = SendingRow {
+        left: u32::from(robustness(world, iface)),
+    };
+    lower_sources(world, turn.alloc, iface, group, &sources, end)?;
+    put_sendings(world, iface, group, &sources, row)?;
+    send_sources(world, turn, iface, group)
+}
+
+// Queries these sources of the group, if a query of sources is asked for.
+#[tactic(auto, unfolding(pim_model::specs::Querier::query_asked, pim_model::specs::Querier::each_in_turn))]
+fn query_named(
+    world: &mut World,
+    turn: &mut Turn,
+    iface: IfaceId,
+    group: Addr,
+    sources: Option<&[Addr]>,
+) -> Result<(), AllocError>
+    ensures state { OnOk result (world.new ≡ (each_in_turn (query_asked iface.number group.bits) world.old
+        (source_queries (option_map (λ named. bits_of named.now) sources.entry))).0) }
+    ensures messages { OnOk result (turn.new ≡ saying turn.old (each_in_turn (query_asked iface.number group.bits)
+        world.old (source_queries (option_map (λ named. bits_of named.now) sources.entry))).1) }
+{
+    match sources {
+        Some(sources) => query_sources(world, turn, iface, group, sources),
+        None => Ok(()),
+    }
+}
+
+/// Queries what a record of a report asks for: of the group's sources first, and then the group.
+pub fn query_asked(
+    world: &mut World,
+    turn: &mut Turn,
+    iface: IfaceId,
+    group: Addr,
+    asked: &Asking,
+) -> Result<(), AllocError>
+    ensures state { OnOk result (world.new
+        ≡ (each_in_turn (query_asked iface.number group.bits) world.old asked.now).0) }
+    ensures messages { OnOk result (turn.new
+        ≡ saying turn.old (each_in_turn (query_asked iface.number group.bits) world.old asked.now).1) }
+{
+    query_named(world, turn, iface, group, asked.sources())?;
+    if asked.asks_group() {
+        return query_group(world, turn, iface, group);
+    }
+    Ok(())
+}

@@ -1,0 +1,79 @@
+//! Timers that a query lowers (RFC 3376, section 6.6.3).
+ghost use Rattle.std.specs.Prelude.{◌≡◌, IfOk, OnOk, filter};
+ghost use Rattle.pim_filters.specs.Members.{is_named};
+ghost use Rattle.pim_model.specs.Querier.{lower_sources};
+ghost use Rattle.pim_model.specs.Records.{is_at_group};
+ghost use Rattle.pim_types.specs.Keys.{source_in};
+ghost use Rattle.pim_querier.specs.Changes.{records_changed, source_lowered};
+ghost use Rattle.pim_querier.specs.Queries.{bits_of};
+
+use crate::sendings::source_in;
+use pim_macros::World;
+use pim_macros::querying::lowered;
+use pim_types::fact::SourceRecordRow;
+use pim_types::{Addr, IfaceId, Key};
+use std::alloc::{AllocError, Global};
+
+// Whether the source is named.
+fn is_named(source: Addr, sources: &[Addr]) -> bool
+    ensures { result ≡ is_named source.bits sources.now }
+{
+    sources.iter().any(|named| named.bits == source.bits)
+}
+
+// The records of those of the group's sources on the interface that are named, by rising key.
+fn named_records(
+    world: &World,
+    alloc: Global,
+    iface: IfaceId,
+    group: Addr,
+    sources: &[Addr],
+) -> Result<Vec<(Key, SourceRecordRow)>, AllocError>
+    ensures { IfOk result (λ found. found.items
+        ≡ filter (λ e. is_named (source_in e.0) sources.now)
+        (filter (λ e. is_at_group iface.number group.bits e.0) world.now.source_records)) }
+{
+    let mut found = Vec::new(alloc);
+    for (key, row) in world.source_records_at(iface, group) {
+        if is_named(source_in(*key), sources) {
+            found.push((*key, *row))?;
+        }
+    }
+    Ok(found)
+}
+
+// Lowers the timers of these records to an end, in ms.
+#[tactic(auto, unfolding(crate::specs::Changes::record_changed, crate::specs::Changes::records_changed))]
+fn lower_each(
+    world: &mut World,
+    records: &[(Key, SourceRecordRow)],
+    end: u64,
+) -> Result<(), AllocError>
+    ensures { OnOk result (world.new ≡ records_changed (source_lowered end) world.old records.now) }
+{
+    for (key, row) in records {
+        let lowered = SourceRecordRow {
+            end: lowered(row.end, end),
+        };
+        world.change_source_record(*key, lowered)?;
+    }
+    Ok(())
+}
+
+/// Lowers the timers of these sources of the group on the interface to an end, in ms, where they run and end later.
+pub fn lower_sources(
+    world: &mut World,
+    alloc: Global,
+    iface: IfaceId,
+    group: Addr,
+    sources: &[Addr],
+    end: u64,
+) -> Result<(), AllocError>
+    ensures { OnOk result (world.new
+        ≡ lower_sources world.old iface.number group.bits (bits_of sources.now) end) }
+{
+    let records = named_records(world, alloc, iface, group, sources)?;
+    // It tells that each key stands once.
+    world.source_records_rise();
+    lower_each(world, &records, end)
+}

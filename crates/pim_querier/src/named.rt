@@ -1,0 +1,129 @@
+//! The keys that a report names, and whether there is room for its facts.
+ghost use Rattle.std.specs.Prelude.{◌≡◌, ◌++◌, ◌<◌, ◌^◌, [], ◌∷◌, IfOk, OnOk, map};
+ghost use Rattle.pim_model.specs.Full.{needed, report_is_full, reported_groups, reported_sources};
+ghost use Rattle.pim_types.specs.Keys.{source_key};
+
+use crate::report::is_skipped;
+use igmp_wire::{RecordView, ReportView};
+use pim_macros::World;
+use pim_types::{IfaceId, Key, Series};
+use std::alloc::{AllocError, Global};
+use std::collections::BTreeSet;
+
+// The keys of the groups, and of their sources, that the group records of a report name, in its order. Those that are
+// skipped name none.
+#[derive(Drop)]
+struct Reported {
+    groups: Vec<Key>,
+    sources: Vec<Key>,
+}
+
+// Puts the keys of the group record's sources behind the others.
+fn push_sources(
+    iface: IfaceId,
+    group_record: &RecordView<'_>,
+    keys: &mut Vec<Key>,
+) -> Result<(), AllocError>
+    ensures { OnOk result (keys.new.items ≡ keys.old.items
+        ++ map (source_key iface.number group_record.now.group) group_record.now.sources) }
+{
+    let group = group_record.group();
+    for source in group_record.sources() {
+        keys.push(Key::source(iface, group, source))?;
+    }
+    Ok(())
+}
+
+// Puts what the group record names behind the others, unless it is skipped.
+#[tactic(auto, unfolding(pim_model::specs::Full::reported_groups, pim_model::specs::Full::reported_sources))]
+fn push_named(
+    iface: IfaceId,
+    group_record: &RecordView<'_>,
+    groups: &mut Vec<Key>,
+    sources: &mut Vec<Key>,
+) -> Result<(), AllocError>
+    ensures groups { OnOk result (groups.new.items
+        ≡ groups.old.items ++ reported_groups iface.number (group_record.now ∷ [])) }
+    ensures sources { OnOk result (sources.new.items
+        ≡ sources.old.items ++ reported_sources iface.number (group_record.now ∷ [])) }
+{
+    if is_skipped(group_record) {
+        return Ok(());
+    }
+    groups.push(Key::star(iface, group_record.group()))?;
+    push_sources(iface, group_record, sources)
+}
+
+// What the report names on an interface.
+fn named(alloc: Global, iface: IfaceId, report: &ReportView<'_>) -> Result<Reported, AllocError>
+    ensures groups { IfOk result (λ named. named.groups.items ≡ reported_groups iface.number report.now) }
+    ensures sources { IfOk result (λ named. named.sources.items ≡ reported_sources iface.number report.now) }
+{
+    let mut groups = Vec::new(alloc);
+    let mut sources = Vec::new(alloc);
+    for group_record in report.records() {
+        push_named(iface, &group_record, &mut groups, &mut sources)?;
+    }
+    Ok(Reported { groups, sources })
+}
+
+/// The keys that a report names on an interface: of the groups of its records, and of their sources.
+pub fn named_keys(
+    alloc: Global,
+    iface: IfaceId,
+    report: &ReportView<'_>,
+) -> Result<Series<Key>, AllocError>
+    ensures { IfOk result (λ keys. keys
+        ≡ reported_groups iface.number report.now ++ reported_sources iface.number report.now) }
+{
+    let Reported {
+        mut groups,
+        sources,
+    } = named(alloc, iface, report)?;
+    groups.extend_from_slice(&sources)?;
+    Ok(Series::from_vec(groups))
+}
+
+// How many of the keys have no group record, each counted once.
+fn missing_groups(world: &World, alloc: Global, keys: &[Key]) -> Result<usize, AllocError>
+    ensures missing { IfOk result (λ missing. missing ≡ needed world.now.group_records keys.now) }
+    ensures small { IfOk result (λ missing. missing < 2 ^ 63) }
+{
+    let mut missing = BTreeSet::new(alloc);
+    for key in keys {
+        if !world.has_group_record_at(*key) {
+            missing.insert(*key)?;
+        }
+    }
+    Ok(missing.len())
+}
+
+// How many of the keys have no source record, each counted once.
+fn missing_sources(world: &World, alloc: Global, keys: &[Key]) -> Result<usize, AllocError>
+    ensures missing { IfOk result (λ missing. missing ≡ needed world.now.source_records keys.now) }
+    ensures small { IfOk result (λ missing. missing < 2 ^ 63) }
+{
+    let mut missing = BTreeSet::new(alloc);
+    for key in keys {
+        if !world.has_source_record(*key) {
+            missing.insert(*key)?;
+        }
+    }
+    Ok(missing.len())
+}
+
+/// Whether the records that a report would make on an interface pass the limit on facts.
+#[tactic(auto, unfolding(pim_model::specs::Full::report_is_full))]
+pub fn is_full(
+    world: &World,
+    alloc: Global,
+    iface: IfaceId,
+    report: &ReportView<'_>,
+) -> Result<bool, AllocError>
+    ensures { IfOk result (λ full. full ≡ report_is_full world.now iface.number report.now) }
+{
+    let named = named(alloc, iface, report)?;
+    let groups = missing_groups(world, alloc, &named.groups)?;
+    let sources = missing_sources(world, alloc, &named.sources)?;
+    Ok(world.passes_limit(groups + sources))
+}

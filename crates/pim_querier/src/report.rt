@@ -1,0 +1,105 @@
+//! A report of a host (RFC 3376, sections 4.2 and 6.4).
+ghost use Rattle.std.specs.Prelude.{◌≡◌, ◌<◌, IfOk, OnOk};
+ghost use Rattle.pim_macros.specs.Turns.{saying};
+ghost use Rattle.pim_model.specs.Querier.{is_skipped, record_seen, report_seen};
+ghost use Rattle.pim_model.specs.Records.{with_record};
+ghost use Rattle.pim_querier.specs.Changes.{applied};
+ghost use Rattle.pim_querier.specs.Queries.{bits_of};
+
+use crate::asked::query_asked;
+use crate::election::is_querier;
+use crate::intervals::group_membership_interval;
+use crate::records::{record_of, set_record};
+use igmp_wire::{RecordType, RecordView, ReportView};
+use pim_filters::Asking;
+use pim_macros::{Turn, World};
+use pim_types::{Addr, IfaceId};
+use std::alloc::{AllocError, Global};
+
+// The sources that the group record names, in its order.
+fn sources_of(alloc: Global, group_record: &RecordView<'_>) -> Result<Vec<Addr>, AllocError>
+    ensures { IfOk result (λ sources. bits_of sources.items ≡ group_record.now.sources) }
+{
+    let mut sources = Vec::new(alloc);
+    for source in group_record.sources() {
+        sources.push(source)?;
+    }
+    Ok(sources)
+}
+
+// Changes the group's record on the interface as the report's asks, whose timers are set to [Group Membership
+// Interval] (RFC 3376, sections 6.4.1 and 6.4.2); the queries that are asked for.
+fn apply_record(
+    world: &mut World,
+    alloc: Global,
+    iface: IfaceId,
+    group_record: &RecordView<'_>,
+) -> Result<Asking, AllocError>
+    requires { iface.number < 120 }
+    ensures state { OnOk result (world.new ≡ with_record world.old iface.number group_record.now.group
+        (applied world.old iface.number group_record.now).0) }
+    ensures asked { IfOk result (λ asked. asked ≡ (applied world.old iface.number group_record.now).1) }
+{
+    let group = group_record.group();
+    let full = world.present() + group_membership_interval(world, iface);
+    let sources = sources_of(alloc, group_record)?;
+    let mut known = record_of(world, alloc, iface, group)?;
+    let mut asked = Asking::new();
+    known.apply(group_record.record_type(), &sources, full, &mut asked)?;
+    set_record(world, alloc, iface, group, &known)?;
+    Ok(asked)
+}
+
+// Takes a group record in; what it asks for is queried, where the router is the querier.
+fn record_seen(
+    world: &mut World,
+    turn: &mut Turn,
+    iface: IfaceId,
+    group_record: &RecordView<'_>,
+) -> Result<(), AllocError>
+    requires { iface.number < 120 }
+    ensures state { OnOk result (world.new ≡ (record_seen iface.number world.old group_record.now).0) }
+    ensures messages { OnOk result (turn.new
+        ≡ saying turn.old (record_seen iface.number world.old group_record.now).1) }
+{
+    let queries = is_querier(world, iface);
+    let asked = apply_record(world, turn.alloc, iface, group_record)?;
+    if !queries {
+        return Ok(());
+    }
+    query_asked(world, turn, iface, group_record.group(), &asked)
+}
+
+/// Whether a group record is skipped: one that would exclude sources of a source-specific group (RFC 4604, section
+/// 2.2).
+pub fn is_skipped(group_record: &RecordView<'_>) -> bool
+    ensures { result ≡ is_skipped group_record.now }
+{
+    group_record.group().is_source_specific()
+        && matches!(
+            group_record.record_type(),
+            RecordType::IsExclude | RecordType::ToExclude
+        )
+}
+
+/// Takes a report that came on an interface below 120: its group records in their order, but for those that are
+/// skipped. Each changes what is known of its group, and where the router is the querier it sends the queries that the
+/// record asks for, and lowers the timers of what it queries.
+#[tactic(auto, unfolding(pim_model::specs::Querier::report_seen))]
+pub fn report_seen(
+    world: &mut World,
+    turn: &mut Turn,
+    iface: IfaceId,
+    report: &ReportView<'_>,
+) -> Result<(), AllocError>
+    requires { iface.number < 120 }
+    ensures state { OnOk result (world.new ≡ (report_seen world.old iface.number report.now).0) }
+    ensures messages { OnOk result (turn.new ≡ saying turn.old (report_seen world.old iface.number report.now).1) }
+{
+    for group_record in report.records() {
+        if !is_skipped(&group_record) {
+            record_seen(world, turn, iface, &group_record)?;
+        }
+    }
+    Ok(())
+}

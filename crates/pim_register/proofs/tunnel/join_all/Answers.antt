@@ -1,0 +1,30 @@
+use Rattle.std.proofs.Common.{◌+◌, ap, drop, sym, ◌∙◌}
+use Rattle.pim_types.specs.declared.fact.RegisterRow.{RegisterRow}
+use Rattle.pim_model.specs.State.{State}
+use Rattle.pim_model.specs.Tables.{Table}
+use Rattle.pim_types.specs.Keys.{star_key}
+use Rattle.pim_laws.specs.Rows.{all_changed}
+use Rattle.pim_laws.proofs.ChosenRows.{none_left_changed, one_more_changed}
+use Rattle.pim_register.specs.Tunnel.{joining}
+use Rattle.pim_register.proofs.Tunnelled.{kept}
+use Rattle.pim_register.proofs.tunnel.join_all.Goals as goal
+
+pub loop-key-preserved : goal.loop-key-preserved
+loop-key-preserved c =
+    let keys = c.args.keys.now in
+    let i = c.loop-key.key-index in
+    let registers = ap (λ (s : State). s.registers) c.in_ok-change_register.ensures in (
+      ap (λ (t : Table RegisterRow). all_changed joining t (drop (i + 1) keys)) registers
+          ∙ one_more_changed joining keys i (star_key 0 0) c.loop-key.world.registers c.loop-key-test.true
+          ∙ c.loop-key.invariant.0,
+      kept c.args.world.now c.loop-key.world c.change_register.new.self _ c.loop-key.invariant.1
+          c.in_ok-change_register.ensures,
+    )
+
+pub returns : goal.returns
+returns c =
+    let registers = sym (none_left_changed joining c.args.keys.now c.loop-key.key-index c.loop-key.world.registers
+    c.loop-key-test.false)
+    ∙ c.loop-key.invariant.0 in
+    c.loop-key.invariant.1
+    ∙ ap (λ (t : Table RegisterRow). let s : State = record c.args.world.now { registers = t } in s) registers

@@ -1,0 +1,162 @@
+//! What a Register-Stop and new RP ranges change of the tunnels (RFC 7761, section 4.4.1).
+ghost use Rattle.std.specs.Prelude.{◌≡◌, ◌==◌, IfOk, OnOk, filter, if◌then◌else◌, not, option_map};
+ghost use Rattle.pim_laws.specs.Rows.{all_changed};
+ghost use Rattle.pim_model.specs.Limits.{are_rps};
+ghost use Rattle.pim_model.specs.Registers.{register_stop_seen, state_after_stop};
+ghost use Rattle.pim_model.specs.Step.{rps_replaced};
+ghost use Rattle.pim_model.specs.Tables.{change_row, keys_in, same_option};
+ghost use Rattle.pim_register.specs.Tunnel.{is_rp_changed, joining, stopping};
+ghost use Rattle.pim_types.specs.Keys.{is_of_group};
+
+use pim_macros::{Turn, World};
+use pim_mrib::Mrib;
+use pim_neighbours::delay_in;
+use pim_types::fact::{RegisterRow, RegisterState};
+use pim_types::{Addr, IfaceId, Key, RpRange};
+use std::alloc::AllocError;
+
+// 0.5 to 1.5 times Register_Suppression_Time, less Register_Probe_Time (RFC 7761, section 4.4.1), in ms.
+const LEAST_SUPPRESSION: u32 = 25_000;
+
+const MOST_SUPPRESSION: u32 = 85_000;
+
+// The keys of the registers of the group.
+fn keys_of(world: &World, turn: &Turn, group: Addr) -> Result<Vec<Key>, AllocError>
+    ensures { IfOk result (λ keys. keys.items ≡ keys_in (filter (λ e. is_of_group group.bits e.0) world.now.registers)) }
+{
+    let mut keys = Vec::new(turn.alloc);
+    for (key, _) in world.registers_of(group) {
+        keys.push(key)?;
+    }
+    Ok(keys)
+}
+
+// A register that waits until the end, in ms, where it doesn't wait already.
+fn stopped(row: RegisterRow, end: u64) -> RegisterRow
+    ensures { result ≡ record { state = state_after_stop end row.state } }
+{
+    match row.state {
+        RegisterState::Prune { .. } => row,
+        _ => RegisterRow {
+            state: RegisterState::Prune { end },
+        },
+    }
+}
+
+// Lets a register, if there is one, wait until the end, in ms, where it doesn't wait already.
+fn stop(world: &mut World, key: Key, end: u64) -> Result<(), AllocError>
+    ensures { OnOk result (world.new
+        ≡ record world.old { registers = change_row (stopping end) key world.old.registers }) }
+{
+    // It tells that their keys rise, so that the key stands once.
+    world.are_keyed();
+    let Some(row) = world.register_at(key) else {
+        return Ok(());
+    };
+    world.change_register(key, stopped(row, end))
+}
+
+// Lets these registers wait.
+fn stop_all(world: &mut World, keys: &[Key], end: u64) -> Result<(), AllocError>
+    ensures { OnOk result (world.new
+        ≡ record world.old { registers = all_changed (stopping end) world.old.registers keys.now }) }
+{
+    for key in keys {
+        stop(world, *key, end)?;
+    }
+    Ok(())
+}
+
+// 0.0.0.0 stands for all sources of a group.
+fn is_any(source: Addr) -> bool
+    ensures { result ≡ (source.bits == 0) }
+{
+    source == Addr::NONE
+}
+
+/// Takes a Register-Stop for a source of a group, or for all its sources where the source is 0.0.0.0: for a time that
+/// the draw gives nothing of them is registered. An error is want of memory.
+#[tactic(auto, unfolding(pim_model::specs::Registers::register_stop_seen))]
+pub fn stop_seen(
+    world: &mut World,
+    turn: &mut Turn,
+    group: Addr,
+    source: Addr,
+) -> Result<(), AllocError>
+    ensures state { OnOk result (world.new ≡ register_stop_seen world.old turn.old.draw group.bits source.bits) }
+    ensures silent { turn.new ≡ turn.old }
+{
+    // It tells that each register is under the key of its source.
+    world.are_keyed();
+    let end = world.present() + delay_in(LEAST_SUPPRESSION, MOST_SUPPRESSION, turn.draw);
+    if is_any(source) {
+        let keys = keys_of(world, turn, group)?;
+        return stop_all(world, &keys, end);
+    }
+    stop(world, Key::source(IfaceId::NONE, group, source), end)
+}
+
+// Whether they aren't the same RP, nor both none.
+fn is_other_rp(first: Option<Addr>, second: Option<Addr>) -> bool
+    ensures { result ≡ not (same_option (option_map (λ a. a.bits) first) (option_map (λ a. a.bits) second)) }
+{
+    match (first, second) {
+        (None, None) => false,
+        (Some(first), Some(second)) => first != second,
+        _ => true,
+    }
+}
+
+// The keys of the registers whose RP is another one by the next table.
+fn keys_with_new_rp(world: &World, turn: &mut Turn, next: &Mrib) -> Result<Vec<Key>, AllocError>
+    ensures keys { IfOk result (λ keys. keys.items
+        ≡ keys_in (filter (λ e. is_rp_changed world.now next.now.ranges e.0) world.now.registers)) }
+    ensures silent { turn.new ≡ turn.old }
+{
+    let mut keys = Vec::new(turn.alloc);
+    for (key, _) in world.registers() {
+        let before = world.rp(key.group, &mut turn.meter);
+        let after = next.rp(key.group, &mut turn.meter);
+        if is_other_rp(before, after) {
+            keys.push(*key)?;
+        }
+    }
+    Ok(keys)
+}
+
+// Lets these registers begin anew.
+fn join_all(world: &mut World, keys: &[Key]) -> Result<(), AllocError>
+    ensures { OnOk result (world.new
+        ≡ record world.old { registers = all_changed joining world.old.registers keys.now }) }
+{
+    for key in keys {
+        let row = RegisterRow {
+            state: RegisterState::Join,
+        };
+        world.change_register(*key, row)?;
+    }
+    Ok(())
+}
+
+/// Puts RP ranges that pass their test in the place of those there are: where the RP of a group becomes another one, its
+/// registers begin anew. An error is want of memory.
+#[tactic(auto, unfolding(pim_model::specs::Step::rps_replaced))]
+pub fn rps_replaced(
+    world: &mut World,
+    turn: &mut Turn,
+    ranges: &[RpRange],
+) -> Result<(), AllocError>
+    ensures state { OnOk result (world.new
+        ≡ (if are_rps ranges.now then rps_replaced world.old ranges.now else world.old)) }
+    ensures silent { turn.new ≡ turn.old }
+{
+    let mut next = Mrib::new(turn.alloc);
+    match next.replace_rps(ranges) {
+        Ok(Ok(())) => {}
+        Ok(Err(_)) => return Ok(()),
+        Err(_) => return Err(AllocError),
+    }
+    let keys = keys_with_new_rp(world, turn, &next)?;
+    world.take_ranges(next);
+    join_all(world, &keys)
+}
