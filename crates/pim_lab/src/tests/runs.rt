@@ -2,7 +2,7 @@
 use crate::{check_text, play};
 use pim_router::Router;
 use pim_scenario::{Move, Scenario, read_scenario};
-use pim_types::{Event, EventKind, IfaceId, Refusal, Series};
+use pim_types::{Event, Refusal};
 use std::alloc::Global;
 use std::io::{self, Write};
 use std::test::Fail;
@@ -52,37 +52,6 @@ iface = 1
 hex = "45C00036000000000167CD920A000102E000000D2300D1D501000A000101000100D201000020E101010100010000010007200A090909"
 "#;
 
-const ITS_LINES: &str = "\
-move 1 r done
-frame 1 n 46c000240000000001023a110a000002e0000001940400001164ec1e00000000027d0000
-move 2 r done
-frame 2 m 46c0002400000000010239120a000101e0000001940400001164ec1e00000000027d0000
-move 3 r done
-move 4 r done
-move 5 r done
-frame 3 n 45c00036000000000167ce920a000002e000000d2000d39e0001000200690002000401f409c400130004000000010014000400000007
-frame 4 n 45c00036000000000167ce920a000002e000000d2300d2d501000a000001000100d201000020e101010100010000010007200a090909
-";
-
-// The same Join again, and one that names another RP.
-const MORE_JOINS: &str = r#"
-[[move]]
-do = "frame"
-router = "r"
-iface = 1
-hex = "45C00036000000000167CD920A000102E000000D2300D1D501000A000101000100D201000020E101010100010000010007200A090909"
-[[move]]
-do = "frame"
-router = "r"
-iface = 1
-hex = "45C00036000000000167CD920A000102E000000D2300D1D601000A000101000100D201000020E101010100010000010007200A090908"
-"#;
-
-const THEIR_LINES: &str = "\
-move 6 r done
-move 7 r done
-";
-
 // A writer on which nothing can be written.
 #[derive(Drop)]
 struct Full;
@@ -95,80 +64,6 @@ impl Write for Full {
     fn flush(&mut self) -> io::Result<()> {
         Ok(())
     }
-}
-
-#[test]
-fn one_join_brings_one_join(rt: HostRuntime) -> Result<(), Fail> {
-    let text = format!(in rt.alloc(); "{ONE_ROUTER}{ONE_JOIN}{MORE_JOINS}")?;
-    let lines = format!(in rt.alloc(); "{ITS_LINES}{THEIR_LINES}")?;
-    let mut out = Vec::new(rt.alloc());
-    let mut err = Vec::new(rt.alloc());
-    let status = play(rt.alloc(), text.as_str(), &mut out, &mut err);
-    assert_eq!(rt; status, 0);
-    assert_eq!(rt; out.as_slice(), lines.as_bytes());
-    assert!(rt; err.is_empty());
-    Ok(())
-}
-
-#[test]
-fn prints_what_was_refused_and_ignored(rt: HostRuntime) -> Result<(), Fail> {
-    let moves = r#"
-[[move]]
-do = "up"
-router = "r"
-iface = 3
-[[move]]
-do = "frame"
-router = "r"
-iface = 0
-hex = "00"
-[[move]]
-do = "up"
-router = "r"
-iface = 0
-draw = 7
-[[move]]
-do = "up"
-router = "r"
-iface = 0
-"#;
-    let text = format!(in rt.alloc(); "{ONE_ROUTER}{moves}")?;
-    let lines = "\
-move 1 r refused 22
-move 2 r refused 23
-move 3 r done
-frame 1 n 46c000240000000001023a110a000002e0000001940400001164ec1e00000000027d0000
-move 4 r ignored Already
-";
-    let mut out = Vec::new(rt.alloc());
-    let mut err = Vec::new(rt.alloc());
-    let status = play(rt.alloc(), text.as_str(), &mut out, &mut err);
-    assert_eq!(rt; status, 0);
-    assert_eq!(rt; out.as_slice(), lines.as_bytes());
-    Ok(())
-}
-
-#[test]
-fn prints_nothing_of_a_scenario_that_is_refused(rt: HostRuntime) -> Result<(), Fail> {
-    let cases = [
-        (
-            "[[router]]\nname = \"r\"\n",
-            "pimlab: scenario refused: 39\n",
-        ),
-        ("not toml", "pimlab: scenario refused: 39\n"),
-        (
-            "[[router]]\nname = \"r\"\niface = []\n",
-            "pimlab: scenario refused: 30\n",
-        ),
-    ];
-    for (text, line) in cases {
-        let mut out = Vec::new(rt.alloc());
-        let mut err = Vec::new(rt.alloc());
-        assert_eq!(rt; play(rt.alloc(), text, &mut out, &mut err), 2);
-        assert!(rt; out.is_empty());
-        assert_eq!(rt; err.as_slice(), line.as_bytes());
-    }
-    Ok(())
 }
 
 #[test]
@@ -217,61 +112,22 @@ fn events_of(alloc: Global, text: &str) -> Result<Vec<Event>, Fail> {
     Ok(events)
 }
 
-fn push(events: &mut Vec<Event>, kind: EventKind) -> Result<(), Fail> {
-    events.push(Event { draw: 7, kind })?;
-    Ok(())
-}
-
-// An event of each kind that a scenario's moves don't have yet.
-fn push_others(alloc: Global, events: &mut Vec<Event>) -> Result<(), Fail> {
-    let bytes = Series::new(alloc);
-    push(events, EventKind::Unicast { bytes })?;
-    let routes = Series::new(alloc);
-    push(events, EventKind::Routes { routes })?;
-    let rps = Series::new(alloc);
-    push(events, EventKind::Rps { rps })?;
-    push(events, EventKind::Advance { moment: 1000 })?;
-    let iface = IfaceId { number: 0 };
-    push(events, EventKind::Down { iface })
-}
-
 // Whether a run carries all events out.
 fn runs(router: &mut Router, events: &[Event]) -> bool {
     router.run(events).is_ok()
 }
 
-// Whether steps do.
-fn steps(alloc: Global, router: &mut Router, events: &[Event]) -> bool {
-    let mut emissions = Vec::new(alloc);
-    for event in events {
-        if router.step(event, &mut emissions).is_err() {
-            return false;
-        }
-    }
-    true
-}
-
-// Whether a router of the scenario carries out the events, all at once and then others one by one.
-fn takes(alloc: Global, text: &str, events: &[Event], others: &[Event]) -> Result<bool, Fail> {
+// Whether a router of the scenario carries out the events.
+fn takes(alloc: Global, text: &str, events: &[Event]) -> Result<bool, Fail> {
     let mut router = router_of(alloc, text)?;
-    Ok(runs(&mut router, events) && steps(alloc, &mut router, others))
+    Ok(runs(&mut router, events))
 }
 
-// By their contracts a run may always answer that memory was refused, and so may a step of most events. Here
-// there is memory.
+// By its contract a run may always answer that memory was refused. Here there is memory.
 #[test]
-fn takes_events_of_all_kinds_where_there_is_memory(rt: HostRuntime) -> Result<(), Fail> {
+fn runs_where_there_is_memory(rt: HostRuntime) -> Result<(), Fail> {
     let text = format!(in rt.alloc(); "{ONE_ROUTER}{ONE_JOIN}")?;
     let events = events_of(rt.alloc(), text.as_str())?;
-    let mut others = events_of(rt.alloc(), text.as_str())?;
-    push_others(rt.alloc(), &mut others)?;
-    assert!(rt;
-        takes(
-            rt.alloc(),
-            text.as_str(),
-            events.as_slice(),
-            others.as_slice()
-        )?
-    );
+    assert!(rt; takes(rt.alloc(), text.as_str(), events.as_slice())?);
     Ok(())
 }
