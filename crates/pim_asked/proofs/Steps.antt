@@ -25,11 +25,10 @@ use Rattle.pim_model.specs.Messages.{Message}
 use Rattle.pim_model.specs.Querier.{querier_up, query_seen, querying, report_seen}
 use Rattle.pim_model.specs.State.{State, opening}
 use Rattle.pim_model.specs.Step.{Answered, Change, advanced, change, concluded, done, iface_down, iface_up, outcome_of, packet_forwarded, ran, rps_replaced, run, state_after, step, stopped, taken, taken_unless_full, with_messages}
-use Rattle.pim_laws.proofs.BuiltLaws.{built_run_is_run}
 use Rattle.pim_laws.proofs.UnchangedLaws.{full_or_taken, taken_done}
 use Rattle.pim_ready.proofs.Steps.{opening_is_settled, step_is_settled}
 use Rattle.pim_ready.specs.Ready.{IsSettled}
-use Rattle.pim_asked.specs.Asked.{BuiltRunIsAsked, NothingFlowsUnasked, RunIsAsked}
+use Rattle.pim_asked.specs.Asked.{NothingFlowsUnasked, RunIsAsked}
 use Rattle.pim_asked.proofs.Asks.{IsAsked, down_more, rows_more, to_me_asked}
 use Rattle.pim_asked.proofs.Copies.{AreCopies, copies_are, packet_copies}
 use Rattle.pim_asked.proofs.Fired.{advanced_asked, all_same, settled_asked}
@@ -219,8 +218,3 @@ nothing_flows_unasked c earlier e accepted =
 
 pub run_is_asked : RunIsAsked
 run_is_asked c events accepted = outcomes_asked events [] (opening c) (opening_asked c) (opening_is_settled c accepted)
-
-pub built_run_is_asked : BuiltRunIsAsked
-built_run_is_asked c events accepted built =
-    subst (OutcomesAreAsked [] (opening c) events) (sym (built_run_is_run (opening c) events built))
-    (run_is_asked c events accepted)

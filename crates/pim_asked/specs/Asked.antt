@@ -2,7 +2,6 @@
 use Rattle.std.specs.Prelude.{List, Ok, [], true, ◌≡◌}
 use Rattle.pim_types.specs.declared.config.Config.{Config}
 use Rattle.pim_types.specs.declared.event.Event.{Event}
-use Rattle.pim_model.specs.Built.{are_built, built_run}
 use Rattle.pim_model.specs.Cause.{CopiesAreAsked, OutcomesAreAsked, past_after}
 use Rattle.pim_model.specs.Limits.{config_test}
 use Rattle.pim_model.specs.State.{opening}
@@ -20,8 +19,3 @@ NothingFlowsUnasked =
 abbrev pub RunIsAsked : Type 0
 RunIsAsked = (c : Config) (events : List Event) → config_test c ≡ Ok tt
     → OutcomesAreAsked [] (opening c) events (run (opening c) events)
-
--- and of a run of the restriction to what is built, where all events are
-abbrev pub BuiltRunIsAsked : Type 0
-BuiltRunIsAsked = (c : Config) (events : List Event) → config_test c ≡ Ok tt → are_built (opening c) events ≡ true
-    → OutcomesAreAsked [] (opening c) events (built_run (opening c) events)

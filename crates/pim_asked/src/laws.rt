@@ -1,6 +1,6 @@
 //! Laws of the definitions, each the contract of a function with nothing to do.
 
-ghost use Rattle.pim_asked.specs.Asked.{BuiltRunIsAsked, NothingFlowsUnasked, RunIsAsked};
+ghost use Rattle.pim_asked.specs.Asked.{NothingFlowsUnasked, RunIsAsked};
 ghost use Rattle.pim_asked.specs.Told.{CauseIsAnEarlierEvent};
 
 /// After any events from the opening with an accepted configuration, each copy that an event makes on a link has its
@@ -14,12 +14,6 @@ pub fn nothing_flows_unasked()
 #[tactic(auto, using(crate::proofs::Steps::run_is_asked))]
 pub fn run_is_asked()
     ensures { RunIsAsked }
-{}
-
-/// A run of events that are all built is asked for in the restriction to what is built.
-#[tactic(auto, using(crate::proofs::Steps::built_run_is_asked))]
-pub fn built_run_is_asked()
-    ensures { BuiltRunIsAsked }
 {}
 
 /// A cause is an earlier event, answered Done, that asks; and the interface did not go down after it.

@@ -1,8 +1,7 @@
 //! An Assert, and data that asks for one (RFC 7761, sections 4.6.1 and 4.6.2).
-ghost use Rattle.std.specs.Prelude.{◌≡◌, ◌<◌, IfOk, OnOk, false, not, option_and_then, ◌&&◌};
-ghost use Rattle.pim_types.specs.declared.fact.SourceRow.{SourceRow as Row};
+ghost use Rattle.std.specs.Prelude.{◌≡◌, ◌<◌, IfOk, OnOk, false, not, ◌&&◌};
 ghost use Rattle.pim_types.specs.Keys.{source_in};
-ghost use Rattle.pim_model.specs.Asserts.{assert_at, assert_received, data_seen, loses, theirs_of, with_spt_bit};
+ghost use Rattle.pim_model.specs.Asserts.{assert_at, assert_received, data_seen, loses, theirs_of};
 ghost use Rattle.pim_model.specs.Tables.{has_row};
 ghost use Rattle.pim_macros.specs.Turns.{saying};
 ghost use Rattle.pim_asserts.specs.Receiving.{after_action, goes_on_to_star, source_asserted, wins_with};
@@ -11,7 +10,7 @@ use crate::action::{Action, action_of};
 use crate::ends::{WINNER_TIME, asserted_metric, win_again};
 use crate::stance::{Stance, stance_of};
 use pim_macros::{Turn, World};
-use pim_types::fact::{AssertMetric, AssertRole, AssertRow, SourceRow};
+use pim_types::fact::{AssertMetric, AssertRole, AssertRow};
 use pim_types::{Addr, IfaceId, Key};
 use pim_wire::Assert;
 use std::alloc::AllocError;
@@ -52,26 +51,6 @@ fn lose(world: &mut World, key: Key, theirs: AssertMetric) -> Result<(), AllocEr
     world.set_assert(key.iface, key.group, key.source, Some(row))
 }
 
-// When the keepalive timer of a source ends, if it runs, in ms.
-fn keepalive_end(row: Option<SourceRow>) -> Option<u64>
-    ensures { result ≡ option_and_then (λ (r : Row). r.keepalive) row }
-{
-    row?.keepalive
-}
-
-// Sets SPTbit(S,G).
-#[tactic(auto, unfolding(pim_model::specs::Asserts::with_spt_bit, pim_model::specs::Tables::set_row))]
-fn set_spt_bit(world: &mut World, group: Addr, source: Addr) -> Result<(), AllocError>
-    ensures { OnOk result (world.new ≡ with_spt_bit world.old group.bits source.bits) }
-{
-    let row = world.source_at(Key::source(IfaceId::NONE, group, source));
-    let row = SourceRow {
-        keepalive: keepalive_end(row),
-        spt: true,
-    };
-    world.set_source(group, source, Some(row))
-}
-
 // The source of a key, or 0.0.0.0.
 fn source_of(key: Key) -> Addr
     ensures { result.bits ≡ source_in key }
@@ -100,7 +79,7 @@ fn act(
         Action::Lose => lose(world, key, theirs),
         Action::LoseAndSwitch => {
             lose(world, key, theirs)?;
-            set_spt_bit(world, key.group, source_of(key))
+            world.set_spt_bit(key.group, source_of(key))
         }
         Action::Forget => {
             world.drop_assert(key);

@@ -2,7 +2,6 @@
 ghost use Rattle.std.specs.Prelude.{◌≡◌};
 ghost use Rattle.pim_ip.specs.Ipv4.{is_link_local, is_source_specific};
 ghost use Rattle.pim_model.specs.Downstream.{is_accepted, is_kind, is_used};
-ghost use Rattle.pim_model.specs.Unicast.{is_rp};
 ghost use Rattle.pim_downstream.specs.Naming.{is_counted};
 
 use pim_macros::World;
@@ -19,22 +18,12 @@ pub fn is_used(group: Addr, entry: Entry) -> bool
         && (!group.is_source_specific() || matches!(entry.kind, EntryKind::Source))
 }
 
-// Whether the address is RP(G).
-fn is_rp(world: &World, group: Addr, address: Addr, meter: &mut Meter) -> bool
-    ensures { result ≡ is_rp world.now group.bits address.bits }
-{
-    match world.rp(group, meter) {
-        Some(rp) => rp == address,
-        None => false,
-    }
-}
-
 /// Whether a join of the group is accepted: one of (*,G) has to name RP(G).
 #[tactic(auto, unfolding(pim_model::specs::Downstream::is_accepted))]
 pub fn is_accepted(world: &World, group: Addr, join: Entry, meter: &mut Meter) -> bool
     ensures { result ≡ is_accepted world.now (group.bits, join) }
 {
-    !matches!(join.kind, EntryKind::Star) || is_rp(world, group, join.address, meter)
+    !matches!(join.kind, EntryKind::Star) || world.is_rp(group, join.address, meter)
 }
 
 /// Whether a join of the group counts: it is used and accepted.

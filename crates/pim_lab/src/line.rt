@@ -31,6 +31,8 @@ impl fmt::Display for MoveLine<'_> {
 pub(crate) enum Way<'a> {
     /// On the link of this name.
     Link(&'a str),
+    /// On the link of this name, as a copy of a data packet.
+    Copy(&'a str),
     /// To this address.
     Address(Addr),
 }
@@ -49,6 +51,7 @@ impl fmt::Display for PacketLine<'_> {
         let number = self.number;
         match self.way {
             Way::Link(link) => write!(f, "frame {number} {link} ")?,
+            Way::Copy(link) => write!(f, "copy {number} {link} ")?,
             Way::Address(address) => write!(f, "unicast {number} {address} ")?,
         }
         for byte in self.bytes {

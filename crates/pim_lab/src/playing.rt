@@ -11,7 +11,7 @@ ghost use Rattle.pim_scenario.specs.declared.complaint.Complaint.{Complaint};
 use crate::station::Station;
 use crate::trouble::Trouble;
 use pim_scenario::{Move, Scenario, fault, read_scenario};
-use pim_types::{Event, Fault, Series};
+use pim_types::{Emission, Event, Fault, Series};
 use std::alloc::Global;
 use std::io::Write;
 
@@ -116,10 +116,20 @@ fn take<O: Write>(
     let mut emissions = Vec::new(alloc);
     let answer = station.router.step(event, &mut emissions)?;
     out.writeln(station.move_line(number, answer))?;
+    let first = first_copy(&emissions, station.router.copies());
     let mut packets = sent;
-    for emission in &emissions {
+    for (place, emission) in emissions.iter().enumerate() {
         packets = packets.saturating_add(1);
-        out.writeln(station.packet_line(packets, emission))?;
+        out.writeln(station.packet_line(packets, emission, place >= first))?;
     }
     Ok(packets)
+}
+
+// From which place on the packets on links are copies: they are the last, but for one to the RP.
+fn first_copy(emissions: &[Emission], copies: u32) -> usize {
+    let links = match emissions.split_last() {
+        Some((Emission::Unicast { .. }, before)) if copies > 0 => before.len(),
+        _ => emissions.len(),
+    };
+    links.saturating_sub(copies as usize)
 }

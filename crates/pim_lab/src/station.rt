@@ -66,11 +66,16 @@ impl Station {
     }
 
     /// A packet of the router, with its number.
-    pub(crate) fn packet_line<'a>(&'a self, number: u64, emission: &'a Emission) -> PacketLine<'a> {
+    pub(crate) fn packet_line<'a>(
+        &'a self,
+        number: u64,
+        emission: &'a Emission,
+        is_copy: bool,
+    ) -> PacketLine<'a> {
         match emission {
             Emission::Link { iface, bytes } => PacketLine {
                 number,
-                way: Way::Link(self.link(*iface)),
+                way: self.way(*iface, is_copy),
                 bytes: bytes.as_slice(),
             },
             Emission::Unicast { destination, bytes } => PacketLine {
@@ -78,6 +83,16 @@ impl Station {
                 way: Way::Address(*destination),
                 bytes: bytes.as_slice(),
             },
+        }
+    }
+
+    // The way over an interface's link.
+    fn way(&self, iface: IfaceId, is_copy: bool) -> Way<'_> {
+        let link = self.link(iface);
+        if is_copy {
+            Way::Copy(link)
+        } else {
+            Way::Link(link)
         }
     }
 

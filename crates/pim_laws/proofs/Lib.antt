@@ -1,5 +1,4 @@
 pub mod AbsentGroups
-pub mod BuiltLaws
 pub mod ChosenRows
 pub mod ClearingLaws
 pub mod DueKept

@@ -8,7 +8,6 @@ use Rattle.pim_types.specs.declared.fact.Key.{Key}
 use Rattle.pim_types.specs.declared.fact.QuerierRow.{QuerierRow}
 use Rattle.pim_types.specs.declared.outcome.Ignored.{Ignored}
 use Rattle.pim_types.specs.declared.outcome.Verdict.{Verdict}
-use Rattle.pim_model.specs.Built.{are_built, built_run, built_state_after, built_step, is_event_built}
 use Rattle.pim_model.specs.Clearing.{Cleared, clear_all, cleared, to_clear}
 use Rattle.pim_model.specs.Firing.{fire_all, fire_instant, fire_once}
 use Rattle.pim_model.specs.Limits.{config_test}
@@ -181,17 +180,3 @@ AscendingAgain = (ns : List ℕ) → ascending (ascending ns) ≡ ascending ns
 abbrev pub AbsentIsUndesired : Type 0
 AbsentIsUndesired =
     (g : ℕ) (s : State) → list_any (λ k. is_of_group g k) (fact_keys s) ≡ false → join_desired_star s g ≡ false
-
--- ---- what is built
-
--- an event that is built is taken as the written machine takes it
-abbrev pub BuiltStepIsStep : Type 0
-BuiltStepIsStep = (s : State) (e : Event) → is_event_built s e ≡ true → built_step s e ≡ step s e
-
--- a run of such events is the written machine's, outcome for outcome
-abbrev pub BuiltRunIsRun : Type 0
-BuiltRunIsRun = (s : State) (events : List Event) → are_built s events ≡ true → built_run s events ≡ run s events
-
-abbrev pub BuiltStateIsState : Type 0
-BuiltStateIsState =
-    (s : State) (events : List Event) → are_built s events ≡ true → built_state_after s events ≡ state_after s events

@@ -1,6 +1,6 @@
 //! Laws of the definitions, each the contract of a function with nothing to do.
 
-ghost use Rattle.pim_laws.specs.Laws.{AbsentIsUndesired, AdvancedIsAhead, AheadIsReady, AscendingAgain, BuiltRunIsRun, BuiltStateIsState, BuiltStepIsStep, ClearingGoesOn, ClearingIsComplete, FiringGoesOn, FiringGoesOnByOne, FiringIsAhead, FiringIsComplete, FiringStops, IgnoredEventChangesNothing, InstantGoesOn, InstantIsComplete, InstantStops, MembersTell, NextIsDue, NextIsFirst, NextIsLeast, NextIsNextEnding, OneFiringKeeps, OpeningIsAhead, ReadyAtPresent, RefusedEventChangesNothing};
+ghost use Rattle.pim_laws.specs.Laws.{AbsentIsUndesired, AdvancedIsAhead, AheadIsReady, AscendingAgain, ClearingGoesOn, ClearingIsComplete, FiringGoesOn, FiringGoesOnByOne, FiringIsAhead, FiringIsComplete, FiringStops, IgnoredEventChangesNothing, InstantGoesOn, InstantIsComplete, InstantStops, MembersTell, NextIsDue, NextIsFirst, NextIsLeast, NextIsNextEnding, OneFiringKeeps, OpeningIsAhead, ReadyAtPresent, RefusedEventChangesNothing};
 
 /// After clearing no assert and no SPTbit is left that must go.
 #[tactic(auto, using(crate::proofs::ClearingLaws::nothing_to_clear))]
@@ -140,22 +140,4 @@ pub fn ascending_again()
 #[tactic(auto, using(crate::proofs::AbsentGroups::absent_is_undesired))]
 pub fn absent_is_undesired()
     ensures { AbsentIsUndesired }
-{}
-
-/// An event that is built is taken as the written machine takes it.
-#[tactic(auto, using(crate::proofs::BuiltLaws::built_step_is_step))]
-pub fn built_step_is_step()
-    ensures { BuiltStepIsStep }
-{}
-
-/// A run of events that are all built has the written machine's outcomes.
-#[tactic(auto, using(crate::proofs::BuiltLaws::built_run_is_run))]
-pub fn built_run_is_run()
-    ensures { BuiltRunIsRun }
-{}
-
-/// A run of events that are all built ends in the written machine's state.
-#[tactic(auto, using(crate::proofs::BuiltLaws::built_state_is_state))]
-pub fn built_state_is_state()
-    ensures { BuiltStateIsState }
 {}

@@ -3,7 +3,6 @@ use Rattle.std.proofs.Common.{◌≡◌, ℕ, ◌+◌, Bool, List, Ok, length}
 use Rattle.pim_types.specs.declared.config.Config.{Config}
 use Rattle.pim_types.specs.declared.event.Event.{Event}
 use Rattle.pim_model.specs.declared.accepted.Accepted.{Accepted}
-use Rattle.pim_model.specs.Built.{built_state_after, built_step}
 use Rattle.pim_model.specs.Firing.{fire_all, fire_instant, fire_once, fired}
 use Rattle.pim_model.specs.Limits.{config_test}
 use Rattle.pim_model.specs.Messages.{Message}
@@ -11,7 +10,7 @@ use Rattle.pim_model.specs.State.{State, is_up, opening}
 use Rattle.pim_model.specs.Step.{Change, advanced, change, done, state_after, step}
 use Rattle.pim_model.specs.Timers.{Ending, next_due, timers}
 use Rattle.pim_laws.proofs.Parts.{Sources}
-use Rattle.pim_laws.proofs.StepLaws.{kept_by_built_run, kept_by_run, kept_if_built}
+use Rattle.pim_laws.proofs.StepLaws.{kept_by_run}
 use Rattle.pim_laws.proofs.TurnLaws.{kept_to_the_end}
 use Rattle.pim_ready.specs.Ready.{IsLawful, IsSettled}
 use Rattle.pim_ready.proofs.Changes.{change_fine}
@@ -86,9 +85,6 @@ pub step_is_quiet : (s : State) (e : Event) → IsSettled s → IsQuiet s → Is
 step_is_quiet s e f quiet =
     after_event IsQuiet s e quiet (advanced_is_quiet s f e.draw quiet) (done_is_quiet s f e.draw)
 
-pub built_step_is_quiet : (s : State) (e : Event) → IsSettled s → IsQuiet s → IsQuiet (built_step s e).state
-built_step_is_quiet s e f quiet = kept_if_built IsQuiet s e quiet (step_is_quiet s e f quiet)
-
 -- ---- at rest
 
 pub opening_is_at_rest : (c : Config) → config_test c ≡ Ok tt → IsAtRest (opening c)
@@ -100,9 +96,3 @@ step_is_at_rest s e f =
 
 pub run_is_at_rest : (s : State) (events : List Event) → IsAtRest s → IsAtRest (state_after s events)
 run_is_at_rest s events f = kept_by_run IsAtRest step_is_at_rest s events f
-
-pub built_step_is_at_rest : (s : State) (e : Event) → IsAtRest s → IsAtRest (built_step s e).state
-built_step_is_at_rest s e f = kept_if_built IsAtRest s e f (step_is_at_rest s e f)
-
-pub built_run_is_at_rest : (s : State) (events : List Event) → IsAtRest s → IsAtRest (built_state_after s events)
-built_run_is_at_rest s events f = kept_by_built_run IsAtRest step_is_at_rest s events f

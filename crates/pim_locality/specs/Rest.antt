@@ -2,7 +2,6 @@
 use Rattle.std.specs.Prelude.{List, Ok, ℕ, ◌≡◌}
 use Rattle.pim_types.specs.declared.config.Config.{Config}
 use Rattle.pim_types.specs.declared.event.Event.{Event}
-use Rattle.pim_model.specs.Built.{built_state_after, built_step}
 use Rattle.pim_model.specs.Firing.{fire_all, fire_instant, fire_once}
 use Rattle.pim_model.specs.Limits.{config_test}
 use Rattle.pim_model.specs.State.{State, opening}
@@ -32,10 +31,6 @@ FiringIsQuiet = (w m : ℕ) (s : State) → IsLawful s → IsQuiet s → IsQuiet
 abbrev pub StepIsQuiet : Type 0
 StepIsQuiet = (s : State) (e : Event) → IsSettled s → IsQuiet s → IsQuiet (step s e).state
 
--- what isn't built leaves it
-abbrev pub BuiltStepIsQuiet : Type 0
-BuiltStepIsQuiet = (s : State) (e : Event) → IsSettled s → IsQuiet s → IsQuiet (built_step s e).state
-
 -- ---- at rest
 
 abbrev pub OpeningIsAtRest : Type 0
@@ -46,9 +41,3 @@ StepIsAtRest = (s : State) (e : Event) → IsAtRest s → IsAtRest (step s e).st
 
 abbrev pub RunIsAtRest : Type 0
 RunIsAtRest = (s : State) (events : List Event) → IsAtRest s → IsAtRest (state_after s events)
-
-abbrev pub BuiltStepIsAtRest : Type 0
-BuiltStepIsAtRest = (s : State) (e : Event) → IsAtRest s → IsAtRest (built_step s e).state
-
-abbrev pub BuiltRunIsAtRest : Type 0
-BuiltRunIsAtRest = (s : State) (events : List Event) → IsAtRest s → IsAtRest (built_state_after s events)

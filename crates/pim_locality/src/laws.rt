@@ -2,7 +2,7 @@
 
 ghost use Rattle.pim_locality.specs.Events.{ChangeTouches, EventIsLocal, FiringIsLocal};
 ghost use Rattle.pim_locality.specs.Locality.{AgreedSourceIsUntold, AgreedStarIsUntold, AssertsAreLocal, ClearingIsLocal, CouldRegisterIsLocal, NextToClearIsLocal, OpeningIsQuiet, PresentTouchesNone, QuietGoesOn, RegistersAreLocal, RowsElsewhereStay, SettlingClears, SettlingIsLocal, SettlingIsOwn, SettlingQuiets, SourceDesiresAreLocal, SourceViewsAreLocal, SourcesAreOwn, SourcesStandOnce, StarDesiresAreLocal, StarViewsAreLocal, TouchingIsClosed, TreeStatesAreLocal, UpstreamIsLocal, UpstreamIsOwn};
-ghost use Rattle.pim_locality.specs.Rest.{BuiltRunIsAtRest, BuiltStepIsAtRest, BuiltStepIsQuiet, FiringIsQuiet, InstantIsQuiet, OneFiringQuiets, OpeningIsAtRest, RunIsAtRest, StepIsAtRest, StepIsQuiet};
+ghost use Rattle.pim_locality.specs.Rest.{FiringIsQuiet, InstantIsQuiet, OneFiringQuiets, OpeningIsAtRest, RunIsAtRest, StepIsAtRest, StepIsQuiet};
 ghost use Rattle.pim_locality.specs.Sees.{ConnectionsOfSame, DesiresOfSame, MetricsOfSame, RegistersOfSame, StarTrackingOfSame, TrackingOfSame, TreeNeighboursOfSame, TreeStatesOfSame};
 ghost use Rattle.pim_locality.specs.Touches.{AssertDueTouches, AssertTouches, GroupEndTouches, HelloAgainTouchesNone, JoinPruneTouches, PacketTouches, QueryTouches, RegisterStopTouches, RegisterTouches, ReportTouches, SeenTouchesNone, SourceEndTouches, TimerTouches};
 
@@ -316,11 +316,6 @@ pub fn step_is_quiet()
     ensures { StepIsQuiet }
 {}
 
-/// So does every event of what is built.
-pub fn built_step_is_quiet()
-    ensures { BuiltStepIsQuiet }
-{}
-
 /// With an accepted configuration the router begins at rest: quiet and settled.
 pub fn opening_is_at_rest()
     ensures { OpeningIsAtRest }
@@ -334,14 +329,4 @@ pub fn step_is_at_rest()
 /// So do any events.
 pub fn run_is_at_rest()
     ensures { RunIsAtRest }
-{}
-
-/// So does every event of what is built.
-pub fn built_step_is_at_rest()
-    ensures { BuiltStepIsAtRest }
-{}
-
-/// So do any events of what is built.
-pub fn built_run_is_at_rest()
-    ensures { BuiltRunIsAtRest }
 {}

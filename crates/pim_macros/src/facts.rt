@@ -1,10 +1,13 @@
 //! Asserts, sources and registers: looked up, and changed one at a time. And what the end of a fact's timer changes:
 //! the row under a key, where there is one.
-ghost use Rattle.std.specs.Prelude.{◌≡◌, ◌<◌, OnOk, Some, false, filter};
+ghost use Rattle.std.specs.Prelude.{◌≡◌, ◌<◌, OnOk, Some, false, filter, option_and_then};
+ghost use Rattle.pim_model.specs.Asserts.{with_spt_bit};
 ghost use Rattle.pim_model.specs.Neighbours.{t_suppressed};
+ghost use Rattle.pim_model.specs.Registers.{with_keepalive};
 ghost use Rattle.pim_model.specs.Tables.{change_row, drop_at, has_row, row_at, set_row};
 ghost use Rattle.pim_store.specs.PimTables.{AreKeyed, fact_key, pim_tables};
 ghost use Rattle.pim_types.specs.Keys.{is_of_group, source_key};
+ghost use Rattle.pim_types.specs.declared.fact.SourceRow.{SourceRow as Row};
 
 use crate::world::World;
 use pim_tables::GroupRows;
@@ -12,6 +15,9 @@ use pim_types::fact::{AssertRow, DownstreamRow, JoinTimerRow, RegisterRow, Sourc
 use pim_types::{Addr, IfaceId, Key};
 use std::alloc::AllocError;
 use std::collections::btree_map::Iter;
+
+// Keepalive_Period (RFC 7761, section 4.11), also at the RP, in ms.
+const KEEPALIVE_PERIOD: u64 = 210_000;
 
 impl World {
     /// Asserts, sources and registers are under keys of their kind, which rise.
@@ -70,6 +76,39 @@ impl World {
         }) }
     {
         self.store.set_source(group, source, row)
+    }
+
+    /// KAT(S,G) runs for its whole period from now on.
+    #[tactic(auto, unfolding(pim_model::specs::Registers::with_keepalive, pim_model::specs::Tables::set_row))]
+    pub fn keep_alive(&mut self, group: Addr, source: Addr) -> Result<(), AllocError>
+        ensures { OnOk result (self.new ≡ with_keepalive self.old group.bits source.bits) }
+    {
+        let row = SourceRow {
+            keepalive: Some(self.present() + KEEPALIVE_PERIOD),
+            spt: self.spt_bit(group, source),
+        };
+        self.set_source(group, source, Some(row))
+    }
+
+    // When KAT(S,G) ends, if it runs, in ms.
+    fn keepalive_end(&self, group: Addr, source: Addr) -> Option<u64>
+        ensures { result ≡ option_and_then (λ (r : Row). r.keepalive)
+            (row_at self.now.sources (source_key 0 group.bits source.bits)) }
+    {
+        let key = Key::source(IfaceId::NONE, group, source);
+        self.source_at(key)?.keepalive
+    }
+
+    /// Sets SPTbit(S,G).
+    #[tactic(auto, unfolding(pim_model::specs::Asserts::with_spt_bit, pim_model::specs::Tables::set_row))]
+    pub fn set_spt_bit(&mut self, group: Addr, source: Addr) -> Result<(), AllocError>
+        ensures { OnOk result (self.new ≡ with_spt_bit self.old group.bits source.bits) }
+    {
+        let row = SourceRow {
+            keepalive: self.keepalive_end(group, source),
+            spt: true,
+        };
+        self.set_source(group, source, Some(row))
     }
 
     /// The Join timers of the group, by rising key: that of (*,G), then those of its sources.

@@ -88,7 +88,7 @@ impl World {
 
     // SPTbit(S,G).
     #[tactic(auto, unfolding(pim_model::specs::Sets::spt_bit))]
-    fn spt_bit(&self, group: Addr, source: Addr) -> bool
+    pub(crate) fn spt_bit(&self, group: Addr, source: Addr) -> bool
         ensures { result ≡ spt_bit self.now group.bits source.bits }
     {
         let row = self.store.source(Key::source(IfaceId::NONE, group, source));

@@ -1,7 +1,7 @@
 //! The macros of RFC 7761, section 4.1.6, evaluated afresh.
 ghost use Rattle.std.specs.Prelude.{◌≡◌, option_map, option_and_then};
 ghost use Rattle.pim_model.specs.Neighbours.{nbr};
-ghost use Rattle.pim_model.specs.Unicast.{route, rp_of, rp_route};
+ghost use Rattle.pim_model.specs.Unicast.{is_rp, route, rp_of, rp_route};
 ghost use Rattle.pim_model.specs.Upstream.{periodic_end};
 
 use crate::world::World;
@@ -18,6 +18,16 @@ impl World {
         ensures { option_map (λ a. a.bits) result ≡ rp_of self.now group.bits }
     {
         self.mrib.rp(group, meter)
+    }
+
+    /// Whether the address is RP(G).
+    pub fn is_rp(&self, group: Addr, address: Addr, meter: &mut Meter) -> bool
+        ensures { result ≡ is_rp self.now group.bits address.bits }
+    {
+        match self.rp(group, meter) {
+            Some(rp) => rp == address,
+            None => false,
+        }
     }
 
     /// The route to the address.

@@ -3,13 +3,13 @@ ghost use Rattle.std.specs.Option.{option_map_or};
 ghost use Rattle.std.specs.Prelude.{◌≡◌, false};
 ghost use Rattle.pim_macros.specs.Sights.{IsSourceSight, IsStarSight};
 ghost use Rattle.pim_model.specs.Neighbours.{is_dr};
-ghost use Rattle.pim_model.specs.Registers.{could_register, has_other_rp, is_dr_of_path};
+ghost use Rattle.pim_model.specs.Registers.{could_register, has_other_rp, is_dr_of_path, is_spt_wanted};
 ghost use Rattle.pim_model.specs.State.{is_own};
 ghost use Rattle.pim_model.specs.Unicast.{rp_of};
 
 use crate::sight::{SourceSight, StarSight};
 use crate::world::World;
-use pim_types::{IfaceId, Path};
+use pim_types::{IfaceId, Path, SptSwitch};
 
 impl World {
     /// I_am_DR(I).
@@ -42,6 +42,13 @@ impl World {
         ensures { result ≡ option_map_or (is_dr_of_path self.now) path false }
     {
         path.is_some_and(|path| path.is_connected && self.is_dr(path.iface))
+    }
+
+    /// SwitchToSptDesired(S,G), which is configured of the whole router.
+    pub fn is_spt_wanted(&self) -> bool
+        ensures { result ≡ is_spt_wanted self.now }
+    {
+        matches!(self.settings.spt, SptSwitch::Always)
     }
 
     /// CouldRegister(S,G).

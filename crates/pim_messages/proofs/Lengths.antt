@@ -1,9 +1,10 @@
 -- How long the messages are.
-use Rattle.std.proofs.Common.{◌≡◌, ℕ, ◌+◌, ◌*◌, Bool, if◌then◌else◌, List, [], ◌∷◌, ◌++◌, length, refl, arith}
-use Rattle.std.proofs.lemmas.List.{length-append, length-map}
+use Rattle.std.proofs.Common.{◌≡◌, ◌≤◌, ℕ, ◌+◌, ◌-◌, ◌*◌, Bool, if◌then◌else◌, List, [], ◌∷◌, ◌++◌, drop, length, take, refl, arith}
+use Rattle.std.proofs.lemmas.List.{length-append, length-drop, length-map, length-take}
 use Rattle.std.specs.List.{flat_map}
 use Rattle.std.specs.Int.{bytes_high_first}
 use Rattle.pim_ip.specs.Checksum.{with_checksum}
+use Rattle.pim_ip.specs.Ipv4.{Packet, copy_text, packet_limit}
 use Rattle.pim_ip.proofs.WritingLemmas.{length-with_checksum}
 use Rattle.pim_ip.specs.declared.addr.Addr.{Addr}
 use Rattle.pim_wire.specs.declared.join_prune.Entry.{Entry}
@@ -11,7 +12,7 @@ use Rattle.pim_wire.specs.Asserts.{assert_text}
 use Rattle.pim_wire.specs.Encoded.{group_text, pim_text, unicast_text}
 use Rattle.pim_wire.specs.Hellos.{hello_text}
 use Rattle.pim_wire.specs.JoinPrunes.{entry_text, join_prune_holdtime, join_prune_text}
-use Rattle.pim_wire.specs.Registers.{dummy_text, null_register_text, register_stop_text}
+use Rattle.pim_wire.specs.Registers.{dummy_text, null_register_text, register_stop_text, register_text}
 use Rattle.igmp_wire.specs.declared.write.QueryHeader.{QueryHeader}
 use Rattle.igmp_wire.specs.Queries.{query_text}
 use Rattle.igmp_wire.specs.Written.{bits_of, query_with}
@@ -99,3 +100,22 @@ pub ruleset text_lengths = (
   length-join_prune_text,
   length-query_text,
 )
+
+-- a copy has at most 12 bytes more than the packet, whatever its header, and the Register round it 8 more
+pub length_register_of_copy : (p : Packet) → length p.header + length p.payload ≤ packet_limit
+    → 20 + length (register_text (copy_text p)) ≤ 1568
+unfolding register_text copy_text
+length_register_of_copy p fits =
+    let front : List ℕ = take 8 p.header ++ (p.time_to_live - 1) ∷ p.protocol ∷ [] in
+    let header : List ℕ = with_checksum front (drop 12 p.header) in
+    omega (
+      arith,
+      fits,
+      length-append (with_checksum (0x21 ∷ 0 ∷ []) (0 ∷ 0 ∷ 0 ∷ 0 ∷ [])) (header ++ p.payload),
+      length-with_checksum (0x21 ∷ 0 ∷ []) (0 ∷ 0 ∷ 0 ∷ 0 ∷ []),
+      length-append header p.payload,
+      length-with_checksum front (drop 12 p.header),
+      length-append (take 8 p.header) ((p.time_to_live - 1) ∷ p.protocol ∷ []),
+      length-take 8 p.header,
+      length-drop 12 p.header,
+    )

@@ -2,8 +2,10 @@
 //! they become.
 #![tactic(auto)]
 
+pub mod data;
 mod message;
 pub mod outbox;
 mod packet;
 
+pub use data::{copy_on_link, register_of_copy};
 pub use outbox::{MOST_ENTRIES, MOST_SOURCES, Outbox};

@@ -62,7 +62,12 @@ fn pim_on_link(
 
 /// A PIM message to an address.
 #[tactic(auto, unfolding(pim_model::specs::Writing::pim_to))]
-fn pim_to(alloc: Global, from: Addr, to: Addr, text: &[u8]) -> Result<Emission, AllocError>
+pub(crate) fn pim_to(
+    alloc: Global,
+    from: Addr,
+    to: Addr,
+    text: &[u8],
+) -> Result<Emission, AllocError>
     requires { 20 + length text.now < 2 ^ 16 }
     ensures { IfOk result (λ e. e ≡ pim_to from.bits to.bits text.now) }
 {

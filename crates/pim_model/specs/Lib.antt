@@ -25,7 +25,6 @@ pub mod Limits
 pub mod Judging
 pub mod Full
 pub mod Step
-pub mod Built
 pub mod Cause
 pub mod Sure
 pub mod Printed

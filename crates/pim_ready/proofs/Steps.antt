@@ -7,7 +7,6 @@ use Rattle.pim_types.specs.declared.event.Event.{Event}
 use Rattle.pim_types.specs.declared.event.EventKind.{EventKind}
 use Rattle.pim_types.specs.declared.outcome.Stop.{Stop}
 use Rattle.pim_model.specs.declared.accepted.Accepted.{Accepted}
-use Rattle.pim_model.specs.Built.{built_step}
 use Rattle.pim_model.specs.Full.{is_full}
 use Rattle.pim_model.specs.Judging.{Judged, advance_judged, judged, last_moment, refuse_if, ◌>>◌}
 use Rattle.pim_model.specs.Limits.{config_test}
@@ -16,7 +15,7 @@ use Rattle.pim_model.specs.Step.{Answered, advanced, change, concluded, done, st
 use Rattle.pim_model.specs.Tables.{keys_in}
 use Rattle.pim_laws.specs.Laws.{IsAhead}
 use Rattle.pim_laws.proofs.FiringLaws.{advanced_is_ahead, ahead_is_ready, opening_is_ahead}
-use Rattle.pim_laws.proofs.StepLaws.{kept_by_run, kept_if_built}
+use Rattle.pim_laws.proofs.StepLaws.{kept_by_run}
 use Rattle.pim_ready.specs.Ready.{IsOrdered, IsSettled, IsTidy, IsTimeless}
 use Rattle.pim_ready.proofs.Changes.{change_fine, done_fine}
 use Rattle.pim_ready.proofs.Firing.{any, advanced_sound, IsSound}
@@ -122,9 +121,6 @@ step_stays_ahead s e none f = after_timeless (IsAhead s.present) s e.draw f.ahea
 
 pub step_is_settled : (s : State) (e : Event) → IsSettled s → IsSettled (step s e).state
 step_is_settled s e f = after_event IsSettled s e f (advanced_settled s f e.draw) (done_settled s f e.draw)
-
-pub built_step_is_settled : (s : State) (e : Event) → IsSettled s → IsSettled (built_step s e).state
-built_step_is_settled s e f = kept_if_built IsSettled s e f (step_is_settled s e f)
 
 -- ---- the opening
 

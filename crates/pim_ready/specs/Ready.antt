@@ -16,7 +16,6 @@ use Rattle.pim_types.specs.declared.fact.SourceRepeatRow.{SourceRepeatRow}
 use Rattle.pim_types.specs.declared.fact.SourceRow.{SourceRow}
 use Rattle.pim_types.specs.declared.fact.Key.{Key}
 use Rattle.pim_types.specs.declared.fact.QuerierRow.{QuerierRow}
-use Rattle.pim_model.specs.Built.{built_step}
 use Rattle.pim_model.specs.Firing.{fire_all, fire_instant, fire_once, settled}
 use Rattle.pim_laws.specs.Laws.{IsAhead, IsFirable}
 use Rattle.pim_model.specs.Limits.{config_test}
@@ -81,10 +80,6 @@ OpeningIsSettled = (c : Config) → config_test c ≡ Ok tt → IsSettled (openi
 -- every event keeps it
 abbrev pub StepIsSettled : Type 0
 StepIsSettled = (s : State) (e : Event) → IsSettled s → IsSettled (step s e).state
-
--- what isn't built leaves it
-abbrev pub BuiltStepIsSettled : Type 0
-BuiltStepIsSettled = (s : State) (e : Event) → IsSettled s → IsSettled (built_step s e).state
 
 -- time moves by Advance alone
 abbrev pub IsTimeless : EventKind → Type 0

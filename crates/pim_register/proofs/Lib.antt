@@ -6,3 +6,4 @@ pub mod Within
 pub mod Keyed
 mod Steps
 mod Tunnelled
+mod Needed

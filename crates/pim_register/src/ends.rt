@@ -17,9 +17,9 @@ use std::alloc::AllocError;
 // Register_Probe_Time (RFC 7761, section 4.11), in ms.
 const REGISTER_PROBE_TIME: u64 = 5_000;
 
-// The router's address on RPF_interface(S), from which it registers the source.
+/// The router's address on RPF_interface(S), from which it registers the source; 0.0.0.0 without a route.
 #[tactic(auto, unfolding(pim_model::specs::Unicast::rpf_interface))]
-fn registering_address(world: &World, turn: &mut Turn, source: Addr) -> Addr
+pub fn registering_address(world: &World, turn: &mut Turn, source: Addr) -> Addr
     ensures address { result.bits ≡ registering_address world.now source.bits }
     ensures silent { turn.new ≡ turn.old }
 {

@@ -1,12 +1,16 @@
-//! The register machines (RFC 7761, section 4.4.1): which sources are registered with the RP after a change, and what
-//! Register-Stops, new RP ranges and the ends of their timers change.
+//! The register machines (RFC 7761, section 4.4): which sources are registered with the RP after a change, what
+//! Register-Stops, new RP ranges and the ends of their timers change, and what an RP does with Registers.
 #![tactic(auto)]
 
 pub mod ends;
+pub mod full;
 pub mod law;
+pub mod rendezvous;
 pub mod settling;
 pub mod tunnel;
 
-pub use ends::{fired, keepalive_due};
-pub use settling::changed;
+pub use ends::{fired, keepalive_due, registering_address};
+pub use full::{is_full, source_is_full};
+pub use rendezvous::register_seen;
+pub use settling::{changed, settle};
 pub use tunnel::{rps_replaced, stop_seen};

@@ -38,6 +38,20 @@ fn settle_source(
     world.set_register(star.group, source, Some(row))
 }
 
+/// Settles the register of one source alone. An error is want of memory.
+pub fn settle(
+    world: &mut World,
+    turn: &mut Turn,
+    group: Addr,
+    source: Addr,
+) -> Result<(), AllocError>
+    ensures state { OnOk result (world.new ≡ settle_register world.old (source_key 0 group.bits source.bits)) }
+    ensures silent { turn.new ≡ turn.old }
+{
+    let star = world.gather_star(group, &mut turn.meter);
+    settle_source(world, turn, &star, source)
+}
+
 // These sources of a group, one after the other.
 fn settle_sources(
     world: &mut World,

@@ -537,7 +537,7 @@ module _ (p : Key → Bool) where
       (sym (any_of_map p (source_key i r.group) r.sources) ∙ in_left (map (source_key i r.group) r.sources) later away)
       none)
 
-star_names_none : (g src i h : ℕ) → names_source g src (star_key i h) ≡ false
+pub star_names_none : (g src i h : ℕ) → names_source g src (star_key i h) ≡ false
 unfolding names_source
 star_names_none g src i h = go (h == g)
   where

@@ -26,6 +26,7 @@ use Rattle.pim_macros.specs.declared.touched.Touched.{Touched}
 use Rattle.pim_opening.specs.Openings.{opening_of}
 use Rattle.pim_opening.specs.declared.opening.GroupOpening.{GroupOpening}
 use Rattle.pim_store.specs.PimTables.{AreKeyed, pim_tables}
+use Rattle.pim_router.specs.Standing.{Standing}
 use Rattle.pim_router.proofs.Settling.{settled_as_opened}
 use Rattle.pim_router.proofs.Touching.{end_covered}
 use Rattle.pim_router.specs.Ends.{ending_of, touched_by_end}
@@ -111,12 +112,13 @@ pub moment_told : (o : Option Ending) (due : ℕ × Timer) → Some due ≡ opti
 moment_told None due e = cc
 moment_told (Some d) due e = cc
 
-pub shown_moment : (shown : Option State) (failed : Bool) (s : State) → (if failed then None else Some s) ≡ shown
-    → failed ≡ false → (m : Option ℕ) → m ≡ option_map (λ (e : Ending). e.end) (next_ending s)
-    → m ≡ option_and_then next_moment shown
+pub shown_moment : (shown : Option Standing) (failed : Bool) (r : Standing) → (if failed then None else Some r) ≡ shown
+    → failed ≡ false → (m : Option ℕ) → m ≡ option_map (λ (e : Ending). e.end) (next_ending r.state)
+    → m ≡ option_and_then (λ (x : Standing). next_moment x.state) shown
 unfolding next_moment
-shown_moment shown failed s shows works m is =
-    let some : Some s ≡ shown = rw works at shows in is ∙ ap (option_and_then next_moment) some
+shown_moment shown failed r shows works m is =
+    let some : Some r ≡ shown = rw works at shows in
+    is ∙ ap (option_and_then (λ (x : Standing). next_moment x.state)) some
 
 pub no_moment : (o : Option Ending) → None ≡ option_map due_of o → None ≡ option_map (λ (e : Ending). e.end) o
 no_moment None e = refl

@@ -5,7 +5,9 @@ mod Growing
 mod Heard
 mod Instants
 mod Runs
+mod Sending
 mod Settling
 mod Taking
+mod Packets
 mod Touching
 mod Tunnelled

@@ -1,38 +1,43 @@
 -- Runs, event after event.
-use Rattle.std.proofs.Common.{◌≡◌, ℕ, suc, ◌+◌, ◌<◌, ◌≤◌, List, [], ◌∷◌, ◌++◌, length, drop, get_or, ap, sym, subst, ◌∙◌, append_assoc, append-nil, add-one}
+use Rattle.std.proofs.Common.{◌≡◌, ℕ, Bool, false, Option, Some, None, Ok, suc, ◌+◌, ◌<◌, ◌≤◌, List, [], ◌∷◌, ◌++◌, length, drop, get_or, ap, sym, subst, ◌∙◌, append_assoc, append-nil, add-one}
 use Rattle.std.proofs.Math.ListN.{drop_of_length-le}
 use Rattle.std.proofs.Math.Seq.{drop-cons}
 use Rattle.pim_types.specs.declared.event.Event.{Event}
 use Rattle.pim_types.specs.declared.outcome.Outcome.{Outcome}
 use Rattle.pim_locality.specs.Rest.{IsAtRest}
-use Rattle.pim_model.specs.Built.{built_ran, built_run, built_state_after, built_step}
-use Rattle.pim_model.specs.State.{State}
-use Rattle.pim_model.specs.Step.{outcome_of}
+use Rattle.std.specs.Prelude.{if◌then◌else◌}
+use Rattle.pim_types.specs.declared.config.Config.{Config}
+use Rattle.pim_asked.proofs.Steps.{run_is_asked}
+use Rattle.pim_model.specs.Cause.{OutcomesAreAsked}
+use Rattle.pim_model.specs.Limits.{config_test}
+use Rattle.pim_model.specs.State.{State, opening}
+use Rattle.pim_model.specs.Step.{outcome_of, ran, run, state_after, step}
+use Rattle.pim_router.specs.Standing.{Standing, beginning}
 
 -- what was told with what is left is all of it, and the router is at rest
 pub record Runs (first : State) (events : List Event) (s : State) (told : List Outcome)
     (left : List Event) : Type 0 where
-  pub told_is : told ++ built_run s left ≡ built_run first events
-  pub rest_is : built_state_after s left ≡ built_state_after first events
+  pub told_is : told ++ run s left ≡ run first events
+  pub rest_is : state_after s left ≡ state_after first events
   pub rest : IsAtRest s
 
 module _ (first : State) (events : List Event) where
   next : (s n : State) (told more : List Outcome) (e : Event) (left : List Event) → IsAtRest n
-      → n ≡ (built_step s e).state
-      → more ≡ told ++ outcome_of (built_step s e) ∷ [] → Runs first events s told (e ∷ left)
+      → n ≡ (step s e).state
+      → more ≡ told ++ outcome_of (step s e) ∷ [] → Runs first events s told (e ∷ left)
       → Runs first events n more left
-  unfolding built_run built_state_after built_ran
+  unfolding run state_after ran
   next s n told more e left rest state pushed runs = record {
-    told_is = ap (λ (os : List Outcome). os ++ built_run n left) pushed
-        ∙ append_assoc told (outcome_of (built_step s e) ∷ []) (built_run n left)
-        ∙ ap (λ (x : State). told ++ outcome_of (built_step s e) ∷ built_run x left) state ∙ runs.told_is;
-    rest_is = ap (λ (x : State). built_state_after x left) state ∙ runs.rest_is;
+    told_is = ap (λ (os : List Outcome). os ++ run n left) pushed
+        ∙ append_assoc told (outcome_of (step s e) ∷ []) (run n left)
+        ∙ ap (λ (x : State). told ++ outcome_of (step s e) ∷ run x left) state ∙ runs.told_is;
+    rest_is = ap (λ (x : State). state_after x left) state ∙ runs.rest_is;
     rest = rest;
   }
 
   pub runs_next : (i : ℕ) (s n : State) (told more : List Outcome) (e : Event) → i < length events
       → e ≡ get_or events i e
-      → IsAtRest n → n ≡ (built_step s e).state → more ≡ told ++ outcome_of (built_step s e) ∷ []
+      → IsAtRest n → n ≡ (step s e).state → more ≡ told ++ outcome_of (step s e) ∷ []
       → Runs first events s told (drop i events) → Runs first events n more (drop (i + 1) events)
   runs_next i s n told more e lt is rest state pushed runs =
       let here : drop i events ≡ e ∷ drop (i + 1) events =
@@ -42,12 +47,25 @@ module _ (first : State) (events : List Event) where
       (subst (λ (es : List Event). Runs first events s told es) here runs)
 
   ended : (s : State) (told : List Outcome) → Runs first events s told []
-      → (told ≡ built_run first events) × (s ≡ built_state_after first events)
-  unfolding built_run built_state_after built_ran
+      → (told ≡ run first events) × (s ≡ state_after first events)
+  unfolding run state_after ran
   ended s told runs = (sym (append-nil told) ∙ runs.told_is, runs.rest_is)
 
   pub runs_end : (i : ℕ) (s : State) (told : List Outcome) → length events ≤ i
       → Runs first events s told (drop i events)
-      → (told ≡ built_run first events) × (s ≡ built_state_after first events)
+      → (told ≡ run first events) × (s ≡ state_after first events)
   runs_end i s told le runs =
       ended s told (subst (λ (es : List Event). Runs first events s told es) (drop_of_length-le events le) runs)
+
+-- the outcomes of a new router's run are asked for
+pub is_asked : (shown : Option Standing) (failed : Bool) (r : Standing) (events : List Event) (outcomes : List Outcome)
+    → (if failed then None else Some r) ≡ shown → failed ≡ false → outcomes ≡ run r.state events
+    → (c : Config) → config_test c ≡ Ok tt → shown ≡ Some (beginning (opening c))
+    → OutcomesAreAsked [] (opening c) events outcomes
+is_asked shown failed r events outcomes shows works are c accepted opens =
+    let some : Some r ≡ shown = rw works at shows in
+    let new : Some r ≡ Some (beginning (opening c)) = some ∙ opens in
+    let alike : r ≡ beginning (opening c) = cc new in
+    let same : r.state ≡ opening c = ap (λ (x : Standing). x.state) alike in
+    subst (λ (os : List Outcome). OutcomesAreAsked [] (opening c) events os)
+    (sym (are ∙ ap (λ (s : State). run s events) same)) (run_is_asked c events accepted)

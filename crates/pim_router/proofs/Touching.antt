@@ -13,9 +13,9 @@ use Rattle.pim_types.specs.Keys.{group_in, is_of_group, is_on, is_star, names_so
 use Rattle.pim_wire.specs.declared.hello.Hello.{Hello as HelloValue}
 use Rattle.pim_types.specs.declared.config.IfaceId.{IfaceId}
 use Rattle.pim_ip.specs.declared.addr.Addr.{Addr}
-use Rattle.pim_wire.specs.Values.{JoinPrune}
+use Rattle.pim_wire.specs.Values.{Encapsulated, JoinPrune, Null, Register}
 use Rattle.pim_wire.specs.declared.assert.Assert.{Assert as AssertMessage}
-use Rattle.pim_model.specs.Built.{is_built}
+use Rattle.pim_model.specs.Forwarding.{register_received}
 use Rattle.pim_model.specs.declared.accepted.Accepted.{Accepted}
 use Rattle.pim_model.specs.Downstream.{asserts_after_joins, is_named, joined_keys, keys_taken, pruned_keys, row_after, rpt_rows_joined, to_me, touched_keys}
 use Rattle.pim_model.specs.Firing.{fired}
@@ -25,7 +25,7 @@ use Rattle.pim_model.specs.Querier.{querier_up, querying}
 use Rattle.pim_model.specs.Seen.{seen}
 use Rattle.pim_model.specs.Sets.{is_loser}
 use Rattle.pim_model.specs.State.{State}
-use Rattle.pim_model.specs.Step.{change, iface_up}
+use Rattle.pim_model.specs.Step.{change, decapsulated, iface_up}
 use Rattle.pim_model.specs.Tables.{Table, keys_in, row_at, same_option, set_row}
 use Rattle.pim_model.specs.Timers.{Ending}
 use Rattle.pim_model.specs.Upstream.{fact_keys}
@@ -40,7 +40,7 @@ use Rattle.pim_locality.proofs.SilentEvents.{seen_touches_none, timer_touches}
 use Rattle.pim_locality.proofs.Touches.{agrees_then, widened}
 use Rattle.pim_locality.specs.Events.{touched_by_event}
 use Rattle.pim_locality.specs.Locality.{AgreesBut, touching}
-use Rattle.pim_locality.specs.Touches.{isnt_neighbour, touched_by}
+use Rattle.pim_locality.specs.Touches.{isnt_neighbour, packet_keys, touched_by}
 use Rattle.pim_opening.specs.Covers.{Concerns, Covers, IsWithin, NewAreNamed}
 use Rattle.pim_opening.specs.Openings.{has_facts}
 use Rattle.pim_neighbours.specs.Refreshed.{is_refreshed}
@@ -55,7 +55,9 @@ use Rattle.pim_locality.specs.Scopes.{reads}
 use Rattle.pim_ready.specs.Ready.{IsSettled}
 use Rattle.pim_router.proofs.IgmpFacts.{query_leaves_facts, report_names_facts}
 use Rattle.pim_router.proofs.Tunnelled.{routes_leave_facts, rps_leave_facts, stop_leaves_facts}
-use Rattle.pim_model.specs.Registers.{register_stop_seen}
+use Rattle.pim_model.specs.Registers.{is_null, register_stop_seen, registered_group, registered_source}
+use Rattle.pim_ip.specs.Ipv4.{Packet}
+use Rattle.pim_router.proofs.Packets.{packet_named, register_named}
 use Rattle.pim_wire.specs.declared.register.RegisterStop.{RegisterStop as RegisterStopValue}
 use Rattle.pim_types.specs.Keys.{source_key}
 use Rattle.pim_router.proofs.Asserted.{asserted_named}
@@ -192,6 +194,12 @@ touching_more keys more s t agrees k un = agrees k (go (list_any (reads k) keys)
         sym (list_any-append (reads k) keys more ∙ or_left (list_any (reads k) keys) (list_any (reads k) more) is) ∙ un in cc
     go false is = is
 
+received_named : (s : State) (packet : Packet) (r : Register)
+    → NewAreNamed (source_key 0 (registered_group r) (registered_source r) ∷ []) s
+    (decapsulated r (register_received s packet (registered_group r) (registered_source r) (is_null r))).state
+received_named s packet (Encapsulated inner) = register_named s packet inner.destination inner.source false
+received_named s packet (Null source group) = register_named s packet group source true
+
 -- ---- what was accepted
 
 module _ (s : State) (a : Accepted) where
@@ -295,36 +303,71 @@ module _ (s : State) (a : Accepted) where
             (each_of_list is_under_source s.source_records settled.ahead.firable.source_records);
       }))
 
--- neither a Join/Prune, nor an Assert, nor a report, which may make facts
+  pub packet_covered : (i : IfaceId) (packet : Packet) (keys : List Key) → a ≡ Accepted.Data i packet
+      → keys ≡ packet_keys s packet.destination packet.source i.number
+      → (w : ℕ) → Concerns keys s (change s w a).state
+  unfolding touched_by_event change
+  packet_covered i packet keys is those w =
+      let named : List Key = packet_keys s packet.destination packet.source i.number in
+      subst (λ b. Concerns keys s (change s w b).state) (sym is)
+      (subst (λ ks. Concerns ks s (change s w (Accepted.Data i packet)).state) (sym those)
+      (record {
+        agrees = change_touches s w (Accepted.Data i packet) named refl;
+        named = packet_named s packet.destination packet.source i.number;
+      }))
+
+  pub register_covered : (packet : Packet) (r : Register) (keys : List Key) → a ≡ Accepted.Register packet r
+      → keys ≡ source_key 0 (registered_group r) (registered_source r) ∷ []
+      → (w : ℕ) → Concerns keys s (change s w a).state
+  unfolding touched_by_event change
+  register_covered packet r keys is those w =
+      let named : List Key = source_key 0 (registered_group r) (registered_source r) ∷ [] in
+      subst (λ b. Concerns keys s (change s w b).state) (sym is)
+      (subst (λ ks. Concerns ks s (change s w (Accepted.Register packet r)).state) (sym those)
+      (record {
+        agrees = change_touches s w (Accepted.Register packet r) named refl;
+        named = received_named s packet r;
+      }))
+
+-- none of those that may make facts: a Join/Prune, an Assert, a report, a packet, a Register
 pub record MakesNone (a : Accepted) : Type 0 where
   pub to_me : (i : IfaceId) (m : JoinPrune) → ¬ (a ≡ Accepted.JoinPruneToMe i m)
   pub seen : (i : IfaceId) (m : JoinPrune) → ¬ (a ≡ Accepted.JoinPruneSeen i m)
   pub assert : (i : IfaceId) (from : Addr) (x : AssertMessage) → ¬ (a ≡ Accepted.Assert i from x)
   pub report : (i : IfaceId) (records : List Record) → ¬ (a ≡ Accepted.Report i records)
+  pub packet : (i : IfaceId) (packet : Packet) → ¬ (a ≡ Accepted.Data i packet)
+  pub register : (packet : Packet) (r : Register) → ¬ (a ≡ Accepted.Register packet r)
 
--- all else that is built makes no facts
-pub facts_covered : (s : State) (w : ℕ) (a : Accepted) → is_built a ≡ true → MakesNone a
-    → IsWithin s (change s w a).state
-unfolding change is_built
-facts_covered s w (Accepted.Advance moment) b isnt = within_so s s (no_other s s refl)
-facts_covered s w (Accepted.Up i) b isnt = within_so s _ (up_leaves_facts s w i.number)
-facts_covered s w (Accepted.Down i) b isnt = within_so s _ (down_fewer s i.number)
-facts_covered s w (Accepted.Hello i from h) b isnt = within_so s _ (hello_leaves_facts s i.number from.bits w h)
-facts_covered s w (Accepted.JoinPruneToMe i m) b isnt = absurd (isnt.to_me i m refl)
-facts_covered s w (Accepted.Routes routes) b isnt = within_so s _ (routes_leave_facts s routes)
-facts_covered s w (Accepted.Rps ranges) b isnt = within_so s _ (rps_leave_facts s ranges)
-facts_covered s w (Accepted.JoinPruneSeen i m) b isnt = absurd (isnt.seen i m refl)
-facts_covered s w (Accepted.Assert i from x) b isnt = absurd (isnt.assert i from x refl)
-facts_covered s w (Accepted.Query i from q) b isnt = within_so s _ (query_leaves_facts i.number s from.bits q)
-facts_covered s w (Accepted.Report i records) b isnt = absurd (isnt.report i records refl)
-facts_covered s w (Accepted.Data i packet) b isnt = cc
-facts_covered s w (Accepted.Register packet r) b isnt = cc
-facts_covered s w (Accepted.RegisterStop from r) b isnt = within_so s _ (stop_leaves_facts s w r.group.bits r.source.bits)
+-- all else makes no facts
+pub facts_covered : (s : State) (w : ℕ) (a : Accepted) → MakesNone a → IsWithin s (change s w a).state
+unfolding change
+facts_covered s w (Accepted.Advance moment) isnt = within_so s s (no_other s s refl)
+facts_covered s w (Accepted.Up i) isnt = within_so s _ (up_leaves_facts s w i.number)
+facts_covered s w (Accepted.Down i) isnt = within_so s _ (down_fewer s i.number)
+facts_covered s w (Accepted.Hello i from h) isnt = within_so s _ (hello_leaves_facts s i.number from.bits w h)
+facts_covered s w (Accepted.JoinPruneToMe i m) isnt = absurd (isnt.to_me i m refl)
+facts_covered s w (Accepted.Routes routes) isnt = within_so s _ (routes_leave_facts s routes)
+facts_covered s w (Accepted.Rps ranges) isnt = within_so s _ (rps_leave_facts s ranges)
+facts_covered s w (Accepted.JoinPruneSeen i m) isnt = absurd (isnt.seen i m refl)
+facts_covered s w (Accepted.Assert i from x) isnt = absurd (isnt.assert i from x refl)
+facts_covered s w (Accepted.Query i from q) isnt = within_so s _ (query_leaves_facts i.number s from.bits q)
+facts_covered s w (Accepted.Report i records) isnt = absurd (isnt.report i records refl)
+facts_covered s w (Accepted.Data i packet) isnt = absurd (isnt.packet i packet refl)
+facts_covered s w (Accepted.Register packet r) isnt = absurd (isnt.register packet r refl)
+facts_covered s w (Accepted.RegisterStop from r) isnt =
+    within_so s _ (stop_leaves_facts s w r.group.bits r.source.bits)
 
 pub hello_makes_none : (a : Accepted) (i : IfaceId) (from : Addr) (h : HelloValue) → a ≡ Accepted.Hello i from h
     → MakesNone a
 hello_makes_none a i from h is =
-    record { to_me = λ j m same. cc; seen = λ j m same. cc; assert = λ j other x same. cc; report = λ j records same. cc }
+    record {
+      to_me = λ j m same. cc;
+      seen = λ j m same. cc;
+      assert = λ j other x same. cc;
+      report = λ j records same. cc;
+      packet = λ j packet same. cc;
+      register = λ packet r same. cc;
+    }
 
 -- ---- the end of a timer
 

@@ -1,5 +1,8 @@
 -- The keys that what was accepted names.
 use Rattle.std.specs.Prelude.{List, true, ◌<◌, ◌≤◌, ◌≡◌}
+use Rattle.pim_ip.specs.Ipv4.{Packet}
+use Rattle.pim_types.specs.declared.config.IfaceId.{IfaceId}
+use Rattle.pim_wire.specs.Values.{Register}
 use Rattle.pim_types.specs.declared.fact.Key.{Key}
 use Rattle.pim_model.specs.declared.accepted.Accepted.{Accepted}
 use Rattle.pim_model.specs.Downstream.{joined_keys, pruned_keys}
@@ -29,3 +32,8 @@ IsConfigured s (Accepted.Query i from q) = i.number < iface_count s
 IsConfigured s (Accepted.Report i records) = i.number < iface_count s
 IsConfigured s (Accepted.Data i packet) = i.number < iface_count s
 IsConfigured s _ = Unit {0}
+
+-- it is neither a packet of data nor a Register
+pub record HasNoPacket (a : Accepted) : Type 0 where
+  pub packet : (i : IfaceId) (p : Packet) → ¬ (a ≡ Accepted.Data i p)
+  pub register : (p : Packet) (r : Register) → ¬ (a ≡ Accepted.Register p r)

@@ -1,17 +1,23 @@
 //! The own change of what was accepted.
-ghost use Rattle.std.specs.Prelude.{◌≡◌, ◌<◌, OnOk, true};
+ghost use Rattle.std.specs.Prelude.{◌≡◌, ◌<◌, IfOk, OnOk};
 ghost use Rattle.pim_macros.specs.Turns.{saying};
-ghost use Rattle.pim_model.specs.Built.{is_built};
+ghost use Rattle.pim_model.specs.Forwarding.{forwarded, register_received};
+ghost use Rattle.pim_model.specs.Registers.{is_null, registered_group, registered_source};
 ghost use Rattle.pim_model.specs.State.{iface_count};
-ghost use Rattle.pim_model.specs.Step.{change, iface_up};
-ghost use Rattle.pim_router.specs.Naming.{AreNamedBy, IsConfigured};
+ghost use Rattle.pim_model.specs.Step.{Change, change, decapsulated, iface_up, packet_forwarded};
+ghost use Rattle.pim_router.specs.Naming.{AreNamedBy, HasNoPacket, IsConfigured};
+ghost use Rattle.pim_router.specs.Sending.{Sends};
 
+use pim_data::{Leaving, arrived, leave};
 use pim_downstream::{Named, to_me};
 use pim_hello::triggered_end;
+use pim_ip::Ipv4View;
 use pim_macros::{Turn, World};
 use pim_model::Accepted;
+use pim_register::register_seen;
 use pim_types::IfaceId;
 use pim_types::fact::InterfaceRow;
+use pim_wire::RegisterView;
 use std::alloc::AllocError;
 
 // The interface announces itself, and asks who is there.
@@ -30,15 +36,76 @@ fn go_up(world: &mut World, turn: &mut Turn, iface: IfaceId) -> Result<(), Alloc
     pim_querier::up(world, turn, iface)
 }
 
-/// Changes the state by what was accepted. Where memory is refused, it may be changed in part.
-#[tactic(auto, unfolding(pim_model::specs::Step::change, pim_model::specs::Built::is_built, pim_model::specs::Downstream::to_me))]
+// A packet of data goes on.
+fn forward(
+    world: &mut World,
+    turn: &mut Turn,
+    iface: IfaceId,
+    packet: &Ipv4View<'_>,
+) -> Result<Leaving, AllocError>
+    requires { iface.number < 120 }
+    ensures { IfOk result (λ leaving. Sends leaving world.new turn.old turn.new (packet_forwarded packet.now
+        (forwarded world.old packet.now.destination packet.now.source iface.number))) }
+{
+    let (group, source) = (packet.destination(), packet.source());
+    let list = arrived(world, turn, iface, group, source)?;
+    leave(world, turn, packet, list)
+}
+
+// The packet in a Register goes on.
+fn decapsulate(
+    world: &mut World,
+    turn: &mut Turn,
+    packet: &Ipv4View<'_>,
+    register: &RegisterView<'_>,
+) -> Result<Leaving, AllocError>
+    ensures { IfOk result (λ leaving. Sends leaving world.new turn.old turn.new (decapsulated register.now
+        (register_received world.old packet.now (registered_group register.now) (registered_source register.now)
+        (is_null register.now)))) }
+{
+    let list = register_seen(world, turn, packet, register)?;
+    match register.inner() {
+        Some(inner) => leave(world, turn, inner, list),
+        None => Ok(Leaving::nothing(turn.alloc)),
+    }
+}
+
+/// Changes the state by what was accepted, and tells what leaves of its packet, if it has one. Where memory is refused,
+/// the state may be changed in part.
 pub(crate) fn apply(
     world: &mut World,
     turn: &mut Turn,
     accepted: &Accepted<'_>,
     named: &Named,
+) -> Result<Leaving, AllocError>
+    requires configured { IsConfigured world.old accepted.now }
+    requires named { AreNamedBy world.old accepted.now named.now.joined.items named.now.pruned.items }
+    ensures { IfOk result (λ leaving. Sends leaving world.new turn.old turn.new
+        (change world.old turn.old.draw accepted.now)) }
+{
+    match accepted {
+        Accepted::Data { iface, packet } => {
+            // It tells that the interface is below 120.
+            let _ = world.iface_count();
+            forward(world, turn, *iface, packet)
+        }
+        Accepted::Register { packet, register } => decapsulate(world, turn, packet, register),
+        _ => {
+            apply_without_packet(world, turn, accepted, named)?;
+            Ok(Leaving::nothing(turn.alloc))
+        }
+    }
+}
+
+// Changes the state by what was accepted that has no packet which goes on.
+#[tactic(auto, unfolding(pim_model::specs::Step::change, pim_model::specs::Downstream::to_me))]
+fn apply_without_packet(
+    world: &mut World,
+    turn: &mut Turn,
+    accepted: &Accepted<'_>,
+    named: &Named,
 ) -> Result<(), AllocError>
-    requires built { is_built accepted.now ≡ true }
+    requires packetless { HasNoPacket accepted.now }
     requires configured { IsConfigured world.old accepted.now }
     requires named { AreNamedBy world.old accepted.now named.now.joined.items named.now.pruned.items }
     ensures state { OnOk result (world.new ≡ (change world.old turn.old.draw accepted.now).state) }

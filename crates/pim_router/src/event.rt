@@ -1,27 +1,26 @@
-//! One event: it is judged; what is accepted changes the state, where it is built and there is room for its facts.
-ghost use Rattle.std.specs.Prelude.{◌≡◌, [], IfOk, IsOk, IsOkUnless, IsTrue, OnOk, true, ℕ};
+//! One event: it is judged; what is accepted changes the state, where there is room for its facts.
+ghost use Rattle.std.specs.Prelude.{◌≡◌, [], IfOk, IsOk, IsOkUnless, IsTrue, OnOk, ℕ};
 ghost use Rattle.pim_ip.specs.declared.fault.Fault.{Fault};
 ghost use Rattle.pim_locality.specs.Rest.{IsAtRest};
 ghost use Rattle.pim_model.specs.declared.accepted.Accepted.{Accepted};
-ghost use Rattle.pim_model.specs.Built.{built_step, is_built, taken_if_built};
-ghost use Rattle.pim_model.specs.Step.{outcome_of, taken, taken_unless_full};
-ghost use Rattle.pim_model.specs.Sure.{is_sure, needs_no_memory};
+ghost use Rattle.pim_model.specs.Step.{outcome_of, step, taken, taken_unless_full};
+ghost use Rattle.pim_model.specs.Sure.{needs_no_memory};
 ghost use Rattle.pim_router.specs.Naming.{AreNamedBy, IsConfigured};
 ghost use Rattle.pim_router.specs.Stops.{stop_outcome};
 
-use crate::built::is_built;
 use crate::change::apply;
 use crate::named::{is_full, named_by};
 use crate::settle::settle_change;
 use crate::time::advance;
 use crate::touched::touched_by;
+use pim_data::Leaving;
 use pim_downstream::Named;
 use pim_intake::judge;
 use pim_macros::{Turn, World};
 use pim_model::Accepted;
 use pim_opening::Opening;
 use pim_trie::Meter;
-use pim_types::{Event, Fault, Ignored, Outcome, Refusal, Series, Stop, Verdict};
+use pim_types::{Event, Fault, Outcome, Refusal, Series, Stop, Verdict};
 use std::alloc::Global;
 use std::mem::replace;
 
@@ -40,8 +39,7 @@ fn stopped(alloc: Global, stop: Stop) -> Outcome
     }
 }
 
-// What there is room for, but for time that passes: its own change, and what follows of it. No packet of data is
-// copied yet.
+// What there is room for, but for time that passes: its own change, what follows of it, and last the packets that go on.
 fn take_change(
     world: &mut World,
     turn: &mut Turn,
@@ -51,7 +49,6 @@ fn take_change(
     requires timeless { (moment : ℕ) → ¬ (accepted.now ≡ Accepted.Advance moment) }
     requires rest { IsAtRest world.old }
     requires begun { turn.old.messages ≡ [] }
-    requires built { is_built accepted.now ≡ true }
     requires configured { IsConfigured world.old accepted.now }
     requires named { AreNamedBy world.old accepted.now named.now.joined.items named.now.pruned.items }
     ensures outcome { IfOk result (λ outcome. outcome ≡ outcome_of (taken world.old turn.old.draw accepted.now)) }
@@ -60,14 +57,20 @@ fn take_change(
 {
     let touched = touched_by(world, turn, accepted, named)?;
     let opening = Opening::of(world, turn, &touched)?;
-    apply(world, turn, accepted, named)?;
+    let Leaving {
+        mut copies,
+        mut registered,
+    } = apply(world, turn, accepted, named)?;
     // It tells that asserts, sources and registers are under keys of their kind.
     world.are_keyed();
-    let emissions = settle_change(world, turn, &opening)?;
+    let count = copies.len() as u32;
+    let mut emissions = settle_change(world, turn, &opening)?;
+    emissions.append(&mut copies)?;
+    emissions.append(&mut registered)?;
     Ok(Outcome {
         answer: Ok(Verdict::Done),
         emissions: Series::from_vec(emissions),
-        copies: 0,
+        copies: count,
     })
 }
 
@@ -81,7 +84,6 @@ fn take(
 ) -> Result<Outcome, Fault>
     requires rest { IsAtRest world.old }
     requires begun { turn.old.messages ≡ [] }
-    requires built { is_built accepted.now ≡ true }
     requires configured { IsConfigured world.old accepted.now }
     requires named { AreNamedBy world.old accepted.now named.now.joined.items named.now.pruned.items }
     ensures outcome { IfOk result (λ outcome. outcome ≡ outcome_of (taken world.old turn.old.draw accepted.now)) }
@@ -94,7 +96,7 @@ fn take(
     }
 }
 
-// What is built: it is refused where there is no room.
+// What was accepted: it is refused where there is no room.
 #[tactic(auto, unfolding(pim_model::specs::Step::taken_unless_full))]
 fn take_unless_full(
     world: &mut World,
@@ -103,7 +105,6 @@ fn take_unless_full(
 ) -> Result<Outcome, Fault>
     requires rest { IsAtRest world.old }
     requires begun { turn.old.messages ≡ [] }
-    requires built { is_built accepted.now ≡ true }
     requires configured { IsConfigured world.old accepted.now }
     ensures outcome { IfOk result (λ outcome. outcome ≡ outcome_of (taken_unless_full world.old turn.old.draw accepted.now)) }
     ensures state { OnOk result (world.new ≡ (taken_unless_full world.old turn.old.draw accepted.now).state) }
@@ -116,39 +117,18 @@ fn take_unless_full(
     take(world, turn, accepted, &named)
 }
 
-// What was accepted: it is ignored where it isn't built, without memory.
-#[tactic(auto, unfolding(pim_model::specs::Built::taken_if_built))]
-fn take_if_built(
-    world: &mut World,
-    turn: &mut Turn,
-    accepted: &Accepted<'_>,
-) -> Result<Outcome, Fault>
-    requires rest { IsAtRest world.old }
-    requires begun { turn.old.messages ≡ [] }
-    requires configured { IsConfigured world.old accepted.now }
-    ensures outcome { IfOk result (λ outcome. outcome ≡ outcome_of (taken_if_built world.old turn.old.draw accepted.now)) }
-    ensures state { OnOk result (world.new ≡ (taken_if_built world.old turn.old.draw accepted.now).state) }
-    ensures fault { IsOkUnless result Fault.Memory }
-    ensures sure { IsTrue (needs_no_memory (taken_if_built world.old turn.old.draw accepted.now).answer) → IsOk result }
-{
-    if !is_built(accepted) {
-        return Ok(stopped(turn.alloc, Stop::Ignore(Ignored::Unbuilt)));
-    }
-    take_unless_full(world, turn, accepted)
-}
-
 // An event in its turn.
-#[tactic(auto, unfolding(pim_model::specs::Built::built_step))]
+#[tactic(auto, unfolding(pim_model::specs::Step::step))]
 fn take_turn(world: &mut World, turn: &mut Turn, event: &Event) -> Result<Outcome, Fault>
     requires rest { IsAtRest world.old }
     requires begun { turn.old ≡ record { draw = event.now.draw; messages = [] } }
-    ensures outcome { IfOk result (λ outcome. outcome ≡ outcome_of (built_step world.old event.now)) }
-    ensures state { OnOk result (world.new ≡ (built_step world.old event.now).state) }
+    ensures outcome { IfOk result (λ outcome. outcome ≡ outcome_of (step world.old event.now)) }
+    ensures state { OnOk result (world.new ≡ (step world.old event.now).state) }
     ensures fault { IsOkUnless result Fault.Memory }
-    ensures sure { IsTrue (is_sure event.now.kind (built_step world.old event.now).answer) → IsOk result }
+    ensures sure { IsTrue (needs_no_memory (step world.old event.now).answer) → IsOk result }
 {
     match judge(turn.alloc, world, event, &mut turn.meter)? {
-        Ok(accepted) => take_if_built(world, turn, &accepted),
+        Ok(accepted) => take_unless_full(world, turn, &accepted),
         Err(stop) => Ok(stopped(turn.alloc, stop)),
     }
 }
@@ -161,11 +141,11 @@ pub(crate) fn take_in(
     meter: &mut Meter,
 ) -> Result<Outcome, Fault>
     requires { IsAtRest world.old }
-    ensures outcome { IfOk result (λ outcome. outcome ≡ outcome_of (built_step world.old event.now)) }
-    ensures state { OnOk result (world.new ≡ (built_step world.old event.now).state) }
+    ensures outcome { IfOk result (λ outcome. outcome ≡ outcome_of (step world.old event.now)) }
+    ensures state { OnOk result (world.new ≡ (step world.old event.now).state) }
     ensures rest { OnOk result (IsAtRest world.new) }
     ensures fault { IsOkUnless result Fault.Memory }
-    ensures sure { IsTrue (is_sure event.now.kind (built_step world.old event.now).answer) → IsOk result }
+    ensures sure { IsTrue (needs_no_memory (step world.old event.now).answer) → IsOk result }
 {
     let mut turn = Turn::new(alloc, event.draw, replace(meter, Meter::new()));
     let outcome = take_turn(world, &mut turn, event);

@@ -1,7 +1,6 @@
 //! The router: events in, outcomes and packets out, exactly as the written machine has them.
 #![tactic(auto)]
 
-pub mod built;
 pub mod change;
 pub mod event;
 pub mod named;

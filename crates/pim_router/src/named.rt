@@ -1,12 +1,12 @@
 //! What was accepted, with the keys that it names: whether there is room for its facts.
-ghost use Rattle.std.specs.Prelude.{◌≡◌, IfOk, true};
-ghost use Rattle.pim_model.specs.Built.{is_built};
+ghost use Rattle.std.specs.Prelude.{◌≡◌, IfOk};
 ghost use Rattle.pim_model.specs.Full.{is_full};
 ghost use Rattle.pim_router.specs.Naming.{AreNamedBy};
 
 use pim_downstream::Named;
 use pim_macros::{Turn, World};
 use pim_model::Accepted;
+use pim_register::source_is_full;
 use std::alloc::AllocError;
 
 /// The keys that a Join/Prune names.
@@ -29,16 +29,16 @@ pub(crate) fn named_by(
 }
 
 /// Whether its facts would pass the limit.
-#[tactic(auto, unfolding(pim_model::specs::Full::is_full, pim_model::specs::Full::join_prune_is_full, pim_model::specs::Built::is_built))]
+#[tactic(auto, unfolding(pim_model::specs::Full::is_full, pim_model::specs::Full::join_prune_is_full))]
 pub(crate) fn is_full(
     world: &World,
-    turn: &Turn,
+    turn: &mut Turn,
     accepted: &Accepted<'_>,
     named: &Named,
 ) -> Result<bool, AllocError>
-    requires built { is_built accepted.now ≡ true }
     requires named { AreNamedBy world.now accepted.now named.now.joined.items named.now.pruned.items }
-    ensures { IfOk result (λ full. full ≡ is_full world.now accepted.now) }
+    ensures full { IfOk result (λ full. full ≡ is_full world.now accepted.now) }
+    ensures silent { turn.new ≡ turn.old }
 {
     match accepted {
         Accepted::Hello { iface, from, hello } => {
@@ -50,6 +50,12 @@ pub(crate) fn is_full(
         Accepted::Assert { iface, assert, .. } => Ok(pim_asserts::is_full(world, *iface, assert)),
         Accepted::Report { iface, report } => {
             pim_querier::is_full(world, turn.alloc, *iface, report)
+        }
+        Accepted::Data { packet, .. } => {
+            Ok(source_is_full(world, packet.destination(), packet.source()))
+        }
+        Accepted::Register { packet, register } => {
+            Ok(pim_register::is_full(world, turn, packet, register))
         }
         _ => Ok(false),
     }

@@ -1,11 +1,15 @@
 //! The router.
+ghost use Rattle.std.specs.Option.{option_map_or};
 ghost use Rattle.std.specs.Prelude.{◌≡◌, ◌++◌, ◌↔◌, [], Err, IfErr, IfOk, IfSome, IsOk, IsOkUnless, IsTrue, None, Ok, OnErr, OnOk, Some, option_and_then};
 ghost use Rattle.pim_ip.specs.declared.fault.Fault.{Fault};
-ghost use Rattle.pim_model.specs.Built.{built_run, built_state_after, built_step};
+ghost use Rattle.pim_model.specs.Step.{run, state_after, step};
 ghost use Rattle.pim_model.specs.Limits.{config_test};
 ghost use Rattle.pim_model.specs.State.{opening};
+ghost use Rattle.pim_model.specs.Cause.{OutcomesAreAsked};
 ghost use Rattle.pim_model.specs.Timers.{next_moment};
-ghost use Rattle.pim_model.specs.Sure.{is_sure};
+ghost use Rattle.pim_router.specs.Standing.{beginning, last_copies, standing, standing_after};
+ghost use Rattle.pim_types.specs.declared.config.Config.{Config as ConfigValue};
+ghost use Rattle.pim_model.specs.Sure.{needs_no_memory};
 ghost use Rattle.pim_locality.specs.Rest.{IsAtRest};
 
 use crate::event::take_in;
@@ -21,18 +25,20 @@ pub struct Router {
     alloc: Global,
     failed: bool,
     world: World,
+    // Of the last event.
+    copies: u32,
     // The trie nodes visited so far.
     meter: Meter,
 }
 
 impl Model for Router {
     ghost use Rattle.std.specs.Prelude.{None, Option, Some, false, if◌then◌else◌, ◌≡◌};
-    ghost use Rattle.pim_model.specs.State.{State};
     ghost use Rattle.pim_locality.specs.Rest.{IsAtRest};
+    ghost use Rattle.pim_router.specs.Standing.{Standing};
 
-    ghost Value = { Option State };
+    ghost Value = { Option Standing };
 
-    ghost view = { λ r. if r.failed then None else Some r.world };
+    ghost view = { λ r. if r.failed then None else Some (record { state = r.world; copies = r.copies }) };
 
     ghost invariant = { λ r. r.failed ≡ false → IsAtRest r.world };
 }
@@ -42,7 +48,8 @@ impl Router {
     /// the first test that fails: of the interfaces, the limit, the querier's values, the delays, the
     /// routes and the RP ranges.
     pub fn new(alloc: Global, config: Config) -> Result<Result<Router, Refusal>, Fault>
-        ensures accepted { IfOk result (λ made. IfOk made (λ router. (config_test config ≡ Ok tt) × (router ≡ Some (opening config)))) }
+        ensures accepted { IfOk result (λ made. IfOk made (λ router. (config_test config ≡ Ok tt)
+            × (router ≡ Some (beginning (opening config))))) }
         ensures refused { IfOk result (λ made. IfErr made (λ refusal. config_test config ≡ Err refusal)) }
         ensures memory { IfErr result (λ fault. fault ≡ Fault.Memory) }
     {
@@ -51,6 +58,7 @@ impl Router {
                 alloc,
                 failed: false,
                 world,
+                copies: 0,
                 meter: Meter::new(),
             })),
             Err(refusal) => Ok(Err(refusal)),
@@ -60,7 +68,7 @@ impl Router {
     /// The moment, in ms, at which the next timer ends: time goes on there by `Advance`. `None` where no timer runs,
     /// and where the router has failed. No memory is taken.
     pub fn next_moment(&self) -> Option<u64>
-        ensures { result ≡ option_and_then next_moment self.now }
+        ensures { result ≡ option_and_then (λ r. next_moment r.state) self.now }
     {
         if self.failed {
             return None;
@@ -71,24 +79,35 @@ impl Router {
         }
     }
 
+    /// How many copies of a data packet the last event sent on links: 0 where there was none yet, and where the router
+    /// has failed. They are the last of what it sent on links. No memory is taken.
+    pub fn copies(&self) -> u32
+        ensures { result ≡ option_map_or (λ r. r.copies) self.now 0 }
+    {
+        if self.failed {
+            return 0;
+        }
+        self.copies
+    }
+
     /// Takes one event: it is done, ignored or refused. The packets that leave stand at the end of the
     /// emissions, in their order. After a fault the emissions are as they were, and the router answers
     /// `Failed` from then on. No memory is taken, so there is no fault in a router that hasn't failed, where
-    /// the event is ignored, or refused for its bytes, its moment or its interface; but routes and RP ranges
-    /// are tested in memory, also those that are then ignored as Unbuilt.
+    /// the event is ignored, or refused for its bytes, its moment or its interface.
     pub fn step(
         &mut self,
         event: &Event,
         emissions: &mut Vec<Emission>,
     ) -> Result<Result<Verdict, Refusal>, Fault>
-        ensures answer { IfSome self.old (λ s. IfOk result (λ answer. answer ≡ (built_step s event.now).answer)) }
-        ensures state { IfSome self.old (λ s. OnOk result (self.new ≡ Some (built_step s event.now).state)) }
-        ensures sent { IfSome self.old (λ s. OnOk result (emissions.new.items ≡ emissions.old.items ++ (built_step s event.now).emissions)) }
+        ensures answer { IfSome self.old (λ r. IfOk result (λ answer. answer ≡ (step r.state event.now).answer)) }
+        ensures state { IfSome self.old (λ r. OnOk result (self.new ≡ Some (standing (step r.state event.now)))) }
+        ensures sent { IfSome self.old (λ r. OnOk result (emissions.new.items
+            ≡ emissions.old.items ++ (step r.state event.now).emissions)) }
         ensures failing { OnErr result (self.new ≡ None) }
         ensures silent { OnErr result (emissions.new.items ≡ emissions.old.items) }
         ensures failed { (result ≡ Err Fault.Failed) ↔ (self.old ≡ None) }
-        ensures fault { IfSome self.old (λ s. IsOkUnless result Fault.Memory) }
-        ensures sure { IfSome self.old (λ s. IsTrue (is_sure event.now.kind (built_step s event.now).answer)
+        ensures fault { IfSome self.old (λ r. IsOkUnless result Fault.Memory) }
+        ensures sure { IfSome self.old (λ r. IsTrue (needs_no_memory (step r.state event.now).answer)
             → IsOk result) }
     {
         if self.failed {
@@ -97,28 +116,45 @@ impl Router {
         self.failed = true;
         let outcome = take_in(self.alloc, &mut self.world, event, &mut self.meter)?;
         emissions.append(&mut outcome.emissions.into_vec())?;
+        self.copies = outcome.copies;
         self.failed = false;
         Ok(outcome.answer)
     }
 
     /// Takes events one after the other, and tells the outcome of each. After a fault the router answers
-    /// `Failed` from then on. Where there are no events no memory is taken, so there is no fault.
+    /// `Failed` from then on. Where there are no events no memory is taken, so there is no fault. In the run of a new
+    /// router nothing flows unasked: each copy of a packet has its cause in an earlier event.
     pub fn run(&mut self, events: &[Event]) -> Result<Vec<Outcome>, Fault>
-        ensures outcomes { IfSome self.old (λ s. IfOk result (λ outcomes. outcomes.items ≡ built_run s events.now)) }
-        ensures state { IfSome self.old (λ s. OnOk result (self.new ≡ Some (built_state_after s events.now))) }
+        ensures outcomes { IfSome self.old (λ r. IfOk result (λ outcomes. outcomes.items ≡ run r.state events.now)) }
+        ensures state { IfSome self.old (λ r. OnOk result (self.new ≡ Some (standing_after r events.now))) }
+        ensures asked { (c : ConfigValue) → config_test c ≡ Ok tt → self.old ≡ Some (beginning (opening c))
+            → IfOk result (λ outcomes. OutcomesAreAsked [] (opening c) events.now outcomes.items) }
         ensures failing { OnErr result (self.new ≡ None) }
         ensures failed { (result ≡ Err Fault.Failed) ↔ (self.old ≡ None) }
-        ensures fault { IfSome self.old (λ s. IsOkUnless result Fault.Memory) }
-        ensures sure { IfSome self.old (λ s. events.now ≡ [] → IsOk result) }
+        ensures fault { IfSome self.old (λ r. IsOkUnless result Fault.Memory) }
+        ensures sure { IfSome self.old (λ r. events.now ≡ [] → IsOk result) }
     {
         if self.failed {
             return Err(Fault::Failed);
         }
         self.failed = true;
         let outcomes = run_world(self.alloc, &mut self.world, events, &mut self.meter)?;
+        self.copies = last_copies(self.copies, &outcomes);
         self.failed = false;
         Ok(outcomes)
     }
+}
+
+// The copies of the last of these outcomes; where there are none, those of the event before.
+#[tactic(auto, unfolding(crate::specs::Standing::last_copies))]
+fn last_copies(before: u32, outcomes: &[Outcome]) -> u32
+    ensures { result ≡ last_copies before outcomes.now }
+{
+    let mut copies = before;
+    for outcome in outcomes {
+        copies = outcome.copies;
+    }
+    copies
 }
 
 // Takes events one after the other.
@@ -129,8 +165,8 @@ fn run_world(
     meter: &mut Meter,
 ) -> Result<Vec<Outcome>, Fault>
     requires { IsAtRest world.old }
-    ensures outcomes { IfOk result (λ outcomes. outcomes.items ≡ built_run world.old events.now) }
-    ensures state { OnOk result (world.new ≡ built_state_after world.old events.now) }
+    ensures outcomes { IfOk result (λ outcomes. outcomes.items ≡ run world.old events.now) }
+    ensures state { OnOk result (world.new ≡ state_after world.old events.now) }
     ensures rest { OnOk result (IsAtRest world.new) }
     ensures fault { IsOkUnless result Fault.Memory }
     ensures sure { events.now ≡ [] → IsOk result }

@@ -6,7 +6,6 @@ use Rattle.pim_types.specs.declared.table.DownstreamState.{DownstreamState}
 use Rattle.pim_types.specs.declared.table.Row.{Row}
 use Rattle.pim_types.specs.declared.table.Table.{Table}
 use Rattle.pim_ip.specs.Addr.{addr}
-use Rattle.pim_model.specs.Built.{are_built, built_run}
 use Rattle.pim_model.specs.Printed.{rows}
 use Rattle.pim_model.specs.State.{State, opening}
 use Rattle.pim_model.specs.Step.{run, state_after}
@@ -38,10 +37,6 @@ outcomes_of_one_join =
 
 abbrev pub OneJoinBringsOneJoin : Type 0
 OneJoinBringsOneJoin = run (opening base) one_join ≡ outcomes_of_one_join
-
--- All of these events are built, so the run restricted to what is built is the same.
-abbrev pub OneJoinIsBuilt : Type 0
-OneJoinIsBuilt = (are_built (opening base) one_join ≡ true) × (built_run (opening base) one_join ≡ outcomes_of_one_join)
 
 -- The same Join once more brings nothing.
 abbrev pub SecondJoinBringsNothing : Type 0

@@ -1,7 +1,7 @@
 //! Worked runs of Joins and Prunes.
 #![tactic(auto, unfolding(crate::proofs::OnLiterals::machine_on_literals))]
 
-ghost use Rattle.pim_runs.specs.Joins.{NoEventsNoOutcomes, OneJoinBringsOneJoin, OneJoinIsBuilt, SecondJoinBringsNothing, JoinForAnotherRpBringsNothing, JoinIsRepeatedUntilItExpires, JoinOfSourceGoesUp, HoldtimesOfJoins, PruneWaitsForAnOverride, PrunedSourceLeavesTheSharedTree, JoinsBesideAreHeard, RestartedNeighbourIsJoinedAgain};
+ghost use Rattle.pim_runs.specs.Joins.{NoEventsNoOutcomes, OneJoinBringsOneJoin, SecondJoinBringsNothing, JoinForAnotherRpBringsNothing, JoinIsRepeatedUntilItExpires, JoinOfSourceGoesUp, HoldtimesOfJoins, PruneWaitsForAnOverride, PrunedSourceLeavesTheSharedTree, JoinsBesideAreHeard, RestartedNeighbourIsJoinedAgain};
 
 /// No events have no outcomes.
 pub fn no_events_no_outcomes()
@@ -11,11 +11,6 @@ pub fn no_events_no_outcomes()
 /// Interfaces that come up query, and a Join of a neighbour goes on towards the RP.
 pub fn one_join_brings_one_join()
     ensures { OneJoinBringsOneJoin }
-{}
-
-/// The run restricted to what is built has the same outcomes.
-pub fn one_join_is_built()
-    ensures { OneJoinIsBuilt }
 {}
 
 /// The same Join once more is sent nowhere.

@@ -21,8 +21,6 @@ pub enum Ignored {
     NotRp,
     /// The interface is up, or down, already.
     Already,
-    /// The router doesn't have the rules for this event or message yet.
-    Unbuilt,
 }
 
 /// Why an event changes nothing.

@@ -1,33 +1,21 @@
-use Rattle.std.proofs.Common.{◌≡◌, true, subst, sym}
-use Rattle.pim_downstream.proofs.OnInterface.{joined_on, pruned_on}
-use Rattle.pim_downstream.specs.Naming.{are_on}
-use Rattle.pim_router.specs.Naming.{AreNamedBy}
+use Rattle.pim_router.proofs.Sending.{data_sends, nothing_sends, register_sends}
 use Rattle.pim_router.proofs.change.apply.Goals as goal
 
-pub to_me-requires-clause-joined : goal.to_me-requires-clause-joined
-to_me-requires-clause-joined c =
-    let named = c.args.named.now in
-    let keys = subst (λ a. AreNamedBy c.args.world.now a named.joined.items named.pruned.items) c.in-JoinPruneToMe.is
-    c.requires.named in
-    subst (λ ks. are_on c.in-JoinPruneToMe.iface.number ks ≡ true) (sym keys.0)
-    (joined_on c.in-JoinPruneToMe.iface.number c.args.world.now c.in-JoinPruneToMe.message)
+pub returns-in-Data : goal.returns-in-Data
+returns-in-Data c =
+    data_sends c.args.world.now c.args.turn.now.draw c.args.accepted.now c.in-Data.iface c.in-Data.packet c.in-Data.is
+    c.forward.new.world c.args.turn.now c.forward.new.turn c.forward.result c.forward.ensures
 
-pub to_me-requires-clause-pruned : goal.to_me-requires-clause-pruned
-to_me-requires-clause-pruned c =
-    let named = c.args.named.now in
-    let keys = subst (λ a. AreNamedBy c.args.world.now a named.joined.items named.pruned.items) c.in-JoinPruneToMe.is
-    c.requires.named in
-    subst (λ ks. are_on c.in-JoinPruneToMe.iface.number ks ≡ true) (sym keys.1)
-    (pruned_on c.in-JoinPruneToMe.iface.number c.in-JoinPruneToMe.message)
+pub returns-in-Register : goal.returns-in-Register
+returns-in-Register c =
+    register_sends c.args.world.now c.args.turn.now.draw c.args.accepted.now c.in-Register.packet c.in-Register.register
+    c.in-Register.is c.decapsulate.new.world c.args.turn.now c.decapsulate.new.turn c.decapsulate.result
+    c.decapsulate.ensures
 
-pub seen-requires-clause-joined : goal.seen-requires-clause-joined
-seen-requires-clause-joined c =
-    let named = c.args.named.now in
-    (subst (λ a. AreNamedBy c.args.world.now a named.joined.items named.pruned.items) c.in-JoinPruneSeen.is
-    c.requires.named).0
-
-pub seen-requires-clause-pruned : goal.seen-requires-clause-pruned
-seen-requires-clause-pruned c =
-    let named = c.args.named.now in
-    (subst (λ a. AreNamedBy c.args.world.now a named.joined.items named.pruned.items) c.in-JoinPruneSeen.is
-    c.requires.named).1
+pub returns-in_ok-apply_without_packet-in_default : goal.returns-in_ok-apply_without_packet-in_default
+returns-in_ok-apply_without_packet-in_default c =
+    nothing_sends c.args.world.now c.args.turn.now.draw c.args.accepted.now
+    (record { packet = c.in_default.not-Data; register = c.in_default.not-Register })
+    c.apply_without_packet.new.world c.args.turn.now c.apply_without_packet.new.turn c.nothing.result
+    c.in_ok-apply_without_packet-in_default.ensures.state c.in_ok-apply_without_packet-in_default.ensures.messages
+    c.nothing.ensures.copies c.nothing.ensures.registered

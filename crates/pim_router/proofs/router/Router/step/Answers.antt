@@ -3,7 +3,8 @@ use Rattle.pim_router.proofs.router.Router.step.Goals as goal
 
 pub returns-in_err-append-clause-sure : goal.returns-in_err-append-clause-sure
 returns-in_err-append-clause-sure c =
-    finds_room c.args.self.now c.self.inside.failed c.self.inside.world c.args.event.now c.in_ok-outcome.outcome
+    finds_room c.args.self.now c.self.inside.failed
+    (record { state = c.self.inside.world; copies = c.self.inside.copies }) c.args.event.now c.in_ok-outcome.outcome
     c.into_vec.result.items
     _ _ c.from_residual-in_err-append.result c.self.view_is c.if-self.false c.in_ok-outcome.ensures.outcome
     c.into_vec.ensures

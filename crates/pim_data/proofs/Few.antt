@@ -1,0 +1,62 @@
+-- The copies on the interfaces of a list, and that there are no more than interfaces.
+use Rattle.std.proofs.Common.{◌≡◌, ℕ, ◌≤◌, ◌&&◌, Bool, true, cond, List, [], ◌∷◌, Result, Ok, Err, IfOk, length, filter, map, nat_lt, arith, refl, ap, sym, ◌∙◌}
+use Rattle.std.specs.Prelude.{if◌then◌else◌}
+use Rattle.std.proofs.lemmas.List.{length-map}
+use Rattle.std.proofs.lemmas.List.FromFn.{length-range_with_len}
+use Rattle.std.proofs.lemmas.List.Sums.{count_by-le-length, length-filter}
+use Rattle.pim_ip.specs.Ipv4.{Packet, copy_text}
+use Rattle.pim_ifset.specs.Members.{Members, has}
+use Rattle.pim_macros.specs.Sights.{Shows}
+use Rattle.pim_types.specs.declared.config.IfaceId.{IfaceId}
+use Rattle.pim_types.specs.declared.outcome.Emission.{Emission}
+use Rattle.pim_model.specs.Sets.{Set, members}
+use Rattle.pim_model.specs.State.{State, iface_count, ifaces}
+use Rattle.pim_model.specs.Writing.{copies_of, leaves, on_link}
+
+members_few : (s : State) (test : Set) → length (members s test) ≤ iface_count s
+unfolding members
+members_few s test =
+    omega (
+      arith,
+      length-filter test (ifaces s),
+      count_by-le-length test (ifaces s),
+      length-range_with_len 0 (iface_count s),
+    )
+
+by_numbers : (f : ℕ → Emission) (on : List IfaceId)
+    → map (λ (i : IfaceId). f i.number) on ≡ map f (map (λ (i : IfaceId). i.number) on)
+by_numbers f [] = refl
+by_numbers f (i ∷ on) = ap (λ (es : List Emission). f i.number ∷ es) (by_numbers f on)
+
+module _ (s : State) (p : Packet) (list plain : Members) (on : List IfaceId)
+    (shown : (test : Set) → Shows plain test → map (λ (i : IfaceId). i.number) on ≡ members s test) where
+  copied : (b : Bool) → b ≡ leaves p → b ≡ true → ((q : ℕ) → has plain q ≡ has list q) → (test : Set)
+      → Shows list test → map (λ (i : IfaceId). on_link i.number (copy_text p)) on ≡ copies_of s p test
+  unfolding copies_of
+  copied b is leaves same test shows =
+      by_numbers (λ i. on_link i (copy_text p)) on
+      ∙ ap (λ (is : List ℕ). map (λ i. on_link i (copy_text p)) is) (shown test (λ i. same i ∙ shows i))
+      ∙ ap (λ (x : Bool). if x then map (λ i. on_link i (copy_text p)) (members s test) else []) (sym leaves ∙ is)
+
+  pub all_copied : {V E : Type 0} (items : V → List Emission) (r : Result V E) (b : Bool) → b ≡ leaves p → b ≡ true
+      → ((q : ℕ) → has plain q ≡ has list q)
+      → IfOk r (λ v. items v ≡ map (λ (i : IfaceId). on_link i.number (copy_text p)) on)
+      → IfOk r (λ v. (test : Set) → Shows list test → items v ≡ copies_of s p test)
+  all_copied items (Ok v) b is leaves same are = λ test shows. are ∙ copied b is leaves same test shows
+  all_copied items (Err e) b is leaves same are = tt
+
+  pub copies_few : {V E : Type 0} (items : V → List Emission) (r : Result V E)
+      → ((q : ℕ) → has plain q ≡ (nat_lt q 120 && has plain q)) → iface_count s ≤ 120
+      → IfOk r (λ v. items v ≡ map (λ (i : IfaceId). on_link i.number (copy_text p)) on)
+      → IfOk r (λ v. length (items v) ≤ 120)
+  copies_few items (Err e) limit few are = tt
+  copies_few items (Ok v) limit few are =
+      omega (
+        arith,
+        few,
+        ap length are,
+        length-map on (λ (i : IfaceId). on_link i.number (copy_text p)),
+        length-map on (λ (i : IfaceId). i.number),
+        ap length (shown (has plain) limit),
+        members_few s (has plain),
+      )

@@ -1,0 +1,44 @@
+//! The limit on facts, where a packet or a Register may make a source's.
+ghost use Rattle.std.specs.Prelude.{◌≡◌, ◌∷◌, [], ◌&&◌};
+ghost use Rattle.pim_model.specs.Full.{needed, source_is_full};
+ghost use Rattle.pim_model.specs.Registers.{registered_group, registered_source};
+ghost use Rattle.pim_model.specs.Unicast.{is_rp};
+ghost use Rattle.pim_types.specs.Keys.{source_key};
+
+use pim_ip::Ipv4View;
+use pim_macros::{Turn, World};
+use pim_types::{Addr, IfaceId, Key};
+use pim_wire::RegisterView;
+
+// How many rows the source needs that it hasn't: one, or none.
+#[tactic(auto, using(crate::proofs::Needed::one_needed))]
+fn missing(world: &World, group: Addr, source: Addr) -> usize
+    ensures { result ≡ needed world.now.sources (source_key 0 group.bits source.bits ∷ []) }
+{
+    let key = Key::source(IfaceId::NONE, group, source);
+    usize::from(world.source_at(key).is_none())
+}
+
+/// Whether the row that a source may get passes the limit on facts.
+#[tactic(auto, unfolding(pim_model::specs::Full::source_is_full))]
+pub fn source_is_full(world: &World, group: Addr, source: Addr) -> bool
+    ensures { result ≡ source_is_full world.now group.bits source.bits }
+{
+    world.passes_limit(missing(world, group, source))
+}
+
+/// Whether the row that a Register may make passes it: at another router than the RP a Register makes none.
+pub fn is_full(
+    world: &World,
+    turn: &mut Turn,
+    packet: &Ipv4View<'_>,
+    register: &RegisterView<'_>,
+) -> bool
+    ensures full { result ≡ (is_rp world.now (registered_group register.now) packet.now.destination
+        && source_is_full world.now (registered_group register.now) (registered_source register.now)) }
+    ensures silent { turn.new ≡ turn.old }
+{
+    let (group, source) = (register.group(), register.source());
+    world.is_rp(group, packet.destination(), &mut turn.meter)
+        && source_is_full(world, group, source)
+}

@@ -1,0 +1,97 @@
+//! Registers that came to one of the router's addresses (RFC 7761, section 4.4.2).
+ghost use Rattle.std.specs.Prelude.{◌≡◌, ◌&&◌, ◌||◌, IfOk, OnOk};
+ghost use Rattle.pim_macros.specs.Sights.{IsSourceSight};
+ghost use Rattle.pim_macros.specs.Turns.{saying};
+ghost use Rattle.pim_model.specs.Desires.{is_inherited_empty};
+ghost use Rattle.pim_model.specs.Forwarding.{register_at_rp, register_received, register_stop_to};
+ghost use Rattle.pim_model.specs.Registers.{is_null, is_spt_wanted, registered_group, registered_source};
+ghost use Rattle.pim_model.specs.Sets.{spt_bit};
+ghost use Rattle.pim_register.specs.Outgoing.{LeavesOn};
+
+use pim_ifset::IfSet;
+use pim_ip::Ipv4View;
+use pim_macros::{SourceSight, Turn, World};
+use pim_types::Addr;
+use pim_wire::RegisterView;
+use std::alloc::AllocError;
+
+// A Register-Stop, from the address that the Register came to back to where it came from.
+fn stop_registering(
+    turn: &mut Turn,
+    packet: &Ipv4View<'_>,
+    group: Addr,
+    source: Addr,
+) -> Result<(), AllocError>
+    ensures { OnOk result (turn.new ≡ saying turn.old (register_stop_to packet.now group.bits source.bits)) }
+{
+    turn.out
+        .register_stop(packet.destination(), packet.source(), group, source)
+}
+
+// Whether the RP wants no more Registers of the source.
+fn is_stopped(world: &World, sight: &SourceSight) -> bool
+    requires { IsSourceSight world.now sight.now }
+    ensures { let s = world.now in let g = sight.now.star.group.bits in let src = sight.now.source.bits in
+        result ≡ (spt_bit s g src || (is_spt_wanted s && is_inherited_empty s g src)) }
+{
+    sight.spt || world.is_spt_wanted() && world.is_inherited_empty(sight)
+}
+
+// At the RP: the packet goes down the shared tree, but for one that comes down the shortest path tree too.
+#[tactic(auto, unfolding(pim_model::specs::Forwarding::register_at_rp))]
+fn register_at_rp(
+    world: &mut World,
+    turn: &mut Turn,
+    packet: &Ipv4View<'_>,
+    register: &RegisterView<'_>,
+) -> Result<IfSet, AllocError>
+    ensures list { IfOk result (λ list. LeavesOn list (register_at_rp world.old packet.now
+        (registered_group register.now) (registered_source register.now) (is_null register.now))) }
+    ensures state { OnOk result (world.new ≡ (register_at_rp world.old packet.now
+        (registered_group register.now) (registered_source register.now) (is_null register.now)).state) }
+    ensures messages { OnOk result (turn.new ≡ saying turn.old (register_at_rp world.old packet.now
+        (registered_group register.now) (registered_source register.now) (is_null register.now)).messages) }
+{
+    let (group, source) = (register.group(), register.source());
+    let star = world.gather_star(group, &mut turn.meter);
+    let sight = world.gather_source(star, source, &mut turn.meter);
+    let is_stopped = is_stopped(world, &sight);
+    let list = if sight.spt || register.is_null() {
+        IfSet::new()
+    } else {
+        world.inherited_olist_rpt(&sight).without_tunnel()
+    };
+    if sight.spt || world.is_spt_wanted() {
+        world.keep_alive(group, source)?;
+    }
+    if is_stopped {
+        stop_registering(turn, packet, group, source)?;
+    }
+    Ok(list)
+}
+
+/// Takes a Register that came in this packet. At the RP of its group its packet goes down the shared tree, the source is
+/// watched, and the source's router is told to stop where the source comes without Registers, or nobody wants it; any
+/// other router tells it to stop. The answer is where the packet leaves, without the tunnel; a Null-Register's leaves
+/// nowhere. An error is want of memory.
+#[tactic(auto, unfolding(pim_model::specs::Forwarding::register_received))]
+pub fn register_seen(
+    world: &mut World,
+    turn: &mut Turn,
+    packet: &Ipv4View<'_>,
+    register: &RegisterView<'_>,
+) -> Result<IfSet, AllocError>
+    ensures list { IfOk result (λ list. LeavesOn list (register_received world.old packet.now
+        (registered_group register.now) (registered_source register.now) (is_null register.now))) }
+    ensures state { OnOk result (world.new ≡ (register_received world.old packet.now
+        (registered_group register.now) (registered_source register.now) (is_null register.now)).state) }
+    ensures messages { OnOk result (turn.new ≡ saying turn.old (register_received world.old packet.now
+        (registered_group register.now) (registered_source register.now) (is_null register.now)).messages) }
+{
+    let (group, source) = (register.group(), register.source());
+    if world.is_rp(group, packet.destination(), &mut turn.meter) {
+        return register_at_rp(world, turn, packet, register);
+    }
+    stop_registering(turn, packet, group, source)?;
+    Ok(IfSet::new())
+}

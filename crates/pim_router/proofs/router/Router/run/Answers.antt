@@ -1,0 +1,7 @@
+use Rattle.pim_router.proofs.Runs.{is_asked}
+use Rattle.pim_router.proofs.router.Router.run.Goals as goal
+
+pub returns-clause-asked : goal.returns-clause-asked
+returns-clause-asked c =
+    is_asked c.args.self.now c.self.inside.failed (record { state = c.self.inside.world; copies = c.self.inside.copies })
+    c.args.events.now c.in_ok-outcomes.outcomes.items c.self.view_is c.if-self.false c.in_ok-outcomes.ensures.outcomes

@@ -1,0 +1,29 @@
+-- What a router shows: its state, and how many packets its last event copied.
+use Rattle.std.specs.Prelude.{List, fold, ℕ}
+use Rattle.pim_types.specs.declared.event.Event.{Event}
+use Rattle.pim_types.specs.declared.outcome.Outcome.{Outcome}
+use Rattle.pim_model.specs.State.{State}
+use Rattle.pim_model.specs.Step.{Answered, run, state_after}
+
+pub record Standing : Type 0 where
+  pub state : State
+  pub copies : ℕ
+
+-- before its first event
+abbrev pub beginning : State → Standing
+beginning s = record { state = s; copies = 0 }
+
+-- after an event
+abbrev pub standing : Answered → Standing
+standing a = record { state = a.state; copies = a.copies }
+
+-- the copies of the last of these outcomes; where there are none, those of the event before
+unfoldable pub last_copies : ℕ → List Outcome → ℕ
+last_copies before outcomes = fold (λ n (o : Outcome). o.copies) before outcomes
+
+-- after a run
+abbrev pub standing_after : Standing → List Event → Standing
+standing_after r events = record {
+  state = state_after r.state events;
+  copies = last_copies r.copies (run r.state events);
+}
