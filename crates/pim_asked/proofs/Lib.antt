@@ -7,4 +7,5 @@ pub mod Fired
 pub mod Past
 pub mod Copies
 pub mod Steps
+pub mod Networks
 pub mod Told

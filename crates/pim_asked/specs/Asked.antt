@@ -1,5 +1,5 @@
 -- Nothing flows unasked: of each copy of (S,G) on a link an earlier event is the cause.
-use Rattle.std.specs.Prelude.{List, Ok, [], true, ◌≡◌}
+use Rattle.std.specs.Prelude.{List, Ok, [], ◌≡◌}
 use Rattle.pim_types.specs.declared.config.Config.{Config}
 use Rattle.pim_types.specs.declared.event.Event.{Event}
 use Rattle.pim_model.specs.Cause.{CopiesAreAsked, OutcomesAreAsked, past_after}

@@ -1,6 +1,7 @@
 //! Laws of the definitions, each the contract of a function with nothing to do.
 
 ghost use Rattle.pim_asked.specs.Asked.{NothingFlowsUnasked, RunIsAsked};
+ghost use Rattle.pim_asked.specs.Networks.{NetworkIsAsked};
 ghost use Rattle.pim_asked.specs.Told.{CauseIsAnEarlierEvent};
 
 /// After any events from the opening with an accepted configuration, each copy that an event makes on a link has its
@@ -20,4 +21,11 @@ pub fn run_is_asked()
 #[tactic(auto, using(crate::proofs::Told::cause_is_an_earlier_event))]
 pub fn cause_is_an_earlier_event()
     ensures { CauseIsAnEarlierEvent }
+{}
+
+/// In the moves of a new network whose nodes are accepted each router's copies have their causes among the events that
+/// came to it.
+#[tactic(auto, using(crate::proofs::Networks::network_is_asked))]
+pub fn network_is_asked()
+    ensures { NetworkIsAsked }
 {}

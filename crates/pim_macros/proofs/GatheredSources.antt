@@ -1,6 +1,5 @@
--- The sources of a group, gathered of several tables one after the other.
+-- The sources of a group: those of the facts of membership, and those of the store's put among them.
 use Rattle.std.proofs.Common.{◌≡◌, ◌==◌, ◌||◌, ◌&&◌, ℕ, Bool, true, false, cond, List, [], ◌∷◌, ◌++◌, map, Some, None, is_some, refl, sym, ap, append_assoc, ◌∙◌}
-use Rattle.std.proofs.Math.Bool.{or_assoc}
 use Rattle.std.specs.List.{filter, list_any}
 use Rattle.std.proofs.lemmas.List.{map-append}
 use Rattle.std.proofs.lemmas.List.Elements.{filter-append}
@@ -8,12 +7,12 @@ use Rattle.std.proofs.lemmas.List.Folds.{list_any-append}
 use Rattle.pim_ip.specs.declared.addr.Addr.{Addr}
 use Rattle.pim_types.specs.declared.fact.Key.{Key}
 use Rattle.pim_types.specs.Keys.{is_of_group, names_source, source_in}
-use Rattle.pim_model.specs.Tables.{Table, ascending, insert_number, is_among, keys_in}
+use Rattle.pim_model.specs.Tables.{ascending, insert_number, is_among, keys_in}
 use Rattle.pim_model.specs.State.{State}
 use Rattle.pim_model.specs.Upstream.{fact_keys, sources_of}
 use Rattle.pim_laws.proofs.Numbers.{any_ascending, members_tell}
 use Rattle.pim_macros.specs.Groups.{gathered}
-use Rattle.pim_macros.specs.Sources.{is_member, sources_among}
+use Rattle.pim_macros.specs.Sources.{sources_among}
 use Rattle.pim_macros.proofs.Gathered.{gathered_both}
 
 module _ (g : ℕ) where
@@ -33,19 +32,6 @@ module _ (g : ℕ) where
       f ∙ ap (λ ns. gathered (sources_among g ys) ns) e
       ∙ gathered_both (sources_among g xs) (sources_among g ys) before
       ∙ ap (λ ns. gathered ns before) (sym (among_both xs ys))
-
-  module _ {R : Type 0} where
-    pub next_gathered : (xs t : Table R) (e : Key × R) (before after : List ℕ) → xs ≡ e ∷ t
-        → after ≡ gathered (sources_among g (e.0 ∷ [])) before
-        → gathered (sources_among g (keys_in t)) after ≡ gathered (sources_among g (keys_in xs)) before
-    unfolding keys_in
-    next_gathered xs t e before after is one =
-        more_gathered (e.0 ∷ []) (keys_in t) before after _ one refl
-        ∙ ap (λ (ys : Table R). gathered (sources_among g (keys_in ys)) before) (sym is)
-
-    pub none_gathered : (xs : Table R) (ns : List ℕ) → xs ≡ [] → gathered (sources_among g (keys_in xs)) ns ≡ ns
-    unfolding keys_in sources_among gathered
-    none_gathered xs ns is = ap (λ (ys : Table R). gathered (sources_among g (keys_in ys)) ns) is
 
   -- one key
   pub one_source : (k : Key) (source : Addr) (ns : List ℕ) → is_of_group g k ≡ true → k.source ≡ Some source
@@ -74,7 +60,7 @@ module _ (g : ℕ) where
   gathered_is ns = refl
 
   -- numbers in order among others are as the numbers themselves
-  pub in_order : (xs ys : List Key) (before found : List ℕ) → before ≡ gathered (sources_among g xs) []
+  in_order : (xs ys : List Key) (before found : List ℕ) → before ≡ sources_of g xs
       → found ≡ gathered (sources_of g ys) before → found ≡ sources_of g (xs ++ ys)
   unfolding sources_of is_among ascending gathered sources_among
   in_order xs ys before found is more =
@@ -98,39 +84,38 @@ pub no_number : (xs ns : List ℕ) → xs ≡ [] → gathered xs ns ≡ ns
 unfolding gathered
 no_number xs ns is = ap (λ (ys : List ℕ). gathered ys ns) is
 
--- a source that the facts name
-any_of_eleven : (p : Key → Bool) (a b c d e f g h i j k : List Key)
-    → list_any p (a ++ b ++ c ++ d ++ e ++ f ++ g ++ h ++ i ++ j ++ k)
-    ≡ (list_any p a || list_any p b || list_any p c || list_any p d || list_any p e
-    || list_any p (f ++ g ++ h ++ i ++ j ++ k))
-any_of_eleven p a b c d e f g h i j k = simp (list_any-append, or_assoc)
-
-pub any_fact : (s : State) (g src : ℕ) → list_any (names_source g src) (fact_keys s)
-    ≡ (is_member s g src || list_any (names_source g src)
-    (keys_in s.downstream ++ keys_in s.asserts ++ keys_in s.join_timers ++ keys_in s.override_timers
-    ++ keys_in s.sources ++ keys_in s.registers))
-unfolding fact_keys
-any_fact s g src =
-    any_of_eleven (names_source g src) (keys_in s.group_records) (keys_in s.source_records) (keys_in s.group_repeats)
-    (keys_in s.source_repeats) (keys_in s.sendings) (keys_in s.downstream) (keys_in s.asserts) (keys_in s.join_timers)
-    (keys_in s.override_timers) (keys_in s.sources) (keys_in s.registers)
-
 -- the facts of membership, and then those of the store
-of_eleven : (g : ℕ) (a b c d e f h i j k l : List Key)
-    → sources_of g ((a ++ b ++ c ++ d ++ e) ++ (f ++ h ++ i ++ j ++ k ++ l))
-    ≡ sources_of g (a ++ b ++ c ++ d ++ e ++ f ++ h ++ i ++ j ++ k ++ l)
-of_eleven g a b c d e f h i j k l = ap (λ (ks : List Key). sources_of g ks) (simp append_assoc)
+module _ (s : State) where
+  abbrev member_keys : List Key
+  member_keys =
+      keys_in s.group_records ++ keys_in s.source_records ++ keys_in s.group_repeats ++ keys_in s.source_repeats
+      ++ keys_in s.sendings
 
-pub facts_in_order : (s : State) (g : ℕ) (empty before found : List ℕ) → empty ≡ [] → before ≡ gathered (sources_among g (keys_in s.group_records ++ keys_in s.source_records ++ keys_in s.group_repeats
-    ++ keys_in s.source_repeats ++ keys_in s.sendings)) empty
-    → found ≡ gathered (sources_of g (keys_in s.downstream ++ keys_in s.asserts ++ keys_in s.join_timers
-    ++ keys_in s.override_timers ++ keys_in s.sources ++ keys_in s.registers)) before
-    → found ≡ sources_of g (fact_keys s)
-unfolding fact_keys
-facts_in_order s g empty before found none is more =
-    in_order g _ _ before found (is ∙ ap (λ (ns : List ℕ). gathered (sources_among g (keys_in s.group_records
-    ++ keys_in s.source_records ++ keys_in s.group_repeats ++ keys_in s.source_repeats ++ keys_in s.sendings)) ns) none)
-    more
-    ∙ of_eleven g (keys_in s.group_records) (keys_in s.source_records) (keys_in s.group_repeats)
-    (keys_in s.source_repeats) (keys_in s.sendings) (keys_in s.downstream) (keys_in s.asserts) (keys_in s.join_timers)
-    (keys_in s.override_timers) (keys_in s.sources) (keys_in s.registers)
+  abbrev stored_keys : List Key
+  stored_keys =
+      keys_in s.downstream ++ keys_in s.asserts ++ keys_in s.join_timers ++ keys_in s.override_timers ++ keys_in s.sources
+      ++ keys_in s.registers
+
+  both_are_all : member_keys ++ stored_keys ≡ fact_keys s
+  unfolding fact_keys
+  both_are_all =
+      of_eleven (keys_in s.group_records) (keys_in s.source_records) (keys_in s.group_repeats) (keys_in s.source_repeats)
+      (keys_in s.sendings) (keys_in s.downstream) (keys_in s.asserts) (keys_in s.join_timers) (keys_in s.override_timers)
+      (keys_in s.sources) (keys_in s.registers)
+    where
+      of_eleven : (a b c d e f h i j k l : List Key)
+          → (a ++ b ++ c ++ d ++ e) ++ (f ++ h ++ i ++ j ++ k ++ l) ≡ a ++ b ++ c ++ d ++ e ++ f ++ h ++ i ++ j ++ k ++ l
+      of_eleven a b c d e f h i j k l = simp append_assoc
+
+  -- a source that they name
+  pub any_fact : (g src : ℕ)
+      → list_any (names_source g src) (fact_keys s)
+      ≡ (list_any (names_source g src) member_keys || list_any (names_source g src) stored_keys)
+  any_fact g src =
+      ap (λ (ks : List Key). list_any (names_source g src) ks) (sym both_are_all)
+      ∙ list_any-append (names_source g src) member_keys stored_keys
+
+  pub facts_in_order : (g : ℕ) (before found : List ℕ) → before ≡ sources_of g member_keys
+      → found ≡ gathered (sources_of g stored_keys) before → found ≡ sources_of g (fact_keys s)
+  facts_in_order g before found is more =
+      in_order g member_keys stored_keys before found is more ∙ ap (λ (ks : List Key). sources_of g ks) both_are_all

@@ -20,6 +20,7 @@ pub mod sets;
 pub mod settings;
 pub mod sight;
 pub mod sources;
+pub mod tables;
 pub mod time;
 pub mod touched;
 pub mod turn;

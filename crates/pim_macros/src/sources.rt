@@ -2,10 +2,9 @@
 ghost use Rattle.std.specs.List.{list_any};
 ghost use Rattle.std.specs.Prelude.{◌≡◌, [], ◌∷◌, IfOk, OnOk};
 ghost use Rattle.pim_types.specs.Keys.{is_of_group, names_source};
-ghost use Rattle.pim_model.specs.Tables.{keys_in};
 ghost use Rattle.pim_model.specs.Upstream.{fact_keys, sources_of};
 ghost use Rattle.pim_macros.specs.Groups.{gathered, numbers_of};
-ghost use Rattle.pim_macros.specs.Sources.{is_member, sources_among};
+ghost use Rattle.pim_macros.specs.Sources.{sources_among};
 
 use crate::world::World;
 use pim_store::Sources;
@@ -13,7 +12,6 @@ use pim_trie::Meter;
 use pim_types::{Addr, Key};
 use std::alloc::{AllocError, Global};
 use std::collections::BTreeMap;
-use std::collections::btree_map::Iter;
 
 impl World {
     /// The sources of the group that have any fact, ascending.
@@ -24,33 +22,18 @@ impl World {
     ) -> Result<BTreeMap<Addr, (), Global>, AllocError>
         ensures { IfOk result (λ found. numbers_of found.entries ≡ sources_of group.bits (fact_keys self.now)) }
     {
-        let mut found = BTreeMap::new(alloc);
-        gather(self.membership.group_record_rows(), group, &mut found)?;
-        gather(self.membership.source_record_rows(), group, &mut found)?;
-        gather(self.membership.group_repeat_rows(), group, &mut found)?;
-        gather(self.membership.source_repeat_rows(), group, &mut found)?;
-        gather(self.membership.sending_rows(), group, &mut found)?;
+        let mut found = self.membership.sources_of(alloc, group)?;
         gather_all(self.store.sources_of(group), &mut found)?;
         Ok(found)
     }
 
-    // Whether there is a fact of membership of the source of the group.
-    fn is_member(&self, group: Addr, source: Addr) -> bool
-        ensures { result ≡ is_member self.now group.bits source.bits }
-    {
-        is_named(self.membership.group_record_rows(), group, source)
-            || is_named(self.membership.source_record_rows(), group, source)
-            || is_named(self.membership.group_repeat_rows(), group, source)
-            || is_named(self.membership.source_repeat_rows(), group, source)
-            || is_named(self.membership.sending_rows(), group, source)
-    }
-
     /// Whether there is a fact of the source of the group.
-    #[tactic(auto, using(crate::proofs::GatheredSources::any_fact), unfolding(pim_store::specs::PimTables::stored_keys))]
+    #[tactic(auto, using(crate::proofs::GatheredSources::any_fact), unfolding(pim_membership::specs::MembershipTables::membership_keys, pim_store::specs::PimTables::stored_keys))]
     pub fn has_facts(&self, group: Addr, source: Addr, meter: &mut Meter) -> bool
         ensures { result ≡ list_any (names_source group.bits source.bits) (fact_keys self.now) }
     {
-        self.is_member(group, source) || self.store.has_facts(group, source, meter)
+        self.membership.has_facts(group, source, meter)
+            || self.store.has_facts(group, source, meter)
     }
 }
 
@@ -63,21 +46,6 @@ fn gather_all(
 {
     for source in sources {
         found.insert(source, ())?;
-    }
-    Ok(())
-}
-
-// Puts the group's sources among those of facts into a set of sources.
-fn gather<R>(
-    facts: Iter<'_, Key, R>,
-    group: Addr,
-    found: &mut BTreeMap<Addr, (), Global>,
-) -> Result<(), AllocError>
-    ensures { OnOk result (numbers_of found.new.entries
-        ≡ gathered (sources_among group.bits (keys_in facts.entry)) (numbers_of found.old.entries)) }
-{
-    for (key, _) in facts {
-        gather_source(*key, group, found)?;
     }
     Ok(())
 }
@@ -108,25 +76,4 @@ fn is_of_group(key: Key, group: Addr) -> bool
     ensures { result ≡ is_of_group group.bits key }
 {
     key.group == group
-}
-
-// Whether the key is about the source of the group.
-#[tactic(auto, unfolding(pim_types::specs::Keys::names_source))]
-fn names_source(key: Key, group: Addr, source: Addr) -> bool
-    ensures { result ≡ names_source group.bits source.bits key }
-{
-    key.group == group && key.source == Some(source)
-}
-
-// Whether one of the facts is of the source of the group.
-#[tactic(auto, unfolding(pim_model::specs::Tables::keys_in))]
-fn is_named<R>(facts: Iter<'_, Key, R>, group: Addr, source: Addr) -> bool
-    ensures { result ≡ list_any (names_source group.bits source.bits) (keys_in facts.entry) }
-{
-    for (key, _) in facts {
-        if names_source(*key, group, source) {
-            return true;
-        }
-    }
-    false
 }

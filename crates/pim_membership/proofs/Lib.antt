@@ -3,3 +3,7 @@ mod Told
 mod Writes
 mod Rising
 mod Robust
+mod Found
+mod Named
+mod Kept
+mod Walked

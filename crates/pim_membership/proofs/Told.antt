@@ -30,7 +30,7 @@ limit_below n e = grind (arith, nat_tests, e)
 pub fits_at : (n : ℕ) (group : Addr) (source : Option Addr) → n < 120 → is_record_key (record_key n group source) ≡ true
 fits_at n group source h = both_true (below_limit n h) refl
 
-not_rpt : (b : Bool) → not b ≡ true → b ≡ false
+pub not_rpt : (b : Bool) → not b ≡ true → b ≡ false
 not_rpt true e = cc
 not_rpt false e = refl
 

@@ -9,7 +9,7 @@ use Rattle.pim_types.specs.declared.fact.SendingRow.{SendingRow}
 use Rattle.pim_types.specs.declared.fact.SourceRecordRow.{SourceRecordRow}
 use Rattle.pim_types.specs.declared.fact.SourceRepeatRow.{SourceRepeatRow}
 use Rattle.pim_types.specs.declared.timer.TimerKind.{TimerKind}
-use Rattle.pim_model.specs.Tables.{Table}
+use Rattle.pim_model.specs.Tables.{Table, keys_in}
 use Rattle.pim_model.specs.Timers.{Ending, endings, next_query, other_querier_end}
 
 pub record MembershipTables : Type 0 where
@@ -49,3 +49,9 @@ membership_endings m =
     ++ endings TimerKind.GeneralQuery (λ (r : QuerierRow). next_query r.role) m.queriers)
     ++ endings TimerKind.GroupRepeat (λ (r : GroupRepeatRow). Some r.next) m.group_repeats
     ++ endings TimerKind.SourceRepeat (λ (r : SourceRepeatRow). Some r.next) m.source_repeats
+
+-- the keys of all facts of groups
+unfoldable pub membership_keys : MembershipTables → List Key
+membership_keys m =
+    keys_in m.group_records ++ keys_in m.source_records ++ keys_in m.group_repeats ++ keys_in m.source_repeats
+    ++ keys_in m.sendings

@@ -6,5 +6,8 @@ mod listed;
 mod listing;
 pub mod membership;
 mod records;
+mod repeats;
+mod sendings;
+mod sources;
 
 pub use membership::Membership;

@@ -1,12 +1,13 @@
 //! What is listed of all groups and sources.
-ghost use Rattle.std.specs.Prelude.{◌≡◌, ◌<◌, ◌≤◌, ◌+◌, [], ℕ, None, Some, OnErr, OnOk};
+ghost use Rattle.std.specs.Prelude.{◌≡◌, ◌<◌, ◌≤◌, ◌+◌, [], ℕ, None, Some, OnErr, OnOk, filter};
 ghost use Rattle.pim_model.specs.Tables.{row_at};
 ghost use Rattle.pim_source_trie.specs.Entries.{entry_key};
+ghost use Rattle.pim_types.specs.Keys.{is_of_group};
 ghost use Rattle.pim_membership.specs.Listing.{Lists, Side, Writes, in_side, listed, record_key, source_bits};
 
 use crate::listed::Listed;
 use pim_ip::Addr;
-use pim_source_trie::SourceTrie;
+use pim_source_trie::{Entries, SourceTrie};
 use pim_trie::Meter;
 use pim_types::IfaceId;
 use std::alloc::{AllocError, Global};
@@ -48,6 +49,13 @@ impl Listing {
             Some(listed) => *listed,
             None => Listed::none(),
         }
+    }
+
+    // What is listed of the group and of its sources.
+    pub(crate) fn walk(&self, group: Addr) -> Entries<'_, Listed>
+        ensures { result ≡ filter (λ e. is_of_group group.bits e.0) self.now }
+    {
+        self.entries.walk(group)
     }
 
     // Lists these of a group, or of a source. Where there are some and nothing was listed it may fail for want of

@@ -1,6 +1,6 @@
 //! The membership facts.
 ghost use Rattle.std.specs.Prelude.{◌≡◌, ◌<◌, ◌≤◌, ◌+◌, ◌^◌, ℕ, None, Some, IfOk, IfSome, IsTrue, OnErr, OnOk, Option, false, filter, length, map, nat_lt, option_map};
-ghost use Rattle.std.specs.List.{list_all};
+ghost use Rattle.std.specs.List.{list_all, list_any};
 ghost use Rattle.std.specs.List.Sorted.{IsStrictlySortedBy};
 ghost use Rattle.std.specs.Ordering.{nat_cmp};
 ghost use Rattle.pim_ifset.specs.Members.{has};
@@ -9,15 +9,19 @@ ghost use Rattle.pim_model.specs.Receivers.{is_exclude_among, local_receiver_exc
 ghost use Rattle.pim_model.specs.Records.{is_at_group};
 ghost use Rattle.pim_model.specs.Tables.{change_row, drop_at, drop_where, has_row, keys_in, put, row_at, set_row};
 ghost use Rattle.pim_model.specs.Timers.{is_ending_first};
+ghost use Rattle.pim_model.specs.Upstream.{sources_of};
 ghost use Rattle.pim_tables.specs.Ends.{due_of};
-ghost use Rattle.pim_types.specs.Keys.{iface_in, iface_key, is_on, key_cmp, source_in, source_key, star_key};
+ghost use Rattle.pim_types.specs.Keys.{iface_in, iface_key, is_on, key_cmp, names_source, source_in, source_key, star_key};
 ghost use Rattle.pim_types.specs.declared.fact.GroupRecordRow.{GroupRecordRow as GroupRecord};
-ghost use Rattle.pim_membership.specs.MembershipTables.{counted_records, membership_endings, no_membership};
+ghost use Rattle.pim_membership.specs.MembershipTables.{counted_records, membership_endings, membership_keys, no_membership};
+ghost use Rattle.pim_membership.specs.Sources.{NameNone};
 
 use crate::records::Records;
+use crate::repeats::Repeats;
+use crate::sendings::Sendings;
 use pim_ifset::IfSet;
 use pim_ip::Addr;
-use pim_tables::{Facts, RowsOf, Timed, earlier};
+use pim_tables::{RowsOf, Timed, earlier};
 use pim_timers::Wheel;
 use pim_trie::Meter;
 use pim_types::fact::{
@@ -25,6 +29,7 @@ use pim_types::fact::{
 };
 use pim_types::{IfaceId, Key, Timer};
 use std::alloc::{AllocError, Global};
+use std::collections::BTreeMap;
 use std::collections::btree_map::Iter;
 use std::marker::Model;
 
@@ -35,9 +40,9 @@ pub struct Membership {
     queriers: Timed<QuerierRow, Wheel>,
     group_records: Records<GroupRecordRow>,
     source_records: Records<SourceRecordRow>,
-    group_repeats: Timed<GroupRepeatRow, Wheel>,
-    source_repeats: Timed<SourceRepeatRow, Wheel>,
-    sendings: Facts<SendingRow>,
+    group_repeats: Repeats<GroupRepeatRow>,
+    source_repeats: Repeats<SourceRepeatRow>,
+    sendings: Sendings,
 }
 
 impl Model for Membership {
@@ -68,9 +73,9 @@ impl Membership {
             queriers: Timed::new(alloc, Wheel::new(alloc)?),
             group_records: Records::new(alloc)?,
             source_records: Records::new(alloc)?,
-            group_repeats: Timed::new(alloc, Wheel::new(alloc)?),
-            source_repeats: Timed::new(alloc, Wheel::new(alloc)?),
-            sendings: Facts::new(alloc),
+            group_repeats: Repeats::new(alloc)?,
+            source_repeats: Repeats::new(alloc)?,
+            sendings: Sendings::new(alloc),
         })
     }
 
@@ -301,7 +306,7 @@ impl Membership {
           group_repeats = set_row self.old.group_repeats (star_key iface.number group.bits) row;
         }) }
     {
-        self.group_repeats.set(Key::star(iface, group), row)
+        self.group_repeats.set(iface, group, row)
     }
 
     /// Repeats the group's query on the interface no more.
@@ -310,7 +315,7 @@ impl Membership {
           group_repeats = drop_at self.old.group_repeats (star_key iface.number group.bits);
         } }
     {
-        self.group_repeats.remove(Key::star(iface, group));
+        self.group_repeats.remove(iface, group);
     }
 
     /// Changes how the group's query on the interface is repeated, if it is, to this, or ends it. An error is want of
@@ -325,12 +330,7 @@ impl Membership {
           group_repeats = change_row (λ _. row) (star_key iface.number group.bits) self.old.group_repeats;
         }) }
     {
-        let key = Key::star(iface, group);
-        let Some(row) = row else {
-            self.group_repeats.remove(key);
-            return Ok(());
-        };
-        self.group_repeats.change(key, row)
+        self.group_repeats.change(iface, group, row)
     }
 
     /// When the group's sources on the interface are queried again.
@@ -358,7 +358,7 @@ impl Membership {
           source_repeats = set_row self.old.source_repeats (star_key iface.number group.bits) row;
         }) }
     {
-        self.source_repeats.set(Key::star(iface, group), row)
+        self.source_repeats.set(iface, group, row)
     }
 
     /// Queries the group's sources on the interface no more.
@@ -367,7 +367,7 @@ impl Membership {
           source_repeats = drop_at self.old.source_repeats (star_key iface.number group.bits);
         } }
     {
-        self.source_repeats.remove(Key::star(iface, group));
+        self.source_repeats.remove(iface, group);
     }
 
     /// Changes when the group's sources on the interface are queried again, if they are, to this, or ends it. An error is want of
@@ -382,12 +382,7 @@ impl Membership {
           source_repeats = change_row (λ _. row) (star_key iface.number group.bits) self.old.source_repeats;
         }) }
     {
-        let key = Key::star(iface, group);
-        let Some(row) = row else {
-            self.source_repeats.remove(key);
-            return Ok(());
-        };
-        self.source_repeats.change(key, row)
+        self.source_repeats.change(iface, group, row)
     }
 
     /// How often the source of the group is still to be named in a query on the interface.
@@ -423,24 +418,21 @@ impl Membership {
           sendings = set_row self.old.sendings (source_key iface.number group.bits source.bits) row;
         }) }
     {
-        self.sendings.set(Key::source(iface, group, source), row)
+        self.sendings.set(iface, group, source, row)
     }
 
     /// Changes the sending under the key, if there is one, to this, or ends it.
     pub fn change_sending(&mut self, key: Key, row: Option<SendingRow>)
         ensures { self.new ≡ record self.old { sendings = change_row (λ _. row) key self.old.sendings } }
     {
-        match row {
-            Some(row) => self.sendings.change(key, row),
-            None => self.sendings.remove(key),
-        }
+        self.sendings.change(key, row);
     }
 
     /// Sendings are under keys that rise.
     pub fn sendings_rise(&self)
         ensures { IsStrictlySortedBy key_cmp (keys_in self.now.sendings) }
     {
-        let _ = self.sendings.len();
+        self.sendings.are_rising();
     }
 
     /// Takes all facts of the interface away.
@@ -471,6 +463,48 @@ impl Membership {
         self.group_repeats.drop_on(iface);
         self.source_repeats.drop_on(iface);
         self.sendings.drop_on(iface);
+    }
+
+    /// The sources of the group with any fact, ascending. Of another group one sending on each interface is looked at.
+    /// An error is want of memory.
+    pub fn sources_of(
+        &self,
+        alloc: Global,
+        group: Addr,
+    ) -> Result<BTreeMap<Addr, (), Global>, AllocError>
+        ensures { IfOk result (λ found. map (λ e. (e.0).bits) found.entries ≡ sources_of group.bits (membership_keys self.now)) }
+    {
+        // It tells that no other fact is of a source.
+        self.are_keyed();
+        let mut found = BTreeMap::new(alloc);
+        self.source_records.gather_sources(group, &mut found)?;
+        self.sendings.gather_sources(group, &mut found)?;
+        // It tells that the sources rise.
+        let _ = found.len();
+        Ok(found)
+    }
+
+    // No fact but source records and sendings is of a source.
+    fn are_keyed(&self)
+        ensures records { NameNone self.now.group_records }
+        ensures group_repeats { NameNone self.now.group_repeats }
+        ensures source_repeats { NameNone self.now.source_repeats }
+    {
+        self.group_records.are_of_kind();
+        self.group_repeats.name_none();
+        self.source_repeats.name_none();
+    }
+
+    /// Whether there is any fact of the source of the group. The meter rises by the nodes that are visited, 66 at most.
+    pub fn has_facts(&self, group: Addr, source: Addr, meter: &mut Meter) -> bool
+        ensures any { result ≡ list_any (names_source group.bits source.bits) (membership_keys self.now) }
+        ensures rises { meter.old ≤ meter.new }
+        ensures at_most { meter.new ≤ meter.old + 66 }
+    {
+        // It tells that no other fact is of a source.
+        self.are_keyed();
+        self.source_records.has_source(group, source, meter)
+            || self.sendings.has_source(group, source)
     }
 
     /// How many facts count: the group records and the source records.

@@ -1,6 +1,6 @@
 //! The records of one kind, of groups or of their sources, with the interfaces that have them.
 ghost use Rattle.std.specs.Prelude.{◌≡◌, ◌<◌, ◌≤◌, ◌+◌, [], length, ℕ, Bool, None, Option, Some, IfOk, IfSome, IsTrue, OnErr, OnOk, false, true, filter, is_some, nat_lt, option_map};
-ghost use Rattle.std.specs.List.{AllByRecursion, list_all};
+ghost use Rattle.std.specs.List.{AllByRecursion, list_all, list_any};
 ghost use Rattle.std.specs.List.Sorted.{IsStrictlySortedBy};
 ghost use Rattle.std.specs.Option.{option_map_or};
 ghost use Rattle.pim_model.specs.Clearing.{first_by};
@@ -9,8 +9,9 @@ ghost use Rattle.pim_model.specs.Tables.{change_row, drop_at, drop_where, has_ro
 ghost use Rattle.pim_model.specs.Timers.{is_ending_first};
 ghost use Rattle.pim_tables.specs.Ends.{due_of, row_endings};
 ghost use Rattle.pim_tables.specs.RowsOf.{first_key};
-ghost use Rattle.pim_types.specs.Keys.{iface_in, is_on, key_cmp};
+ghost use Rattle.pim_types.specs.Keys.{iface_in, is_on, key_cmp, names_source};
 ghost use Rattle.pim_ifset.specs.Members.{has};
+ghost use Rattle.pim_membership.specs.Sources.{Gathers};
 ghost use Rattle.pim_membership.specs.Listing.{IsListed, Lists, is_record_key, record_key};
 
 use crate::listed::Listed;
@@ -22,6 +23,7 @@ use pim_trie::Meter;
 use pim_types::fact::{GroupRecordRow, SourceRecordRow};
 use pim_types::{IfaceId, Key, Timer};
 use std::alloc::{AllocError, Global};
+use std::collections::BTreeMap;
 use std::collections::btree_map::Iter;
 use std::marker::Model;
 
@@ -67,6 +69,7 @@ pub(crate) struct Records<R: Record> {
 
 impl<R: Record> Model for Records<R> {
     ghost use Rattle.pim_model.specs.Tables.{Table};
+    ghost use Rattle.pim_membership.specs.Sources.{Gathers};
     ghost use Rattle.pim_membership.specs.Listing.{IsListed};
 
     ghost Value = { Table R };
@@ -149,6 +152,43 @@ impl<R: Record> Records<R> {
         ensures star_at_most { source ≡ None → meter.new ≤ meter.old + 33 }
     {
         self.listing.get(group, source, meter)
+    }
+
+    // Whether the source of the group has a record, on any interface.
+    pub(crate) fn has_source(&self, group: Addr, source: Addr, meter: &mut Meter) -> bool
+        ensures any { result ≡ list_any (names_source group.bits source.bits) (keys_in self.now) }
+        ensures rises { meter.old ≤ meter.new }
+        ensures at_most { meter.new ≤ meter.old + 66 }
+    {
+        // These tell that the keys rise, and of which form they are.
+        self.are_rising();
+        self.are_of_kind();
+        let listed = self.listed(group, Some(source), meter);
+        !listed.there.without_tunnel().is_empty()
+    }
+
+    // Puts the group's sources that have a record, on any interface, into a set of sources. An error is want of
+    // memory.
+    pub(crate) fn gather_sources(
+        &self,
+        group: Addr,
+        found: &mut BTreeMap<Addr, (), Global>,
+    ) -> Result<(), AllocError>
+        ensures { OnOk result (Gathers found.old.entries found.new.entries group.bits self.now) }
+    {
+        // These tell that the keys rise, and of which form they are.
+        self.are_rising();
+        self.are_of_kind();
+        let mut uncounted = Meter::new();
+        for (key, _) in self.listing.walk(group) {
+            let Some(source) = key.source else {
+                continue;
+            };
+            if self.has_source(group, source, &mut uncounted) {
+                found.insert(source, ())?;
+            }
+        }
+        Ok(())
     }
 
     // Puts this record there, or takes away the one that is there. An error is want of memory.

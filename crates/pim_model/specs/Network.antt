@@ -1,9 +1,10 @@
 -- Several routers, and the frames that they ever sent: nothing is taken out, so loss, repeats and any order
 -- of delivery are lists of moves.
+use Rattle.std.specs.List.{list_all}
 use Rattle.std.specs.Option.{option_map_or}
-use Rattle.std.specs.Prelude.{Bool, Err, List, None, Ok, Option, Result, Some, [], if◌then◌else◌, is_some, map, option_and_then, option_map, set, slice_get, suc, zero, ℕ, ◌&&◌, ◌++◌, ◌∷◌}
+use Rattle.std.specs.Prelude.{Bool, Err, List, None, Ok, Option, Result, Some, [], if◌then◌else◌, is_some, length, map, nat_le, option_and_then, option_map, set, slice_get, suc, zero, ℕ, ◌&&◌, ◌++◌, ◌==◌, ◌∷◌}
 use Rattle.pim_ip.specs.declared.refusal.Refusal.{Refusal}
-use Rattle.pim_ip.specs.Tests.{◌>>◌}
+use Rattle.pim_ip.specs.Tests.{expect, ◌>>◌}
 use Rattle.pim_types.specs.declared.config.Config.{Config}
 use Rattle.pim_types.specs.declared.event.Event.{Event}
 use Rattle.pim_types.specs.declared.event.EventKind.{EventKind}
@@ -37,6 +38,19 @@ configs_test [] = Ok tt
 configs_test (c ∷ cs) =
     let later : Result (Unit {0}) Refusal = configs_test cs in
     config_test c >> later
+
+abbrev pub most_routers : ℕ
+most_routers = 64
+
+-- a configuration has a link for each of its interfaces
+abbrev pub is_node : Config × List ℕ → Bool
+is_node n = length n.1 == length (n.0).interfaces
+
+-- configurations with their links, of which a network is made: not too many, each with its links, and accepted
+unfoldable pub nodes_test : List (Config × List ℕ) → Result (Unit {0}) Refusal
+nodes_test nodes =
+    expect (nat_le (length nodes) most_routers && list_all is_node nodes) Refusal.BadScenario
+    >> configs_test (map (λ n. n.0) nodes)
 
 -- the configurations with their links
 unfoldable pub network : List (Config × List ℕ) → Network

@@ -1,5 +1,5 @@
 //! Timers that a query lowers (RFC 3376, section 6.6.3).
-ghost use Rattle.std.specs.Prelude.{◌≡◌, IfOk, OnOk, filter};
+ghost use Rattle.std.specs.Prelude.{◌≡◌, ℕ, IfOk, OnOk, filter};
 ghost use Rattle.pim_filters.specs.Members.{is_named};
 ghost use Rattle.pim_model.specs.Querier.{lower_sources};
 ghost use Rattle.pim_model.specs.Records.{is_at_group};
@@ -13,29 +13,41 @@ use pim_macros::querying::lowered;
 use pim_types::fact::SourceRecordRow;
 use pim_types::{Addr, IfaceId, Key};
 use std::alloc::{AllocError, Global};
+use std::collections::BTreeSet;
 
-// Whether the source is named.
-fn is_named(source: Addr, sources: &[Addr]) -> bool
-    ensures { result ≡ is_named source.bits sources.now }
+// The sources as a set.
+fn set_of(alloc: Global, sources: &[Addr]) -> Result<BTreeSet<Addr>, AllocError>
+    ensures { IfOk result (λ set. (n : ℕ) → is_named n set.keys ≡ is_named n sources.now) }
 {
-    sources.iter().any(|named| named.bits == source.bits)
+    let mut set = BTreeSet::new(alloc);
+    for source in sources {
+        set.insert(*source)?;
+    }
+    Ok(set)
 }
 
-// The records of those of the group's sources on the interface that are named, by rising key.
+// Whether the source is in the set.
+fn is_named(source: Addr, set: &BTreeSet<Addr>) -> bool
+    ensures { result ≡ is_named source.bits set.now.keys }
+{
+    set.contains(&source)
+}
+
+// The records of those of the group's sources on the interface that are in the set, by rising key.
 fn named_records(
     world: &World,
     alloc: Global,
     iface: IfaceId,
     group: Addr,
-    sources: &[Addr],
+    set: &BTreeSet<Addr>,
 ) -> Result<Vec<(Key, SourceRecordRow)>, AllocError>
     ensures { IfOk result (λ found. found.items
-        ≡ filter (λ e. is_named (source_in e.0) sources.now)
+        ≡ filter (λ e. is_named (source_in e.0) set.now.keys)
         (filter (λ e. is_at_group iface.number group.bits e.0) world.now.source_records)) }
 {
     let mut found = Vec::new(alloc);
     for (key, row) in world.source_records_at(iface, group) {
-        if is_named(source_in(*key), sources) {
+        if is_named(source_in(*key), set) {
             found.push((*key, *row))?;
         }
     }
@@ -72,7 +84,8 @@ pub fn lower_sources(
     ensures { OnOk result (world.new
         ≡ lower_sources world.old iface.number group.bits (bits_of sources.now) end) }
 {
-    let records = named_records(world, alloc, iface, group, sources)?;
+    let set = set_of(alloc, sources)?;
+    let records = named_records(world, alloc, iface, group, &set)?;
     // It tells that each key stands once.
     world.source_records_rise();
     lower_each(world, &records, end)

@@ -1,0 +1,30 @@
+use Rattle.std.proofs.Common.{ap, ◌∙◌}
+use Rattle.std.specs.List.{list_any}
+use Rattle.pim_types.specs.Keys.{names_source}
+use Rattle.pim_model.specs.Tables.{keys_in}
+use Rattle.pim_membership.proofs.Found.{any_member, first_tells, second_tells}
+use Rattle.pim_membership.specs.MembershipTables.{MembershipTables}
+use Rattle.pim_membership.proofs.membership.Membership.has_facts.Goals as goal
+
+pub returns-then-has_source-clause-any : goal.returns-then-has_source-clause-any
+returns-then-has_source-clause-any c =
+    first_tells c.has_source.result _ _ _
+    (c.has_source.ensures.any
+    ∙ ap (λ (m : MembershipTables). list_any (names_source c.args.group.bits c.args.source.bits) (keys_in m.source_records))
+    c.self.view_is)
+    c.if-has_source.true
+    (any_member c.args.group.bits c.args.source.bits c.args.self.now c.are_keyed.ensures.records
+    c.are_keyed.ensures.group_repeats c.are_keyed.ensures.source_repeats)
+
+pub returns-else-has_source-clause-any : goal.returns-else-has_source-clause-any
+returns-else-has_source-clause-any c =
+    second_tells c.has_source.result c.has_source-else-has_source.result _ _ _
+    (c.has_source.ensures.any
+    ∙ ap (λ (m : MembershipTables). list_any (names_source c.args.group.bits c.args.source.bits) (keys_in m.source_records))
+    c.self.view_is)
+    c.if-has_source.false
+    (c.has_source-else-has_source.ensures
+    ∙ ap (λ (m : MembershipTables). list_any (names_source c.args.group.bits c.args.source.bits) (keys_in m.sendings))
+    c.self.view_is)
+    (any_member c.args.group.bits c.args.source.bits c.args.self.now c.are_keyed.ensures.records
+    c.are_keyed.ensures.group_repeats c.are_keyed.ensures.source_repeats)

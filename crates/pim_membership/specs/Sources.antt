@@ -1,0 +1,35 @@
+-- The sources of groups, as numbers in a set of addresses.
+use Rattle.std.specs.List.{AllByRecursion, list_any}
+use Rattle.std.specs.Prelude.{Bool, List, false, is_none, is_some, true, ℕ, ◌&&◌, ◌==◌, ◌||◌, ◌≡◌}
+use Rattle.pim_ip.specs.declared.addr.Addr.{Addr}
+use Rattle.pim_types.specs.declared.fact.Key.{Key}
+use Rattle.pim_types.specs.Keys.{names_source, source_in}
+use Rattle.pim_model.specs.Tables.{Table, keys_in}
+
+-- the number is among the addresses
+abbrev pub has_number : {U : Type 0} → ℕ → List (Addr × U) → Bool
+has_number n entries = list_any (λ e. (e.0).bits == n) entries
+
+-- the key is of this source
+abbrev pub is_source : ℕ → Key → Bool
+is_source n k = is_some k.source && (source_in k == n)
+
+-- a key that names no source
+abbrev pub NamesNone : Key → Type 0
+NamesNone k = is_none k.source ≡ true
+
+-- a key of no (S,G,rpt)
+abbrev pub IsPlain : Key → Type 0
+IsPlain k = k.rpt ≡ false
+
+module _ {R : Type 0} where
+  abbrev pub NameNone : Table R → Type 0
+  NameNone t = AllByRecursion (λ (e : Key × R). NamesNone e.0) t
+
+  abbrev pub ArePlain : Table R → Type 0
+  ArePlain t = AllByRecursion (λ (e : Key × R). IsPlain e.0) t
+
+  -- the group's sources among the facts were put into a set of addresses
+  abbrev pub Gathers : {U : Type 0} → (before after : List (Addr × U)) → ℕ → Table R → Type 0
+  Gathers before after g t =
+      (n : ℕ) → has_number n after ≡ (has_number n before || list_any (names_source g n) (keys_in t))

@@ -1,0 +1,142 @@
+//! How often sources are still to be named in queries.
+ghost use Rattle.std.specs.List.{list_any};
+ghost use Rattle.std.specs.List.Sorted.{IsStrictlySortedBy};
+ghost use Rattle.std.specs.Prelude.{◌≡◌, [], OnOk, filter};
+ghost use Rattle.pim_model.specs.Records.{is_at_group};
+ghost use Rattle.pim_model.specs.Tables.{change_row, drop_where, keys_in, row_at, set_row};
+ghost use Rattle.pim_types.specs.Keys.{is_on, key_cmp, names_source, source_key};
+ghost use Rattle.pim_membership.specs.Sources.{Gathers};
+
+use crate::sources::{above_interfaces, gather};
+use pim_ip::Addr;
+use pim_tables::{Facts, RowsOf};
+use pim_types::fact::SendingRow;
+use pim_types::{IfaceId, Key};
+use std::alloc::{AllocError, Global};
+use std::collections::BTreeMap;
+use std::collections::btree_map::Iter;
+use std::marker::Model;
+
+// The sendings; each is of a source of a group on an interface, and of no (S,G,rpt).
+#[derive(Drop)]
+pub(crate) struct Sendings {
+    rows: Facts<SendingRow>,
+}
+
+impl Model for Sendings {
+    ghost use Rattle.pim_model.specs.Tables.{Table};
+    ghost use Rattle.pim_types.specs.declared.fact.SendingRow.{SendingRow};
+    ghost use Rattle.pim_membership.specs.Sources.{ArePlain};
+
+    ghost Value = { Table SendingRow };
+
+    ghost view = { λ a. a.rows };
+
+    ghost invariant = { λ a. ArePlain a.rows };
+}
+
+impl Sendings {
+    // No sendings; it takes no memory.
+    pub(crate) fn new(alloc: Global) -> Sendings
+        ensures { result ≡ [] }
+    {
+        Sendings {
+            rows: Facts::new(alloc),
+        }
+    }
+
+    // They are under keys that rise.
+    pub(crate) fn are_rising(&self)
+        ensures { IsStrictlySortedBy key_cmp (keys_in self.now) }
+    {
+        let _ = self.rows.len();
+    }
+
+    // The sending under the key.
+    pub(crate) fn get(&self, key: Key) -> Option<SendingRow>
+        ensures { result ≡ row_at self.now key }
+    {
+        self.rows.get(key)
+    }
+
+    // The sendings, by rising key.
+    pub(crate) fn iter(&self) -> Iter<'_, Key, SendingRow>
+        ensures { result ≡ self.now }
+    {
+        self.rows.iter()
+    }
+
+    // Those of a group on an interface, by rising key.
+    pub(crate) fn rows_at(&self, iface: IfaceId, group: Addr) -> RowsOf<'_, SendingRow>
+        ensures { result ≡ filter (λ e. is_at_group iface.number group.bits e.0) self.now }
+    {
+        self.rows.rows_at(iface, group)
+    }
+
+    // Whether the source of the group has a sending, on any interface.
+    pub(crate) fn has_source(&self, group: Addr, source: Addr) -> bool
+        ensures { result ≡ list_any (names_source group.bits source.bits) (keys_in self.now) }
+    {
+        // It tells that the keys rise.
+        self.are_rising();
+        for number in 0..above_interfaces(self.rows.iter()) {
+            let iface = IfaceId {
+                number: number as u32,
+            };
+            if self.rows.contains(Key::source(iface, group, source)) {
+                return true;
+            }
+        }
+        false
+    }
+
+    // Puts the group's sources that have a sending, on any interface, into a set of sources. An error is want of
+    // memory.
+    pub(crate) fn gather_sources(
+        &self,
+        group: Addr,
+        found: &mut BTreeMap<Addr, (), Global>,
+    ) -> Result<(), AllocError>
+        ensures { OnOk result (Gathers found.old.entries found.new.entries group.bits self.now) }
+    {
+        // It tells that the keys rise.
+        self.are_rising();
+        for number in 0..above_interfaces(self.rows.iter()) {
+            let iface = IfaceId {
+                number: number as u32,
+            };
+            gather(self.rows.rows_at(iface, group), found)?;
+        }
+        Ok(())
+    }
+
+    // Sends the source of the group so often on the interface, or no more. An error is want of memory.
+    pub(crate) fn set(
+        &mut self,
+        iface: IfaceId,
+        group: Addr,
+        source: Addr,
+        row: Option<SendingRow>,
+    ) -> Result<(), AllocError>
+        ensures { OnOk result (self.new ≡ set_row self.old (source_key iface.number group.bits source.bits) row) }
+    {
+        self.rows.set(Key::source(iface, group, source), row)
+    }
+
+    // Changes the sending under the key, if there is one, to this, or ends it.
+    pub(crate) fn change(&mut self, key: Key, row: Option<SendingRow>)
+        ensures { self.new ≡ change_row (λ _. row) key self.old }
+    {
+        match row {
+            Some(row) => self.rows.change(key, row),
+            None => self.rows.remove(key),
+        }
+    }
+
+    // Takes the sendings on the interface away.
+    pub(crate) fn drop_on(&mut self, iface: IfaceId)
+        ensures { self.new ≡ drop_where (is_on iface.number) self.old }
+    {
+        self.rows.drop_on(iface);
+    }
+}
