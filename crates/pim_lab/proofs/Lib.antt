@@ -1,1 +1,3 @@
 mod Opening
+pub mod Settling
+pub mod Told

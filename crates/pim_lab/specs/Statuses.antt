@@ -2,8 +2,10 @@
 use Rattle.std.specs.Prelude.{Err, List, Ok, Result, map, ℕ, ⊤, ◌≡◌, ◌⊎◌}
 use Rattle.pim_ip.specs.declared.fault.Fault.{Fault}
 use Rattle.pim_ip.specs.declared.refusal.Refusal.{Refusal}
-use Rattle.pim_model.specs.Network.{configs_test}
+use Rattle.pim_model.specs.Network.{nodes_test}
 use Rattle.pim_scenario.specs.Scenario.{IsReadFrom}
+use Rattle.pim_types.specs.declared.config.Config.{Config}
+use Rattle.pim_scenario.specs.declared.scenario.Link.{Link}
 use Rattle.pim_scenario.specs.declared.complaint.Complaint.{Complaint}
 use Rattle.pim_scenario.specs.declared.scenario.RouterText.{RouterText}
 use Rattle.pim_scenario.specs.declared.scenario.Scenario.{Scenario}
@@ -14,15 +16,19 @@ abbrev pub complaint_of : Trouble → Complaint
 complaint_of (Trouble.Refused refusal) = Complaint.Scenario refusal
 complaint_of (Trouble.Fault fault) = Complaint.Fault fault
 
--- the first refusal of the routers' configurations
-abbrev pub routers_test : List RouterText → Result (Unit {0}) Refusal
-routers_test routers = configs_test (map (λ (r : RouterText). r.config) routers)
+-- a router's configuration, with the number of the link of each interface
+abbrev pub router_node : RouterText → Config × List ℕ
+router_node r = (r.config, map (λ (l : Link). l.number) r.links)
 
--- the text says a scenario, and its configurations pass all tests
+-- the first refusal of the network of the routers
+abbrev pub routers_test : List RouterText → Result (Unit {0}) Refusal
+routers_test routers = nodes_test (map router_node routers)
+
+-- the text says a scenario, and its routers pass all tests of a network
 abbrev pub IsAccepted : List ℕ → Type 0
 IsAccepted text = (s : Scenario) × IsReadFrom text s × (routers_test s.routers ≡ Ok tt)
 
--- the text says no scenario; or it says one, of whose configurations the first that fails is refused so
+-- the text says no scenario; or it says one, of which no network is made for this reason
 abbrev pub IsRefused : List ℕ → Refusal → Type 0
 IsRefused text refusal =
     ((refusal ≡ Refusal.BadScenario) × ((s : Scenario) → IsReadFrom text s → ⊥))

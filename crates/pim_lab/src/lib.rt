@@ -1,15 +1,16 @@
-//! What `pimlab` does: scenarios are read, played over routers in memory, and printed.
+//! What `pimlab` does: scenarios are read, played over a network of routers, and printed.
 #![tactic(auto)]
 
+mod frames;
+mod lab;
 mod line;
 pub mod playing;
 mod station;
+mod table;
 mod trouble;
 
+pub use pim_net::{MemoryWire, UdpWire, Wire};
 pub use pim_scenario::{
     Answer, Command, Complaint, WireKind, Words, fault, load, read_scenario, read_words, refused,
 };
 pub use playing::{check_text, play};
-
-#[cfg(test)]
-mod tests;

@@ -41,7 +41,7 @@ pub(crate) enum Way<'a> {
 #[derive(Clone, Copy)]
 pub(crate) struct PacketLine<'a> {
     /// The packets are counted from 1 over all routers.
-    pub(crate) number: u64,
+    pub(crate) number: u32,
     pub(crate) way: Way<'a>,
     pub(crate) bytes: &'a [u8],
 }

@@ -1,55 +1,53 @@
-//! The routers of a scenario.
-ghost use Rattle.std.specs.Prelude.{◌≡◌, IfErr, Ok, OnOk};
-ghost use Rattle.pim_model.specs.Limits.{config_test};
-ghost use Rattle.pim_lab.specs.Statuses.{IsTroubleOf, routers_test};
+//! The routers of a scenario, as they are printed and found.
+ghost use Rattle.std.specs.Prelude.{◌≡◌, IfOk, map};
+ghost use Rattle.pim_net.specs.Showing.{node_of};
+ghost use Rattle.pim_lab.specs.Statuses.{router_node};
 
 use crate::line::{MoveLine, PacketLine, Way};
-use crate::trouble::Trouble;
-use pim_router::Router;
+use pim_net::Node;
 use pim_scenario::{Link, RouterText};
-use pim_types::{Emission, IfaceId, Refusal, Series, Verdict};
-use std::alloc::Global;
+use pim_types::{Addr, Config, Emission, IfaceId, Refusal, Series, Verdict};
+use std::alloc::{AllocError, Global};
 
-/// A router that works.
+/// What the lab knows of a router, beside the network.
 #[derive(Drop)]
 pub(crate) struct Station {
     name: String,
-    links: Series<Link>,
-    pub(crate) router: Router,
+    /// The link of each interface.
+    pub(crate) links: Series<Link>,
+    /// The address of each interface.
+    pub(crate) addresses: Series<Addr>,
 }
 
 impl Station {
-    // A router as the scenario says.
-    fn open(alloc: Global, text: RouterText) -> Result<Station, Trouble>
-        ensures accepted { OnOk result (config_test text.config ≡ Ok tt) }
-        ensures trouble { IfErr result (λ t. IsTroubleOf (config_test text.config) t) }
+    /// A router of a scenario, and what the network is made of for it.
+    pub(crate) fn of(alloc: Global, text: RouterText) -> Result<(Station, Node), AllocError>
+        ensures node { IfOk result (λ made. node_of made.1 ≡ router_node text) }
+        ensures links { IfOk result (λ made. made.0.links ≡ text.links) }
+        ensures addresses { IfOk result (λ made. made.0.addresses ≡ map (λ i. i.address) text.config.interfaces) }
     {
         let RouterText {
             name,
             config,
             links,
         } = text;
-        let router = Router::new(alloc, config)??;
-        Ok(Station {
+        let numbers = link_numbers(alloc, links.as_slice())?;
+        let addresses = addresses_of(alloc, &config)?;
+        let station = Station {
             name,
             links,
-            router,
-        })
+            addresses,
+        };
+        let node = Node {
+            config,
+            links: numbers,
+        };
+        Ok((station, node))
     }
 
-    /// All routers of a scenario. The first one that is refused is told.
-    pub(crate) fn open_all(
-        alloc: Global,
-        texts: Series<RouterText>,
-    ) -> Result<Vec<Station>, Trouble>
-        ensures accepted { OnOk result (routers_test texts ≡ Ok tt) }
-        ensures trouble { IfErr result (λ t. IsTroubleOf (routers_test texts) t) }
-    {
-        let mut stations = Vec::new(alloc);
-        for text in texts.into_vec() {
-            stations.push(Station::open(alloc, text)?)?;
-        }
-        Ok(stations)
+    /// What is printed before the router's tables.
+    pub(crate) fn name(&self) -> &str {
+        self.name.as_str()
     }
 
     /// What became of a move.
@@ -68,7 +66,7 @@ impl Station {
     /// A packet of the router, with its number.
     pub(crate) fn packet_line<'a>(
         &'a self,
-        number: u64,
+        number: u32,
         emission: &'a Emission,
         is_copy: bool,
     ) -> PacketLine<'a> {
@@ -88,7 +86,7 @@ impl Station {
 
     // The way over an interface's link.
     fn way(&self, iface: IfaceId, is_copy: bool) -> Way<'_> {
-        let link = self.link(iface);
+        let link = self.link_name(iface);
         if is_copy {
             Way::Copy(link)
         } else {
@@ -97,10 +95,31 @@ impl Station {
     }
 
     // The name of an interface's link. Each interface of a scenario has one.
-    fn link(&self, iface: IfaceId) -> &str {
+    fn link_name(&self, iface: IfaceId) -> &str {
         match self.links.as_slice().get(iface.number as usize) {
             Some(link) => link.name.as_str(),
             None => "",
         }
     }
+}
+
+// The numbers of the links. More than a u32 can count is more than there is memory for.
+fn link_numbers(alloc: Global, links: &[Link]) -> Result<Series<u32>, AllocError>
+    ensures { IfOk result (λ numbers. numbers ≡ map (λ l. l.number) links.now) }
+{
+    let mut numbers = Series::new(alloc);
+    for link in links {
+        numbers.push(u32::try_from(link.number).map_err(|_| AllocError)?)?;
+    }
+    Ok(numbers)
+}
+
+fn addresses_of(alloc: Global, config: &Config) -> Result<Series<Addr>, AllocError>
+    ensures { IfOk result (λ addresses. addresses ≡ map (λ i. i.address) config.now.interfaces) }
+{
+    let mut addresses = Series::new(alloc);
+    for interface in config.interfaces.as_slice() {
+        addresses.push(interface.address)?;
+    }
+    Ok(addresses)
 }

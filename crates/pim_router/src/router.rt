@@ -6,6 +6,7 @@ ghost use Rattle.pim_model.specs.Step.{run, state_after, step};
 ghost use Rattle.pim_model.specs.Limits.{config_test};
 ghost use Rattle.pim_model.specs.State.{opening};
 ghost use Rattle.pim_model.specs.Cause.{OutcomesAreAsked};
+ghost use Rattle.pim_model.specs.Printed.{rows};
 ghost use Rattle.pim_model.specs.Timers.{next_moment};
 ghost use Rattle.pim_router.specs.Standing.{beginning, last_copies, standing, standing_after};
 ghost use Rattle.pim_types.specs.declared.config.Config.{Config as ConfigValue};
@@ -15,7 +16,7 @@ ghost use Rattle.pim_locality.specs.Rest.{IsAtRest};
 use crate::event::take_in;
 use pim_macros::World;
 use pim_trie::Meter;
-use pim_types::{Config, Emission, Event, Fault, Outcome, Refusal, Verdict};
+use pim_types::{Config, Emission, Event, Fault, Outcome, Refusal, Row, Table, Verdict};
 use std::alloc::Global;
 use std::marker::Model;
 
@@ -88,6 +89,19 @@ impl Router {
             return 0;
         }
         self.copies
+    }
+
+    /// The rows of a printed table, ascending by their keys. The only fault of a router that hasn't failed is want of
+    /// memory.
+    pub fn rows(&self, table: Table) -> Result<Vec<Row>, Fault>
+        ensures rows { IfSome self.now (λ r. IfOk result (λ found. found.items ≡ rows r.state table)) }
+        ensures failed { (result ≡ Err Fault.Failed) ↔ (self.now ≡ None) }
+        ensures fault { IfSome self.now (λ r. IsOkUnless result Fault.Memory) }
+    {
+        if self.failed {
+            return Err(Fault::Failed);
+        }
+        Ok(pim_printed::rows(&self.world, self.alloc, table)?)
     }
 
     /// Takes one event: it is done, ignored or refused. The packets that leave stand at the end of the

@@ -16,7 +16,7 @@ use Rattle.pim_types.specs.declared.event.EventKind.TheVariants as event
 use Rattle.pim_scenario.specs.declared.scenario.Link.{Link}
 use Rattle.pim_scenario.specs.declared.scenario.RouterText.{RouterText}
 use Rattle.pim_scenario.specs.declared.scenario.Move.{Move}
-use Rattle.pim_scenario.specs.declared.scenario.Move.TheVariants.{Event}
+use Rattle.pim_scenario.specs.declared.scenario.Move.TheVariants.{Event, Deliver, Carry, Settle}
 use Rattle.pim_scenario.specs.declared.scenario.Scenario.{Scenario}
 use Rattle.pim_scenario.specs.Fields.{has_only, text_at, optional_text, number_at, number_or, moment_at, list_at, list_or_empty}
 use Rattle.pim_scenario.specs.Texts.{IsNumberText, IsAddressText, IsPrefixText, hex_of}
@@ -166,6 +166,16 @@ frame_keys = codes "do" ∷ codes "router" ∷ codes "draw" ∷ codes "iface" �
 abbrev pub unicast_keys : List (List ℕ)
 unicast_keys = codes "do" ∷ codes "router" ∷ codes "draw" ∷ codes "hex" ∷ []
 
+abbrev pub deliver_keys : List (List ℕ)
+deliver_keys = codes "do" ∷ codes "router" ∷ codes "draw" ∷ codes "iface" ∷ codes "frame" ∷ []
+
+abbrev pub carry_keys : List (List ℕ)
+carry_keys = codes "do" ∷ codes "router" ∷ codes "draw" ∷ codes "frame" ∷ []
+
+-- a settle is of no router
+abbrev pub settle_keys : List (List ℕ)
+settle_keys = codes "do" ∷ codes "draw" ∷ []
+
 abbrev pub bytes_at : Members → Option (List ℕ)
 bytes_at ms = option_and_then hex_of (text_at (codes "hex") ms)
 
@@ -204,8 +214,8 @@ IsUnicast ms (event.Unicast bytes) = (has_only unicast_keys ms ≡ true) × (byt
 IsUnicast ms _ = ⊥
 
 -- the move is of that name, and says so
-abbrev pub IsNamed : List ℕ → (Members → EventKind → Type 0) → Members → EventKind → Type 0
-IsNamed name Says ms kind = (text_at (codes "do") ms ≡ Some name) × Says ms kind
+abbrev pub IsNamed : {X : Type 0} → List ℕ → (Members → X → Type 0) → Members → X → Type 0
+IsNamed name Says ms x = (text_at (codes "do") ms ≡ Some name) × Says ms x
 
 -- what happens to the router, by the name at `do`
 abbrev pub IsKind : Members → EventKind → Type 0
@@ -218,10 +228,42 @@ IsKind ms kind =
     ⊎ (IsNamed (codes "frame") IsFrame ms kind
     ⊎ IsNamed (codes "unicast") IsUnicast ms kind)))))
 
+-- the place of the router that the move names
+abbrev pub router_at : List RouterText → Members → Option ℕ
+router_at routers ms = option_and_then (place_of routers) (text_at (codes "router") ms)
+
+abbrev pub draw_at : Members → Option ℕ
+draw_at ms = number_or 0 (codes "draw") ms
+
+abbrev pub IsEvent : List RouterText → Members → Move → Type 0
+IsEvent routers ms (Event router e) =
+    (router_at routers ms ≡ Some router) × (draw_at ms ≡ Some e.draw) × IsKind ms e.kind
+IsEvent routers ms _ = ⊥
+
+abbrev pub IsDeliver : List RouterText → Members → Move → Type 0
+IsDeliver routers ms (Deliver router iface frame draw) =
+    (has_only deliver_keys ms ≡ true) × (router_at routers ms ≡ Some router)
+    × (number_at (codes "iface") ms ≡ Some iface.number) × (number_at (codes "frame") ms ≡ Some frame)
+    × (draw_at ms ≡ Some draw)
+IsDeliver routers ms _ = ⊥
+
+abbrev pub IsCarry : List RouterText → Members → Move → Type 0
+IsCarry routers ms (Carry router frame draw) =
+    (has_only carry_keys ms ≡ true) × (router_at routers ms ≡ Some router)
+    × (number_at (codes "frame") ms ≡ Some frame) × (draw_at ms ≡ Some draw)
+IsCarry routers ms _ = ⊥
+
+abbrev pub IsSettle : Members → Move → Type 0
+IsSettle ms (Settle draw) = (has_only settle_keys ms ≡ true) × (draw_at ms ≡ Some draw)
+IsSettle ms _ = ⊥
+
+-- what the scenario asks for, by the name at `do`
 abbrev pub IsMove : List RouterText → Members → Move → Type 0
-IsMove routers ms (Event router e) =
-    (option_and_then (place_of routers) (text_at (codes "router") ms) ≡ Some router)
-    × (number_or 0 (codes "draw") ms ≡ Some e.draw) × IsKind ms e.kind
+IsMove routers ms m =
+    IsNamed (codes "deliver") (IsDeliver routers) ms m
+    ⊎ (IsNamed (codes "carry") (IsCarry routers) ms m
+    ⊎ (IsNamed (codes "settle") IsSettle ms m
+    ⊎ IsEvent routers ms m))
 
 -- ---- the scenario
 

@@ -15,7 +15,7 @@ mod router;
 mod routes;
 mod words;
 
-use pim_types::{Config, Event, Fault, Refusal, Series};
+use pim_types::{Config, Event, Fault, IfaceId, Refusal, Series};
 use std::alloc::{AllocError, AllocFailed, Global};
 use thiserror::Error;
 use toml::Table;
@@ -38,11 +38,32 @@ pub struct RouterText {
     pub links: Series<Link>,
 }
 
-/// What a scenario asks for. More kinds are to come.
+/// What a scenario asks for. A router goes by its place among the routers, from 0, and a frame by its number among
+/// all that were ever sent, from 1.
 #[derive(Drop)]
 pub enum Move {
-    /// Something happens to a router, which goes by its place among the routers, from 0.
-    Event { router: usize, event: Event },
+    /// Something happens to a router.
+    Event {
+        router: usize,
+        event: Event,
+    },
+    /// A frame comes on an interface of a router.
+    Deliver {
+        router: usize,
+        iface: IfaceId,
+        frame: u32,
+        draw: u32,
+    },
+    /// A frame comes to a router as a unicast.
+    Carry {
+        router: usize,
+        frame: u32,
+        draw: u32,
+    },
+    /// Each frame that no settle has taken goes to all who can receive it.
+    Settle {
+        draw: u32,
+    },
 }
 
 /// What a scenario file says.

@@ -2,7 +2,10 @@
 // `pimlab check FILE` makes its routers.
 #![tactic(auto)]
 
-use pim_lab::{Answer, Command, Complaint, WireKind, Words, check_text, load, play, read_words};
+use pim_lab::{
+    Answer, Command, Complaint, MemoryWire, UdpWire, Wire, WireKind, Words, check_text, load, play,
+    read_words,
+};
 use pim_types::Fault;
 use std::env;
 use std::fs::File;
@@ -43,12 +46,9 @@ fn status(rt: &HostRuntime) -> io::Result<u8> {
     })
 }
 
-// Does what the command line asks. There are no tables and no sockets yet.
+// Does what the command line asks.
 fn obey(rt: &HostRuntime, words: Words<'_>) -> u8 {
     let mut err = rt.stderr();
-    if words.tables || words.wire != WireKind::Memory {
-        return Complaint::CommandLine.tell(&mut err);
-    }
     let read = if words.file == "-" {
         load(rt.alloc(), words.file, Some(rt.reader()), &mut err)
     } else {
@@ -59,13 +59,33 @@ fn obey(rt: &HostRuntime, words: Words<'_>) -> u8 {
             &mut err,
         )
     };
-    let text = match read {
-        Ok(text) => text,
-        Err(status) => return status,
-    };
-    let mut out = rt.stdout();
-    match words.command {
-        Command::Run => play(rt.alloc(), text.as_str(), &mut out, &mut err),
-        Command::Check => check_text(rt.alloc(), text.as_str(), &mut out, &mut err),
+    match (read, words.command) {
+        (Err(status), _) => status,
+        (Ok(text), Command::Check) => {
+            check_text(rt.alloc(), text.as_str(), &mut rt.stdout(), &mut err)
+        }
+        (Ok(text), Command::Run) => run(rt, &words, text.as_str()),
     }
+}
+
+// Does the moves of a scenario over the wire that was asked for.
+fn run(rt: &HostRuntime, words: &Words<'_>, text: &str) -> u8 {
+    match words.wire {
+        WireKind::Memory => run_over(rt, MemoryWire::new(rt.alloc()), words, text),
+        WireKind::Udp => match rt.clone() {
+            Ok(net) => run_over(rt, UdpWire::new(rt.alloc(), net), words, text),
+            Err(_) => Complaint::Fault(Fault::Memory).tell(&mut rt.stderr()),
+        },
+    }
+}
+
+fn run_over<W: Wire>(rt: &HostRuntime, wire: W, words: &Words<'_>, text: &str) -> u8 {
+    play(
+        rt.alloc(),
+        text,
+        wire,
+        words.tables,
+        &mut rt.stdout(),
+        &mut rt.stderr(),
+    )
 }

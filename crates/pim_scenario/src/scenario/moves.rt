@@ -4,7 +4,8 @@ ghost use Rattle.std.specs.List.{AllZip};
 ghost use Rattle.std.specs.Result.{result_ok};
 ghost use Rattle.toml.specs.View.{view, table_view};
 ghost use Rattle.pim_scenario.specs.Fields.{number_at};
-ghost use Rattle.pim_scenario.specs.Scenario.{IsAdvance, IsDown, IsFrame, IsKind, IsMove, IsRoutes, IsRps, IsTable, IsUnicast, IsUp, bytes_at};
+ghost use Rattle.pim_scenario.specs.Scenario.{IsAdvance, IsCarry, IsDeliver, IsDown, IsEvent, IsFrame, IsKind, IsMove};
+ghost use Rattle.pim_scenario.specs.Scenario.{IsRoutes, IsRps, IsSettle, IsTable, IsUnicast, IsUp, bytes_at, draw_at, router_at};
 ghost use Rattle.pim_scenario.specs.Texts.{Reads, ReadsExactly};
 
 use super::{Move, RouterText, Unread, Wrong, field, hex, router, routes};
@@ -30,9 +31,52 @@ pub(super) fn moves_in(
 fn move_in(alloc: Global, table: &Table, routers: &[RouterText]) -> Result<Move, Unread>
     ensures { ReadsExactly (IsMove routers.now (table_view table.now)) result }
 {
+    match field::text(table, "do")? {
+        "deliver" => deliver_in(table, routers),
+        "carry" => carry_in(table, routers),
+        "settle" => settle_in(table),
+        _ => event_in(alloc, table, routers),
+    }
+}
+
+fn deliver_in(table: &Table, routers: &[RouterText]) -> Result<Move, Unread>
+    ensures { ReadsExactly (IsDeliver routers.now (table_view table.now)) result }
+{
+    field::only(table, &["do", "router", "draw", "iface", "frame"])?;
+    Ok(Move::Deliver {
+        router: router_of(table, routers)?,
+        iface: interface_in(table)?,
+        frame: field::number(table, "frame")?,
+        draw: draw_in(table)?,
+    })
+}
+
+fn carry_in(table: &Table, routers: &[RouterText]) -> Result<Move, Unread>
+    ensures { ReadsExactly (IsCarry routers.now (table_view table.now)) result }
+{
+    field::only(table, &["do", "router", "draw", "frame"])?;
+    Ok(Move::Carry {
+        router: router_of(table, routers)?,
+        frame: field::number(table, "frame")?,
+        draw: draw_in(table)?,
+    })
+}
+
+fn settle_in(table: &Table) -> Result<Move, Unread>
+    ensures { ReadsExactly (IsSettle (table_view table.now)) result }
+{
+    field::only(table, &["do", "draw"])?;
+    Ok(Move::Settle {
+        draw: draw_in(table)?,
+    })
+}
+
+fn event_in(alloc: Global, table: &Table, routers: &[RouterText]) -> Result<Move, Unread>
+    ensures { ReadsExactly (IsEvent routers.now (table_view table.now)) result }
+{
     let kind = kind_in(alloc, table)?;
-    let router = router::place_of(routers, field::text(table, "router")?).ok_or(Wrong)?;
-    let draw = field::number_or(table, "draw", 0)?;
+    let router = router_of(table, routers)?;
+    let draw = draw_in(table)?;
     Ok(Move::Event {
         router,
         event: Event { draw, kind },
@@ -131,4 +175,17 @@ fn interface_in(table: &Table) -> Result<IfaceId, Wrong>
     Ok(IfaceId {
         number: field::number(table, "iface")?,
     })
+}
+
+/// The place of the router that a move names.
+fn router_of(table: &Table, routers: &[RouterText]) -> Result<usize, Wrong>
+    ensures { result_ok result ≡ router_at routers.now (table_view table.now) }
+{
+    router::place_of(routers, field::text(table, "router")?).ok_or(Wrong)
+}
+
+fn draw_in(table: &Table) -> Result<u32, Wrong>
+    ensures { result_ok result ≡ draw_at (table_view table.now) }
+{
+    field::number_or(table, "draw", 0)
 }

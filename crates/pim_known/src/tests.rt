@@ -1,0 +1,2 @@
+mod components;
+mod known_packets;

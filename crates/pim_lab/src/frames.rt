@@ -1,0 +1,288 @@
+//! The frames that the routers sent, as a settle takes and delivers them.
+ghost use Rattle.std.specs.List.{list_any, position};
+ghost use Rattle.std.specs.Prelude.{◌≡◌, ◌+◌, ◌++◌, ◌==◌, [], IfOk, OnOk, OnErr, option_map};
+ghost use Rattle.pim_ip.specs.declared.fault.Fault.{Fault};
+ghost use Rattle.pim_lab.specs.Settling.{deliveries_of, delivery_to, departure_of, link_of, next_delivery, owner_of};
+ghost use Rattle.pim_lab.specs.Settling.{receives, step_of, to_interfaces, to_routers, with_sent};
+
+use crate::station::Station;
+use pim_net::Move;
+use pim_scenario::Link;
+use pim_types::{Addr, Emission, Fault, IfaceId};
+use std::alloc::{AllocError, Global};
+use std::collections::VecDeque;
+use std::marker::Model;
+
+/// Where a frame left.
+#[derive(Clone, Copy)]
+pub(crate) enum Departure {
+    /// On an interface of a router.
+    Interface { router: usize, iface: IfaceId },
+    /// To this address.
+    Unicast { destination: Addr },
+}
+
+impl Departure {
+    // Where a router's packet leaves.
+    fn of(router: usize, emission: &Emission) -> Departure
+        ensures { result ≡ departure_of router emission.now }
+    {
+        match emission {
+            Emission::Link { iface, .. } => Departure::Interface {
+                router,
+                iface: *iface,
+            },
+            Emission::Unicast { destination, .. } => Departure::Unicast {
+                destination: *destination,
+            },
+        }
+    }
+}
+
+/// A frame that was sent.
+#[derive(Clone, Copy)]
+pub(crate) struct Frame {
+    /// The frames of all routers are counted from 1, in order of sending.
+    pub(crate) number: u32,
+    pub(crate) departure: Departure,
+}
+
+/// A place to which a settle delivers a frame.
+#[derive(Clone, Copy)]
+pub(crate) struct Delivery {
+    pub(crate) router: usize,
+    /// `None` for a unicast.
+    pub(crate) iface: Option<IfaceId>,
+    pub(crate) frame: u32,
+}
+
+impl Delivery {
+    /// The move of the network, with this draw.
+    pub(crate) fn with_draw(self, draw: u32) -> Move
+        ensures { result ≡ step_of self draw }
+    {
+        let router = self.router;
+        let frame = self.frame;
+        match self.iface {
+            Some(iface) => Move::Deliver {
+                router,
+                iface,
+                frame,
+                draw,
+            },
+            None => Move::DeliverUnicast {
+                router,
+                frame,
+                draw,
+            },
+        }
+    }
+}
+
+/// The frames that were sent. What no settle has taken waits for the next.
+#[derive(Drop)]
+pub(crate) struct Frames {
+    sent: u32,
+    begun: VecDeque<Delivery>,
+    waiting: VecDeque<Frame>,
+}
+
+impl Model for Frames {
+    ghost use Rattle.pim_lab.specs.Settling.{Queue};
+
+    ghost Value = { Queue };
+
+    ghost view = { λ f. record { sent = f.sent; begun = f.begun.items; waiting = f.waiting.items } };
+}
+
+impl Frames {
+    /// No frame was sent yet.
+    pub(crate) fn new(alloc: Global) -> Frames
+        ensures { result ≡ record { sent = 0; begun = []; waiting = [] } }
+    {
+        Frames {
+            sent: 0,
+            begun: VecDeque::new(alloc),
+            waiting: VecDeque::new(alloc),
+        }
+    }
+
+    /// A router has sent a packet. The answer is the number of the frame; that no number is left is a want of memory
+    /// too, since all frames are kept.
+    pub(crate) fn send(&mut self, router: usize, emission: &Emission) -> Result<u32, Fault>
+        ensures number { IfOk result (λ number. number ≡ self.old.sent + 1) }
+        ensures sent { OnOk result (self.new ≡ with_sent router emission.now self.old) }
+    {
+        let number = self.sent.checked_add(1).ok_or(Fault::Memory)?;
+        let departure = Departure::of(router, emission);
+        self.waiting.push_back(Frame { number, departure })?;
+        self.sent = number;
+        Ok(number)
+    }
+
+    /// The next delivery of a settle, until all that was sent is delivered: of the frame begun, or of the first one that
+    /// somebody receives.
+    pub(crate) fn next(
+        &mut self,
+        alloc: Global,
+        stations: &[Station],
+    ) -> Result<Option<Delivery>, AllocError>
+        ensures { IfOk result (λ next. (next, self.new)
+            ≡ next_delivery stations.now self.old.sent self.old.waiting self.old.begun) }
+    {
+        while self.begun.is_empty() {
+            let Some(frame) = self.waiting.pop_front() else {
+                return Ok(None);
+            };
+            self.begun = deliveries(alloc, stations, frame)?;
+        }
+        Ok(self.begun.pop_front())
+    }
+
+    /// A settle is over: what is left of the frame begun isn't delivered.
+    pub(crate) fn end_settle(&mut self)
+        ensures { self.new ≡ record self.old { begun = [] } }
+    {
+        self.begun.clear();
+    }
+}
+
+// Where a settle delivers a frame: to every other interface on its link, by router and interface, or to the
+// first router with its address.
+#[tactic(auto, unfolding(crate::specs::Settling::deliveries_of))]
+fn deliveries(
+    alloc: Global,
+    stations: &[Station],
+    frame: Frame,
+) -> Result<VecDeque<Delivery>, AllocError>
+    ensures { IfOk result (λ found. found.items ≡ deliveries_of stations.now frame.number frame.departure) }
+{
+    match frame.departure {
+        Departure::Interface { router, iface } => match link_of(stations, router, iface) {
+            Some(link) => {
+                let frame = OnLink {
+                    link,
+                    frame: frame.number,
+                    router,
+                    iface,
+                };
+                frame.to_routers(alloc, stations)
+            }
+            None => Ok(VecDeque::new(alloc)),
+        },
+        Departure::Unicast { destination } => to_owner(alloc, stations, frame.number, destination),
+    }
+}
+
+#[tactic(auto, unfolding(crate::specs::Settling::deliveries_of))]
+fn to_owner(
+    alloc: Global,
+    stations: &[Station],
+    frame: u32,
+    address: Addr,
+) -> Result<VecDeque<Delivery>, AllocError>
+    ensures { IfOk result (λ found. found.items ≡ deliveries_of stations.now frame (Departure.Unicast address)) }
+{
+    let mut found = VecDeque::new(alloc);
+    let Some(router) = owner_of(stations, address) else {
+        return Ok(found);
+    };
+    found.push_back(Delivery {
+        router,
+        iface: None,
+        frame,
+    })?;
+    Ok(found)
+}
+
+// The number of an interface's link.
+fn link_of(stations: &[Station], router: usize, iface: IfaceId) -> Option<usize>
+    ensures { result ≡ link_of stations.now router iface.number }
+{
+    let station = stations.get(router)?;
+    let link = station.links.as_slice().get(iface.number as usize)?;
+    Some(link.number)
+}
+
+// The first router with an address.
+fn owner_of(stations: &[Station], address: Addr) -> Option<usize>
+    ensures { result ≡ owner_of stations.now address.bits }
+{
+    stations
+        .iter()
+        .position(|station| is_among(station.addresses.as_slice(), address))
+}
+
+fn is_among(addresses: &[Addr], address: Addr) -> bool
+    ensures { result ≡ list_any (λ a. a.bits == address.bits) addresses.now }
+{
+    for own in addresses {
+        if own.bits == address.bits {
+            return true;
+        }
+    }
+    false
+}
+
+// A frame on a link, with the interface that it left on.
+#[derive(Clone, Copy)]
+struct OnLink {
+    link: usize,
+    frame: u32,
+    router: usize,
+    iface: IfaceId,
+}
+
+impl OnLink {
+    // Deliveries to every other interface on the link, by router and interface.
+    fn to_routers(
+        self,
+        alloc: Global,
+        stations: &[Station],
+    ) -> Result<VecDeque<Delivery>, AllocError>
+        ensures { IfOk result (λ found. found.items ≡ to_routers self 0 stations.now) }
+    {
+        let mut found = VecDeque::new(alloc);
+        for (router, station) in stations.iter().enumerate() {
+            self.to_interfaces(router, station.links.as_slice(), &mut found)?;
+        }
+        Ok(found)
+    }
+
+    // The same to the interfaces of one router.
+    fn to_interfaces(
+        self,
+        router: usize,
+        links: &[Link],
+        found: &mut VecDeque<Delivery>,
+    ) -> Result<(), AllocError>
+        ensures { OnOk result (found.new.items ≡ found.old.items ++ to_interfaces self router 0 links.now) }
+    {
+        for (place, link) in links.iter().enumerate() {
+            if self.is_received(router, place, link) {
+                found.push_back(self.delivery(router, place)?)?;
+            }
+        }
+        Ok(())
+    }
+
+    // Whether the interface is on the link, and isn't the one that the frame left on.
+    fn is_received(self, router: usize, place: usize, link: &Link) -> bool
+        ensures { result ≡ receives self router place link.now }
+    {
+        let is_sender = router == self.router && place == self.iface.number as usize;
+        link.number == self.link && !is_sender
+    }
+
+    // The delivery to an interface by its place. A place past all numbers of interfaces is more than there is memory for.
+    fn delivery(self, router: usize, place: usize) -> Result<Delivery, AllocError>
+        ensures { IfOk result (λ d. d ≡ delivery_to router (Some (record { number = place })) self.frame) }
+    {
+        let number = u32::try_from(place).map_err(|_| AllocError)?;
+        Ok(Delivery {
+            router,
+            iface: Some(IfaceId { number }),
+            frame: self.frame,
+        })
+    }
+}

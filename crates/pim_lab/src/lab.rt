@@ -1,0 +1,212 @@
+//! Moves over a network, and the lines that they bring.
+ghost use Rattle.std.specs.Prelude.{◌≡◌, IfErr, IfOk, Ok, OnOk, map};
+ghost use Rattle.pim_net.specs.Showing.{node_of};
+ghost use Rattle.pim_lab.specs.Statuses.{IsFault, IsTroubleOf, router_node, routers_test};
+
+use crate::frames::Frames;
+use crate::station::Station;
+use crate::table::RowLine;
+use crate::trouble::Trouble;
+use pim_net::{Move as Step, Net, Node, Wire};
+use pim_router::Router;
+use pim_scenario::{Move, RouterText};
+use pim_types::{Emission, Fault, Outcome, Series, Table};
+use std::alloc::{AllocError, Global};
+use std::io::Write;
+
+/// How many deliveries one settle makes at most.
+const SETTLE_LIMIT: usize = 10_000;
+
+/// The tables in the order in which they are printed.
+const TABLES: [Table; 8] = [
+    Table::Neighbours,
+    Table::Groups,
+    Table::Sources,
+    Table::Downstream,
+    Table::Asserts,
+    Table::Upstream,
+    Table::Trees,
+    Table::Active,
+];
+
+/// The routers of a scenario with the frames that they sent.
+#[derive(Drop)]
+pub(crate) struct Lab<W> {
+    alloc: Global,
+    stations: Vec<Station>,
+    net: Net<W>,
+    frames: Frames,
+}
+
+impl<W: Wire> Lab<W> {
+    /// The network of a scenario. The first test that its routers fail is told.
+    pub(crate) fn open(alloc: Global, texts: Series<RouterText>, wire: W) -> Result<Lab<W>, Trouble>
+        ensures accepted { OnOk result (routers_test texts ≡ Ok tt) }
+        ensures trouble { IfErr result (λ t. IsTroubleOf (routers_test texts) t) }
+    {
+        let (stations, nodes) = stations_of(alloc, texts)?;
+        let net = Net::new(alloc, nodes, wire)??;
+        Ok(Lab {
+            alloc,
+            stations,
+            net,
+            frames: Frames::new(alloc),
+        })
+    }
+
+    /// Does a move, and prints what comes of it.
+    pub(crate) fn make<O: Write>(
+        &mut self,
+        number: usize,
+        step: Move,
+        out: &mut O,
+    ) -> Result<(), Trouble>
+        ensures { IfErr result (λ t. IsFault t) }
+    {
+        match step {
+            Move::Event { router, event } => {
+                self.step(number, router, Step::Event { router, event }, out)
+            }
+            Move::Deliver {
+                router,
+                iface,
+                frame,
+                draw,
+            } => {
+                let step = Step::Deliver {
+                    router,
+                    iface,
+                    frame,
+                    draw,
+                };
+                self.step(number, router, step, out)
+            }
+            Move::Carry {
+                router,
+                frame,
+                draw,
+            } => {
+                let step = Step::DeliverUnicast {
+                    router,
+                    frame,
+                    draw,
+                };
+                self.step(number, router, step, out)
+            }
+            Move::Settle { draw } => self.settle(number, draw, out),
+        }
+    }
+
+    // One move of the network, which concerns this router.
+    fn step<O: Write>(
+        &mut self,
+        number: usize,
+        router: usize,
+        step: Step,
+        out: &mut O,
+    ) -> Result<(), Trouble>
+        ensures { IfErr result (λ t. IsFault t) }
+    {
+        for outcome in self.net.run(&[step])? {
+            self.print(number, router, outcome, out)?;
+        }
+        Ok(())
+    }
+
+    // What became of a move, and the packets that left.
+    fn print<O: Write>(
+        &mut self,
+        number: usize,
+        router: usize,
+        outcome: Outcome,
+        out: &mut O,
+    ) -> Result<(), Trouble>
+        ensures { IfErr result (λ t. IsFault t) }
+    {
+        // Each move names one of the routers.
+        let Some(station) = self.stations.get(router) else {
+            return Err(Trouble::Fault(Fault::Failed));
+        };
+        out.writeln(station.move_line(number, outcome.answer))?;
+        let emissions = outcome.emissions.as_slice();
+        let first = first_copy(emissions, outcome.copies);
+        for (place, emission) in emissions.iter().enumerate() {
+            let frame = self.frames.send(router, emission)?;
+            out.writeln(station.packet_line(frame, emission, place >= first))?;
+        }
+        Ok(())
+    }
+
+    // Delivers the frames that no settle has taken, and those that are sent meanwhile. What is left of a frame
+    // when the deliveries come to their limit isn't delivered.
+    fn settle<O: Write>(&mut self, number: usize, draw: u32, out: &mut O) -> Result<(), Trouble>
+        ensures { IfErr result (λ t. IsFault t) }
+    {
+        for _ in 0..SETTLE_LIMIT {
+            let Some(delivery) = self.frames.next(self.alloc, &self.stations)? else {
+                break;
+            };
+            self.step(number, delivery.router, delivery.with_draw(draw), out)?;
+        }
+        self.frames.end_settle();
+        Ok(())
+    }
+
+    /// Prints the tables of all routers.
+    pub(crate) fn print_tables<O: Write>(&self, out: &mut O) -> Result<(), Trouble>
+        ensures { IfErr result (λ t. IsFault t) }
+    {
+        for (place, station) in self.stations.iter().enumerate() {
+            let name = station.name();
+            out.writeln(format_args!("router {name}"))?;
+            if let Some(router) = self.net.router(place) {
+                print_router(router, out)?;
+            }
+        }
+        Ok(())
+    }
+}
+
+fn print_router<O: Write>(router: &Router, out: &mut O) -> Result<(), Trouble>
+    ensures { IfErr result (λ t. IsFault t) }
+{
+    for table in TABLES {
+        print_table(router, table, out)?;
+    }
+    Ok(())
+}
+
+fn print_table<O: Write>(router: &Router, table: Table, out: &mut O) -> Result<(), Trouble>
+    ensures { IfErr result (λ t. IsFault t) }
+{
+    for row in router.rows(table)? {
+        out.writeln(RowLine { row })?;
+    }
+    Ok(())
+}
+
+// The routers of a scenario, and what the network is made of for them.
+fn stations_of(
+    alloc: Global,
+    texts: Series<RouterText>,
+) -> Result<(Vec<Station>, Vec<Node>), AllocError>
+    ensures { IfOk result (λ made. map node_of made.1.items ≡ map router_node texts) }
+{
+    let mut stations = Vec::new(alloc);
+    let mut nodes = Vec::new(alloc);
+    for text in texts.into_vec() {
+        let (station, node) = Station::of(alloc, text)?;
+        stations.push(station)?;
+        nodes.push(node)?;
+    }
+    Ok((stations, nodes))
+}
+
+// From which place on the packets on links are copies: they are the last, but for one to the RP.
+fn first_copy(emissions: &[Emission], copies: u32) -> usize {
+    let links = match emissions.split_last() {
+        Some((Emission::Unicast { .. }, before)) if copies > 0 => before.len(),
+        _ => emissions.len(),
+    };
+    links.saturating_sub(copies as usize)
+}

@@ -1,4 +1,0 @@
-mod components;
-mod known_packets;
-mod runs;
-mod words;

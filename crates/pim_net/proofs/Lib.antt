@@ -1,0 +1,7 @@
+pub mod Asked
+pub mod Events
+pub mod Lookups
+pub mod Nodes
+pub mod Runs
+pub mod Stations
+pub mod Steps

@@ -1,0 +1,128 @@
+-- The nodes of a network, opened one after the other.
+use Rattle.std.proofs.Common.{◌≡◌, ◌∙◌, ◌≤◌, ◌<◌, ◌+◌, ◌*◌, ◌&&◌, ℕ, suc, Bool, true, false, List, [], ◌∷◌, ◌++◌, length, map, Option, Some, Result, Ok, Err, refl, sym, ap, arith, append_assoc, append-nil, length-append, nat_le}
+use Rattle.std.proofs.lemmas.Bool.Decides.{nat_tests}
+use Rattle.std.specs.List.{list_all}
+use Rattle.pim_ip.specs.Tests.{expect, ◌>>◌}
+use Rattle.pim_ip.specs.declared.refusal.Refusal.{Refusal}
+use Rattle.pim_types.specs.declared.config.Config.{Config}
+use Rattle.pim_model.specs.Limits.{config_test, is_between, most_ifaces}
+use Rattle.pim_model.specs.Network.{Sent, Station, configs_test, is_node, most_routers, network, nodes_test, station_of}
+use Rattle.pim_net.specs.Ports.{last_port}
+use Rattle.pim_net.specs.Showing.{all_of, node_of}
+use Rattle.pim_net.specs.declared.node.Node.{Node}
+use Rattle.pim_net.proofs.Lookups.{shown}
+use Rattle.pim_net.proofs.Stations.{all_there}
+
+first_passes : (b : Bool) (e : Refusal) (later : Result (Unit {0}) Refusal) → (expect b e >> later) ≡ Ok tt → b ≡ true
+first_passes true e later is = refl
+first_passes false e later is = cc is
+
+-- an accepted configuration has at most 120 interfaces
+pub few_interfaces : (c : Config) → config_test c ≡ Ok tt → length c.interfaces ≤ 120
+unfolding config_test
+few_interfaces c ok =
+    let between : is_between 1 most_ifaces (length c.interfaces) ≡ true = first_passes _ _ _ ok in
+    grind (arith, nat_tests, between)
+
+abbrev pub configs_of : List Node → List Config
+configs_of nodes = map (λ (n : Node). n.config) nodes
+
+abbrev pub opened : Node → Option Station
+opened n = Some (station_of (node_of n))
+
+-- so far all were accepted: what is left of the nodes, and the next port
+pub record Opens (all : List Node) (made : List (Option Station)) (rest : List Node) (port : ℕ) : Type 0 where
+  pub links : list_all is_node (map node_of rest) ≡ true
+  pub few : length made + length rest ≤ most_routers
+  pub tests : configs_test (configs_of all) ≡ configs_test (configs_of rest)
+  pub made_is : made ++ map opened rest ≡ map opened all
+  pub port_is : port ≤ 121 * length made
+
+pub opens_none : (all : List Node) → list_all is_node (map node_of all) ≡ true → length all ≤ most_routers → Opens all [] all 0
+opens_none all links few = record { links = links; few = omega (arith, few); tests = refl; made_is = refl; port_is = omega arith }
+
+both_true : (a b : Bool) → (a && b) ≡ true → (a ≡ true) × (b ≡ true)
+both_true true b e = (refl, e)
+both_true false b e = cc e
+
+module _ (all rest : List Node) (made : List (Option Station)) (n : Node) (port : ℕ) (opens : Opens all made (n ∷ rest) port) where
+  pub first_linked : length n.links ≡ length n.config.interfaces
+  first_linked = grind (arith, nat_tests, (both_true (is_node (node_of n)) _ opens.links).0)
+
+  pub port_within : port ≤ last_port
+  port_within = omega (arith, opens.few, opens.port_is)
+
+  pub port_stays : config_test n.config ≡ Ok tt → port + (length n.links + 1) ≤ 121 * (length made + 1)
+  port_stays ok = omega (arith, few_interfaces n.config ok, first_linked, opens.port_is)
+
+  pub port_fits : config_test n.config ≡ Ok tt → port + (length n.links + 1) < 4294967296
+  port_fits ok = omega (arith, port_stays ok, opens.few)
+
+  pub opens_next : (more : List (Option Station)) (next : ℕ) → config_test n.config ≡ Ok tt
+      → more ≡ made ++ opened n ∷ [] → next ≡ port + (length n.links + 1) → Opens all more rest next
+  unfolding configs_test
+  opens_next more next ok pushed port_is =
+      let longer : length more ≡ length made + 1 = ap length pushed ∙ length-append made (opened n ∷ []) in
+      record {
+        links = (both_true (is_node (node_of n)) _ opens.links).1;
+        few = omega (arith, longer, opens.few);
+        tests = opens.tests ∙ ap (λ x. x >> configs_test (configs_of rest)) ok;
+        made_is = ap (λ (m : List (Option Station)). m ++ map opened rest) pushed
+            ∙ append_assoc made (opened n ∷ []) (map opened rest) ∙ opens.made_is;
+        port_is = omega (arith, longer, port_is, port_stays ok);
+      }
+
+  pub opens_fails : (refusal : Refusal) → config_test n.config ≡ Err refusal
+      → configs_test (configs_of all) ≡ Err refusal
+  unfolding configs_test
+  opens_fails refusal failed = opens.tests ∙ ap (λ x. x >> configs_test (configs_of rest)) failed
+
+pub opens_all : (all : List Node) (made : List (Option Station)) (rest : List Node) (port : ℕ) → Opens all made rest port
+    → length rest ≡ 0 → (configs_test (configs_of all) ≡ Ok tt) × (made ≡ map opened all)
+unfolding configs_test
+opens_all all made [] port opens none = (opens.tests, sym (append-nil made) ∙ opens.made_is)
+opens_all all made (n ∷ rest) port opens none = absurd (omega (arith, none))
+
+-- ---- the test of nodes
+
+configs_same : (nodes : List Node) → map (λ (n : Config × List ℕ). n.0) (map node_of nodes) ≡ configs_of nodes
+configs_same [] = refl
+configs_same (n ∷ nodes) = ap (λ cs. n.config ∷ cs) (configs_same nodes)
+
+stations_same : (nodes : List Node) → map station_of (map node_of nodes) ≡ map (λ n. station_of (node_of n)) nodes
+stations_same [] = refl
+stations_same (n ∷ nodes) = ap (λ ss. station_of (node_of n) ∷ ss) (stations_same nodes)
+
+node_count : (nodes : List Node) → length (map node_of nodes) ≡ length nodes
+node_count [] = refl
+node_count (n ∷ nodes) = ap suc (node_count nodes)
+
+abbrev pub lawful : List Node → Bool
+lawful nodes = nat_le (length nodes) most_routers && list_all is_node (map node_of nodes)
+
+lawful_is : (nodes : List Node) → nodes_test (map node_of nodes)
+    ≡ (expect (lawful nodes) Refusal.BadScenario >> configs_test (configs_of nodes))
+unfolding nodes_test
+lawful_is nodes = rw (node_count nodes, configs_same nodes) refl
+
+pub unlawful : (nodes : List Node) → lawful nodes ≡ false → nodes_test (map node_of nodes) ≡ Err Refusal.BadScenario
+unlawful nodes is = lawful_is nodes ∙ ap (λ b. expect b Refusal.BadScenario >> configs_test (configs_of nodes)) is
+
+pub then_configs : (nodes : List Node) → lawful nodes ≡ true
+    → nodes_test (map node_of nodes) ≡ configs_test (configs_of nodes)
+then_configs nodes is = lawful_is nodes ∙ ap (λ b. expect b Refusal.BadScenario >> configs_test (configs_of nodes)) is
+
+pub lawful_few : (nodes : List Node) → lawful nodes ≡ true → length nodes ≤ most_routers
+lawful_few nodes is = grind (arith, nat_tests, (both_true (nat_le (length nodes) most_routers) _ is).0)
+
+pub lawful_links : (nodes : List Node) → lawful nodes ≡ true → list_all is_node (map node_of nodes) ≡ true
+lawful_links nodes is = (both_true (nat_le (length nodes) most_routers) _ is).1
+
+-- the stations of the nodes, and no frames, show their network
+pub network_shown : (nodes : List Node) (stations : List (Option Station)) (frames : List Sent)
+    → stations ≡ map opened nodes → frames ≡ [] → shown stations frames ≡ Some (network (map node_of nodes))
+unfolding network
+network_shown nodes stations frames are none =
+    let all : all_of stations ≡ Some (map station_of (map node_of nodes)) =
+    ap all_of are ∙ all_there (λ n. station_of (node_of n)) nodes ∙ ap Some (sym (stations_same nodes)) in
+    rw (all, none) refl

@@ -1,0 +1,53 @@
+use Rattle.std.proofs.Common.{rules, ◌≤◌, ◌<◌, ◌∙◌, Some, length, ap, refl, sym}
+use Rattle.std.proofs.lemmas.Option.{slice_get_read}
+use Rattle.pim_types.specs.declared.outcome.Outcome.{Outcome}
+use Rattle.pim_model.specs.Network.{Network}
+use Rattle.pim_net.proofs.Lookups.{shows}
+use Rattle.pim_net.proofs.Stations.{if_some}
+use Rattle.pim_net.proofs.Steps.{fault_is, network_is, nowhere, outcome_is}
+use Rattle.pim_net.proofs.network.Network.step.Goals as goal
+
+pub returns-then-router-len-clause-outcome : goal.returns-then-router-len-clause-outcome
+returns-then-router-len-clause-outcome c =
+    let past : length c.self.inside.stations.items ≤ c.args.router = search rules in
+    if_some c.args.self.now _ (λ net is.
+    c.bad_move.ensures
+    ∙ ap (λ (m : Outcome × Network). m.0)
+    (sym (nowhere c.self.inside.stations.items c.self.inside.frames.items net (shows _ _ net (c.self.view_is ∙ is))
+    c.args.router c.args.event.now past)))
+
+pub returns-then-router-len-clause-network : goal.returns-then-router-len-clause-network
+returns-then-router-len-clause-network c =
+    let past : length c.self.inside.stations.items ≤ c.args.router = search rules in
+    if_some c.args.self.now _ (λ net is.
+    is
+    ∙ ap (λ (m : Outcome × Network). Some m.1)
+    (sym (nowhere c.self.inside.stations.items c.self.inside.frames.items net (shows _ _ net (c.self.view_is ∙ is))
+    c.args.router c.args.event.now past)))
+
+pub returns-clause-outcome : goal.returns-clause-outcome
+returns-clause-outcome c =
+    let within : c.args.router < length c.self.inside.stations.items = search rules in
+    if_some c.args.self.now _ (λ net is.
+    outcome_is c.self.inside.stations.items c.self.inside.frames.items net (shows _ _ net (c.self.view_is ∙ is))
+    c.args.router c.args.event.now c.index_mut.result.now
+    (slice_get_read c.self.inside.stations.items _ c.args.router c.index_mut.result.now refl within c.index_mut.ensures.value)
+    c.take.result c.take.ensures.outcome)
+
+pub returns-clause-network : goal.returns-clause-network
+returns-clause-network c =
+    let within : c.args.router < length c.self.inside.stations.items = search rules in
+    if_some c.args.self.now _ (λ net is.
+    network_is c.self.inside.stations.items c.self.inside.frames.items net (shows _ _ net (c.self.view_is ∙ is))
+    c.args.router c.args.event.now c.index_mut.result.now
+    (slice_get_read c.self.inside.stations.items _ c.args.router c.index_mut.result.now refl within c.index_mut.ensures.value)
+    c.take.result c.take.new.station c.take.new.frames.items c.take.ensures.state c.take.ensures.frames)
+
+pub returns-clause-fault : goal.returns-clause-fault
+returns-clause-fault c =
+    let within : c.args.router < length c.self.inside.stations.items = search rules in
+    if_some c.args.self.now _ (λ net is.
+    fault_is c.self.inside.stations.items c.self.inside.frames.items net (shows _ _ net (c.self.view_is ∙ is))
+    c.args.router c.args.event.now c.index_mut.result.now
+    (slice_get_read c.self.inside.stations.items _ c.args.router c.index_mut.result.now refl within c.index_mut.ensures.value)
+    c.take.result c.take.ensures.fault)

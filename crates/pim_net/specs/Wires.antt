@@ -1,0 +1,21 @@
+-- The failures of a wire.
+use Rattle.std.specs.Prelude.{ℕ, ⊤, ◌<◌, ◌≡◌, ◌⊎◌}
+use Rattle.pim_ip.specs.declared.fault.Fault.{Fault}
+
+-- the count at which a wire stops counting
+abbrev pub most_failures : ℕ
+most_failures = 18446744073709551615
+
+-- a failure was counted, or couldn't be any more
+abbrev pub HasRisen : ℕ → ℕ → Type 0
+HasRisen before after = (before < after) ⊎ (before ≡ most_failures)
+
+-- a fault of a call over a wire with these counts before and after it
+abbrev pub IsFaultOver : ℕ → ℕ → Fault → Type 0
+IsFaultOver before after Fault.Memory = ⊤
+IsFaultOver before after Fault.Failed = ⊥
+IsFaultOver before after Fault.Wire = HasRisen before after
+
+-- a fault that a call over a wire may have
+abbrev pub IsWireOrMemory : Fault → Type 0
+IsWireOrMemory fault = (fault ≡ Fault.Memory) ⊎ (fault ≡ Fault.Wire)

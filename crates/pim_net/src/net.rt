@@ -1,0 +1,225 @@
+ghost use Rattle.std.specs.Prelude.{◌≡◌, ◌↔◌, ◌≤◌, [], Err, IfErr, IfNone, IfOk, IfSome, IsOk, IsSome, List, None, Ok, OnOk, Some, is_some, map, option_map, true, ℕ};
+ghost use Rattle.pim_ip.specs.declared.fault.Fault.{Fault};
+ghost use Rattle.pim_asked.specs.Networks.{MovesAreAsked};
+ghost use Rattle.pim_model.specs.Network.{Deliver, DeliverUnicast, moved, network, network_ran, nodes_test};
+ghost use Rattle.pim_net.specs.Showing.{IsPartWay, move_of, node_of, state_of};
+ghost use Rattle.pim_net.specs.Wires.{IsFaultOver};
+ghost use Rattle.pim_types.specs.declared.config.Config.{Config as ConfigValue};
+
+use crate::moves::Move;
+use crate::network::{Network, bad_move};
+use crate::node::Node;
+use crate::wire::Wire;
+use pim_router::Router;
+use pim_types::{EventKind, Fault, IfaceId, Outcome, Refusal, Series};
+use std::alloc::Global;
+use std::marker::Model;
+
+/// What moves brought: an outcome each.
+pub type NetLog = Vec<Outcome>;
+
+/// A network of routers, whose packets a wire carries. Every frame that was sent is kept, so it may come late, twice or
+/// never.
+#[derive(Drop)]
+pub struct Net<W> {
+    alloc: Global,
+    failed: bool,
+    network: Network,
+    wire: W,
+}
+
+impl<W> Model for Net<W> {
+    ghost use Rattle.std.specs.Prelude.{None, false, if◌then◌else◌, is_some, true, ◌≡◌};
+    ghost use Rattle.pim_net.specs.Showing.{Wired};
+
+    ghost Value = { Wired W };
+
+    ghost view = { λ n. record { network = if n.failed then None else n.network; wire = n.wire } };
+
+    ghost invariant = { λ n. n.failed ≡ false → is_some n.network ≡ true };
+}
+
+impl<W: Wire> Net<W> {
+    /// The network of these nodes, at most 64, each with a link for each of its interfaces: else it is refused as
+    /// `BadScenario`. Then each configuration is tested, and the first that is refused is told. The fault is `Memory`.
+    pub fn new(alloc: Global, nodes: Vec<Node>, wire: W) -> Result<Result<Net<W>, Refusal>, Fault>
+        ensures accepted { IfOk result (λ made. IfOk made (λ net. (nodes_test (map node_of nodes.items) ≡ Ok tt)
+            × (net.network ≡ Some (network (map node_of nodes.items))) × (net.wire ≡ wire))) }
+        ensures refused { IfOk result (λ made. IfErr made (λ refusal.
+            nodes_test (map node_of nodes.items) ≡ Err refusal)) }
+        ensures memory { IfErr result (λ fault. fault ≡ Fault.Memory) }
+    {
+        match Network::open(alloc, nodes)? {
+            Ok(network) => Ok(Ok(Net {
+                alloc,
+                failed: false,
+                network,
+                wire,
+            })),
+            Err(refusal) => Ok(Err(refusal)),
+        }
+    }
+
+    /// Does the moves one after the other, and tells the outcome of each: a move of an unknown router or frame, or to an
+    /// interface that isn't on the frame's link, is refused as `BadMove`, and changes nothing. Where no moves are to be
+    /// done no memory is taken, so there is no fault. A fault is `Memory`, after which the net answers `Failed` for ever;
+    /// or `Wire`, where the wire failed: then the moves before it stand, and the net goes on working. In the first
+    /// run of a net nothing flows unasked: each copy of a packet has its cause among what came to its router before.
+    pub fn run(&mut self, moves: &[Move]) -> Result<NetLog, Fault>
+        ensures outcomes { W.is_faithful ≡ true → IfSome self.old.network (λ n. IfOk result (λ log.
+            log.items ≡ (network_ran n (map move_of moves.now)).0)) }
+        ensures network { W.is_faithful ≡ true → IfSome self.old.network (λ n. OnOk result
+            (self.new.network ≡ Some (network_ran n (map move_of moves.now)).1)) }
+        ensures asked { W.is_faithful ≡ true → (nodes : List (ConfigValue × List ℕ)) → nodes_test nodes ≡ Ok tt
+            → self.old.network ≡ Some (network nodes)
+            → IfOk result (λ log. MovesAreAsked nodes (map move_of moves.now) log.items) }
+        ensures part_way { W.is_faithful ≡ true → IfSome self.old.network (λ n. result ≡ Err Fault.Wire
+            → IsPartWay n moves.now self.new.network) }
+        ensures works { IfSome self.old.network (λ n. (result ≡ Err Fault.Memory) ↔ (self.new.network ≡ None)) }
+        ensures failed { (result ≡ Err Fault.Failed) ↔ (self.old.network ≡ None) }
+        ensures fails { self.old.network ≡ None → self.new.network ≡ None }
+        ensures fault { IfSome self.old.network (λ n. IfErr result
+            (IsFaultOver (W.failures self.old.wire) (W.failures self.new.wire))) }
+        ensures sure { IfSome self.old.network (λ n. moves.now ≡ [] → IsOk result) }
+    {
+        if self.failed {
+            return Err(Fault::Failed);
+        }
+        let ran = run_all(self.alloc, &mut self.network, &mut self.wire, moves);
+        self.failed = matches!(ran, Err(Fault::Memory));
+        ran
+    }
+
+    /// Router `n`, counted from 0. None for an unknown one, and once memory was refused to a run. No memory is taken.
+    pub fn router(&self, n: usize) -> Option<&Router>
+        ensures some { IfSome result (λ router. (option_map (λ r. r.state) router.now ≡ state_of self.now.network n)
+            × IsSome router.now) }
+        ensures none { IfNone result (state_of self.now.network n ≡ None) }
+    {
+        if self.failed {
+            return None;
+        }
+        self.network.router(n)
+    }
+}
+
+// Does the moves one after the other. After a failure of the wire those before it are done.
+fn run_all<W: Wire>(
+    alloc: Global,
+    network: &mut Network,
+    wire: &mut W,
+    moves: &[Move],
+) -> Result<NetLog, Fault>
+    ensures outcomes { W.is_faithful ≡ true → IfSome network.old (λ n. IfOk result (λ log.
+        log.items ≡ (network_ran n (map move_of moves.now)).0)) }
+    ensures network { W.is_faithful ≡ true → IfSome network.old (λ n. OnOk result
+        (network.new ≡ Some (network_ran n (map move_of moves.now)).1)) }
+    ensures part_way { W.is_faithful ≡ true → IfSome network.old (λ n. result ≡ Err Fault.Wire
+        → IsPartWay n moves.now network.new) }
+    ensures works { IfSome network.old (λ n. IfErr result (λ fault. fault ≡ Fault.Wire → IsSome network.new)) }
+    ensures goes_on { IfSome network.old (λ n. OnOk result (IsSome network.new)) }
+    ensures counted { W.failures wire.old ≤ W.failures wire.new }
+    ensures fault { IfSome network.old (λ n. IfErr result (IsFaultOver (W.failures wire.old) (W.failures wire.new))) }
+    ensures sure { moves.now ≡ [] → IsOk result }
+{
+    let mut log = Vec::new(alloc);
+    for one in moves {
+        log.push(make(alloc, network, wire, one)?)?;
+    }
+    Ok(log)
+}
+
+// Does a move. A failure of the wire leaves the network as it was.
+fn make<W: Wire>(
+    alloc: Global,
+    network: &mut Network,
+    wire: &mut W,
+    one: &Move,
+) -> Result<Outcome, Fault>
+    ensures outcome { W.is_faithful ≡ true → IfSome network.old (λ n. IfOk result (λ outcome.
+        outcome ≡ (moved n (move_of one.now)).0)) }
+    ensures network { W.is_faithful ≡ true → IfSome network.old (λ n. OnOk result
+        (network.new ≡ Some (moved n (move_of one.now)).1)) }
+    ensures goes_on { IfSome network.old (λ n. OnOk result (IsSome network.new)) }
+    ensures kept { IfSome network.old (λ n. IfErr result (λ fault. fault ≡ Fault.Wire → network.new ≡ Some n)) }
+    ensures counted { W.failures wire.old ≤ W.failures wire.new }
+    ensures fault { IfSome network.old (λ n. IfErr result (IsFaultOver (W.failures wire.old) (W.failures wire.new))) }
+{
+    match one {
+        Move::Event { router, event } => network.step(*router, event),
+        Move::Deliver {
+            router,
+            iface,
+            frame,
+            draw,
+        } => deliver(alloc, network, wire, (*router, *iface, *frame), *draw),
+        Move::DeliverUnicast {
+            router,
+            frame,
+            draw,
+        } => deliver_unicast(alloc, network, wire, (*router, *frame), *draw),
+    }
+}
+
+// Delivers a frame to an interface of a router.
+fn deliver<W: Wire>(
+    alloc: Global,
+    network: &mut Network,
+    wire: &mut W,
+    place: (usize, IfaceId, u32),
+    draw: u32,
+) -> Result<Outcome, Fault>
+    ensures outcome { W.is_faithful ≡ true → IfSome network.old (λ n. IfOk result (λ outcome.
+        outcome ≡ (moved n (Deliver place.0 place.1.number place.2 draw)).0)) }
+    ensures network { W.is_faithful ≡ true → IfSome network.old (λ n. OnOk result
+        (network.new ≡ Some (moved n (Deliver place.0 place.1.number place.2 draw)).1)) }
+    ensures goes_on { IfSome network.old (λ n. OnOk result (IsSome network.new)) }
+    ensures kept { IfSome network.old (λ n. IfErr result (λ fault. fault ≡ Fault.Wire → network.new ≡ Some n)) }
+    ensures counted { W.failures wire.old ≤ W.failures wire.new }
+    ensures fault { IfSome network.old (λ n. IfErr result (IsFaultOver (W.failures wire.old) (W.failures wire.new))) }
+{
+    let (router, iface, frame) = place;
+    let Some(delivery) = network.to_interface(router, iface, frame) else {
+        return Ok(bad_move(alloc));
+    };
+    let bytes = carry(alloc, wire, delivery.port, delivery.bytes)?;
+    network.receive(router, draw, EventKind::Frame { iface, bytes })
+}
+
+// Delivers a frame to a router's own address.
+fn deliver_unicast<W: Wire>(
+    alloc: Global,
+    network: &mut Network,
+    wire: &mut W,
+    place: (usize, u32),
+    draw: u32,
+) -> Result<Outcome, Fault>
+    ensures outcome { W.is_faithful ≡ true → IfSome network.old (λ n. IfOk result (λ outcome.
+        outcome ≡ (moved n (DeliverUnicast place.0 place.1 draw)).0)) }
+    ensures network { W.is_faithful ≡ true → IfSome network.old (λ n. OnOk result
+        (network.new ≡ Some (moved n (DeliverUnicast place.0 place.1 draw)).1)) }
+    ensures goes_on { IfSome network.old (λ n. OnOk result (IsSome network.new)) }
+    ensures kept { IfSome network.old (λ n. IfErr result (λ fault. fault ≡ Fault.Wire → network.new ≡ Some n)) }
+    ensures counted { W.failures wire.old ≤ W.failures wire.new }
+    ensures fault { IfSome network.old (λ n. IfErr result (IsFaultOver (W.failures wire.old) (W.failures wire.new))) }
+{
+    let (router, frame) = place;
+    let Some(delivery) = network.to_router(router, frame) else {
+        return Ok(bad_move(alloc));
+    };
+    let bytes = carry(alloc, wire, delivery.port, delivery.bytes)?;
+    network.receive(router, draw, EventKind::Unicast { bytes })
+}
+
+// What comes to a port of what was sent there.
+fn carry<W: Wire>(alloc: Global, wire: &mut W, port: u32, bytes: &[u8]) -> Result<Series<u8>, Fault>
+    ensures carried { W.is_faithful ≡ true → IfOk result (λ packet. packet ≡ bytes.now) }
+    ensures counted { W.failures wire.old ≤ W.failures wire.new }
+    ensures fault { IfErr result (IsFaultOver (W.failures wire.old) (W.failures wire.new)) }
+{
+    wire.send(port, bytes)?;
+    let mut packet = vec![in alloc; 0; bytes.len()]?;
+    let taken = wire.recv(port, &mut packet)?;
+    packet.truncate(taken);
+    Ok(Series::from_vec(packet))
+}

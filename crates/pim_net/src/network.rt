@@ -1,0 +1,259 @@
+ghost use Rattle.std.specs.List.{list_all};
+ghost use Rattle.std.specs.Prelude.{◌≡◌, ◌&&◌, ◌++◌, ◌≤◌, ℕ, Err, IfErr, IfNone, IfOk, IfSome, IsOkUnless, IsSome, None, Ok, OnOk, Some, length, map, nat_le, option_copied, option_map, true};
+ghost use Rattle.pim_ip.specs.declared.fault.Fault.{Fault};
+ghost use Rattle.pim_model.specs.Network.{Deliver, DeliverUnicast, configs_test, event_of, frame_at, is_node, most_routers, moved_at, network, nodes_test, sent_by, station_at, station_of};
+ghost use Rattle.pim_model.specs.Network as written;
+ghost use Rattle.pim_model.specs.Step.{outcome_of, step};
+ghost use Rattle.pim_net.specs.Showing.{brought_on, brought_to, node_of, state_of};
+ghost use Rattle.pim_net.specs.declared.node.Node.{Node};
+
+use crate::node::Node;
+use crate::station::{Frame, Station};
+use pim_router::Router;
+use pim_types::{Emission, Event, EventKind, Fault, IfaceId, Outcome, Refusal, Series};
+use std::alloc::Global;
+use std::marker::Model;
+
+/// What is carried to a port.
+#[derive(Drop)]
+pub(crate) struct Delivery<'a> {
+    pub(crate) port: u32,
+    pub(crate) bytes: &'a [u8],
+}
+
+/// The routers, and all frames that they ever sent, in their order.
+#[derive(Drop)]
+pub(crate) struct Network {
+    alloc: Global,
+    stations: Vec<Station>,
+    frames: Vec<Frame>,
+}
+
+impl Model for Network {
+    ghost use Rattle.std.specs.Prelude.{Option, option_map};
+    ghost use Rattle.pim_model.specs.Network.{Network as NetworkValue};
+    ghost use Rattle.pim_net.specs.Showing.{all_of};
+
+    ghost Value = { Option NetworkValue };
+
+    ghost view = { λ n. option_map (λ stations. record { stations = stations; frames = n.frames.items })
+        (all_of n.stations.items) };
+}
+
+// The most routers of a network.
+const MOST_ROUTERS: usize = 64;
+
+impl Network {
+    /// The network of these nodes, in which nothing was sent yet.
+    pub(crate) fn open(alloc: Global, nodes: Vec<Node>) -> Result<Result<Network, Refusal>, Fault>
+        ensures accepted { IfOk result (λ made. IfOk made (λ net. (nodes_test (map node_of nodes.items) ≡ Ok tt)
+            × (net ≡ Some (network (map node_of nodes.items))))) }
+        ensures refused { IfOk result (λ made. IfErr made (λ refusal.
+            nodes_test (map node_of nodes.items) ≡ Err refusal)) }
+        ensures memory { IfErr result (λ fault. fault ≡ Fault.Memory) }
+    {
+        if !are_lawful(&nodes) {
+            return Ok(Err(Refusal::BadScenario));
+        }
+        match open_all(alloc, nodes)? {
+            Ok(stations) => Ok(Ok(Network {
+                alloc,
+                stations,
+                frames: Vec::new(alloc),
+            })),
+            Err(refusal) => Ok(Err(refusal)),
+        }
+    }
+
+    // A station by its number, from 0.
+    fn station(&self, n: usize) -> Option<&Station>
+        ensures some { IfSome self.now (λ net. IfSome result (λ station.
+            (station.now ≡ station_at net n) × IsSome station.now)) }
+        ensures none { IfSome self.now (λ net. IfNone result (station_at net n ≡ None)) }
+    {
+        self.stations.get(n)
+    }
+
+    /// A router, to be read.
+    pub(crate) fn router(&self, n: usize) -> Option<&Router>
+        ensures some { IfSome self.now (λ net. IfSome result (λ router.
+            (option_map (λ r. r.state) router.now ≡ state_of (Some net) n) × IsSome router.now)) }
+        ensures none { IfSome self.now (λ net. IfNone result (state_of (Some net) n ≡ None)) }
+    {
+        match self.station(n) {
+            Some(station) => Some(station.router()),
+            None => None,
+        }
+    }
+
+    // A frame by its number, from 1.
+    fn frame(&self, number: u32) -> Option<&Frame>
+        ensures { IfSome self.now (λ net. option_copied result ≡ frame_at net number) }
+    {
+        match number.checked_sub(1) {
+            Some(index) => self.frames.get(index as usize),
+            None => None,
+        }
+    }
+
+    /// What a delivery to an interface carries. None where router, interface or frame is unknown, or the interface isn't on
+    /// the frame's link.
+    pub(crate) fn to_interface(
+        &self,
+        router: usize,
+        iface: IfaceId,
+        frame: u32,
+    ) -> Option<Delivery<'_>>
+        ensures some { IfSome self.now (λ net. IfSome result (λ delivery. (w : ℕ) →
+            event_of net (Deliver router iface.number frame w)
+            ≡ Some (router, brought_on iface.number w delivery.bytes.now))) }
+        ensures none { IfSome self.now (λ net. IfNone result ((w : ℕ) →
+            event_of net (Deliver router iface.number frame w) ≡ None)) }
+    {
+        let station = self.station(router)?;
+        let frame = self.frame(frame)?;
+        let port = station.port_on_link_of(iface, frame)?;
+        Some(Delivery {
+            port,
+            bytes: frame.bytes.as_slice(),
+        })
+    }
+
+    /// What a delivery to a router's own address carries. None where router or frame is unknown.
+    pub(crate) fn to_router(&self, router: usize, frame: u32) -> Option<Delivery<'_>>
+        ensures some { IfSome self.now (λ net. IfSome result (λ delivery. (w : ℕ) →
+            event_of net (DeliverUnicast router frame w) ≡ Some (router, brought_to w delivery.bytes.now))) }
+        ensures none { IfSome self.now (λ net. IfNone result ((w : ℕ) →
+            event_of net (DeliverUnicast router frame w) ≡ None)) }
+    {
+        let station = self.station(router)?;
+        let frame = self.frame(frame)?;
+        Some(Delivery {
+            port: station.unicast_port(),
+            bytes: frame.bytes.as_slice(),
+        })
+    }
+
+    /// An event at a router; it is refused where there is no such router. The error is want of memory.
+    pub(crate) fn step(&mut self, router: usize, event: &Event) -> Result<Outcome, Fault>
+        ensures outcome { IfSome self.old (λ net. IfOk result (λ outcome.
+            outcome ≡ (moved_at net (router, event.now)).0)) }
+        ensures network { IfSome self.old (λ net. OnOk result (self.new ≡ Some (moved_at net (router, event.now)).1)) }
+        ensures fault { IfSome self.old (λ net. IsOkUnless result Fault.Memory) }
+    {
+        if router >= self.stations.len() {
+            return Ok(bad_move(self.alloc));
+        }
+        take(
+            self.alloc,
+            &mut self.stations[router],
+            &mut self.frames,
+            event,
+        )
+    }
+
+    /// What comes to a router, as an event. The error is want of memory.
+    pub(crate) fn receive(
+        &mut self,
+        router: usize,
+        draw: u32,
+        kind: EventKind,
+    ) -> Result<Outcome, Fault>
+        ensures outcome { IfSome self.old (λ net. IfOk result (λ outcome.
+            outcome ≡ (moved_at net (router, record { draw = draw; kind = kind })).0)) }
+        ensures network { IfSome self.old (λ net. OnOk result
+            (self.new ≡ Some (moved_at net (router, record { draw = draw; kind = kind })).1)) }
+        ensures fault { IfSome self.old (λ net. IsOkUnless result Fault.Memory) }
+    {
+        self.step(router, &Event { draw, kind })
+    }
+}
+
+// Whether the nodes are few enough, and each has a link for each of its interfaces.
+fn are_lawful(nodes: &[Node]) -> bool
+    ensures { result ≡ (nat_le (length nodes.now) most_routers && list_all is_node (map node_of nodes.now)) }
+{
+    if nodes.len() > MOST_ROUTERS {
+        return false;
+    }
+    for node in nodes {
+        if !node.is_linked() {
+            return false;
+        }
+    }
+    true
+}
+
+// The routers of the nodes. The first that is refused is told.
+fn open_all(alloc: Global, nodes: Vec<Node>) -> Result<Result<Vec<Station>, Refusal>, Fault>
+    requires links { list_all is_node (map node_of nodes.items) ≡ true }
+    requires few { length nodes.items ≤ most_routers }
+    ensures accepted { IfOk result (λ made. IfOk made (λ stations.
+        (configs_test (map (λ (n : Node). n.config) nodes.items) ≡ Ok tt)
+        × (stations.items ≡ map (λ n. Some (station_of (node_of n))) nodes.items))) }
+    ensures refused { IfOk result (λ made. IfErr made (λ refusal.
+        configs_test (map (λ (n : Node). n.config) nodes.items) ≡ Err refusal)) }
+    ensures memory { IfErr result (λ fault. fault ≡ Fault.Memory) }
+{
+    let mut stations = Vec::new(alloc);
+    let mut port = 0;
+    for node in nodes {
+        let links = node.links.len();
+        match Station::open(alloc, node, port)? {
+            Ok(station) => {
+                port += links as u32 + 1;
+                stations.push(station)?;
+            }
+            Err(refusal) => return Ok(Err(refusal)),
+        }
+    }
+    Ok(Ok(stations))
+}
+
+// An event at a station, which puts what it sends at the end of the frames.
+fn take(
+    alloc: Global,
+    station: &mut Station,
+    frames: &mut Vec<Frame>,
+    event: &Event,
+) -> Result<Outcome, Fault>
+    ensures outcome { IfSome station.old (λ s. IfOk result (λ outcome.
+        outcome ≡ outcome_of (step s.state event.now))) }
+    ensures state { IfSome station.old (λ s. OnOk result
+        (station.new ≡ Some (record s { state = (step s.state event.now).state }))) }
+    ensures frames { IfSome station.old (λ s. OnOk result (frames.new.items
+        ≡ frames.old.items ++ map (sent_by s.links) (step s.state event.now).emissions)) }
+    ensures fault { IfSome station.old (λ s. IsOkUnless result Fault.Memory) }
+{
+    let outcome = station.step(alloc, event)?;
+    keep(alloc, station, outcome.emissions.as_slice(), frames)?;
+    Ok(outcome)
+}
+
+// Puts what a station sent at the end of the frames.
+fn keep(
+    alloc: Global,
+    station: &Station,
+    emissions: &[Emission],
+    frames: &mut Vec<Frame>,
+) -> Result<(), Fault>
+    ensures kept { IfSome station.now (λ s. OnOk result
+        (frames.new.items ≡ frames.old.items ++ map (sent_by s.links) emissions.now)) }
+    ensures memory { IfErr result (λ fault. fault ≡ Fault.Memory) }
+{
+    for emission in emissions {
+        frames.push(station.frame(alloc, emission)?)?;
+    }
+    Ok(())
+}
+
+/// The outcome of a move that is refused.
+pub(crate) fn bad_move(alloc: Global) -> Outcome
+    ensures { result ≡ written.bad_move }
+{
+    Outcome {
+        answer: Err(Refusal::BadMove),
+        emissions: Series::new(alloc),
+        copies: 0,
+    }
+}

@@ -1,0 +1,135 @@
+ghost use Rattle.std.specs.Prelude.{◌≡◌, ◌≤◌, Err, IfErr, IfOk, IfSome, IsOkUnless, Ok, OnOk, Some, is_some, length, option_map};
+ghost use Rattle.pim_ip.specs.declared.fault.Fault.{Fault};
+ghost use Rattle.pim_model.specs.Limits.{config_test};
+ghost use Rattle.pim_model.specs.Network.{is_on_frame_link, sent_by, station_of};
+ghost use Rattle.pim_model.specs.Step.{outcome_of, step};
+ghost use Rattle.pim_net.specs.Ports.{last_port};
+ghost use Rattle.pim_net.specs.Showing.{node_of};
+
+use crate::node::Node;
+use pim_router::Router;
+use pim_types::{Emission, Event, Fault, IfaceId, Outcome, Refusal, Series};
+use std::alloc::{AllocError, Global};
+use std::marker::Model;
+
+/// A packet that was sent, with its link; none for a unicast.
+#[derive(Drop)]
+pub(crate) struct Frame {
+    pub(crate) link: Option<u32>,
+    pub(crate) bytes: Series<u8>,
+}
+
+impl Model for Frame {
+    ghost use Rattle.pim_model.specs.Network.{Sent};
+
+    ghost Value = { Sent };
+
+    ghost view = { λ f. record { link = f.link; bytes = f.bytes } };
+}
+
+/// A router with the links of its interfaces and the first of its ports: one for each interface, then one for unicasts.
+#[derive(Drop)]
+pub(crate) struct Station {
+    router: Router,
+    links: Series<u32>,
+    first_port: u32,
+}
+
+impl Model for Station {
+    ghost use Rattle.std.specs.Prelude.{Option, length, option_map, ◌+◌, ◌<◌};
+    ghost use Rattle.pim_model.specs.Network.{Station as StationValue};
+    ghost use Rattle.pim_router.specs.Standing.{Standing};
+
+    ghost Value = { Option StationValue };
+
+    ghost view = { λ s. option_map (λ (r : Standing). record { links = s.links; state = r.state }) s.router };
+
+    ghost invariant = { λ s. s.first_port + length s.links < 7865 };
+}
+
+impl Station {
+    /// The router of a node, with its first port.
+    pub(crate) fn open(
+        alloc: Global,
+        node: Node,
+        first_port: u32,
+    ) -> Result<Result<Station, Refusal>, Fault>
+        requires links { length node.links ≡ length node.config.interfaces }
+        requires port { first_port ≤ last_port }
+        ensures accepted { IfOk result (λ made. IfOk made (λ station. (config_test node.config ≡ Ok tt)
+            × (station ≡ Some (station_of (node_of node))))) }
+        ensures refused { IfOk result (λ made. IfErr made (λ refusal. config_test node.config ≡ Err refusal)) }
+        ensures memory { IfErr result (λ fault. fault ≡ Fault.Memory) }
+    {
+        let Node { config, links } = node;
+        match Router::new(alloc, config)? {
+            Ok(router) => Ok(Ok(Station {
+                router,
+                links,
+                first_port,
+            })),
+            Err(refusal) => Ok(Err(refusal)),
+        }
+    }
+
+    /// The port of an interface that is on the frame's link, if it is.
+    pub(crate) fn port_on_link_of(&self, iface: IfaceId, frame: &Frame) -> Option<u32>
+        ensures { IfSome self.now (λ s. is_some result ≡ is_on_frame_link s iface.number frame.now) }
+    {
+        match (self.links.as_slice().get(iface.number as usize), frame.link) {
+            (Some(own), Some(link)) if *own == link => Some(self.first_port + iface.number),
+            _ => None,
+        }
+    }
+
+    /// The port for unicasts.
+    pub(crate) fn unicast_port(&self) -> u32 {
+        self.first_port + self.links.len() as u32
+    }
+
+    /// The router, to be read.
+    pub(crate) fn router(&self) -> &Router
+        ensures { option_map (λ r. r.state) result.now ≡ option_map (λ s. s.state) self.now }
+    {
+        &self.router
+    }
+
+    /// Takes one event.
+    pub(crate) fn step(&mut self, alloc: Global, event: &Event) -> Result<Outcome, Fault>
+        ensures outcome { IfSome self.old (λ s. IfOk result (λ outcome. outcome ≡ outcome_of (step s.state event.now))) }
+        ensures state { IfSome self.old (λ s. OnOk result
+            (self.new ≡ Some (record s { state = (step s.state event.now).state }))) }
+        ensures fault { IfSome self.old (λ s. IsOkUnless result Fault.Memory) }
+    {
+        let mut emissions = Vec::new(alloc);
+        let answer = self.router.step(event, &mut emissions)?;
+        Ok(Outcome {
+            answer,
+            emissions: Series::from_vec(emissions),
+            copies: self.router.copies(),
+        })
+    }
+
+    /// An emission as a frame.
+    pub(crate) fn frame(&self, alloc: Global, emission: &Emission) -> Result<Frame, AllocError>
+        ensures { IfSome self.now (λ s. IfOk result (λ frame. frame ≡ sent_by s.links emission.now)) }
+    {
+        match emission {
+            Emission::Link { iface, bytes } => Ok(Frame {
+                link: self.links.as_slice().get(iface.number as usize).copied(),
+                bytes: copied(alloc, bytes)?,
+            }),
+            Emission::Unicast { bytes, .. } => Ok(Frame {
+                link: None,
+                bytes: copied(alloc, bytes)?,
+            }),
+        }
+    }
+}
+
+// The same bytes.
+fn copied(alloc: Global, bytes: &Series<u8>) -> Result<Series<u8>, AllocError>
+    ensures { IfOk result (λ same. same ≡ bytes.now) }
+{
+    Ok(Series::from_vec(bytes.as_slice().to_vec(alloc)?))
+}

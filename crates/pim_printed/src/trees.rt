@@ -1,0 +1,63 @@
+//! The upstream (S,G,rpt) states.
+ghost use Rattle.std.specs.Prelude.{◌≡◌, ◌++◌, IfOk, OnOk, flat_map};
+ghost use Rattle.pim_macros.specs.Sights.{IsStarSight};
+ghost use Rattle.pim_model.specs.Desires.{tree_state};
+ghost use Rattle.pim_model.specs.Printed.{tree_line, tree_lines};
+ghost use Rattle.pim_printed.specs.Trees.{lines_of_group};
+
+use pim_macros::{StarSight, World};
+use pim_trie::Meter;
+use pim_types::{Addr, Row, TreeState};
+use std::alloc::{AllocError, Global};
+
+/// The (S,G,rpt) states of the sources with a fact, where their group is joined.
+#[tactic(auto, unfolding(pim_model::specs::Printed::tree_lines, crate::specs::Trees::lines_of_group))]
+pub fn trees(world: &World, alloc: Global) -> Result<Vec<Row>, AllocError>
+    ensures { IfOk result (λ rows. rows.items ≡ tree_lines world.now) }
+{
+    let mut rows = Vec::new(alloc);
+    for (group, ()) in world.groups(alloc)?.iter() {
+        push_group(world, alloc, *group, &mut rows)?;
+    }
+    Ok(rows)
+}
+
+// Those of a group.
+#[tactic(auto, unfolding(crate::specs::Trees::lines_of_group))]
+fn push_group(
+    world: &World,
+    alloc: Global,
+    group: Addr,
+    rows: &mut Vec<Row>,
+) -> Result<(), AllocError>
+    ensures { OnOk result (rows.new.items ≡ rows.old.items ++ lines_of_group world.now group.bits) }
+{
+    let star = world.gather_star(group, &mut Meter::new());
+    for (source, ()) in world.sources(alloc, group)?.iter() {
+        push_source(world, &star, *source, rows)?;
+    }
+    Ok(())
+}
+
+// That of a source.
+fn push_source(
+    world: &World,
+    star: &StarSight,
+    source: Addr,
+    rows: &mut Vec<Row>,
+) -> Result<(), AllocError>
+    requires { IsStarSight world.now star.now }
+    ensures { OnOk result (rows.new.items ≡ rows.old.items
+        ++ tree_line star.now.group.bits source.bits (tree_state world.now star.now.group.bits source.bits)) }
+{
+    let is_pruned = match world.tree_state(&world.gather_source(*star, source, &mut Meter::new())) {
+        TreeState::NotJoined => return Ok(()),
+        TreeState::Pruned => true,
+        TreeState::NotPruned => false,
+    };
+    Ok(rows.push(Row::Tree {
+        group: star.group,
+        source,
+        is_pruned,
+    })?)
+}
