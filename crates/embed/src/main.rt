@@ -6,7 +6,7 @@ mod config;
 
 use config::config;
 use pim_router::Router;
-use pim_types::{Emission, Event, EventKind, Fault, IfaceId, Series, Verdict};
+use pim_types::{Emission, Event, EventKind, Fault, IfaceId, Refusal, Series, Verdict};
 use std::io::{self, ErrorKind};
 
 const ABOVE: IfaceId = IfaceId { number: 0 };
@@ -44,8 +44,7 @@ fn failed(_fault: Fault) -> io::Error {
 }
 
 fn serve(rt: &HostRuntime, router: &mut Router) -> io::Result<()> {
-    take(rt, router, EventKind::Up { iface: ABOVE })?;
-    take(rt, router, EventKind::Up { iface: BELOW })?;
+    begin(rt, router)?;
     take(rt, router, frame(rt, ABOVE, HELLO_ABOVE)?)?;
     take(rt, router, frame(rt, BELOW, HELLO_BELOW)?)?;
     take(rt, router, frame(rt, BELOW, JOIN)?)?;
@@ -53,6 +52,18 @@ fn serve(rt: &HostRuntime, router: &mut Router) -> io::Result<()> {
         if let Some(moment) = router.next_moment() {
             take(rt, router, EventKind::Advance { moment })?;
         }
+    }
+    Ok(())
+}
+
+// Both interfaces come up: several events at once.
+fn begin(rt: &HostRuntime, router: &mut Router) -> io::Result<()> {
+    let events = [ABOVE, BELOW].map(|iface| Event {
+        draw: 7,
+        kind: EventKind::Up { iface },
+    });
+    for outcome in router.run(&events).map_err(failed)? {
+        say(rt, outcome.answer, outcome.emissions.as_slice())?;
     }
     Ok(())
 }
@@ -66,12 +77,22 @@ fn frame(rt: &HostRuntime, iface: IfaceId, packet: &[u8]) -> io::Result<EventKin
 fn take(rt: &HostRuntime, router: &mut Router, kind: EventKind) -> io::Result<()> {
     let event = Event { draw: 7, kind };
     let mut emissions = Vec::new(rt.alloc());
-    match router.step(&event, &mut emissions).map_err(failed)? {
+    let answer = router.step(&event, &mut emissions).map_err(failed)?;
+    say(rt, answer, &emissions)
+}
+
+// What became of an event, and what leaves.
+fn say(
+    rt: &HostRuntime,
+    answer: Result<Verdict, Refusal>,
+    emissions: &[Emission],
+) -> io::Result<()> {
+    match answer {
         Ok(Verdict::Done) => println!(rt; "done")?,
         Ok(Verdict::Ignored(reason)) => println!(rt; "ignored: {reason:?}")?,
         Err(refusal) => println!(rt; "refused: {refusal}")?,
     }
-    for emission in emissions.iter() {
+    for emission in emissions {
         leave(rt, emission)?;
     }
     Ok(())

@@ -1,45 +1,34 @@
 // Plays stored scenarios: `pim_played NAME ..` plays NAME.toml, with tables where NAME.out has some, and says that it printed what
 // NAME.out has, or what else it printed. Where a scenario ends in a complaint, NAME.err has the status on a line of its own and the
-// complaint. The names after the word `--failing` are played over wires that fail from one of their calls on, each in its turn, and
-// those after `--udp` over sockets.
+// complaint. After the word `--failing` names are played over wires that fail from one of their calls on, each in its turn; after
+// `--udp` over sockets; after `--full` where no line can be written; after `--check` they are checked and not played. `--unread`
+// and `--help` print what `pimlab` says of a file that can't be read to its end, and of a request for help.
 #![tactic(auto)]
 
 mod failing;
-#[cfg(test)]
-mod tests;
+mod faults;
+mod stored;
 
 use failing::FailingWire;
-use pim_lab::play;
+use faults::{Cut, Full};
+use pim_lab::{Answer, check_text, load, play, read_words};
 use pim_net::{MemoryWire, UdpWire, Wire};
+use std::env;
 use std::io::{self, ErrorKind, Write};
 use std::process::ExitCode;
-use std::{env, fs};
+use stored::{Printed, Stored};
 
 /// How many calls of a wire that fails are tried at most.
 const MOST_CALLS: u32 = 1000;
 
-/// What carries the packets.
+/// How a scenario is played.
 #[derive(Clone, Copy)]
 enum Way {
     Memory,
     Failing,
     Sockets,
-}
-
-/// A scenario, with what it must print.
-#[derive(Drop)]
-struct Stored {
-    text: String,
-    lines: String,
-    complaint: String,
-}
-
-/// What a scenario printed, and its status with the complaint.
-#[derive(Drop)]
-struct Printed {
-    status: u8,
-    lines: Vec<u8>,
-    complaint: Vec<u8>,
+    Full,
+    Check,
 }
 
 fn main(rt: HostRuntime) -> ExitCode {
@@ -57,6 +46,10 @@ fn play_all(rt: &HostRuntime) -> io::Result<bool> {
         match word.as_str() {
             "--failing" => way = Way::Failing,
             "--udp" => way = Way::Sockets,
+            "--full" => way = Way::Full,
+            "--check" => way = Way::Check,
+            "--unread" => print_unread(rt)?,
+            "--help" => print_help(rt)?,
             name => all_agree &= agrees(rt, name, way)?,
         }
     }
@@ -65,23 +58,29 @@ fn play_all(rt: &HostRuntime) -> io::Result<bool> {
 
 // Plays a scenario, and says whether it prints what it must.
 fn agrees(rt: &HostRuntime, name: &str, way: Way) -> io::Result<bool> {
-    let stored = read_scenario(rt, name)?;
+    let stored = Stored::read(rt, name)?;
     match way {
         Way::Memory => {
             let printed = play_over(rt, &stored, MemoryWire::new(rt.alloc()))?;
-            say(rt, name, "", is_as_stored(&stored, &printed), &printed)
+            say(rt, name, "", stored.is(&printed), &printed)
         }
         Way::Sockets => {
             let printed = play_over(rt, &stored, UdpWire::new(rt.alloc(), rt.clone()?))?;
-            say(
-                rt,
-                name,
-                ", over sockets",
-                is_as_stored(&stored, &printed),
-                &printed,
-            )
+            say(rt, name, ", over sockets", stored.is(&printed), &printed)
         }
         Way::Failing => agrees_where_the_wire_fails(rt, name, &stored),
+        Way::Full => {
+            let printed = play_unwritten(rt, &stored)?;
+            let agrees = printed.is("", "3\npimlab: wire fault\n");
+            say(rt, name, ", where no line can be written", agrees, &printed)
+        }
+        Way::Check => {
+            let printed = check(rt, &stored)?;
+            let complaint = stored.complaint.as_str();
+            let lines = if complaint == "0\n" { "ok\n" } else { "" };
+            let agrees = printed.is(lines, complaint);
+            say(rt, name, ", checked alone", agrees, &printed)
+        }
     }
 }
 
@@ -90,8 +89,8 @@ fn agrees_where_the_wire_fails(rt: &HostRuntime, name: &str, stored: &Stored) ->
     for calls in 0..MOST_CALLS {
         let wire = FailingWire::new(MemoryWire::new(rt.alloc()), calls);
         let printed = play_over(rt, stored, wire)?;
-        let is_whole = is_as_stored(stored, &printed);
-        if is_whole || !is_cut_before_a_move(stored, &printed) {
+        let is_whole = stored.is(&printed);
+        if is_whole || !stored.is_cut_by(&printed) {
             let among = format!(in rt.alloc();
                 ", and up to the failure of a wire at each of {calls} calls"
             )?;
@@ -101,31 +100,16 @@ fn agrees_where_the_wire_fails(rt: &HostRuntime, name: &str, stored: &Stored) ->
     Ok(false)
 }
 
-// Whether the lines are those of all moves before one, and a fault of the wire is told.
-fn is_cut_before_a_move(stored: &Stored, printed: &Printed) -> bool {
-    let wanted = stored.lines.as_bytes();
-    printed.status == 3
-        && printed.complaint.as_slice() == "3\npimlab: wire fault\n".as_bytes()
-        && wanted.starts_with(&printed.lines)
-        && wanted[printed.lines.len()..].starts_with("move ".as_bytes())
-}
-
-// Whether all lines are the stored ones, and so are status and complaint.
-fn is_as_stored(stored: &Stored, printed: &Printed) -> bool {
-    printed.lines.as_slice() == stored.lines.as_bytes()
-        && printed.complaint.as_slice() == stored.complaint.as_bytes()
-}
-
 // Says of a scenario whether it agrees; where it doesn't, what it printed.
 fn say(
     rt: &HostRuntime,
     name: &str,
-    over: &str,
+    how: &str,
     agrees: bool,
     printed: &Printed,
 ) -> io::Result<bool> {
     let says = if agrees { "as expected" } else { "otherwise:" };
-    rt.println(format!(in rt.alloc(); "{name}: {says}{over}")?)?;
+    rt.println(format!(in rt.alloc(); "{name}: {says}{how}")?)?;
     if !agrees {
         rt.stdout().write_all(&printed.lines)?;
         rt.stdout().write_all(&printed.complaint)?;
@@ -146,29 +130,45 @@ fn play_over<W: Wire>(rt: &HostRuntime, stored: &Stored, wire: W) -> io::Result<
         &mut lines,
         &mut told,
     );
-    let mut complaint = format!(in rt.alloc(); "{status}\n")?.into_bytes();
-    complaint.extend_from_slice(&told)?;
-    Ok(Printed {
-        status,
-        lines,
-        complaint,
-    })
+    Printed::with(rt, status, lines, &told)
 }
 
-// A scenario with what it must print.
-fn read_scenario(rt: &HostRuntime, name: &str) -> io::Result<Stored> {
-    let complaint = match file(rt, name, "err") {
-        Err(error) if error.kind() == ErrorKind::NotFound => format!(in rt.alloc(); "0\n")?,
-        read => read?,
-    };
-    Ok(Stored {
-        text: file(rt, name, "toml")?,
-        lines: file(rt, name, "out")?,
-        complaint,
-    })
+// Plays a scenario where no line can be written.
+fn play_unwritten(rt: &HostRuntime, stored: &Stored) -> io::Result<Printed> {
+    let mut told = Vec::new(rt.alloc());
+    let wire = MemoryWire::new(rt.alloc());
+    let text = stored.text.as_str();
+    let status = play(rt.alloc(), text, wire, false, &mut Full, &mut told);
+    Printed::with(rt, status, Vec::new(rt.alloc()), &told)
 }
 
-// A file of a scenario.
-fn file(rt: &HostRuntime, name: &str, ending: &str) -> io::Result<String> {
-    fs::read_to_string(rt, format!(in rt.alloc(); "{name}.{ending}")?.as_str())
+// Checks a scenario.
+fn check(rt: &HostRuntime, stored: &Stored) -> io::Result<Printed> {
+    let mut lines = Vec::new(rt.alloc());
+    let mut told = Vec::new(rt.alloc());
+    let status = check_text(rt.alloc(), stored.text.as_str(), &mut lines, &mut told);
+    Printed::with(rt, status, lines, &told)
+}
+
+// Prints what is said of two files that can't be read to their end, each with its status.
+fn print_unread(rt: &HostRuntime) -> io::Result<()> {
+    for (left, kind) in [
+        (3, ErrorKind::PermissionDenied),
+        (0, ErrorKind::OutOfMemory),
+    ] {
+        let mut told = Vec::new(rt.alloc());
+        if let Err(status) = load(rt.alloc(), "f", Some(Cut { left, kind }), &mut told) {
+            rt.println(format!(in rt.alloc(); "{status}")?)?;
+        }
+        rt.stdout().write_all(&told)?;
+    }
+    Ok(())
+}
+
+// Prints the answer to a request for help.
+fn print_help(rt: &HostRuntime) -> io::Result<()> {
+    match read_words(rt.alloc(), &["pimlab", "--help"]) {
+        Ok(Answer::Help(text)) => rt.stdout().write_all(text.as_bytes()),
+        _ => rt.println("no help"),
+    }
 }
