@@ -22,10 +22,19 @@ use std::alloc::{AllocError, Global};
 use std::marker::Model;
 
 /// The configured interfaces, and the rows of those that are up.
-#[derive(Drop)]
 pub struct Interfaces {
     configured: Configured,
     rows: Timed<InterfaceRow, Wheel>,
+}
+
+// Called at each exit of an owner, where a derived drop would be spelled out and proved anew.
+impl Drop for Interfaces {
+    fn drop(self) {
+        let Interfaces {
+            configured: _,
+            rows: _,
+        } = self;
+    }
 }
 
 impl Model for Interfaces {

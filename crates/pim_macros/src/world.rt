@@ -30,7 +30,6 @@ use std::collections::btree_map::Iter;
 use std::marker::Model;
 
 /// The whole state of a router that works.
-#[derive(Drop)]
 pub struct World {
     pub(crate) settings: Settings,
     // In ms.
@@ -42,6 +41,22 @@ pub struct World {
     pub(crate) dr: IfSet,
     pub(crate) membership: Membership,
     pub(crate) store: Store,
+}
+
+// Called at each exit of an owner, where a derived drop would be spelled out and proved anew.
+impl Drop for World {
+    fn drop(self) {
+        let World {
+            settings: _,
+            present: _,
+            interfaces: _,
+            mrib: _,
+            neighbours: _,
+            dr: _,
+            membership: _,
+            store: _,
+        } = self;
+    }
 }
 
 impl Model for World {

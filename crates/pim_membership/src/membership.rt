@@ -35,7 +35,6 @@ use std::marker::Model;
 
 /// The IGMP membership facts of the router (RFC 3376, sections 4 and 6). After want of memory in a call that changes
 /// them nothing is promised of what they are, but that all that is told of them is true.
-#[derive(Drop)]
 pub struct Membership {
     queriers: Timed<QuerierRow, Wheel>,
     group_records: Records<GroupRecordRow>,
@@ -43,6 +42,20 @@ pub struct Membership {
     group_repeats: Repeats<GroupRepeatRow>,
     source_repeats: Repeats<SourceRepeatRow>,
     sendings: Sendings,
+}
+
+// Called at each exit of an owner, where a derived drop would be spelled out and proved anew.
+impl Drop for Membership {
+    fn drop(self) {
+        let Membership {
+            queriers: _,
+            group_records: _,
+            source_records: _,
+            group_repeats: _,
+            source_repeats: _,
+            sendings: _,
+        } = self;
+    }
 }
 
 impl Model for Membership {

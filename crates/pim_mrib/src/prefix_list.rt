@@ -23,11 +23,21 @@ pub(crate) trait Prefixed: Copy {
 
 // Values under distinct prefixes in the order in which they were given, with a trie to find the
 // one with the longest prefix.
-#[derive(Drop)]
 pub(crate) struct PrefixList<T: Prefixed> {
     alloc: Global,
     values: Vec<T>,
     index: Trie<T>,
+}
+
+// Called at each exit of an owner, where a derived drop would be spelled out and proved anew.
+impl<T: Prefixed + Drop> Drop for PrefixList<T> {
+    fn drop(self) {
+        let PrefixList {
+            alloc: _,
+            values: _,
+            index: _,
+        } = self;
+    }
 }
 
 impl<T: Prefixed> Model for PrefixList<T> {

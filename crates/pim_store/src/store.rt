@@ -33,7 +33,6 @@ use std::marker::Model;
 
 /// The PIM facts of the router. After want of memory in a call that changes them nothing is promised of what they
 /// are, but that all that is told of them is true.
-#[derive(Drop)]
 pub struct Store {
     downstream: Timed<DownstreamRow, Wheel>,
     asserts: Timed<AssertRow, Wheel>,
@@ -42,6 +41,21 @@ pub struct Store {
     sources: Timed<SourceRow, Wheel>,
     registers: Timed<RegisterRow, Wheel>,
     index: Index,
+}
+
+// Called at each exit of an owner, where a derived drop would be spelled out and proved anew.
+impl Drop for Store {
+    fn drop(self) {
+        let Store {
+            downstream: _,
+            asserts: _,
+            join_timers: _,
+            override_timers: _,
+            sources: _,
+            registers: _,
+            index: _,
+        } = self;
+    }
 }
 
 impl Model for Store {

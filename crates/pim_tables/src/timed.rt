@@ -26,10 +26,16 @@ use std::collections::btree_map::Iter;
 use std::marker::Model;
 
 /// The facts of one kind, which end.
-#[derive(Drop)]
 pub struct Timed<R: Ends, T: Timers> {
     rows: Facts<R>,
     timers: T,
+}
+
+// Called at each exit of an owner, where a derived drop would be spelled out and proved anew.
+impl<R: Ends + Drop, T: Timers + Drop> Drop for Timed<R, T> {
+    fn drop(self) {
+        let Timed { rows: _, timers: _ } = self;
+    }
 }
 
 impl<R: Ends, T: Timers> Model for Timed<R, T> {
