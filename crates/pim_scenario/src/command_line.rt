@@ -1,7 +1,7 @@
 //! The command line: `pimlab run FILE [--wire memory|udp] [--tables]` and `pimlab check FILE`.
 ghost use Rattle.std.specs.Prelude.{◌≡◌, ◌≢◌, [], map, option_map, None, IfOk, IfErr, false};
 ghost use Rattle.clap.specs.Words.{app_of, fault_of, rule_of, subcommand_rows_of, HasKind, Kinds};
-ghost use Rattle.clap.specs.Words.{first_of, found_of, rows_of};
+ghost use Rattle.clap.specs.Words.{first_of, found_of, new_app, rows_of, with_rule};
 ghost use Rattle.clap.specs.declared.builder.command.Command.TheViews.{out-Command};
 ghost use Rattle.pim_scenario.specs.CommandLine.{pimlab_app, run_app, check_app, file_rule, wire_rule, tables_rule};
 ghost use Rattle.pim_scenario.specs.CommandLine.{words_in, meaning_in, meaning_of, meant_by, meant_in, CanAnswer};
@@ -69,10 +69,11 @@ pub fn read_words<'a>(alloc: Global, words: &'a [&'a str]) -> Result<Answer<'a>,
 fn pimlab_command<'a>(alloc: Global) -> Result<clap::Command<'a>, AllocError>
     ensures { IfOk result (λ c. app_of c ≡ pimlab_app) }
 {
+    let run = run_command(alloc)?;
     clap::Command::new(alloc, "pimlab")
         .about("Runs the multicast routers of a scenario")
         .subcommand_required(true)
-        .subcommand(run_command(alloc)?)?
+        .subcommand(run)?
         .subcommand(check_command(alloc)?)
 }
 
@@ -80,19 +81,33 @@ fn run_command<'a>(alloc: Global) -> Result<clap::Command<'a>, AllocError>
     ensures app { IfOk result (λ c. app_of c ≡ run_app) }
     ensures local { IfOk result (λ c. (out-Command c).has_globals ≡ false) }
 {
-    clap::Command::new(alloc, "run")
-        .about("Does the moves of a scenario and prints what they bring")
-        .arg(file_argument(alloc))?
-        .arg(wire_argument(alloc))?
-        .arg(tables_argument(alloc))
+    file_command(
+        alloc,
+        "run",
+        "Does the moves of a scenario and prints what they bring",
+    )?
+    .arg(wire_argument(alloc))?
+    .arg(tables_argument(alloc))
 }
 
 fn check_command<'a>(alloc: Global) -> Result<clap::Command<'a>, AllocError>
     ensures app { IfOk result (λ c. app_of c ≡ check_app) }
     ensures local { IfOk result (λ c. (out-Command c).has_globals ≡ false) }
 {
-    clap::Command::new(alloc, "check")
-        .about("Reads a scenario and makes its routers")
+    file_command(alloc, "check", "Reads a scenario and makes its routers")
+}
+
+/// A command with a scenario's file.
+fn file_command<'a>(
+    alloc: Global,
+    name: &'a str,
+    about: &'a str,
+) -> Result<clap::Command<'a>, AllocError>
+    ensures app { IfOk result (λ c. app_of c ≡ with_rule (new_app name.now) file_rule) }
+    ensures local { IfOk result (λ c. (out-Command c).has_globals ≡ false) }
+{
+    clap::Command::new(alloc, name)
+        .about(about)
         .arg(file_argument(alloc))
 }
 
