@@ -14,5 +14,6 @@ pub use memory::MemoryWire;
 pub use moves::Move;
 pub use net::{Net, NetLog};
 pub use node::Node;
+pub use pim_router::Router;
 pub use udp::{UdpWire, failures_after};
 pub use wire::Wire;
