@@ -1,6 +1,7 @@
 ghost use Rattle.std.specs.Prelude.{◌≡◌, ◌+◌, ◌≤◌, true, ◌++◌, length, OnOk, OnErr};
 ghost use Rattle.pim_wire.specs.Bodies.{hello_reading};
-ghost use Rattle.pim_wire.specs.Hellos.{option_type, option_length, is_option_length, lan_delay_at, with_option, hello_text};
+ghost use Rattle.pim_wire.specs.Hellos.{option_type, option_length, is_option_length, lan_delay_at, with_option, hello_text, option_text, lan_delay_option};
+ghost use Rattle.byteorder.specs.Endian.{big_bytes};
 ghost use Rattle.pim_wire.specs.HelloOptions.{option_test};
 ghost use Rattle.pim_wire.specs.ReadsBack.{HelloReads};
 
@@ -128,6 +129,28 @@ pub(crate) fn read_hello(bytes: &[u8]) -> Result<Hello, Refusal>
     Ok(hello)
 }
 
+/// The LAN Prune Delay option, with T clear.
+#[tactic(auto, unfolding(crate::specs::Hellos::option_text))]
+fn lan_delay_bytes(propagation_delay: u16, override_interval: u16) -> [u8; 8]
+    ensures { result ≡ option_text lan_delay_option (big_bytes 2 propagation_delay ++ big_bytes 2 override_interval) }
+{
+    let mut bytes = [0, 2, 0, 4, 0, 0, 0, 0];
+    BigEndian::write_u16(&mut bytes[4..6], propagation_delay);
+    BigEndian::write_u16(&mut bytes[6..8], override_interval);
+    bytes
+}
+
+/// An option whose value is one number.
+#[tactic(auto, unfolding(crate::specs::Hellos::option_text))]
+fn number_bytes(option: u16, number: u32) -> [u8; 8]
+    ensures { result ≡ option_text option (big_bytes 4 number) }
+{
+    let mut bytes = [0, 0, 0, 4, 0, 0, 0, 0];
+    BigEndian::write_u16(&mut bytes[0..2], option);
+    BigEndian::write_u32(&mut bytes[4..8], number);
+    bytes
+}
+
 /// The bytes of the Hello that the router sends.
 #[tactic(auto, unfolding(crate::specs::Hellos::hello_text, crate::specs::Encoded::pim_text))]
 fn hello_bytes(
@@ -142,13 +165,9 @@ fn hello_bytes(
     bytes[0] = VERSION_BITS;
     bytes[4..8].copy_from_slice(&[0, 1, 0, 2]);
     BigEndian::write_u16(&mut bytes[8..10], DEFAULT_HOLDTIME);
-    bytes[10..14].copy_from_slice(&[0, 2, 0, 4]);
-    BigEndian::write_u16(&mut bytes[14..16], propagation_delay);
-    BigEndian::write_u16(&mut bytes[16..18], override_interval);
-    bytes[18..22].copy_from_slice(&[0, 19, 0, 4]);
-    BigEndian::write_u32(&mut bytes[22..26], priority);
-    bytes[26..30].copy_from_slice(&[0, 20, 0, 4]);
-    BigEndian::write_u32(&mut bytes[30..34], generation);
+    bytes[10..18].copy_from_slice(&lan_delay_bytes(propagation_delay, override_interval));
+    bytes[18..26].copy_from_slice(&number_bytes(PRIORITY, priority));
+    bytes[26..34].copy_from_slice(&number_bytes(GENERATION, generation));
     set_checksum(&mut bytes, CHECKSUM_PLACE);
     bytes
 }

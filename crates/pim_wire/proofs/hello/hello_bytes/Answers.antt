@@ -7,4 +7,4 @@ pub returns : goal.returns
 unfolding hello_text pim_text
 returns c =
     c.set_checksum.ensures.set
-    ∙ rw (c.write_u32-2.ensures, c.copy_from_slice-4.ensures.after, c.write_u32.ensures, c.copy_from_slice-3.ensures.after, c.write_u16-3.ensures, c.write_u16-2.ensures, c.copy_from_slice-2.ensures.after, c.write_u16.ensures, c.copy_from_slice.ensures.after) refl
+    ∙ rw (c.copy_from_slice-4.ensures.after, c.number_bytes-2.ensures, c.copy_from_slice-3.ensures.after, c.number_bytes.ensures, c.copy_from_slice-2.ensures.after, c.lan_delay_bytes.ensures, c.write_u16.ensures, c.copy_from_slice.ensures.after) refl
