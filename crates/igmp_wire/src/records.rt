@@ -1,6 +1,5 @@
 //! The group records of a report (RFC 3376, section 4.2.4), by their places.
 ghost use Rattle.std.specs.Prelude.{◌≡◌, ◌+◌, ◌≤◌, [], ◌∷◌, length, MatchOption};
-ghost use Rattle.pim_ip.specs.Ipv4.{is_link_local};
 ghost use Rattle.igmp_wire.specs.Reports.{after_record, record_at};
 ghost use Rattle.igmp_wire.specs.Parts.{record_reading};
 
@@ -11,13 +10,6 @@ use std::marker::Model;
 
 /// The length of a record without sources and auxiliary data, in bytes.
 const RECORD_LENGTH: usize = 8;
-
-/// Whether packets to the group never leave their link: 224.0.0.0/24.
-fn is_link_local(group: Addr) -> bool
-    ensures { result ≡ is_link_local group.bits }
-{
-    group.bits >> 8 == 0x00E0_0000
-}
 
 /// The length of the record at a place, in bytes.
 fn record_length(message: &[u8], place: usize) -> usize
@@ -59,7 +51,7 @@ fn kept_record(message: &[u8], place: usize) -> Option<RecordView<'_>>
         (λ kept. record_at message.now place ≡ kept ∷ []) }
 {
     let record_type = RecordType::from_code(message[place])?;
-    if is_link_local(address_at(message, place + 4)) {
+    if address_at(message, place + 4).is_link_local() {
         return None;
     }
     Some(RecordView {

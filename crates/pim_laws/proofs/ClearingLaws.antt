@@ -44,10 +44,10 @@ assert_member o s k r e = go (first_by is_assert_first (filter (assert_must_go o
 
 -- ---- SPTbits
 
-abbrev is_spt : Key × SourceRow → Bool
+abbrev pub is_spt : Key × SourceRow → Bool
 is_spt e = (e.1).spt
 
-abbrev spt_count : Table SourceRow → ℕ
+abbrev pub spt_count : Table SourceRow → ℕ
 spt_count t = length (filter is_spt t)
 
 -- what becomes of an entry: b says that it is the one, c that its keepalive timer runs
@@ -71,7 +71,7 @@ no_more_in k (x ∷ xs) =
     no_more (same_key k x.0) (is_some (x.1).keepalive) (is_spt x) x (change_row without_spt k xs) xs refl
     (no_more_in k xs)
 
-abbrev is_set_at : Key → Key × SourceRow → Bool
+abbrev pub is_set_at : Key → Key × SourceRow → Bool
 is_set_at k e = same_key k e.0 && is_spt e
 
 fewer_step : (k : Key) (x : Key × SourceRow) (ys xs : Table SourceRow) (b c d : Bool) → is_spt x ≡ d
@@ -85,7 +85,8 @@ fewer_step k x ys xs true false false e any h less = less any
 fewer_step k x ys xs false c true e any h less = rw e (let f : spt_count ys < spt_count xs = less any in omega arith)
 fewer_step k x ys xs false c false e any h less = rw e (less any)
 
-fewer_in : (k : Key) (t : Table SourceRow) → list_any (is_set_at k) t ≡ true
+-- where it is set, one goes
+pub fewer_in : (k : Key) (t : Table SourceRow) → list_any (is_set_at k) t ≡ true
     → spt_count (change_row without_spt k t) < spt_count t
 unfolding change_row changed_entry
 fewer_in k [] e = cc

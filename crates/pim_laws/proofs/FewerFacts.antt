@@ -220,7 +220,8 @@ module _ (i g : ℕ) (p : Key → Bool) where
       (λ f. or_left (p x.0) later (subst (λ (k : Key). p k ≡ true)
       (equal_forms i g x (first_so first its f)
       (first_so (is_under_source x) (list_all is_under_source t) under)) (second_so first its f)))
-      (λ f. or_right (p x.0) later (member_there t (second_so (is_under_source x) (list_all is_under_source t) under) f))
+      (λ f. or_right (p x.0) later
+      (member_there t (second_so (is_under_source x) (list_all is_under_source t) under) f))
       e
 
 module _ (s : State) (under : list_all is_under_source s.source_records ≡ true) (i g : ℕ) where
@@ -281,7 +282,8 @@ module _ (s : State) (under : list_all is_under_source s.source_records ≡ true
 
 module _ (s : State) (k : Key) where
   downstream_fewer : (b : Bool) (change : DownstreamRow → Option DownstreamRow) (first second : List Message)
-      → IsFewer s (cond b (let c : State × List Message = (record s { downstream = change_row change k s.downstream }, first) in c)
+      → IsFewer s (cond b
+      (let c : State × List Message = (record s { downstream = change_row change k s.downstream }, first) in c)
       (record s { downstream = drop_at s.downstream k }, second)).0
   downstream_fewer true change first second =
       table_fewer Downstreams s _ (row_changed change k s.downstream)
@@ -323,7 +325,9 @@ module _ (s : State) (k : Key) where
 -- after a timer's end no key passes a test that none passed before
 pub ended_fewer : (s : State) → list_all is_under_source s.source_records ≡ true → (kind : TimerKind) (k : Key)
     → IsFewer s (fired s kind k).0
-unfolding fact_keys fired fire_row prune_pending_due downstream_expired assert_due keepalive_due override_timer_due join_timer_due other_querier_gone querying_on group_repeat_due source_repeat_due sources_sent general_query_due hello_due neighbour_due
+unfolding fact_keys fired fire_row prune_pending_due downstream_expired assert_due keepalive_due override_timer_due
+    join_timer_due other_querier_gone querying_on group_repeat_due source_repeat_due sources_sent general_query_due
+    hello_due neighbour_due
 ended_fewer s under TimerKind.Neighbour k = no_other s _ refl
 ended_fewer s under TimerKind.PrunePending k =
     row_fires s k _ (λ r. downstream_fewer s k k.rpt _ [] _) (row_at s.downstream k)

@@ -97,12 +97,13 @@ impl World {
     /// The state at the opening with a configuration: moment 0, all interfaces down. It is refused by
     /// the first test of a configuration that fails.
     #[tactic(auto, unfolding(pim_model::specs::State::opening))]
-    pub fn new(alloc: Global, config: Config) -> Result<Result<World, Refusal>, Fault>
-        ensures accepted { IfOk result (λ made. IfOk made (λ world. (config_test config ≡ Ok tt) × (world ≡ opening config))) }
-        ensures refused { IfOk result (λ made. IfErr made (λ refusal. config_test config ≡ Err refusal)) }
+    pub fn new(alloc: Global, config: &Config) -> Result<Result<World, Refusal>, Fault>
+        ensures accepted { IfOk result (λ made. IfOk made (λ world.
+            (config_test config.now ≡ Ok tt) × (world ≡ opening config.now))) }
+        ensures refused { IfOk result (λ made. IfErr made (λ refusal. config_test config.now ≡ Err refusal)) }
         ensures memory { IfErr result (λ fault. fault ≡ Fault.Memory) }
     {
-        if let Err(refusal) = test_settings(&config) {
+        if let Err(refusal) = test_settings(config) {
             return Ok(Err(refusal));
         }
         let interfaces = Interfaces::new(alloc, config.interfaces.as_slice())?;
@@ -116,7 +117,7 @@ impl World {
         if mrib.replace_rps(config.rps.as_slice())?.is_err() {
             return Ok(Err(Refusal::ConfiguredRps));
         }
-        let world = World::without_facts(alloc, settings_of(&config), interfaces, mrib)?;
+        let world = World::without_facts(alloc, settings_of(config), interfaces, mrib)?;
         Ok(Ok(world))
     }
 

@@ -61,10 +61,19 @@ impl Record for SourceRecordRow {
 }
 
 // The records of one kind.
-#[derive(Drop)]
 pub(crate) struct Records<R: Record> {
     rows: Timed<R, Wheel>,
     listing: Listing,
+}
+
+// Called at each exit of an owner, where a derived drop would be spelled out and proved anew.
+impl<R: Record> Drop for Records<R> {
+    fn drop(self) {
+        let Records {
+            rows: _,
+            listing: _,
+        } = self;
+    }
 }
 
 impl<R: Record> Model for Records<R> {

@@ -16,9 +16,15 @@ use std::collections::btree_map::Iter;
 use std::marker::Model;
 
 // The repeats of one kind; each is of a group on an interface, and of no source.
-#[derive(Drop)]
 pub(crate) struct Repeats<R: Ends> {
     rows: Timed<R, Wheel>,
+}
+
+// Called at each exit of an owner, where a derived drop would be spelled out and proved anew.
+impl<R: Ends> Drop for Repeats<R> {
+    fn drop(self) {
+        let Repeats { rows: _ } = self;
+    }
 }
 
 impl<R: Ends> Model for Repeats<R> {

@@ -18,9 +18,15 @@ use std::collections::btree_map::Iter;
 use std::marker::Model;
 
 // The sendings; each is of a source of a group on an interface, and of no (S,G,rpt).
-#[derive(Drop)]
 pub(crate) struct Sendings {
     rows: Facts<SendingRow>,
+}
+
+// Called at each exit of an owner, where a derived drop would be spelled out and proved anew.
+impl Drop for Sendings {
+    fn drop(self) {
+        let Sendings { rows: _ } = self;
+    }
 }
 
 impl Model for Sendings {

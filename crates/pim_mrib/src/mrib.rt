@@ -5,7 +5,6 @@ ghost use Rattle.pim_ip.specs.declared.refusal.Refusal.{Refusal};
 ghost use Rattle.pim_trie.specs.Meter.{raised};
 ghost use Rattle.pim_model.specs.Limits.{are_routes, are_rps};
 ghost use Rattle.pim_model.specs.Unicast.{link_path, route_among, route_path, rp_among};
-ghost use Rattle.pim_ip.specs.Ipv4.{is_source_specific};
 ghost use Rattle.pim_mrib.specs.Routes.{route_nodes, rp_nodes};
 ghost use Rattle.pim_model.specs.Tables.{Table};
 ghost use Rattle.pim_types.specs.declared.config.InterfaceConfig.{InterfaceConfig};
@@ -36,10 +35,19 @@ impl Prefixed for RpRange {
 }
 
 /// The unicast routes and the RP ranges of a router, each in the order in which they were given.
-#[derive(Drop)]
 pub struct Mrib {
     routes: PrefixList<Route>,
     ranges: PrefixList<RpRange>,
+}
+
+// Called at each exit of an owner, where a derived drop would be spelled out and proved anew.
+impl Drop for Mrib {
+    fn drop(self) {
+        let Mrib {
+            routes: _,
+            ranges: _,
+        } = self;
+    }
 }
 
 impl Model for Mrib {
@@ -125,7 +133,8 @@ impl Mrib {
     pub fn take_ranges(&mut self, other: Mrib)
         ensures { self.new ≡ record self.old { ranges = other.ranges } }
     {
-        self.ranges = other.ranges;
+        let Mrib { routes: _, ranges } = other;
+        self.ranges = ranges;
     }
 
     /// The route to the address: none to one of the router's own, over the first link that it lies
@@ -167,7 +176,7 @@ impl Mrib {
         ensures visited { meter.new ≡ raised meter.old (rp_nodes self.now.ranges group.bits) }
         ensures at_most { rp_nodes self.now.ranges group.bits ≤ 33 }
     {
-        if is_source_specific(group) {
+        if group.is_source_specific() {
             return None;
         }
         let range = self.ranges.longest(group, meter)?;
@@ -199,11 +208,4 @@ fn route_path(route: Route) -> Path
         metric: route.metric,
         is_connected: false,
     }
-}
-
-// Whether the group is source-specific: it lies in 232.0.0.0/8 (RFC 7761, section 4.8).
-fn is_source_specific(group: Addr) -> bool
-    ensures { result ≡ is_source_specific group.bits }
-{
-    group.bits >> 24 == 232
 }

@@ -54,7 +54,7 @@ impl Router {
         ensures refused { IfOk result (λ made. IfErr made (λ refusal. config_test config ≡ Err refusal)) }
         ensures memory { IfErr result (λ fault. fault ≡ Fault.Memory) }
     {
-        match World::new(alloc, config)? {
+        match World::new(alloc, &config)? {
             Ok(world) => Ok(Ok(Router {
                 alloc,
                 failed: false,

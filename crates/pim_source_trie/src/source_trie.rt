@@ -17,10 +17,19 @@ use std::marker::Model;
 ///
 /// It is seen as a table under the keys of the whole router, by rising key. A look-up visits 33 nodes at
 /// most for a group, and 33 more for a source.
-#[derive(Drop)]
 pub struct SourceTrie<V> {
     alloc: Global,
     groups: Trie<Box<Group<V>>>,
+}
+
+// Called at each exit of an owner, where a derived drop would be spelled out and proved anew.
+impl<V: Drop> Drop for SourceTrie<V> {
+    fn drop(self) {
+        let SourceTrie {
+            alloc: _,
+            groups: _,
+        } = self;
+    }
 }
 
 impl<V> Model for SourceTrie<V> {

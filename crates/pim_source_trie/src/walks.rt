@@ -14,11 +14,21 @@ use std::iter::FusedIterator;
 use std::marker::Model;
 
 /// The entries of one group that are left, by rising key.
-#[derive(Drop)]
 pub struct Entries<'a, V> {
     group: Addr,
     star: Option<&'a V>,
     sources: Option<Under<'a, Box<V>>>,
+}
+
+// Called at each exit of an owner, where a derived drop would be spelled out and proved anew.
+impl<'a, V> Drop for Entries<'a, V> {
+    fn drop(self) {
+        let Entries {
+            group: _,
+            star: _,
+            sources: _,
+        } = self;
+    }
 }
 
 impl<'a, V> Model for Entries<'a, V> {
@@ -77,9 +87,15 @@ impl<'a, V> Iterator for Entries<'a, V> {
 impl<'a, V> FusedIterator for Entries<'a, V> {}
 
 /// The groups that are left, ascending.
-#[derive(Drop)]
 pub struct Groups<'a, V> {
     left: Under<'a, Box<Group<V>>>,
+}
+
+// Called at each exit of an owner, where a derived drop would be spelled out and proved anew.
+impl<'a, V> Drop for Groups<'a, V> {
+    fn drop(self) {
+        let Groups { left: _ } = self;
+    }
 }
 
 impl<'a, V> Model for Groups<'a, V> {

@@ -10,9 +10,15 @@ use pim_source_trie::Entries;
 use std::marker::Model;
 
 /// The sources of a group that are left, ascending.
-#[derive(Drop)]
 pub struct Sources<'a> {
     entries: Entries<'a, Marks>,
+}
+
+// Called at each exit of an owner, where a derived drop would be spelled out and proved anew.
+impl<'a> Drop for Sources<'a> {
+    fn drop(self) {
+        let Sources { entries: _ } = self;
+    }
 }
 
 impl<'a> Model for Sources<'a> {

@@ -140,4 +140,5 @@ module _ (i : ℕ) where
       ap (λ ms. filter (is_rpt_of a.bits) ks ++ ms) (keys_among ks sorted gs parts.1)
       ∙ filters_joined (is_rpt_of a.bits) (is_rpt_among gs) (not_both a gs parts.0) (not_after a gs parts.0) ks sorted
       ∙ filter_agree _ (is_rpt_among (a ∷ gs))
-      (λ k. one_or_more (is_on i k && k.rpt) (is_of_group a.bits k) (list_any (λ (b : Addr). group_in k == b.bits) gs)) ks
+      (λ k. one_or_more (is_on i k && k.rpt) (is_of_group a.bits k)
+      (list_any (λ (b : Addr). group_in k == b.bits) gs)) ks

@@ -147,7 +147,8 @@ module _ (i g : ℕ) where
 
     same_step : (e : Key × R) (t : Table R) (b c : Bool) → (is_on_group i g e.0 ≡ true → b ≡ true)
         → is_on_group i g e.0 ≡ c → of_group (from_group t) ≡ of_group t
-        → filter (λ x. is_on_group i g x.0) (cond b (e ∷ from_group t) (from_group t)) ≡ cond c (e ∷ of_group t) (of_group t)
+        → filter (λ x. is_on_group i g x.0) (cond b (e ∷ from_group t) (from_group t))
+        ≡ cond c (e ∷ of_group t) (of_group t)
     same_step e t true true from is rest = rw is (ap (λ u. e ∷ u) rest)
     same_step e t true false from is rest = rw is rest
     same_step e t false true from is rest = let no : false ≡ true = from is in cc

@@ -43,19 +43,20 @@ above_at : (i g m h n j : ℕ) → not_below i g m h ≡ true → ((m == i) && (
     → ((n == i) && (j == g)) ≡ false
 above_at i g m h n j e other f = grind (arith, nat_tests, e, other, f)
 
-key_not_below : (k q : Key) → is_le (key_cmp k q) ≡ true → not_below (iface_in k) (group_in k) (iface_in q) (group_in q) ≡ true
+key_not_below : (k q : Key) → is_le (key_cmp k q) ≡ true
+    → not_below (iface_in k) (group_in k) (iface_in q) (group_in q) ≡ true
 unfolding key_cmp addr_cmp
 key_not_below k q e = by_parts (iface_in k) (group_in k) (iface_in q) (group_in q) _ e
 
 -- after a key that is not one of them comes none
-above : (i : ℕ) (group : Option Addr) (k q : Key) → is_le (key_cmp (first_of i group) k) ≡ true → is_of i group k ≡ false
-    → key_cmp k q ≡ Less → is_of i group q ≡ false
+above : (i : ℕ) (group : Option Addr) (k q : Key) → is_le (key_cmp (first_of i group) k) ≡ true
+    → is_of i group k ≡ false → key_cmp k q ≡ Less → is_of i group q ≡ false
 above i None k q e other less =
     above_on i (iface_in k) (group_in k) (iface_in q) (group_in q) (key_not_below (first_of i None) k e) other
     (key_not_below k q (ap is_le less))
 above i (Some g) k q e other less =
-    above_at i g.bits (iface_in k) (group_in k) (iface_in q) (group_in q) (key_not_below (first_of i (Some g)) k e) other
-    (key_not_below k q (ap is_le less))
+    above_at i g.bits (iface_in k) (group_in k) (iface_in q) (group_in q)
+    (key_not_below (first_of i (Some g)) k e) other (key_not_below k q (ap is_le less))
 
 -- none of them is below the first
 least_of : (i g m h : ℕ) (source : Option Addr) (rpt : Bool) → (m == i) ≡ true → g ≤ h

@@ -88,8 +88,8 @@ impl<R> Facts<R> {
         RptKeys::among(GroupRows::of(&self.rows, iface, group))
     }
 
-    /// Puts the keys of the (S,G,rpt) facts of these groups on an interface behind the others, by rising key. No fact of
-    /// another group is looked at, but for one after each of them.
+    /// Puts the keys of the (S,G,rpt) facts of these groups on an interface behind the others, by rising key. No fact
+    /// of another group is looked at, but for one after each of them.
     pub fn push_rpt_keys(
         &self,
         iface: IfaceId,

@@ -15,11 +15,21 @@ use std::iter::FusedIterator;
 use std::marker::Model;
 
 /// The facts of a group on an interface that are left, by rising key.
-#[derive(Drop)]
 pub struct GroupRows<'a, R> {
     iface: IfaceId,
     group: Addr,
     left: Range<'a, Key, R>,
+}
+
+// Called at each exit of an owner, where a derived drop would be spelled out and proved anew.
+impl<'a, R> Drop for GroupRows<'a, R> {
+    fn drop(self) {
+        let GroupRows {
+            iface: _,
+            group: _,
+            left: _,
+        } = self;
+    }
 }
 
 impl<'a, R> Model for GroupRows<'a, R> {
@@ -68,9 +78,15 @@ impl<'a, R> Iterator for GroupRows<'a, R> {
 impl<'a, R> FusedIterator for GroupRows<'a, R> {}
 
 /// The keys of the (S,G,rpt) facts of a group on an interface that are left, ascending by source.
-#[derive(Drop)]
 pub struct RptKeys<'a, R> {
     rows: GroupRows<'a, R>,
+}
+
+// Called at each exit of an owner, where a derived drop would be spelled out and proved anew.
+impl<'a, R> Drop for RptKeys<'a, R> {
+    fn drop(self) {
+        let RptKeys { rows: _ } = self;
+    }
 }
 
 impl<'a, R> Model for RptKeys<'a, R> {

@@ -11,11 +11,21 @@ use std::collections::btree_map::Range;
 use std::marker::Model;
 
 /// The rows of an interface, or of a group on it, that are left, by rising key.
-#[derive(Drop)]
 pub struct RowsOf<'a, R> {
     left: Range<'a, Key, R>,
     iface: IfaceId,
     group: Option<Addr>,
+}
+
+// Called at each exit of an owner, where a derived drop would be spelled out and proved anew.
+impl<'a, R> Drop for RowsOf<'a, R> {
+    fn drop(self) {
+        let RowsOf {
+            left: _,
+            iface: _,
+            group: _,
+        } = self;
+    }
 }
 
 impl<'a, R> Model for RowsOf<'a, R> {

@@ -30,7 +30,8 @@ pub(crate) fn locate<V>(
     requires held { IsHeld 33 nodes.now [] root }
     ensures held { IsHeld (33 - prefix.length) nodes.now (path_of prefix) result }
     ensures linked { result ≡ link_at nodes.now root (path_of prefix) }
-    ensures tree { tree_at (33 - prefix.length) nodes.now result ≡ part_at (tree_at 33 nodes.now root) (path_of prefix) }
+    ensures tree { tree_at (33 - prefix.length) nodes.now result
+        ≡ part_at (tree_at 33 nodes.now root) (path_of prefix) }
     ensures visited { meter.new ≡ raised meter.old (visits (tree_at 33 nodes.now root) (path_of prefix)) }
 {
     let mut link = root;
@@ -63,7 +64,8 @@ pub(crate) fn part_under<V>(
 ) -> Option<usize>
     requires { IsHeld 33 nodes.now [] root }
     ensures pending { IsPending nodes.now (option_to_list result) }
-    ensures entries { pending_entries nodes.now (option_to_list result) ≡ filter (is_under prefix) (entries_of nodes.now root) }
+    ensures entries { pending_entries nodes.now (option_to_list result)
+        ≡ filter (is_under prefix) (entries_of nodes.now root) }
 {
     if prefix.length > 32 {
         return None;
@@ -79,7 +81,8 @@ pub(crate) fn longest<'a, V>(
     meter: &mut Meter,
 ) -> Option<(Prefix, &'a V)>
     requires { IsHeld 33 nodes.now [] root }
-    ensures value { option_map entry_seen result ≡ option_map named_entry (deepest (tree_at 33 nodes.now root) (address_path address.bits)) }
+    ensures value { option_map entry_seen result
+        ≡ option_map named_entry (deepest (tree_at 33 nodes.now root) (address_path address.bits)) }
     ensures visited { meter.new ≡ raised meter.old (visits (tree_at 33 nodes.now root) (address_path address.bits)) }
 {
     let mut best = None;
@@ -126,7 +129,8 @@ pub(crate) fn make_room<V>(
 ) -> Result<(), AllocError>
     requires whole { prefix.length ≤ 32 }
     requires held { IsHeld 33 nodes.old [] root }
-    ensures room { OnOk result (HasRoomForSome nodes.new (prefix.length + 1 - visits (tree_at 33 nodes.old root) (path_of prefix))) }
+    ensures room { OnOk result (HasRoomForSome nodes.new
+        (prefix.length + 1 - visits (tree_at 33 nodes.old root) (path_of prefix))) }
     ensures overwrites { IsSome (find (tree_at 33 nodes.old root) (path_of prefix)) → IsOk result }
     ensures kept { nodes.new ≡ record nodes.old { capacity = nodes.new.capacity } }
 {
@@ -147,7 +151,8 @@ fn open<V>(nodes: &mut Slab<Node<V>>, link: Option<usize>, prefix: Prefix, depth
     requires within { depth ≤ 32 }
     requires held { IsHeld (33 - depth) nodes.old (way_to prefix depth) link }
     requires room { link ≡ None → HasRoomFor nodes.old 1 }
-    ensures built { Rebuilds (33 - depth) (way_to prefix depth) nodes.old nodes.new link (Some result) (opened (tree_at (33 - depth) nodes.old link)) }
+    ensures built { Rebuilds (33 - depth) (way_to prefix depth) nodes.old nodes.new link (Some result)
+        (opened (tree_at (33 - depth) nodes.old link)) }
     ensures capacity { nodes.new.capacity ≡ nodes.old.capacity }
 {
     match link {
@@ -168,8 +173,10 @@ pub(crate) fn insert<V>(
     requires within { depth ≤ prefix.length }
     requires whole { prefix.length ≤ 32 }
     requires held { IsHeld (33 - depth) nodes.old (way_to prefix depth) link }
-    requires room { HasRoomForSome nodes.old (prefix.length + 1 - depth - visits (tree_at (33 - depth) nodes.old link) (way_on prefix depth)) }
-    ensures built { Rebuilds (33 - depth) (way_to prefix depth) nodes.old nodes.new link (Some result.0) (put (tree_at (33 - depth) nodes.old link) (way_on prefix depth) value) }
+    requires room { HasRoomForSome nodes.old
+        (prefix.length + 1 - depth - visits (tree_at (33 - depth) nodes.old link) (way_on prefix depth)) }
+    ensures built { Rebuilds (33 - depth) (way_to prefix depth) nodes.old nodes.new link (Some result.0)
+        (put (tree_at (33 - depth) nodes.old link) (way_on prefix depth) value) }
     ensures replaced { result.1 ≡ find (tree_at (33 - depth) nodes.old link) (way_on prefix depth) }
 {
     let key = open(nodes, link, prefix, depth);
@@ -195,7 +202,8 @@ pub(crate) fn remove<V: Drop>(
     requires within { depth ≤ prefix.length }
     requires whole { prefix.length ≤ 32 }
     requires held { IsHeld (33 - depth) nodes.old (way_to prefix depth) link }
-    ensures built { Rebuilds (33 - depth) (way_to prefix depth) nodes.old nodes.new link result.0 (cut (tree_at (33 - depth) nodes.old link) (way_on prefix depth)) }
+    ensures built { Rebuilds (33 - depth) (way_to prefix depth) nodes.old nodes.new link result.0
+        (cut (tree_at (33 - depth) nodes.old link) (way_on prefix depth)) }
     ensures removed { result.1 ≡ find (tree_at (33 - depth) nodes.old link) (way_on prefix depth) }
 {
     let Some(key) = link else {

@@ -80,7 +80,6 @@ pub struct RpRange {
 }
 
 /// What a router is made with.
-#[derive(Drop)]
 pub struct Config {
     /// The interfaces in the order of their numbers, 1 to 120.
     pub interfaces: Series<InterfaceConfig>,
@@ -97,6 +96,23 @@ pub struct Config {
     pub last_member_query_interval: u32,
     pub routes: Series<Route>,
     pub rps: Series<RpRange>,
+}
+
+// Called at each exit of an owner, where a derived drop would be spelled out and proved anew.
+impl Drop for Config {
+    fn drop(self) {
+        let Config {
+            interfaces: _,
+            limit: _,
+            spt: _,
+            robustness: _,
+            query_interval: _,
+            query_response_interval: _,
+            last_member_query_interval: _,
+            routes: _,
+            rps: _,
+        } = self;
+    }
 }
 
 /// A configuration without its lists.

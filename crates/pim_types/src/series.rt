@@ -34,9 +34,15 @@ impl<'a, T> Lent<'a, T> {
 }
 
 /// Values in order, which a clause sees as their list.
-#[derive(Drop)]
 pub struct Series<T> {
     items: Vec<T>,
+}
+
+// Called at each exit of an owner, where a derived drop would be spelled out and proved anew.
+impl<T: Drop> Drop for Series<T> {
+    fn drop(self) {
+        let Series { items: _ } = self;
+    }
 }
 
 impl<T> Model for Series<T> {

@@ -8,20 +8,20 @@ use Rattle.pim_macros.proofs.world.World.new.Goals as goal
 
 pub returns-in-Err-clause-refused : goal.returns-in-Err-clause-refused
 returns-in-Err-clause-refused c =
-    settings_refused c.args.config c.in-Err.refusal (sym c.test_settings.ensures ∙ c.in-Err.is)
+    settings_refused c.args.config.now c.in-Err.refusal (sym c.test_settings.ensures ∙ c.in-Err.is)
 
 pub new-requires : goal.new-requires
 new-requires c =
     subst (λ xs. interfaces_test xs ≡ Ok tt) (sym c.as_slice.ensures)
-    (interfaces_tested c.args.config (sym c.test_settings.ensures ∙ c.in_default.is))
+    (interfaces_tested c.args.config.now (sym c.test_settings.ensures ∙ c.in_default.is))
 
 pub returns-then-is_err-clause-refused : goal.returns-then-is_err-clause-refused
 returns-then-is_err-clause-refused c =
     let tested = sym c.test_settings.ensures ∙ c.in_default.is in
     let listed : c.in_ok-interfaces.interfaces.configured
-    ≡ c.args.config.interfaces = ap (λ t. t.configured) c.in_ok-interfaces.ensures ∙ c.as_slice.ensures in
-    routes_refused c.args.config tested
-    (subst (λ xs. are_routes xs c.args.config.routes ≡ false) listed
+    ≡ c.args.config.now.interfaces = ap (λ t. t.configured) c.in_ok-interfaces.ensures ∙ c.as_slice.ensures in
+    routes_refused c.args.config.now tested
+    (subst (λ xs. are_routes xs c.args.config.now.routes ≡ false) listed
     (subst (λ rs. are_routes c.in_ok-interfaces.interfaces.configured rs ≡ false) c.as_slice-2.ensures
     (test_failed _ Refusal.BadRoutes c.in_ok-replace.field-0 c.in_ok-replace.ensures.answer (sym c.is_err.ensures.value
     ∙ c.if-is_err.true))))
@@ -30,9 +30,9 @@ pub returns-then-is_err-2-clause-refused : goal.returns-then-is_err-2-clause-ref
 returns-then-is_err-2-clause-refused c =
     let tested = sym c.test_settings.ensures ∙ c.in_default.is in
     let listed : c.in_ok-interfaces.interfaces.configured
-    ≡ c.args.config.interfaces = ap (λ t. t.configured) c.in_ok-interfaces.ensures ∙ c.as_slice.ensures in
-    rps_refused c.args.config tested
-    (subst (λ xs. are_routes xs c.args.config.routes ≡ true) listed
+    ≡ c.args.config.now.interfaces = ap (λ t. t.configured) c.in_ok-interfaces.ensures ∙ c.as_slice.ensures in
+    rps_refused c.args.config.now tested
+    (subst (λ xs. are_routes xs c.args.config.now.routes ≡ true) listed
     (subst (λ rs. are_routes c.in_ok-interfaces.interfaces.configured rs ≡ true) c.as_slice-2.ensures
     (test_held _ Refusal.BadRoutes c.in_ok-replace.field-0 c.in_ok-replace.ensures.answer (sym c.is_err.ensures.value
     ∙ c.if-is_err.false))))
@@ -45,16 +45,16 @@ unfolding settings_of
 returns-clause-accepted c =
     let tested = sym c.test_settings.ensures ∙ c.in_default.is in
     let listed : c.in_ok-interfaces.interfaces.configured
-    ≡ c.args.config.interfaces = ap (λ t. t.configured) c.in_ok-interfaces.ensures ∙ c.as_slice.ensures in
+    ≡ c.args.config.now.interfaces = ap (λ t. t.configured) c.in_ok-interfaces.ensures ∙ c.as_slice.ensures in
     let routes = subst (λ rs. are_routes c.in_ok-interfaces.interfaces.configured rs ≡ true) c.as_slice-2.ensures
     (test_held _ Refusal.BadRoutes c.in_ok-replace.field-0 c.in_ok-replace.ensures.answer (sym c.is_err.ensures.value
     ∙ c.if-is_err.false)) in
     let rps = subst (λ rs. are_rps rs ≡ true) c.as_slice-3.ensures
     (test_held _ Refusal.BadRps c.in_ok-replace_rps.field-0 c.in_ok-replace_rps.ensures.answer
     (sym c.is_err-2.ensures.value ∙ c.if-is_err-2.false)) in (
-      all_accepted c.args.config tested (subst (λ xs. are_routes xs c.args.config.routes ≡ true) listed routes) rps,
+      all_accepted c.args.config.now tested (subst (λ xs. are_routes xs c.args.config.now.routes ≡ true) listed routes) rps,
       c.in_ok-world.ensures
-          ∙ opens c.args.config c.settings_of.result c.in_ok-interfaces.interfaces c.replace_rps.new.self
+          ∙ opens c.args.config.now c.settings_of.result c.in_ok-interfaces.interfaces c.replace_rps.new.self
           c.settings_of.ensures (c.in_ok-interfaces.ensures
           ∙ ap (λ xs. record { configured = xs; rows = [] }) c.as_slice.ensures)
           (chosen _ _ _ _ c.in_ok-replace_rps.ensures.new
@@ -72,14 +72,14 @@ returns-clause-accepted c =
 pub without_facts-requires-clause-least : goal.without_facts-requires-clause-least
 unfolding settings_of
 without_facts-requires-clause-least c =
-    rw c.settings_of.ensures (querier_within c.args.config (sym c.test_settings.ensures ∙ c.in_default.is)).least
+    rw c.settings_of.ensures (querier_within c.args.config.now (sym c.test_settings.ensures ∙ c.in_default.is)).least
 
 pub without_facts-requires-clause-most : goal.without_facts-requires-clause-most
 unfolding settings_of
 without_facts-requires-clause-most c =
-    rw c.settings_of.ensures (querier_within c.args.config (sym c.test_settings.ensures ∙ c.in_default.is)).most
+    rw c.settings_of.ensures (querier_within c.args.config.now (sym c.test_settings.ensures ∙ c.in_default.is)).most
 
 pub without_facts-requires-clause-interval : goal.without_facts-requires-clause-interval
 unfolding settings_of
 without_facts-requires-clause-interval c =
-    rw c.settings_of.ensures (querier_within c.args.config (sym c.test_settings.ensures ∙ c.in_default.is)).interval
+    rw c.settings_of.ensures (querier_within c.args.config.now (sym c.test_settings.ensures ∙ c.in_default.is)).interval
