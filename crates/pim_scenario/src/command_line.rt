@@ -1,9 +1,9 @@
 //! The command line: `pimlab run FILE [--wire memory|udp] [--tables]` and `pimlab check FILE`.
 ghost use Rattle.std.specs.Prelude.{◌≡◌, ◌≢◌, [], map, option_map, None, IfOk, IfErr, false};
 ghost use Rattle.clap.specs.Words.{app_of, fault_of, rule_of, subcommand_rows_of, HasKind, Kinds};
-ghost use Rattle.clap.specs.Words.{first_of, found_of, new_app, rows_of, with_rule};
+ghost use Rattle.clap.specs.Words.{first_of, found_of, new_app, rows_of, with_rule, with_subcommand};
 ghost use Rattle.clap.specs.declared.builder.command.Command.TheViews.{out-Command};
-ghost use Rattle.pim_scenario.specs.CommandLine.{pimlab_app, run_app, check_app, file_rule, wire_rule, tables_rule};
+ghost use Rattle.pim_scenario.specs.CommandLine.{pimlab_app, top_app, run_app, check_app, file_rule, wire_rule, tables_rule};
 ghost use Rattle.pim_scenario.specs.CommandLine.{words_in, meaning_in, meaning_of, meant_by, meant_in, CanAnswer};
 ghost use Rattle.pim_scenario.specs.CommandLine.{command_named, wire_named};
 
@@ -69,12 +69,19 @@ pub fn read_words<'a>(alloc: Global, words: &'a [&'a str]) -> Result<Answer<'a>,
 fn pimlab_command<'a>(alloc: Global) -> Result<clap::Command<'a>, AllocError>
     ensures { IfOk result (λ c. app_of c ≡ pimlab_app) }
 {
+    let check = check_command(alloc)?;
+    command_with_run(alloc)?.subcommand(check)
+}
+
+/// It with its first subcommand alone.
+fn command_with_run<'a>(alloc: Global) -> Result<clap::Command<'a>, AllocError>
+    ensures { IfOk result (λ c. app_of c ≡ with_subcommand top_app run_app.top) }
+{
     let run = run_command(alloc)?;
     clap::Command::new(alloc, "pimlab")
         .about("Runs the multicast routers of a scenario")
         .subcommand_required(true)
-        .subcommand(run)?
-        .subcommand(check_command(alloc)?)
+        .subcommand(run)
 }
 
 fn run_command<'a>(alloc: Global) -> Result<clap::Command<'a>, AllocError>

@@ -17,7 +17,6 @@ mod words;
 
 use pim_types::{Config, Event, Fault, IfaceId, Refusal, Series};
 use std::alloc::{AllocError, AllocFailed, Global};
-use thiserror::Error;
 use toml::Table;
 
 /// The link on which an interface is.
@@ -80,16 +79,13 @@ impl Scenario {
 }
 
 /// A value is not what its key wants.
-#[derive(Clone, Copy, Debug, Error)]
-#[error("the scenario is wrong")]
+#[derive(Clone, Copy)]
 struct Wrong;
 
 /// Why a scenario was not read.
-#[derive(Clone, Copy, Debug, Error)]
+#[derive(Clone, Copy)]
 enum Unread {
-    #[error("the scenario is wrong")]
     Wrong,
-    #[error("no memory")]
     NoMemory,
 }
 
