@@ -1,11 +1,12 @@
-//! IPv4 for the router: addresses, prefixes, packets read and written, and the answers that
-//! every crate above gives when it refuses or fails.
+//! IPv4 for the router: addresses, prefixes, packets read and written, the answers that every crate
+//! above gives when it refuses or fails, and the delays of a LAN, which a message tells and a fact keeps.
 #![tactic(auto)]
 
 pub mod addr;
 pub mod checksum;
 pub mod fault;
 pub mod ipv4;
+pub mod lan;
 pub mod refusal;
 pub mod write;
 
@@ -15,5 +16,6 @@ pub use fault::Fault;
 pub use ipv4::{
     FRAME_LIMIT, Ipv4View, PACKET_LIMIT, PROTOCOL_IGMP, PROTOCOL_PIM, read_ipv4, write_copy,
 };
+pub use lan::LanDelay;
 pub use refusal::Refusal;
 pub use write::{ControlHeader, write_header, write_igmp_packet, write_pim_packet};

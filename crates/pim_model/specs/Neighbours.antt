@@ -3,7 +3,7 @@ use Rattle.std.specs.List.{list_all, list_any}
 use Rattle.std.specs.Option.{option_map_or}
 use Rattle.std.specs.Prelude.{Bool, None, Option, Some, false, fold, if◌then◌else◌, is_some, length, max, nat_lt, not, unwrap_or, ℕ, ◌&&◌, ◌+◌, ◌==◌}
 use Rattle.pim_types.specs.declared.fact.Key.{Key}
-use Rattle.pim_types.specs.declared.fact.LanDelay.{LanDelay}
+use Rattle.pim_ip.specs.declared.lan.LanDelay.{LanDelay}
 use Rattle.pim_types.specs.declared.fact.NeighbourRow.{NeighbourRow}
 use Rattle.pim_types.specs.declared.path.Hop.{Hop}
 use Rattle.pim_types.specs.declared.path.Path.{Path}

@@ -2,7 +2,7 @@ ghost use Rattle.std.specs.Prelude.{◌≡◌};
 ghost use Rattle.pim_types.specs.Keys.{iface_key, neighbour_key, rpt_key, source_key, star_key};
 
 use crate::config::IfaceId;
-use pim_ip::Addr;
+use pim_ip::{Addr, LanDelay};
 
 /// The key of every fact and of every timer. What a fact doesn't have is 0, or `None`: a fact of the
 /// whole router has interface 0, one of an interface group 0.0.0.0; `source: None` is (*,G), and a
@@ -84,17 +84,6 @@ pub struct InterfaceRow {
     pub hello_end: u64,
     /// A Hello goes before the next Join/Prune or Assert.
     pub is_hello_owed: bool,
-}
-
-/// The LAN Prune Delay option of a Hello (RFC 7761, section 4.9.2).
-#[derive(Clone, Copy)]
-pub struct LanDelay {
-    /// The T bit: the neighbour can turn Join suppression off.
-    pub can_track: bool,
-    /// In ms, 15 bits.
-    pub propagation_delay: u16,
-    /// In ms.
-    pub override_interval: u16,
 }
 
 /// A neighbour, by its last Hello.

@@ -20,7 +20,7 @@ pub use event::{Event, EventKind};
 pub use fact::Key;
 pub use outcome::{Emission, Ignored, Outcome, Stop, Verdict};
 pub use path::{Hop, Path};
-pub use pim_ip::{Addr, Fault, Prefix, Refusal};
+pub use pim_ip::{Addr, Fault, LanDelay, Prefix, Refusal};
 pub use series::{Lent, Series};
 pub use table::{Row, Table};
 pub use timer::{Timer, TimerKind};

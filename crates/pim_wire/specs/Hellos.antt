@@ -1,7 +1,7 @@
 -- Hello (RFC 7761, section 4.9.2): type 0, options to the end of the message.
 use Rattle.std.specs.Prelude.{ℕ, zero, suc, ◌+◌, ◌%◌, Bool, true, false, ◌||◌, ◌==◌, nat_le, if◌then◌else◌, List, ◌++◌, length, Some, None, Result, Ok}
 use Rattle.byteorder.specs.Endian.{big_from, big_bytes}
-use Rattle.pim_types.specs.declared.fact.LanDelay.{LanDelay}
+use Rattle.pim_ip.specs.declared.lan.LanDelay.{LanDelay}
 use Rattle.pim_ip.specs.declared.refusal.Refusal.{Refusal}
 use Rattle.pim_ip.specs.declared.refusal.Refusal.TheVariants.{BadLength}
 use Rattle.pim_ip.specs.Tests.{expect, ◌>>◌}

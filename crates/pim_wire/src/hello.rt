@@ -7,8 +7,7 @@ ghost use Rattle.pim_wire.specs.ReadsBack.{HelloReads};
 
 use crate::encoded::{CHECKSUM_PLACE, VERSION_BITS, check_field, u16_at, u32_at};
 use byteorder::{BigEndian, ByteOrder};
-use pim_ip::{Refusal, set_checksum};
-use pim_types::fact::LanDelay;
+use pim_ip::{LanDelay, Refusal, set_checksum};
 use std::alloc::AllocError;
 
 /// The holdtime of a Hello without the option, and of those that are written, in seconds:
