@@ -15,6 +15,7 @@ pub mod RecordLaws
 pub mod RecordsKept
 pub mod RemovalLaws
 pub mod RepeatLaws
+pub mod RowChanges
 pub mod RowLaws
 pub mod SettledKept
 pub mod SettlingLaws

@@ -11,7 +11,8 @@ use Rattle.pim_model.specs.State.{State}
 use Rattle.pim_model.specs.Tables.{Table}
 use Rattle.pim_laws.proofs.ListLaws.{all_of_filter}
 use Rattle.pim_locality.specs.Locality.{AgreesBut, IsQuiet, of_touched, touched_assert, touched_spt, touched_to_clear}
-use Rattle.pim_locality.specs.Scopes.{reads, rows_where, scope}
+use Rattle.pim_laws.specs.Rows.{rows_where}
+use Rattle.pim_locality.specs.Scopes.{reads, scope}
 use Rattle.pim_locality.proofs.Asserts.{assert_must_go_local, reads_itself, spt_must_go_local}
 use Rattle.pim_locality.proofs.UntoldKeys.{same_by_scope}
 

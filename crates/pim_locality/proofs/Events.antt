@@ -26,7 +26,7 @@ use Rattle.pim_model.specs.Full.{asserted_keys}
 use Rattle.pim_locality.specs.Locality.{AgreesBut, touching}
 use Rattle.pim_locality.specs.Scopes.{reads, scope}
 use Rattle.pim_locality.proofs.Asserts.{reads_itself}
-use Rattle.pim_locality.proofs.RowChanges.{changed_elsewhere, dropped_elsewhere, put_elsewhere}
+use Rattle.pim_laws.proofs.RowChanges.{changed_elsewhere, dropped_elsewhere, put_elsewhere}
 use Rattle.pim_locality.proofs.Touches.{agrees_same, agrees_then, touches_itself, unread_of, widened, asserts_agree, downstream_agrees, registers_agree, sources_agree}
 
 module _ (touches : Key → Bool) (s : State) where

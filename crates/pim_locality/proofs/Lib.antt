@@ -6,7 +6,6 @@ pub mod Turns
 pub mod UntoldKeys
 pub mod TouchedUpstream
 pub mod Asserts
-pub mod RowChanges
 pub mod Clearing
 pub mod TouchedClearing
 pub mod Registers

@@ -20,8 +20,9 @@ use Rattle.pim_model.specs.Full.{reported_groups}
 use Rattle.pim_model.specs.Downstream.{is_named}
 use Rattle.pim_laws.proofs.TurnLaws.{kept_in_turn}
 use Rattle.pim_locality.specs.Locality.{AgreesBut, touching}
-use Rattle.pim_locality.specs.Scopes.{reads, rows_where, scope}
-use Rattle.pim_locality.proofs.RowChanges.{changed_elsewhere, dropped_elsewhere, filtered_elsewhere, put_elsewhere}
+use Rattle.pim_laws.specs.Rows.{rows_where}
+use Rattle.pim_locality.specs.Scopes.{reads, scope}
+use Rattle.pim_laws.proofs.RowChanges.{changed_elsewhere, dropped_elsewhere, filtered_elsewhere, put_elsewhere}
 use Rattle.pim_locality.proofs.Asserts.{stars_read}
 use Rattle.pim_locality.proofs.Events.{agrees_if}
 use Rattle.pim_locality.proofs.Touches.{agrees_same, agrees_then, named_touches, touched_with_group, touching_is_closed, unread_of, widened, group_records_agree, source_records_agree}

@@ -24,7 +24,8 @@ use Rattle.pim_locality.proofs.Turns.{turns_filtered}
 use Rattle.pim_locality.proofs.Touches.{touching_is_closed}
 use Rattle.pim_locality.specs.Locality.{AgreesBut, AreOnce, IsQuiet, touching, own_keys, facts_of_both, own_upstream, touched_upstream}
 use Rattle.pim_locality.proofs.TouchedUpstream.{upstream_of_touched, touched_turn, untouched_turn, filtered_order, first_implies}
-use Rattle.pim_locality.specs.Scopes.{rows_where, scope, reads}
+use Rattle.pim_laws.specs.Rows.{rows_where}
+use Rattle.pim_locality.specs.Scopes.{scope, reads}
 
 module _ {X : Type 0} (p q : X → Bool) where
   swap_step : (x : X) (xs : List X) (b c : Bool) → p x ≡ b → q x ≡ c → filter p (filter q xs) ≡ filter q (filter p xs)

@@ -21,8 +21,9 @@ use Rattle.pim_laws.proofs.RowLaws.{row_put}
 use Rattle.pim_locality.proofs.Asserts.{reads_itself, source_read, stars_read}
 use Rattle.pim_locality.specs.Touches.{packet_keys}
 use Rattle.pim_locality.specs.Locality.{AgreesBut, touching}
-use Rattle.pim_locality.specs.Scopes.{reads, rows_where}
-use Rattle.pim_locality.proofs.RowChanges.{dropped_elsewhere, put_elsewhere}
+use Rattle.pim_laws.specs.Rows.{rows_where}
+use Rattle.pim_locality.specs.Scopes.{reads}
+use Rattle.pim_laws.proofs.RowChanges.{dropped_elsewhere, put_elsewhere}
 use Rattle.pim_locality.proofs.Events.{agrees_if, wins_only}
 use Rattle.pim_locality.proofs.Touches.{agrees_same, agrees_then, unread_of, widened, registers_agree, sources_agree, touching_is_closed}
 

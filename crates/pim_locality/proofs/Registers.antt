@@ -14,9 +14,10 @@ use Rattle.pim_model.specs.Registers.{could_register, settle_registers, settled_
 use Rattle.pim_model.specs.State.{State}
 use Rattle.pim_model.specs.Tables.{Table, drop_at, drop_where, has_row, keys_in, put, row_at, same_bool}
 use Rattle.pim_locality.specs.Locality.{AgreesBut, IsClosed, IsQuiet, is_register_settled, touched_registers}
-use Rattle.pim_locality.specs.Scopes.{reads, rows_where, scope}
+use Rattle.pim_laws.specs.Rows.{rows_where}
+use Rattle.pim_locality.specs.Scopes.{reads, scope}
 use Rattle.pim_locality.proofs.Asserts.{could_register_here, reads_itself}
-use Rattle.pim_locality.proofs.RowChanges.{dropped_elsewhere, put_elsewhere}
+use Rattle.pim_laws.proofs.RowChanges.{dropped_elsewhere, put_elsewhere}
 use Rattle.pim_locality.proofs.TouchedClearing.{unread}
 use Rattle.pim_locality.proofs.Clearing.{all_agreed}
 use Rattle.pim_locality.proofs.Rows.{has_row_in_scope}

@@ -14,7 +14,7 @@ use Rattle.pim_laws.proofs.ListLaws.{any_more, any_of_filter, find_member, first
 use Rattle.pim_laws.proofs.TableLaws.{any_in_filter, none_passes}
 use Rattle.pim_locality.specs.Locality.{AgreesBut, IsClosed, IsQuiet, of_touched, touched_assert, touched_clear, touched_spt, touched_to_clear}
 use Rattle.pim_locality.specs.Scopes.{reads, scope}
-use Rattle.pim_locality.proofs.RowChanges.{changed_elsewhere, dropped_elsewhere}
+use Rattle.pim_laws.proofs.RowChanges.{changed_elsewhere, dropped_elsewhere}
 use Rattle.pim_locality.proofs.Clearing.{to_clear_of_touched}
 use Rattle.pim_locality.proofs.Turns.{same_repetition}
 

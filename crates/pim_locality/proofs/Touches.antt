@@ -21,9 +21,10 @@ use Rattle.pim_model.specs.State.{State}
 use Rattle.pim_model.specs.Tables.{Table, keys_in, set_row}
 use Rattle.pim_laws.proofs.ListLaws.{any_more}
 use Rattle.pim_locality.specs.Locality.{AgreesBut, IsClosed, touching}
-use Rattle.pim_locality.specs.Scopes.{reads, rows_where, scope}
+use Rattle.pim_laws.specs.Rows.{rows_where}
+use Rattle.pim_locality.specs.Scopes.{reads, scope}
 use Rattle.pim_locality.proofs.Asserts.{reads_itself, reads_through, stars_read}
-use Rattle.pim_locality.proofs.RowChanges.{filtered_elsewhere, set_elsewhere}
+use Rattle.pim_laws.proofs.RowChanges.{filtered_elsewhere, set_elsewhere}
 use Rattle.pim_locality.proofs.TouchedClearing.{unread}
 use Rattle.pim_locality.proofs.TouchedUpstream.{reads_star}
 

@@ -1,20 +1,17 @@
 -- What the machines of a key see of a state: the rows that they read, and what all groups share.
-use Rattle.std.specs.Prelude.{Bool, None, [], filter, map, false, ℕ, ◌&&◌, ◌==◌, ◌||◌}
+use Rattle.std.specs.Prelude.{Bool, None, [], map, false, ℕ, ◌&&◌, ◌==◌, ◌||◌}
 use Rattle.pim_types.specs.declared.fact.InterfaceRow.{InterfaceRow}
 use Rattle.pim_types.specs.declared.fact.NeighbourRow.{NeighbourRow}
 use Rattle.pim_types.specs.declared.fact.Key.{Key}
 use Rattle.pim_model.specs.State.{State}
 use Rattle.pim_model.specs.Tables.{Table}
+use Rattle.pim_laws.specs.Rows.{rows_where}
 use Rattle.pim_types.specs.Keys.{group_in, is_of_group, source_in}
 
 -- The machines of a key are that of (*,G), or those of (S,G) and (S,G,rpt). They read the rows of (*,G), and those of
 -- their own source: the rows of its group that have no source, or the same.
 unfoldable pub reads : Key → Key → Bool
 reads k q = (group_in q == group_in k) && ((source_in q == 0) || (source_in q == source_in k))
-
--- the rows whose key passes
-unfoldable pub rows_where : {R : Type 0} → (Key → Bool) → Table R → Table R
-rows_where sees t = filter (λ e. sees e.0) t
 
 -- the rows of a group
 abbrev pub rows_of : {R : Type 0} → ℕ → Table R → Table R

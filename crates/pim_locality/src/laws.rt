@@ -73,7 +73,7 @@ pub fn asserts_are_local()
 {}
 
 /// A row set under a key leaves the rows that are seen without it.
-#[tactic(auto, using(crate::proofs::RowChanges::set_elsewhere))]
+#[tactic(auto, using(pim_laws::proofs::RowChanges::set_elsewhere))]
 pub fn rows_elsewhere_stay()
     ensures { RowsElsewhereStay }
 {}

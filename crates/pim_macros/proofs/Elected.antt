@@ -13,8 +13,8 @@ use Rattle.pim_model.specs.State.{address_among, value_among}
 use Rattle.pim_model.specs.Neighbours.{is_dr_among}
 use Rattle.pim_model.specs.Tables.{Table, drop_at, drop_where, rows_on, set_row}
 use Rattle.pim_laws.proofs.ListLaws.{filter_within}
-use Rattle.pim_locality.specs.Scopes.{rows_where}
-use Rattle.pim_locality.proofs.RowChanges.{set_elsewhere}
+use Rattle.pim_laws.specs.Rows.{rows_where}
+use Rattle.pim_laws.proofs.RowChanges.{set_elsewhere}
 use Rattle.pim_macros.specs.Sights.{Shows, is_dr_on}
 
 -- a change of a row on one interface leaves the rows on another

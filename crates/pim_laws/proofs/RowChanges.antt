@@ -9,7 +9,7 @@ use Rattle.pim_types.specs.declared.fact.Key.{Key}
 use Rattle.pim_model.specs.Tables.{Table, change_row, changed_entry, drop_at, drop_where, put, set_row}
 use Rattle.pim_types.specs.Keys.{key_cmp, same_key}
 use Rattle.pim_types.proofs.Keys.{equal_keys}
-use Rattle.pim_locality.specs.Scopes.{rows_where}
+use Rattle.pim_laws.specs.Rows.{rows_where}
 
 other_key : (sees : Key → Bool) (k q : Key) (b c : Bool) → sees k ≡ false → sees q ≡ b → same_key k q ≡ c → b ≡ true
     → not c ≡ true
