@@ -14,8 +14,7 @@ ghost use Rattle.pim_model.specs.Writing.{hellos_paid};
 
 use crate::configured::Configured;
 use crate::limits::MOST_INTERFACES;
-use pim_tables::Timed;
-use pim_timers::Wheel;
+use pim_tables::{Timed, Wheel};
 use pim_types::fact::InterfaceRow;
 use pim_types::{Addr, IfaceId, InterfaceConfig, Key, Timer};
 use std::alloc::{AllocError, Global};

@@ -2,10 +2,9 @@
 use Rattle.std.proofs.Common.{map, ◌≡◌, ℕ, nat_lt, ◌==◌, Bool, true, false, cond, List, [], ◌∷◌, Option, Some, None, is_some, refl, subst, eqb-true}
 use Rattle.std.specs.List.{AllByRecursion, cons_option, filter_map, find}
 use Rattle.std.specs.Option.{option_map_or}
-use Rattle.igmp_wire.specs.declared.report.RecordType.{RecordType}
 use Rattle.pim_model.specs.Cause.{is_including}
 use Rattle.pim_model.specs.Querier.{is_excluding}
-use Rattle.pim_model.specs.Records.{Asked, Excluded, Fate, Gone, GroupRecord, Member, Until, apply_record, exclude_again, exclude_less, exclude_more, fate_in, from_exclude, from_include, group_expired, include_more, include_to_exclude, is_running, kept_or_until, member_of, record_with, source_expired}
+use Rattle.pim_model.specs.Records.{Asked, Excluded, Fate, Gone, GroupRecord, Member, RecordType, Until, apply_record, exclude_again, exclude_less, exclude_more, fate_in, from_exclude, from_include, group_expired, include_more, include_to_exclude, is_running, kept_or_until, member_of, record_with, source_expired}
 use Rattle.pim_model.specs.Sets.{Set}
 use Rattle.pim_model.specs.Tables.{is_among}
 use Rattle.pim_laws.proofs.ListLaws.{each_filter, each_map, each_more, each_passing}

@@ -7,8 +7,7 @@ ghost use Rattle.pim_membership.specs.Listing.{Lists, Side, Writes, in_side, lis
 
 use crate::listed::Listed;
 use pim_ip::Addr;
-use pim_source_trie::{Entries, SourceTrie};
-use pim_trie::Meter;
+use pim_source_trie::{Entries, Meter, SourceTrie};
 use pim_types::IfaceId;
 use std::alloc::{AllocError, Global};
 use std::marker::Model;

@@ -21,9 +21,8 @@ use crate::repeats::Repeats;
 use crate::sendings::Sendings;
 use pim_ifset::IfSet;
 use pim_ip::Addr;
-use pim_tables::{RowsOf, Timed, earlier};
-use pim_timers::Wheel;
-use pim_trie::Meter;
+use pim_source_trie::Meter;
+use pim_tables::{RowsOf, Timed, Wheel, earlier};
 use pim_types::fact::{
     GroupRecordRow, GroupRepeatRow, QuerierRow, SendingRow, SourceRecordRow, SourceRepeatRow,
 };

@@ -17,9 +17,8 @@ ghost use Rattle.pim_membership.specs.Listing.{IsListed, Lists, is_record_key, r
 use crate::listed::Listed;
 use crate::listing::Listing;
 use pim_ip::Addr;
-use pim_tables::{Ends, RowsOf, Timed};
-use pim_timers::Wheel;
-use pim_trie::Meter;
+use pim_source_trie::Meter;
+use pim_tables::{Ends, RowsOf, Timed, Wheel};
 use pim_types::fact::{GroupRecordRow, SourceRecordRow};
 use pim_types::{IfaceId, Key, Timer};
 use std::alloc::{AllocError, Global};

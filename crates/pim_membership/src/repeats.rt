@@ -8,8 +8,7 @@ ghost use Rattle.pim_types.specs.Keys.{is_on, star_key};
 ghost use Rattle.pim_membership.specs.Sources.{NameNone};
 
 use pim_ip::Addr;
-use pim_tables::{Ends, Timed};
-use pim_timers::Wheel;
+use pim_tables::{Ends, Timed, Wheel};
 use pim_types::{IfaceId, Key, Timer};
 use std::alloc::{AllocError, Global};
 use std::collections::btree_map::Iter;

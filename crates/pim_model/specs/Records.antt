@@ -7,7 +7,7 @@ use Rattle.pim_types.specs.declared.fact.GroupRecordRow.{GroupRecordRow}
 use Rattle.pim_types.specs.declared.fact.Key.{Key}
 use Rattle.pim_types.specs.declared.fact.SendingRow.{SendingRow}
 use Rattle.pim_types.specs.declared.fact.SourceRecordRow.{SourceRecordRow}
-use Rattle.igmp_wire.specs.declared.report.RecordType.{RecordType}
+pub use Rattle.igmp_wire.specs.declared.report.RecordType.{RecordType}
 use Rattle.pim_model.specs.Sets.{Set}
 use Rattle.pim_model.specs.State.{State}
 use Rattle.pim_model.specs.Tables.{Table, ascending, drop_at, drop_where, has_row, is_among, is_empty_list, put, row_at}

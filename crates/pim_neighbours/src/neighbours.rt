@@ -13,8 +13,7 @@ ghost use Rattle.pim_types.specs.declared.timer.TimerKind.{TimerKind as Kind};
 ghost use Rattle.pim_types.specs.Keys.{is_on, key_cmp, neighbour_key};
 
 use crate::delays::{Delays, delay_in};
-use pim_tables::{RowsOf, Timed};
-use pim_timers::Wheel;
+use pim_tables::{RowsOf, Timed, Wheel};
 use pim_types::fact::NeighbourRow;
 use pim_types::{Addr, Hop, IfaceId, InterfaceConfig, Key, Path, Timer};
 use pim_wire::{DEFAULT_HOLDTIME, HOLDTIME_FOREVER, Hello};

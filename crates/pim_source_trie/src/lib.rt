@@ -5,5 +5,6 @@ mod group;
 pub mod source_trie;
 pub mod walks;
 
+pub use pim_trie::Meter;
 pub use source_trie::SourceTrie;
 pub use walks::{Entries, Groups};

@@ -7,8 +7,7 @@ ghost use Rattle.pim_store.specs.declared.marks.Mark.{Mark as MarkValue};
 
 use crate::index::Index;
 use crate::marking::Marking;
-use pim_tables::Timed;
-use pim_timers::Wheel;
+use pim_tables::{Timed, Wheel};
 use pim_types::{IfaceId, Key};
 use std::alloc::AllocError;
 

@@ -18,10 +18,8 @@ use crate::marks::{Mark, Marks};
 use crate::rows::{change_row, drop_row, drop_rows_on, put_row, remove_row, set_row};
 use crate::walks::Sources;
 use pim_ip::Addr;
-use pim_source_trie::Groups;
-use pim_tables::{GroupRows, RptKeys, Timed, earlier};
-use pim_timers::Wheel;
-use pim_trie::Meter;
+use pim_source_trie::{Groups, Meter};
+use pim_tables::{GroupRows, RptKeys, Timed, Wheel, earlier};
 use pim_types::fact::{
     AssertRow, DownstreamRow, JoinTimerRow, OverrideTimerRow, RegisterRow, SourceRow,
 };
