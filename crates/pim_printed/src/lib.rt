@@ -2,6 +2,7 @@
 #![tactic(auto)]
 
 pub mod facts;
+pub mod line;
 pub mod printed;
 pub mod trees;
 

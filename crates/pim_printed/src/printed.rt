@@ -2,7 +2,7 @@
 ghost use Rattle.std.specs.Prelude.{◌≡◌, IfOk};
 ghost use Rattle.pim_model.specs.Printed.{rows};
 
-use crate::facts::{active, asserts, downstream, groups, neighbours, sources, upstream};
+use crate::facts::{active, lines};
 use crate::trees::trees;
 use pim_macros::World;
 use pim_types::{Row, Table};
@@ -14,12 +14,12 @@ pub fn rows(world: &World, alloc: Global, table: Table) -> Result<Vec<Row>, Allo
     ensures { IfOk result (λ found. found.items ≡ rows world.now table) }
 {
     match table {
-        Table::Neighbours => neighbours(world, alloc),
-        Table::Groups => groups(world, alloc),
-        Table::Sources => sources(world, alloc),
-        Table::Downstream => downstream(world, alloc),
-        Table::Asserts => asserts(world, alloc),
-        Table::Upstream => upstream(world, alloc),
+        Table::Neighbours => lines(world.neighbours(), alloc),
+        Table::Groups => lines(world.group_records(), alloc),
+        Table::Sources => lines(world.source_records(), alloc),
+        Table::Downstream => lines(world.downstream(), alloc),
+        Table::Asserts => lines(world.asserts(), alloc),
+        Table::Upstream => lines(world.join_timers(), alloc),
         Table::Trees => trees(world, alloc),
         Table::Active => active(world, alloc),
     }

@@ -1,0 +1,119 @@
+//! The row of a fact in its printed table.
+ghost use Rattle.std.specs.Prelude.{◌≡◌};
+ghost use Rattle.pim_ip.specs.Addr.{addr};
+ghost use Rattle.pim_model.specs.Printed.{assert_line, downstream_line, downstream_state, group_line, neighbour_line, source_line, upstream_line};
+ghost use Rattle.pim_types.specs.Keys.{source_in};
+ghost use Rattle.pim_types.specs.declared.fact.Key.{Key};
+ghost use Rattle.pim_types.specs.declared.table.Row.{Row};
+
+use pim_types::fact::{
+    AssertRow, DownstreamRow, GroupRecordRow, JoinTimerRow, NeighbourRow, SourceRecordRow,
+};
+use pim_types::table::DownstreamState;
+use pim_types::{Addr, Key, Row};
+
+/// A fact whose row in its printed table tells its key and itself, and nothing else of the state.
+pub trait Printed {
+    /// The row of a fact under its key.
+    ghost line: { Key × Self → Row };
+
+    /// The row of the fact under that key.
+    fn line(&self, key: Key) -> Row
+        ensures { result ≡ line (key, self.now) };
+}
+
+// The source of the key, or 0.0.0.0.
+pub(crate) fn source_in(key: Key) -> Addr
+    ensures { result ≡ addr (source_in key) }
+{
+    key.source.unwrap_or(Addr::NONE)
+}
+
+impl Printed for NeighbourRow {
+    ghost line = { neighbour_line };
+
+    fn line(&self, key: Key) -> Row {
+        Row::Neighbour {
+            iface: key.iface,
+            address: source_in(key),
+            end: self.end,
+        }
+    }
+}
+
+impl Printed for GroupRecordRow {
+    ghost line = { group_line };
+
+    fn line(&self, key: Key) -> Row {
+        Row::Group {
+            iface: key.iface,
+            group: key.group,
+            is_exclude: self.end.is_some(),
+            end: self.end,
+        }
+    }
+}
+
+impl Printed for SourceRecordRow {
+    ghost line = { source_line };
+
+    fn line(&self, key: Key) -> Row {
+        Row::Source {
+            iface: key.iface,
+            group: key.group,
+            source: source_in(key),
+            end: self.end,
+        }
+    }
+}
+
+// The state's name.
+fn downstream_state(key: Key, row: &DownstreamRow) -> DownstreamState
+    ensures { result ≡ downstream_state key row.now }
+{
+    if row.pending.is_some() {
+        DownstreamState::PrunePending
+    } else if key.rpt {
+        DownstreamState::Prune
+    } else {
+        DownstreamState::Join
+    }
+}
+
+impl Printed for DownstreamRow {
+    ghost line = { downstream_line };
+
+    fn line(&self, key: Key) -> Row {
+        Row::Downstream {
+            key,
+            state: downstream_state(key, self),
+            end: self.expiry,
+            pending: self.pending,
+        }
+    }
+}
+
+impl Printed for AssertRow {
+    ghost line = { assert_line };
+
+    fn line(&self, key: Key) -> Row {
+        Row::Assert {
+            key,
+            role: self.role,
+            winner: self.winner.address,
+            end: self.end,
+        }
+    }
+}
+
+impl Printed for JoinTimerRow {
+    ghost line = { upstream_line };
+
+    fn line(&self, key: Key) -> Row {
+        Row::Upstream {
+            group: key.group,
+            source: key.source,
+            next_join: self.end,
+        }
+    }
+}
