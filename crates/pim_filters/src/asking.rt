@@ -3,10 +3,20 @@ use std::marker::Model;
 
 /// The queries that a group record asks for: one of sources of the group, which may be none, and
 /// after it one of the group.
-#[derive(Default, Drop)]
+#[derive(Default)]
 pub struct Asking {
     sources: Option<Vec<Addr>>,
     group: bool,
+}
+
+// Called at each exit of an owner, where a derived drop would be spelled out and proved anew.
+impl Drop for Asking {
+    fn drop(self) {
+        let Asking {
+            sources: _,
+            group: _,
+        } = self;
+    }
 }
 
 impl Model for Asking {

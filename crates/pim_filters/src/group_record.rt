@@ -14,10 +14,19 @@ use std::marker::Model;
 
 /// What is known of one group on one interface (RFC 3376, section 6.2.1): INCLUDE of the sources
 /// whose timers run, or, while the group timer runs, EXCLUDE of the sources that have no timer.
-#[derive(Drop)]
 pub struct GroupRecord {
     timer: Option<u64>,
     members: Members,
+}
+
+// Called at each exit of an owner, where a derived drop would be spelled out and proved anew.
+impl Drop for GroupRecord {
+    fn drop(self) {
+        let GroupRecord {
+            timer: _,
+            members: _,
+        } = self;
+    }
 }
 
 impl Model for GroupRecord {
