@@ -98,7 +98,7 @@ fn read(alloc: Global, text: &str) -> Result<Scenario, Trouble>
     Ok(read_scenario(alloc, text)??)
 }
 
-// The moves, one after the other, and the tables. The lines of a move are out before the next one begins.
+// The moves, one after the other, and the tables. What can fail has the lab lent, so it is dropped in one place.
 fn run<W: Wire, O: Write>(
     lab: Lab<W>,
     moves: Series<Move>,
@@ -108,12 +108,35 @@ fn run<W: Wire, O: Write>(
     ensures { IfErr result (λ t. IsFault t) }
 {
     let mut lab = lab;
+    make_moves(&mut lab, moves, tables, out)
+}
+
+fn make_moves<W: Wire, O: Write>(
+    lab: &mut Lab<W>,
+    moves: Series<Move>,
+    tables: bool,
+    out: &mut O,
+) -> Result<(), Trouble>
+    ensures { IfErr result (λ t. IsFault t) }
+{
     for (place, step) in moves.into_vec().into_iter().enumerate() {
-        lab.make(place.saturating_add(1), step, out)?;
-        out.flush()?;
+        make_move(lab, place.saturating_add(1), step, out)?;
     }
     if tables {
         lab.print_tables(out)?;
     }
+    Ok(out.flush()?)
+}
+
+// The lines of a move are out before the next one begins.
+fn make_move<W: Wire, O: Write>(
+    lab: &mut Lab<W>,
+    number: usize,
+    step: Move,
+    out: &mut O,
+) -> Result<(), Trouble>
+    ensures { IfErr result (λ t. IsFault t) }
+{
+    lab.make(number, step, out)?;
     Ok(out.flush()?)
 }

@@ -1,7 +1,7 @@
 //! The lines of printed tables.
 use pim_types::fact::AssertRole;
 use pim_types::table::{DownstreamState, RegisterName};
-use pim_types::{Addr, Key, Row};
+use pim_types::{Addr, IfaceId, Key, Row};
 use std::fmt;
 
 /// A row of a table.
@@ -10,6 +10,7 @@ pub(crate) struct RowLine {
     pub(crate) row: Row,
 }
 
+// Each kind of row is written by a function of its own: one body that lends the values of all kinds is slow to prove.
 impl fmt::Display for RowLine {
     fn fmt<W: fmt::Write>(&self, f: &mut fmt::Formatter<W>) -> fmt::Result {
         match self.row {
@@ -17,85 +18,140 @@ impl fmt::Display for RowLine {
                 iface,
                 address,
                 end,
-            } => {
-                let iface = iface.number;
-                let end = End(end);
-                write!(f, "N {iface} {address} {end}")
-            }
+            } => write_neighbour(f, iface, address, End(end)),
             Row::Group {
                 iface,
                 group,
                 is_exclude,
                 end,
-            } => {
-                let iface = iface.number;
-                let mode = if is_exclude { "exclude" } else { "include" };
-                let end = End(end);
-                write!(f, "G {iface} {group} {mode} {end}")
-            }
+            } => write_group(f, iface, group, is_exclude, End(end)),
             Row::Source {
                 iface,
                 group,
                 source,
                 end,
-            } => {
-                let iface = iface.number;
-                let end = Absent(end);
-                write!(f, "S {iface} {group} {source} {end}")
-            }
+            } => write_source(f, iface, group, source, Absent(end)),
             Row::Downstream {
                 key,
                 state,
                 end,
                 pending,
-            } => {
-                let place = Place(key);
-                let kind = kind_of(key);
-                let state = downstream_name(state);
-                let end = End(end);
-                let pending = Absent(pending);
-                write!(f, "D {place} {kind} {state} {end} {pending}")
-            }
+            } => write_downstream(f, key, state, End(end), Absent(pending)),
             Row::Assert {
                 key,
                 role,
                 winner,
                 end,
-            } => {
-                let place = Place(key);
-                let role = role_name(role);
-                write!(f, "A {place} {role} {winner} {end}")
-            }
+            } => write_assert(f, key, role, winner, end),
             Row::Upstream {
                 group,
                 source,
                 next_join,
-            } => {
-                let source = Source(source);
-                write!(f, "U {group} {source} {next_join}")
-            }
+            } => write_upstream(f, group, Source(source), next_join),
             Row::Tree {
                 group,
                 source,
                 is_pruned,
-            } => {
-                let state = if is_pruned { "pruned" } else { "notpruned" };
-                write!(f, "R {group} {source} {state}")
-            }
+            } => write_tree(f, group, source, is_pruned),
             Row::Active {
                 group,
                 source,
                 keepalive,
                 spt,
                 register,
-            } => {
-                let keepalive = Absent(keepalive);
-                let spt = if spt { "spt" } else { "-" };
-                let register = register_name(register);
-                write!(f, "F {group} {source} {keepalive} {spt} {register}")
-            }
+            } => write_active(f, group, source, Absent(keepalive), spt, register),
         }
     }
+}
+
+fn write_neighbour<W: fmt::Write>(
+    f: &mut fmt::Formatter<W>,
+    iface: IfaceId,
+    address: Addr,
+    end: End,
+) -> fmt::Result {
+    let iface = iface.number;
+    write!(f, "N {iface} {address} {end}")
+}
+
+fn write_group<W: fmt::Write>(
+    f: &mut fmt::Formatter<W>,
+    iface: IfaceId,
+    group: Addr,
+    is_exclude: bool,
+    end: End,
+) -> fmt::Result {
+    let iface = iface.number;
+    let mode = if is_exclude { "exclude" } else { "include" };
+    write!(f, "G {iface} {group} {mode} {end}")
+}
+
+fn write_source<W: fmt::Write>(
+    f: &mut fmt::Formatter<W>,
+    iface: IfaceId,
+    group: Addr,
+    source: Addr,
+    end: Absent,
+) -> fmt::Result {
+    let iface = iface.number;
+    write!(f, "S {iface} {group} {source} {end}")
+}
+
+fn write_downstream<W: fmt::Write>(
+    f: &mut fmt::Formatter<W>,
+    key: Key,
+    state: DownstreamState,
+    end: End,
+    pending: Absent,
+) -> fmt::Result {
+    let place = Place(key);
+    let kind = kind_of(key);
+    let state = downstream_name(state);
+    write!(f, "D {place} {kind} {state} {end} {pending}")
+}
+
+fn write_assert<W: fmt::Write>(
+    f: &mut fmt::Formatter<W>,
+    key: Key,
+    role: AssertRole,
+    winner: Addr,
+    end: u64,
+) -> fmt::Result {
+    let place = Place(key);
+    let role = role_name(role);
+    write!(f, "A {place} {role} {winner} {end}")
+}
+
+fn write_upstream<W: fmt::Write>(
+    f: &mut fmt::Formatter<W>,
+    group: Addr,
+    source: Source,
+    next_join: u64,
+) -> fmt::Result {
+    write!(f, "U {group} {source} {next_join}")
+}
+
+fn write_tree<W: fmt::Write>(
+    f: &mut fmt::Formatter<W>,
+    group: Addr,
+    source: Addr,
+    is_pruned: bool,
+) -> fmt::Result {
+    let state = if is_pruned { "pruned" } else { "notpruned" };
+    write!(f, "R {group} {source} {state}")
+}
+
+fn write_active<W: fmt::Write>(
+    f: &mut fmt::Formatter<W>,
+    group: Addr,
+    source: Addr,
+    keepalive: Absent,
+    spt: bool,
+    register: Option<RegisterName>,
+) -> fmt::Result {
+    let spt = if spt { "spt" } else { "-" };
+    let register = register_name(register);
+    write!(f, "F {group} {source} {keepalive} {spt} {register}")
 }
 
 // An end that is never where there is none, in ms.
