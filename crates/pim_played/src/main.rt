@@ -43,45 +43,65 @@ fn play_all(rt: &HostRuntime) -> io::Result<bool> {
     let mut all_agree = true;
     let mut way = Way::Memory;
     for word in env::args(rt)?.skip(1) {
-        match word.as_str() {
-            "--failing" => way = Way::Failing,
-            "--udp" => way = Way::Sockets,
-            "--full" => way = Way::Full,
-            "--check" => way = Way::Check,
-            "--unread" => print_unread(rt)?,
-            "--help" => print_help(rt)?,
-            name => all_agree &= agrees(rt, name, way)?,
-        }
+        all_agree &= obey(rt, word.as_str(), &mut way)?;
     }
     Ok(all_agree)
 }
 
-// Plays a scenario, and says whether it prints what it must.
-fn agrees(rt: &HostRuntime, name: &str, way: Way) -> io::Result<bool> {
-    let stored = Stored::read(rt, name)?;
-    match way {
-        Way::Memory => {
-            let printed = play_over(rt, &stored, MemoryWire::new(rt.alloc()))?;
-            say(rt, name, "", stored.is(&printed), &printed)
-        }
-        Way::Sockets => {
-            let printed = play_over(rt, &stored, UdpWire::new(rt.alloc(), rt.clone()?))?;
-            say(rt, name, ", over sockets", stored.is(&printed), &printed)
-        }
-        Way::Failing => agrees_where_the_wire_fails(rt, name, &stored),
-        Way::Full => {
-            let printed = play_unwritten(rt, &stored)?;
-            let agrees = printed.is("", "3\npimlab: wire fault\n");
-            say(rt, name, ", where no line can be written", agrees, &printed)
-        }
-        Way::Check => {
-            let printed = check(rt, &stored)?;
-            let complaint = stored.complaint.as_str();
-            let lines = if complaint == "0\n" { "ok\n" } else { "" };
-            let agrees = printed.is(lines, complaint);
-            say(rt, name, ", checked alone", agrees, &printed)
-        }
+// Does what a word asks, and says whether a scenario that it names prints what it must.
+fn obey(rt: &HostRuntime, word: &str, way: &mut Way) -> io::Result<bool> {
+    match word {
+        "--failing" => *way = Way::Failing,
+        "--udp" => *way = Way::Sockets,
+        "--full" => *way = Way::Full,
+        "--check" => *way = Way::Check,
+        "--unread" => print_unread(rt)?,
+        "--help" => print_help(rt)?,
+        name => return agrees(rt, name, *way, &Stored::read(rt, name)?),
     }
+    Ok(true)
+}
+
+// Plays a scenario, and says whether it prints what it must. What was printed is owned below, where each way has one exit.
+fn agrees(rt: &HostRuntime, name: &str, way: Way, stored: &Stored) -> io::Result<bool> {
+    match way {
+        Way::Memory => agrees_over(rt, name, "", stored, MemoryWire::new(rt.alloc())),
+        Way::Sockets => {
+            let wire = UdpWire::new(rt.alloc(), rt.clone()?);
+            agrees_over(rt, name, ", over sockets", stored, wire)
+        }
+        Way::Failing => agrees_where_the_wire_fails(rt, name, stored),
+        Way::Full => agrees_where_it_is_full(rt, name, stored),
+        Way::Check => agrees_when_checked(rt, name, stored),
+    }
+}
+
+// Plays a scenario over a wire.
+fn agrees_over<W: Wire>(
+    rt: &HostRuntime,
+    name: &str,
+    how: &str,
+    stored: &Stored,
+    wire: W,
+) -> io::Result<bool> {
+    let printed = play_over(rt, stored, wire)?;
+    say(rt, name, how, stored.is(&printed), &printed)
+}
+
+// Plays a scenario where no line can be written.
+fn agrees_where_it_is_full(rt: &HostRuntime, name: &str, stored: &Stored) -> io::Result<bool> {
+    let printed = play_unwritten(rt, stored)?;
+    let agrees = printed.is("", "3\npimlab: wire fault\n");
+    say(rt, name, ", where no line can be written", agrees, &printed)
+}
+
+// Checks a scenario.
+fn agrees_when_checked(rt: &HostRuntime, name: &str, stored: &Stored) -> io::Result<bool> {
+    let printed = check(rt, stored)?;
+    let complaint = stored.complaint.as_str();
+    let lines = if complaint == "0\n" { "ok\n" } else { "" };
+    let agrees = printed.is(lines, complaint);
+    say(rt, name, ", checked alone", agrees, &printed)
 }
 
 // Plays a scenario over wires of which each fails a call later than the one before, until one carries all.
@@ -111,10 +131,14 @@ fn say(
     let says = if agrees { "as expected" } else { "otherwise:" };
     rt.println(format!(in rt.alloc(); "{name}: {says}{how}")?)?;
     if !agrees {
-        rt.stdout().write_all(&printed.lines)?;
-        rt.stdout().write_all(&printed.complaint)?;
+        show(rt, printed)?;
     }
     Ok(agrees)
+}
+
+fn show(rt: &HostRuntime, printed: &Printed) -> io::Result<()> {
+    rt.stdout().write_all(&printed.lines)?;
+    rt.stdout().write_all(&printed.complaint)
 }
 
 // Plays a scenario over a wire.
@@ -152,17 +176,17 @@ fn check(rt: &HostRuntime, stored: &Stored) -> io::Result<Printed> {
 
 // Prints what is said of two files that can't be read to their end, each with its status.
 fn print_unread(rt: &HostRuntime) -> io::Result<()> {
-    for (left, kind) in [
-        (3, ErrorKind::PermissionDenied),
-        (0, ErrorKind::OutOfMemory),
-    ] {
-        let mut told = Vec::new(rt.alloc());
-        if let Err(status) = load(rt.alloc(), "f", Some(Cut { left, kind }), &mut told) {
-            rt.println(format!(in rt.alloc(); "{status}")?)?;
-        }
-        rt.stdout().write_all(&told)?;
+    print_cut(rt, 3, ErrorKind::PermissionDenied)?;
+    print_cut(rt, 0, ErrorKind::OutOfMemory)
+}
+
+// Prints what is said of a file that can be read so far.
+fn print_cut(rt: &HostRuntime, left: usize, kind: ErrorKind) -> io::Result<()> {
+    let mut told = Vec::new(rt.alloc());
+    if let Err(status) = load(rt.alloc(), "f", Some(Cut { left, kind }), &mut told) {
+        rt.println(format!(in rt.alloc(); "{status}")?)?;
     }
-    Ok(())
+    rt.stdout().write_all(&told)
 }
 
 // Prints the answer to a request for help.

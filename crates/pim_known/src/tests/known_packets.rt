@@ -5,6 +5,7 @@ use pim_wire::{
     Entry, EntryKind, write_assert, write_hello, write_join_prune, write_null_register,
     write_register, write_register_stop,
 };
+use std::process::Abort;
 use std::test::Fail;
 
 const GROUP: Addr = Addr { bits: 0xE101_0101 };
@@ -21,76 +22,116 @@ const ALL_SYSTEMS: Addr = Addr { bits: 0xE000_0001 };
 
 const ALL_PIM_ROUTERS: Addr = Addr { bits: 0xE000_000D };
 
-const HELLO: [u8; 34] = [
+// Before a PIM message of 34 bytes.
+const PIM_HEADER: &[u8] = &[
+    0x45, 0xC0, 0x00, 0x36, 0x00, 0x00, 0x00, 0x00, 0x01, 0x67, 0xCD, 0x92, 0x0A, 0x00, 0x01, 0x02,
+    0xE0, 0x00, 0x00, 0x0D,
+];
+
+// Before an IGMP message of 12 bytes.
+const IGMP_HEADER: &[u8] = &[
+    0x46, 0xC0, 0x00, 0x24, 0x00, 0x00, 0x00, 0x00, 0x01, 0x02, 0x3A, 0x11, 0x0A, 0x00, 0x00, 0x02,
+    0xE0, 0x00, 0x00, 0x01, 0x94, 0x04, 0x00, 0x00,
+];
+
+const HELLO: &[u8] = &[
     0x20, 0x00, 0xD3, 0x9E, 0x00, 0x01, 0x00, 0x02, 0x00, 0x69, 0x00, 0x02, 0x00, 0x04, 0x01, 0xF4,
     0x09, 0xC4, 0x00, 0x13, 0x00, 0x04, 0x00, 0x00, 0x00, 0x01, 0x00, 0x14, 0x00, 0x04, 0x00, 0x00,
     0x00, 0x07,
 ];
 
-const JOIN_AND_PRUNE: [u8; 42] = [
+const JOIN_AND_PRUNE: &[u8] = &[
     0x23, 0x00, 0xBF, 0xAF, 0x01, 0x00, 0x0A, 0x00, 0x00, 0x01, 0x00, 0x01, 0x00, 0xD2, 0x01, 0x00,
     0x00, 0x20, 0xE1, 0x01, 0x01, 0x01, 0x00, 0x01, 0x00, 0x01, 0x01, 0x00, 0x07, 0x20, 0x0A, 0x09,
     0x09, 0x09, 0x01, 0x00, 0x05, 0x20, 0x0A, 0x00, 0x03, 0x05,
 ];
 
-const SOURCE_JOIN: [u8; 34] = [
+const SOURCE_JOIN: &[u8] = &[
     0x23, 0x00, 0xDA, 0xE2, 0x01, 0x00, 0x0A, 0x00, 0x00, 0x01, 0x00, 0x01, 0x00, 0xD2, 0x01, 0x00,
     0x00, 0x20, 0xE1, 0x01, 0x01, 0x01, 0x00, 0x01, 0x00, 0x00, 0x01, 0x00, 0x05, 0x20, 0x0A, 0x00,
     0x03, 0x05,
 ];
 
 // A UDP packet.
-const PACKET: [u8; 28] = [
+const PACKET: &[u8] = &[
     0x45, 0x00, 0x00, 0x1C, 0x00, 0x00, 0x00, 0x00, 0x40, 0x11, 0x8C, 0xCA, 0x0A, 0x00, 0x02, 0x05,
     0xE1, 0x01, 0x01, 0x01, 0x00, 0x01, 0x00, 0x02, 0x00, 0x03, 0x00, 0x04,
 ];
 
-const REGISTER: [u8; 36] = [
+// The same with a hop less to live.
+const COPY: &[u8] = &[
+    0x45, 0x00, 0x00, 0x1C, 0x00, 0x00, 0x00, 0x00, 0x3F, 0x11, 0x8D, 0xCA, 0x0A, 0x00, 0x02, 0x05,
+    0xE1, 0x01, 0x01, 0x01, 0x00, 0x01, 0x00, 0x02, 0x00, 0x03, 0x00, 0x04,
+];
+
+const REGISTER: &[u8] = &[
     0x21, 0x00, 0xDE, 0xFF, 0x00, 0x00, 0x00, 0x00, 0x45, 0x00, 0x00, 0x1C, 0x00, 0x00, 0x00, 0x00,
     0x40, 0x11, 0x8C, 0xCA, 0x0A, 0x00, 0x02, 0x05, 0xE1, 0x01, 0x01, 0x01, 0x00, 0x01, 0x00, 0x02,
     0x00, 0x03, 0x00, 0x04,
 ];
 
-const NULL_REGISTER: [u8; 28] = [
+const NULL_REGISTER: &[u8] = &[
     0x21, 0x00, 0x9E, 0xFF, 0x40, 0x00, 0x00, 0x00, 0x45, 0x00, 0x00, 0x14, 0x00, 0x00, 0x00, 0x00,
     0x01, 0x67, 0xCB, 0x7C, 0x0A, 0x00, 0x02, 0x05, 0xE1, 0x01, 0x01, 0x01,
 ];
 
-const REGISTER_STOP: [u8; 18] = [
+const REGISTER_STOP: &[u8] = &[
     0x22, 0x00, 0xED, 0xD7, 0x01, 0x00, 0x00, 0x20, 0xE1, 0x01, 0x01, 0x01, 0x01, 0x00, 0x0A, 0x00,
     0x02, 0x05,
 ];
 
-const STAR_ASSERT: [u8; 26] = [
+const STAR_ASSERT: &[u8] = &[
     0x25, 0x00, 0x76, 0x5A, 0x01, 0x00, 0x00, 0x20, 0xE1, 0x01, 0x01, 0x01, 0x01, 0x00, 0x00, 0x00,
     0x00, 0x00, 0x80, 0x00, 0x00, 0x6E, 0x00, 0x00, 0x00, 0x14,
 ];
 
-const ASSERT: [u8; 26] = [
+const ASSERT: &[u8] = &[
     0x25, 0x00, 0xE9, 0x55, 0x01, 0x00, 0x00, 0x20, 0xE1, 0x01, 0x01, 0x01, 0x01, 0x00, 0x0A, 0x00,
     0x03, 0x05, 0x00, 0x00, 0x00, 0x6E, 0x00, 0x00, 0x00, 0x14,
 ];
 
 // For a source of a group.
-const OF_SOURCE: [u8; 16] = [
+const OF_SOURCE: &[u8] = &[
     0x11, 0x0A, 0xFE, 0x6F, 0xE1, 0x01, 0x01, 0x01, 0x02, 0x7D, 0x00, 0x01, 0x0A, 0x00, 0x02, 0x05,
 ];
 
 // The same group with S set, and no source.
-const SUPPRESSED: [u8; 12] = [
+const SUPPRESSED: &[u8] = &[
     0x11, 0x0A, 0x02, 0x76, 0xE1, 0x01, 0x01, 0x01, 0x0A, 0x7D, 0x00, 0x00,
 ];
 
 // Two records, the first with two sources.
-const TWO_RECORDS: [u8; 32] = [
+const TWO_RECORDS: &[u8] = &[
     0x22, 0x00, 0xF9, 0xE9, 0x00, 0x00, 0x00, 0x02, 0x05, 0x00, 0x00, 0x02, 0xE1, 0x01, 0x01, 0x01,
     0x0A, 0x00, 0x02, 0x05, 0x0A, 0x00, 0x02, 0x06, 0x03, 0x00, 0x00, 0x00, 0xE1, 0x01, 0x01, 0x02,
 ];
 
+// A comparison written out in a body costs a proof of its own there, so tests call this one.
+fn same(rt: &impl Abort, got: &[u8], want: &[u8]) {
+    assert_eq!(rt; got, want);
+}
+
+// Compares what was written, and empties it.
+fn take_written(rt: &impl Abort, out: &mut Vec<u8>, want: &[u8]) {
+    same(rt, out, want);
+    out.clear();
+}
+
+// Compares how long a packet is and its header, and empties it.
+fn take_packet(rt: &impl Abort, out: &mut Vec<u8>, length: usize, header: &[u8]) {
+    assert_eq!(rt; out.len(), length);
+    out.truncate(header.len());
+    take_written(rt, out, header);
+}
+
+fn sums_to(rt: &impl Abort, bytes: &[u8], sum: u16) {
+    assert_eq!(rt; sum16(bytes), sum);
+}
+
 #[test]
 fn prints_addresses(rt: HostRuntime) -> Result<(), Fail> {
     let text = SENDER.to_string(rt.alloc())?;
-    assert_eq!(rt; text.as_str(), "10.0.2.5");
+    same(&rt, text.as_bytes(), "10.0.2.5".as_bytes());
     Ok(())
 }
 
@@ -98,8 +139,8 @@ fn prints_addresses(rt: HostRuntime) -> Result<(), Fail> {
 fn sums_words(rt: HostRuntime) {
     // The example of RFC 1071, and the same with its last byte cut off.
     let bytes = [0x00, 0x01, 0xF2, 0x03, 0xF4, 0xF5, 0xF6, 0xF7];
-    assert_eq!(rt; sum16(&bytes), 0x220D);
-    assert_eq!(rt; sum16(&bytes[..7]), 0x2304);
+    sums_to(&rt, &bytes, 0x220D);
+    sums_to(&rt, &bytes[..7], 0x2304);
 }
 
 #[test]
@@ -107,33 +148,19 @@ fn writes_packets(rt: HostRuntime) -> Result<(), Fail> {
     let mut out = Vec::new(rt.alloc());
     let source = Addr { bits: 0x0A00_0102 };
     write_pim_packet(1, source, ALL_PIM_ROUTERS, &[0x20; 34], &mut out)?;
-    let want = [
-        0x45, 0xC0, 0x00, 0x36, 0x00, 0x00, 0x00, 0x00, 0x01, 0x67, 0xCD, 0x92, 0x0A, 0x00, 0x01,
-        0x02, 0xE0, 0x00, 0x00, 0x0D,
-    ];
-    assert_eq!(rt; out.len(), 54);
-    assert_eq!(rt; &out[..20], want.as_slice());
-    out.clear();
+    take_packet(&rt, &mut out, 54, PIM_HEADER);
     let source = Addr { bits: 0x0A00_0002 };
     write_igmp_packet(source, ALL_SYSTEMS, &[0x11; 12], &mut out)?;
-    let want = [
-        0x46, 0xC0, 0x00, 0x24, 0x00, 0x00, 0x00, 0x00, 0x01, 0x02, 0x3A, 0x11, 0x0A, 0x00, 0x00,
-        0x02, 0xE0, 0x00, 0x00, 0x01, 0x94, 0x04, 0x00, 0x00,
-    ];
-    assert_eq!(rt; out.len(), 36);
-    assert_eq!(rt; &out[..24], want.as_slice());
+    take_packet(&rt, &mut out, 36, IGMP_HEADER);
     Ok(())
 }
 
 #[test]
 fn copies_a_packet(rt: HostRuntime) -> Result<(), Fail> {
-    let packet = read_ipv4(&PACKET)?;
-    let mut copy = Vec::new(rt.alloc());
-    write_copy(&packet, &mut copy)?;
-    let mut want = PACKET;
-    want[8] = 0x3F;
-    want[10] = 0x8D;
-    assert_eq!(rt; copy.as_slice(), want.as_slice());
+    let packet = read_ipv4(PACKET)?;
+    let mut out = Vec::new(rt.alloc());
+    write_copy(&packet, &mut out)?;
+    take_written(&rt, &mut out, COPY);
     Ok(())
 }
 
@@ -141,7 +168,7 @@ fn copies_a_packet(rt: HostRuntime) -> Result<(), Fail> {
 fn writes_hellos(rt: HostRuntime) -> Result<(), Fail> {
     let mut out = Vec::new(rt.alloc());
     write_hello(500, 2500, 1, 7, &mut out)?;
-    assert_eq!(rt; out.as_slice(), HELLO.as_slice());
+    take_written(&rt, &mut out, HELLO);
     Ok(())
 }
 
@@ -157,24 +184,21 @@ fn writes_join_prunes(rt: HostRuntime) -> Result<(), Fail> {
     };
     let mut out = Vec::new(rt.alloc());
     write_join_prune(UPSTREAM, GROUP, &[star], &[source], &mut out)?;
-    assert_eq!(rt; out.as_slice(), JOIN_AND_PRUNE.as_slice());
-    out.clear();
+    take_written(&rt, &mut out, JOIN_AND_PRUNE);
     write_join_prune(UPSTREAM, GROUP, &[source], &[], &mut out)?;
-    assert_eq!(rt; out.as_slice(), SOURCE_JOIN.as_slice());
+    take_written(&rt, &mut out, SOURCE_JOIN);
     Ok(())
 }
 
 #[test]
 fn writes_registers(rt: HostRuntime) -> Result<(), Fail> {
     let mut out = Vec::new(rt.alloc());
-    write_register(&PACKET, &mut out)?;
-    assert_eq!(rt; out.as_slice(), REGISTER.as_slice());
-    out.clear();
+    write_register(PACKET, &mut out)?;
+    take_written(&rt, &mut out, REGISTER);
     write_null_register(SENDER, GROUP, &mut out)?;
-    assert_eq!(rt; out.as_slice(), NULL_REGISTER.as_slice());
-    out.clear();
+    take_written(&rt, &mut out, NULL_REGISTER);
     write_register_stop(GROUP, SENDER, &mut out)?;
-    assert_eq!(rt; out.as_slice(), REGISTER_STOP.as_slice());
+    take_written(&rt, &mut out, REGISTER_STOP);
     Ok(())
 }
 
@@ -182,10 +206,9 @@ fn writes_registers(rt: HostRuntime) -> Result<(), Fail> {
 fn writes_asserts(rt: HostRuntime) -> Result<(), Fail> {
     let mut out = Vec::new(rt.alloc());
     write_assert(GROUP, Addr { bits: 0 }, true, 110, 20, &mut out)?;
-    assert_eq!(rt; out.as_slice(), STAR_ASSERT.as_slice());
-    out.clear();
+    take_written(&rt, &mut out, STAR_ASSERT);
     write_assert(GROUP, SOURCE, false, 110, 20, &mut out)?;
-    assert_eq!(rt; out.as_slice(), ASSERT.as_slice());
+    take_written(&rt, &mut out, ASSERT);
     Ok(())
 }
 
@@ -204,10 +227,9 @@ fn writes_queries(rt: HostRuntime) -> Result<(), Fail> {
     };
     let mut out = Vec::new(rt.alloc());
     write_query(&mut out, &suppressed, &[])?;
-    assert_eq!(rt; out.as_slice(), SUPPRESSED.as_slice());
-    out.clear();
+    take_written(&rt, &mut out, SUPPRESSED);
     write_query(&mut out, &asking, &[SENDER])?;
-    assert_eq!(rt; out.as_slice(), OF_SOURCE.as_slice());
+    take_written(&rt, &mut out, OF_SOURCE);
     Ok(())
 }
 
@@ -225,6 +247,6 @@ fn writes_reports(rt: HostRuntime) -> Result<(), Fail> {
     };
     let mut out = Vec::new(rt.alloc());
     write_report(&mut out, &[allow, leave])?;
-    assert_eq!(rt; out.as_slice(), TWO_RECORDS.as_slice());
+    take_written(&rt, &mut out, TWO_RECORDS);
     Ok(())
 }
