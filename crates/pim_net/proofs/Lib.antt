@@ -1,4 +1,5 @@
 pub mod Asked
+pub mod Carries
 pub mod Events
 pub mod Lookups
 pub mod Nodes

@@ -7,7 +7,7 @@ use Rattle.pim_ip.specs.declared.refusal.Refusal.{Refusal}
 use Rattle.pim_types.specs.declared.config.Config.{Config}
 use Rattle.pim_model.specs.Limits.{config_test, is_between, most_ifaces}
 use Rattle.pim_model.specs.Network.{Sent, Station, configs_test, is_node, most_routers, network, nodes_test, station_of}
-use Rattle.pim_net.specs.Ports.{last_port}
+use Rattle.pim_net.specs.Ports.{first_ports, ports_from}
 use Rattle.pim_net.specs.Showing.{all_of, node_of}
 use Rattle.pim_net.specs.declared.node.Node.{Node}
 use Rattle.pim_net.proofs.Lookups.{shown}
@@ -31,37 +31,39 @@ abbrev pub opened : Node → Option Station
 opened n = Some (station_of (node_of n))
 
 -- so far all were accepted: what is left of the nodes, and the next port
-pub record Opens (all : List Node) (made : List (Option Station)) (rest : List Node) (port : ℕ) : Type 0 where
+pub record Opens (all : List Node) (made : List (Option Station)) (ports : List ℕ) (rest : List Node) (port : ℕ) : Type 0 where
   pub links : list_all is_node (map node_of rest) ≡ true
   pub few : length made + length rest ≤ most_routers
   pub tests : configs_test (configs_of all) ≡ configs_test (configs_of rest)
   pub made_is : made ++ map opened rest ≡ map opened all
+  pub ports_are : ports ++ ports_from port rest ≡ first_ports all
   pub port_is : port ≤ 121 * length made
 
-pub opens_none : (all : List Node) → list_all is_node (map node_of all) ≡ true → length all ≤ most_routers → Opens all [] all 0
-opens_none all links few = record { links = links; few = omega (arith, few); tests = refl; made_is = refl; port_is = omega arith }
+pub opens_none : (all : List Node) → list_all is_node (map node_of all) ≡ true → length all ≤ most_routers
+    → Opens all [] [] all 0
+opens_none all links few =
+    record { links = links; few = omega (arith, few); tests = refl; made_is = refl; ports_are = refl; port_is = omega arith }
 
 both_true : (a b : Bool) → (a && b) ≡ true → (a ≡ true) × (b ≡ true)
 both_true true b e = (refl, e)
 both_true false b e = cc e
 
-module _ (all rest : List Node) (made : List (Option Station)) (n : Node) (port : ℕ) (opens : Opens all made (n ∷ rest) port) where
+module _ (all rest : List Node) (made : List (Option Station)) (ports : List ℕ) (n : Node) (port : ℕ)
+    (opens : Opens all made ports (n ∷ rest) port) where
   pub first_linked : length n.links ≡ length n.config.interfaces
   first_linked = grind (arith, nat_tests, (both_true (is_node (node_of n)) _ opens.links).0)
-
-  pub port_within : port ≤ last_port
-  port_within = omega (arith, opens.few, opens.port_is)
 
   pub port_stays : config_test n.config ≡ Ok tt → port + (length n.links + 1) ≤ 121 * (length made + 1)
   port_stays ok = omega (arith, few_interfaces n.config ok, first_linked, opens.port_is)
 
-  pub port_fits : config_test n.config ≡ Ok tt → port + (length n.links + 1) < 4294967296
+  pub port_fits : config_test n.config ≡ Ok tt → port + (length n.links + 1) < 65536
   port_fits ok = omega (arith, port_stays ok, opens.few)
 
-  pub opens_next : (more : List (Option Station)) (next : ℕ) → config_test n.config ≡ Ok tt
-      → more ≡ made ++ opened n ∷ [] → next ≡ port + (length n.links + 1) → Opens all more rest next
-  unfolding configs_test
-  opens_next more next ok pushed port_is =
+  pub opens_next : (more : List (Option Station)) (with_port : List ℕ) (next : ℕ) → config_test n.config ≡ Ok tt
+      → more ≡ made ++ opened n ∷ [] → with_port ≡ ports ++ port ∷ [] → next ≡ port + (length n.links + 1)
+      → Opens all more with_port rest next
+  unfolding configs_test ports_from
+  opens_next more with_port next ok pushed port_pushed port_is =
       let longer : length more ≡ length made + 1 = ap length pushed ∙ length-append made (opened n ∷ []) in
       record {
         links = (both_true (is_node (node_of n)) _ opens.links).1;
@@ -69,6 +71,9 @@ module _ (all rest : List Node) (made : List (Option Station)) (n : Node) (port 
         tests = opens.tests ∙ ap (λ x. x >> configs_test (configs_of rest)) ok;
         made_is = ap (λ (m : List (Option Station)). m ++ map opened rest) pushed
             ∙ append_assoc made (opened n ∷ []) (map opened rest) ∙ opens.made_is;
+        ports_are = ap (λ (ps : List ℕ). ps ++ ports_from next rest) port_pushed
+            ∙ append_assoc ports (port ∷ []) (ports_from next rest)
+            ∙ ap (λ (p : ℕ). ports ++ port ∷ ports_from p rest) port_is ∙ opens.ports_are;
         port_is = omega (arith, longer, port_is, port_stays ok);
       }
 
@@ -77,11 +82,13 @@ module _ (all rest : List Node) (made : List (Option Station)) (n : Node) (port 
   unfolding configs_test
   opens_fails refusal failed = opens.tests ∙ ap (λ x. x >> configs_test (configs_of rest)) failed
 
-pub opens_all : (all : List Node) (made : List (Option Station)) (rest : List Node) (port : ℕ) → Opens all made rest port
-    → length rest ≡ 0 → (configs_test (configs_of all) ≡ Ok tt) × (made ≡ map opened all)
-unfolding configs_test
-opens_all all made [] port opens none = (opens.tests, sym (append-nil made) ∙ opens.made_is)
-opens_all all made (n ∷ rest) port opens none = absurd (omega (arith, none))
+pub opens_all : (all : List Node) (made : List (Option Station)) (ports : List ℕ) (rest : List Node) (port : ℕ)
+    → Opens all made ports rest port → length rest ≡ 0
+    → (configs_test (configs_of all) ≡ Ok tt) × (made ≡ map opened all) × (ports ≡ first_ports all)
+unfolding configs_test ports_from
+opens_all all made ports [] port opens none =
+    (opens.tests, sym (append-nil made) ∙ opens.made_is, sym (append-nil ports) ∙ opens.ports_are)
+opens_all all made ports (n ∷ rest) port opens none = absurd (omega (arith, none))
 
 -- ---- the test of nodes
 

@@ -1,7 +1,7 @@
 -- What is shown of a list of stations: reads and writes of one of them.
 use Rattle.std.proofs.Common.{◌≡◌, ◌∙◌, ℕ, suc, zero, true, List, [], ◌∷◌, map, Option, Some, None, Result, Ok, Err, refl, sym, ap, subst}
 use Rattle.std.specs.List.{slice_get}
-use Rattle.std.specs.Prelude.{IfErr, IfNone, IfOk, IfSome, is_some, option_and_then, option_map, set}
+use Rattle.std.specs.Prelude.{IfErr, IfNone, IfOk, IfSome, IsErrAnd, is_some, option_and_then, option_map, set}
 use Rattle.pim_net.specs.Showing.{all_of}
 
 -- what is to be shown of a value is, where there is one
@@ -21,6 +21,15 @@ of_ok (Ok y) P x e p = subst P (cc e) p
 pub of_err : {A E : Type 0} (r : Result A E) (P : E → Type 0) (x : E) → r ≡ Err x → IfErr r P → P x
 of_err (Ok y) P x e p = cc e
 of_err (Err y) P x e p = subst P (cc e) p
+
+pub on_err : {A E : Type 0} (r : Result A E) (P : E → Type 0) → ((e : E) → P e) → IfErr r P
+on_err (Ok x) P f = tt
+on_err (Err e) P f = f e
+
+-- an error that is passed on
+pub passed_on : {A E : Type 0} (r : Result A E) (e : E) (P : E → Type 0) → IsErrAnd r (λ f. f ≡ e) → P e → IfErr r P
+passed_on (Ok x) e P is p = tt
+passed_on (Err f) e P is p = subst P (sym is) p
 
 pub on_none : {A : Type 0} (o : Option A) (P : Type 0) → P → IfNone o P
 on_none None P p = p

@@ -1,3 +1,5 @@
+pub mod Carried
+pub mod Keeping
 pub mod Ports
 pub mod Showing
 pub mod Wires

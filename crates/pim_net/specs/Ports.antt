@@ -1,6 +1,11 @@
 -- Ports: for each router one for each of its interfaces, and one for unicasts.
-use Rattle.std.specs.Prelude.{ℕ}
+use Rattle.std.specs.Prelude.{List, [], length, ℕ, ◌+◌, ◌∷◌}
+use Rattle.pim_net.specs.declared.node.Node.{Node}
 
--- the greatest first port of a router, and more: each of at most 64 routers has at most 121 ports
-abbrev pub last_port : ℕ
-last_port = 7744
+-- the first ports of these routers, counted on from a port
+unfoldable pub ports_from : ℕ → List Node → List ℕ
+ports_from port [] = []
+ports_from port (n ∷ ns) = port ∷ ports_from (port + (length n.links + 1)) ns
+
+abbrev pub first_ports : List Node → List ℕ
+first_ports nodes = ports_from 0 nodes

@@ -1,9 +1,9 @@
 -- What a network shows: the written network, and the wire beside it.
-use Rattle.std.specs.Prelude.{List, Option, Some, [], map, option_and_then, option_map, take, ℕ, ◌<◌, ◌≡◌, ◌∷◌, length}
+use Rattle.std.specs.Prelude.{List, Option, Some, [], option_and_then, option_map, ℕ, ◌∷◌}
 use Rattle.pim_types.specs.declared.config.Config.{Config}
 use Rattle.pim_types.specs.declared.event.Event.{Event}
 use Rattle.pim_types.specs.declared.event.EventKind.{EventKind}
-use Rattle.pim_model.specs.Network.{Network, Station, network_ran, station_at}
+use Rattle.pim_model.specs.Network.{Network, Station, station_at}
 use Rattle.pim_model.specs.Network as written
 use Rattle.pim_model.specs.State.{State}
 use Rattle.pim_net.specs.declared.node.Node.{Node}
@@ -29,17 +29,12 @@ brought_on i draw bytes = record { draw = draw; kind = EventKind.Frame (record {
 abbrev pub brought_to : ℕ → List ℕ → Event
 brought_to draw bytes = record { draw = draw; kind = EventKind.Unicast bytes }
 
--- the network, none once memory was refused to it, and its wire
+-- the network, none once memory was refused to it, the first port of each router, and the wire
 pub record Wired (W : Type 0) : Type 0 where
   pub network : Option Network
+  pub ports : List ℕ
   pub wire : W
 
 -- the state of a router, if there is such a router
 abbrev pub state_of : Option Network → ℕ → Option State
 state_of shown r = option_and_then (λ n. option_map (λ (s : Station). s.state) (station_at n r)) shown
-
--- the network after some of the moves, and not all
-pub record IsPartWay (n : Network) (moves : List Move) (after : Option Network) : Type 0 where
-  pub count : ℕ
-  pub below : count < length moves
-  pub is : after ≡ Some (network_ran n (map move_of (take count moves))).1

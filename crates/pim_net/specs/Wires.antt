@@ -1,10 +1,17 @@
 -- The failures of a wire.
-use Rattle.std.specs.Prelude.{ℕ, ⊤, ◌<◌, ◌≡◌, ◌⊎◌}
+use Rattle.std.specs.Prelude.{Err, Ok, Result, min, ℕ, ⊤, ◌+◌, ◌<◌, ◌≡◌, ◌⊎◌}
 use Rattle.pim_ip.specs.declared.fault.Fault.{Fault}
 
 -- the count at which a wire stops counting
 abbrev pub most_failures : ℕ
 most_failures = 18446744073709551615
+
+-- the count after a call that ended so
+abbrev pub failures_after : {A : Type 0} → ℕ → Result A Fault → ℕ
+failures_after before (Ok x) = before
+failures_after before (Err Fault.Memory) = before
+failures_after before (Err Fault.Failed) = before
+failures_after before (Err Fault.Wire) = min (before + 1) most_failures
 
 -- a failure was counted, or couldn't be any more
 abbrev pub HasRisen : ℕ → ℕ → Type 0

@@ -1,6 +1,9 @@
+ghost use Rattle.std.specs.Prelude.{◌≡◌, []};
+
 use crate::wire::Wire;
 use pim_types::Fault;
 use std::alloc::Global;
+use std::marker::Model;
 
 /// A wire in memory, which never fails. It keeps the packet that was sent last, until it is taken.
 #[derive(Drop)]
@@ -9,9 +12,19 @@ pub struct MemoryWire {
     packet: Vec<u8>,
 }
 
+impl Model for MemoryWire {
+    ghost use Rattle.pim_net.specs.Keeping.{Kept};
+
+    ghost Value = { Kept };
+
+    ghost view = { λ wire. record { port = wire.port; packet = wire.packet.items } };
+}
+
 impl MemoryWire {
     /// A wire on which nothing was sent.
-    pub fn new(alloc: Global) -> MemoryWire {
+    pub fn new(alloc: Global) -> MemoryWire
+        ensures { result.packet ≡ [] }
+    {
         MemoryWire {
             port: 0,
             packet: Vec::new(alloc),
@@ -21,10 +34,15 @@ impl MemoryWire {
 
 impl Wire for MemoryWire {
     ghost use Rattle.std.specs.Prelude.{true, ◌≡◌};
+    ghost use Rattle.pim_net.specs.Keeping.{left_by, taken_by};
 
     ghost is_faithful = { true };
 
-    ghost holds = { λ wire port packet. (wire.port ≡ port) × (wire.packet.items ≡ packet) };
+    ghost holds = { λ wire port packet. wire ≡ record { port = port; packet = packet } };
+
+    ghost sends = { λ before port packet after. after ≡ record { port = port; packet = packet } };
+
+    ghost gives = { λ before port room packet after. (packet ≡ taken_by before port room) × (after ≡ left_by before port) };
 
     ghost failures = { λ wire. 0 };
 

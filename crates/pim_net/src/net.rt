@@ -1,9 +1,12 @@
-ghost use Rattle.std.specs.Prelude.{◌≡◌, ◌↔◌, ◌≤◌, [], Err, IfErr, IfNone, IfOk, IfSome, IsOk, IsSome, List, None, Ok, OnOk, Some, is_some, map, option_map, true, ℕ};
+ghost use Rattle.std.specs.Prelude.{◌≡◌, ◌↔◌, [], Err, IfErr, IfNone, IfOk, IfSome, IsOk, IsSome, List, None, Ok, OnOk, Some, get_or, is_some, map, option_map, true, ℕ};
 ghost use Rattle.pim_ip.specs.declared.fault.Fault.{Fault};
 ghost use Rattle.pim_asked.specs.Networks.{MovesAreAsked};
-ghost use Rattle.pim_model.specs.Network.{Deliver, DeliverUnicast, moved, network, network_ran, nodes_test};
-ghost use Rattle.pim_net.specs.Showing.{IsPartWay, move_of, node_of, state_of};
-ghost use Rattle.pim_net.specs.Wires.{IsFaultOver};
+ghost use Rattle.pim_model.specs.Network.{network, network_ran, nodes_test};
+ghost use Rattle.pim_net.specs.Carried.{HasMoved, IsCarried, IsPartWay, MovesTo, packet_of};
+ghost use Rattle.pim_net.specs.Ports.{first_ports};
+ghost use Rattle.pim_net.specs.Showing.{move_of, node_of, state_of};
+ghost use Rattle.pim_net.specs.Wires.{IsFaultOver, failures_after};
+ghost use Rattle.pim_net.specs.declared.moves.Move.{Move};
 ghost use Rattle.pim_types.specs.declared.config.Config.{Config as ConfigValue};
 
 use crate::moves::Move;
@@ -25,6 +28,8 @@ pub struct Net<W> {
     alloc: Global,
     failed: bool,
     network: Network,
+    // the first port of each router
+    ports: Vec<u16>,
     wire: W,
 }
 
@@ -34,7 +39,11 @@ impl<W> Model for Net<W> {
 
     ghost Value = { Wired W };
 
-    ghost view = { λ n. record { network = if n.failed then None else n.network; wire = n.wire } };
+    ghost view = { λ n. record {
+      network = if n.failed then None else n.network;
+      ports = n.ports.items;
+      wire = n.wire;
+    } };
 
     ghost invariant = { λ n. n.failed ≡ false → is_some n.network ≡ true };
 }
@@ -44,16 +53,18 @@ impl<W: Wire> Net<W> {
     /// `BadScenario`. Then each configuration is tested, and the first that is refused is told. The fault is `Memory`.
     pub fn new(alloc: Global, nodes: Vec<Node>, wire: W) -> Result<Result<Net<W>, Refusal>, Fault>
         ensures accepted { IfOk result (λ made. IfOk made (λ net. (nodes_test (map node_of nodes.items) ≡ Ok tt)
-            × (net.network ≡ Some (network (map node_of nodes.items))) × (net.wire ≡ wire))) }
+            × (net.network ≡ Some (network (map node_of nodes.items))) × (net.ports ≡ first_ports nodes.items)
+            × (net.wire ≡ wire))) }
         ensures refused { IfOk result (λ made. IfErr made (λ refusal.
             nodes_test (map node_of nodes.items) ≡ Err refusal)) }
         ensures memory { IfErr result (λ fault. fault ≡ Fault.Memory) }
     {
         match Network::open(alloc, nodes)? {
-            Ok(network) => Ok(Ok(Net {
+            Ok((network, ports)) => Ok(Ok(Net {
                 alloc,
                 failed: false,
                 network,
+                ports,
                 wire,
             })),
             Err(refusal) => Ok(Err(refusal)),
@@ -61,23 +72,29 @@ impl<W: Wire> Net<W> {
     }
 
     /// Does the moves one after the other, and tells the outcome of each: a move of an unknown router or frame, or to an
-    /// interface that isn't on the frame's link, is refused as `BadMove`, and changes nothing. Where no moves are to be
-    /// done no memory is taken, so there is no fault. A fault is `Memory`, after which the net answers `Failed` for ever;
-    /// or `Wire`, where the wire failed: then the moves before it stand, and the net goes on working. In the first
-    /// run of a net nothing flows unasked: each copy of a packet has its cause among what came to its router before.
+    /// interface that isn't on the frame's link, is refused as `BadMove`, and changes nothing. Any other delivery sends
+    /// the frame's bytes to the receiver's port, and what the wire gives there comes to the router; nothing else is asked
+    /// of the wire. Where no moves are to be done no memory is taken, so there is no fault. A fault is `Memory`, after
+    /// which the net answers `Failed` for ever; or `Wire`, where the wire failed: then the moves before it stand, and the
+    /// net goes on working. In the first run of a net nothing flows unasked: each copy of a packet has its cause among
+    /// what came to its router before.
     pub fn run(&mut self, moves: &[Move]) -> Result<NetLog, Fault>
         ensures outcomes { W.is_faithful ≡ true → IfSome self.old.network (λ n. IfOk result (λ log.
             log.items ≡ (network_ran n (map move_of moves.now)).0)) }
         ensures network { W.is_faithful ≡ true → IfSome self.old.network (λ n. OnOk result
             (self.new.network ≡ Some (network_ran n (map move_of moves.now)).1)) }
+        ensures moves { IfSome self.old.network (λ n. IfOk result (λ log. HasMoved W.is_faithful W.sends W.gives
+            self.old.ports n self.old.wire moves.now log.items self.new.network self.new.wire)) }
         ensures asked { W.is_faithful ≡ true → (nodes : List (ConfigValue × List ℕ)) → nodes_test nodes ≡ Ok tt
             → self.old.network ≡ Some (network nodes)
             → IfOk result (λ log. MovesAreAsked nodes (map move_of moves.now) log.items) }
-        ensures part_way { W.is_faithful ≡ true → IfSome self.old.network (λ n. result ≡ Err Fault.Wire
-            → IsPartWay n moves.now self.new.network) }
+        ensures part_way { IfSome self.old.network (λ n. result ≡ Err Fault.Wire → IsPartWay W.is_faithful W.sends W.gives
+            self.old.ports n self.old.wire moves.now self.new.network) }
+        ensures ports { self.new.ports ≡ self.old.ports }
         ensures works { IfSome self.old.network (λ n. (result ≡ Err Fault.Memory) ↔ (self.new.network ≡ None)) }
         ensures failed { (result ≡ Err Fault.Failed) ↔ (self.old.network ≡ None) }
-        ensures fails { self.old.network ≡ None → self.new.network ≡ None }
+        ensures fails { self.old.network ≡ None → self.new ≡ self.old }
+        ensures counted { W.failures self.new.wire ≡ failures_after (W.failures self.old.wire) result }
         ensures fault { IfSome self.old.network (λ n. IfErr result
             (IsFaultOver (W.failures self.old.wire) (W.failures self.new.wire))) }
         ensures sure { IfSome self.old.network (λ n. moves.now ≡ [] → IsOk result) }
@@ -85,7 +102,13 @@ impl<W: Wire> Net<W> {
         if self.failed {
             return Err(Fault::Failed);
         }
-        let ran = run_all(self.alloc, &mut self.network, &mut self.wire, moves);
+        let ran = run_all(
+            self.alloc,
+            &mut self.network,
+            &mut self.wire,
+            &self.ports,
+            moves,
+        );
         self.failed = matches!(ran, Err(Fault::Memory));
         ran
     }
@@ -108,23 +131,26 @@ fn run_all<W: Wire>(
     alloc: Global,
     network: &mut Network,
     wire: &mut W,
+    ports: &[u16],
     moves: &[Move],
 ) -> Result<NetLog, Fault>
     ensures outcomes { W.is_faithful ≡ true → IfSome network.old (λ n. IfOk result (λ log.
         log.items ≡ (network_ran n (map move_of moves.now)).0)) }
     ensures network { W.is_faithful ≡ true → IfSome network.old (λ n. OnOk result
         (network.new ≡ Some (network_ran n (map move_of moves.now)).1)) }
-    ensures part_way { W.is_faithful ≡ true → IfSome network.old (λ n. result ≡ Err Fault.Wire
-        → IsPartWay n moves.now network.new) }
+    ensures moves { IfSome network.old (λ n. IfOk result (λ log. HasMoved W.is_faithful W.sends W.gives
+        ports.now n wire.old moves.now log.items network.new wire.new)) }
+    ensures part_way { IfSome network.old (λ n. IfErr result (λ fault. fault ≡ Fault.Wire
+        → IsPartWay W.is_faithful W.sends W.gives ports.now n wire.old moves.now network.new)) }
     ensures works { IfSome network.old (λ n. IfErr result (λ fault. fault ≡ Fault.Wire → IsSome network.new)) }
     ensures goes_on { IfSome network.old (λ n. OnOk result (IsSome network.new)) }
-    ensures counted { W.failures wire.old ≤ W.failures wire.new }
+    ensures counted { IfSome network.old (λ n. W.failures wire.new ≡ failures_after (W.failures wire.old) result) }
     ensures fault { IfSome network.old (λ n. IfErr result (IsFaultOver (W.failures wire.old) (W.failures wire.new))) }
     ensures sure { moves.now ≡ [] → IsOk result }
 {
     let mut log = Vec::new(alloc);
     for one in moves {
-        log.push(make(alloc, network, wire, one)?)?;
+        log.push(make(alloc, network, wire, ports, one)?)?;
     }
     Ok(log)
 }
@@ -134,15 +160,14 @@ fn make<W: Wire>(
     alloc: Global,
     network: &mut Network,
     wire: &mut W,
+    ports: &[u16],
     one: &Move,
 ) -> Result<Outcome, Fault>
-    ensures outcome { W.is_faithful ≡ true → IfSome network.old (λ n. IfOk result (λ outcome.
-        outcome ≡ (moved n (move_of one.now)).0)) }
-    ensures network { W.is_faithful ≡ true → IfSome network.old (λ n. OnOk result
-        (network.new ≡ Some (moved n (move_of one.now)).1)) }
-    ensures goes_on { IfSome network.old (λ n. OnOk result (IsSome network.new)) }
-    ensures kept { IfSome network.old (λ n. IfErr result (λ fault. fault ≡ Fault.Wire → network.new ≡ Some n)) }
-    ensures counted { W.failures wire.old ≤ W.failures wire.new }
+    ensures moves { IfSome network.old (λ n. IfOk result (λ outcome. MovesTo W.is_faithful W.sends W.gives
+        ports.now n wire.old one.now outcome network.new wire.new)) }
+    ensures kept { IfSome network.old (λ n. IfErr result (λ fault. fault ≡ Fault.Wire
+        → (network.new ≡ Some n) × IsSome (packet_of n one.now))) }
+    ensures counted { IfSome network.old (λ n. W.failures wire.new ≡ failures_after (W.failures wire.old) result) }
     ensures fault { IfSome network.old (λ n. IfErr result (IsFaultOver (W.failures wire.old) (W.failures wire.new))) }
 {
     match one {
@@ -152,12 +177,19 @@ fn make<W: Wire>(
             iface,
             frame,
             draw,
-        } => deliver(alloc, network, wire, (*router, *iface, *frame), *draw),
+        } => deliver(
+            alloc,
+            network,
+            wire,
+            ports,
+            (*router, *iface, *frame),
+            *draw,
+        ),
         Move::DeliverUnicast {
             router,
             frame,
             draw,
-        } => deliver_unicast(alloc, network, wire, (*router, *frame), *draw),
+        } => deliver_unicast(alloc, network, wire, ports, (*router, *frame), *draw),
     }
 }
 
@@ -166,23 +198,23 @@ fn deliver<W: Wire>(
     alloc: Global,
     network: &mut Network,
     wire: &mut W,
+    ports: &[u16],
     place: (usize, IfaceId, u32),
     draw: u32,
 ) -> Result<Outcome, Fault>
-    ensures outcome { W.is_faithful ≡ true → IfSome network.old (λ n. IfOk result (λ outcome.
-        outcome ≡ (moved n (Deliver place.0 place.1.number place.2 draw)).0)) }
-    ensures network { W.is_faithful ≡ true → IfSome network.old (λ n. OnOk result
-        (network.new ≡ Some (moved n (Deliver place.0 place.1.number place.2 draw)).1)) }
-    ensures goes_on { IfSome network.old (λ n. OnOk result (IsSome network.new)) }
-    ensures kept { IfSome network.old (λ n. IfErr result (λ fault. fault ≡ Fault.Wire → network.new ≡ Some n)) }
-    ensures counted { W.failures wire.old ≤ W.failures wire.new }
+    ensures moves { IfSome network.old (λ n. IfOk result (λ outcome. MovesTo W.is_faithful W.sends W.gives
+        ports.now n wire.old (Move.Deliver place.0 place.1 place.2 draw) outcome network.new wire.new)) }
+    ensures kept { IfSome network.old (λ n. IfErr result (λ fault. fault ≡ Fault.Wire
+        → (network.new ≡ Some n) × IsSome (packet_of n (Move.Deliver place.0 place.1 place.2 draw)))) }
+    ensures counted { IfSome network.old (λ n. W.failures wire.new ≡ failures_after (W.failures wire.old) result) }
     ensures fault { IfSome network.old (λ n. IfErr result (IsFaultOver (W.failures wire.old) (W.failures wire.new))) }
 {
     let (router, iface, frame) = place;
     let Some(delivery) = network.to_interface(router, iface, frame) else {
         return Ok(bad_move(alloc));
     };
-    let bytes = carry(alloc, wire, delivery.port, delivery.bytes)?;
+    let port = u32::from(first_port(ports, router)) + delivery.place;
+    let bytes = carry(alloc, wire, port, delivery.bytes)?;
     network.receive(router, draw, EventKind::Frame { iface, bytes })
 }
 
@@ -191,30 +223,38 @@ fn deliver_unicast<W: Wire>(
     alloc: Global,
     network: &mut Network,
     wire: &mut W,
+    ports: &[u16],
     place: (usize, u32),
     draw: u32,
 ) -> Result<Outcome, Fault>
-    ensures outcome { W.is_faithful ≡ true → IfSome network.old (λ n. IfOk result (λ outcome.
-        outcome ≡ (moved n (DeliverUnicast place.0 place.1 draw)).0)) }
-    ensures network { W.is_faithful ≡ true → IfSome network.old (λ n. OnOk result
-        (network.new ≡ Some (moved n (DeliverUnicast place.0 place.1 draw)).1)) }
-    ensures goes_on { IfSome network.old (λ n. OnOk result (IsSome network.new)) }
-    ensures kept { IfSome network.old (λ n. IfErr result (λ fault. fault ≡ Fault.Wire → network.new ≡ Some n)) }
-    ensures counted { W.failures wire.old ≤ W.failures wire.new }
+    ensures moves { IfSome network.old (λ n. IfOk result (λ outcome. MovesTo W.is_faithful W.sends W.gives
+        ports.now n wire.old (Move.DeliverUnicast place.0 place.1 draw) outcome network.new wire.new)) }
+    ensures kept { IfSome network.old (λ n. IfErr result (λ fault. fault ≡ Fault.Wire
+        → (network.new ≡ Some n) × IsSome (packet_of n (Move.DeliverUnicast place.0 place.1 draw)))) }
+    ensures counted { IfSome network.old (λ n. W.failures wire.new ≡ failures_after (W.failures wire.old) result) }
     ensures fault { IfSome network.old (λ n. IfErr result (IsFaultOver (W.failures wire.old) (W.failures wire.new))) }
 {
     let (router, frame) = place;
     let Some(delivery) = network.to_router(router, frame) else {
         return Ok(bad_move(alloc));
     };
-    let bytes = carry(alloc, wire, delivery.port, delivery.bytes)?;
+    let port = u32::from(first_port(ports, router)) + delivery.place;
+    let bytes = carry(alloc, wire, port, delivery.bytes)?;
     network.receive(router, draw, EventKind::Unicast { bytes })
+}
+
+// The first port of a router; 0 where there is no such router.
+fn first_port(ports: &[u16], router: usize) -> u16
+    ensures { result ≡ get_or ports.now router 0 }
+{
+    ports.get(router).copied().unwrap_or(0)
 }
 
 // What comes to a port of what was sent there.
 fn carry<W: Wire>(alloc: Global, wire: &mut W, port: u32, bytes: &[u8]) -> Result<Series<u8>, Fault>
-    ensures carried { W.is_faithful ≡ true → IfOk result (λ packet. packet ≡ bytes.now) }
-    ensures counted { W.failures wire.old ≤ W.failures wire.new }
+    ensures carried { IfOk result (λ given. IsCarried W.is_faithful W.sends W.gives
+        wire.old port bytes.now given wire.new) }
+    ensures counted { W.failures wire.new ≡ failures_after (W.failures wire.old) result }
     ensures fault { IfErr result (IsFaultOver (W.failures wire.old) (W.failures wire.new)) }
 {
     wire.send(port, bytes)?;

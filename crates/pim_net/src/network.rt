@@ -1,9 +1,12 @@
 ghost use Rattle.std.specs.List.{list_all};
 ghost use Rattle.std.specs.Prelude.{◌≡◌, ◌&&◌, ◌++◌, ◌≤◌, ℕ, Err, IfErr, IfNone, IfOk, IfSome, IsOkUnless, IsSome, None, Ok, OnOk, Some, length, map, nat_le, option_copied, option_map, true};
 ghost use Rattle.pim_ip.specs.declared.fault.Fault.{Fault};
+ghost use Rattle.pim_model.specs.Limits.{most_ifaces};
 ghost use Rattle.pim_model.specs.Network.{Deliver, DeliverUnicast, configs_test, event_of, frame_at, is_node, most_routers, moved_at, network, nodes_test, sent_by, station_at, station_of};
 ghost use Rattle.pim_model.specs.Network as written;
 ghost use Rattle.pim_model.specs.Step.{outcome_of, step};
+ghost use Rattle.pim_net.specs.Carried.{link_count};
+ghost use Rattle.pim_net.specs.Ports.{first_ports};
 ghost use Rattle.pim_net.specs.Showing.{brought_on, brought_to, node_of, state_of};
 ghost use Rattle.pim_net.specs.declared.node.Node.{Node};
 
@@ -14,10 +17,10 @@ use pim_types::{Emission, Event, EventKind, Fault, IfaceId, Outcome, Refusal, Se
 use std::alloc::Global;
 use std::marker::Model;
 
-/// What is carried to a port.
+/// What is carried to a router's port, which is told by its place among them.
 #[derive(Drop)]
 pub(crate) struct Delivery<'a> {
-    pub(crate) port: u32,
+    pub(crate) place: u32,
     pub(crate) bytes: &'a [u8],
 }
 
@@ -44,10 +47,13 @@ impl Model for Network {
 const MOST_ROUTERS: usize = 64;
 
 impl Network {
-    /// The network of these nodes, in which nothing was sent yet.
-    pub(crate) fn open(alloc: Global, nodes: Vec<Node>) -> Result<Result<Network, Refusal>, Fault>
+    /// The network of these nodes, in which nothing was sent yet, and the first port of each.
+    pub(crate) fn open(
+        alloc: Global,
+        nodes: Vec<Node>,
+    ) -> Result<Result<(Network, Vec<u16>), Refusal>, Fault>
         ensures accepted { IfOk result (λ made. IfOk made (λ net. (nodes_test (map node_of nodes.items) ≡ Ok tt)
-            × (net ≡ Some (network (map node_of nodes.items))))) }
+            × (net.0 ≡ Some (network (map node_of nodes.items))) × (net.1.items ≡ first_ports nodes.items))) }
         ensures refused { IfOk result (λ made. IfErr made (λ refusal.
             nodes_test (map node_of nodes.items) ≡ Err refusal)) }
         ensures memory { IfErr result (λ fault. fault ≡ Fault.Memory) }
@@ -56,11 +62,14 @@ impl Network {
             return Ok(Err(Refusal::BadScenario));
         }
         match open_all(alloc, nodes)? {
-            Ok(stations) => Ok(Ok(Network {
-                alloc,
-                stations,
-                frames: Vec::new(alloc),
-            })),
+            Ok((stations, ports)) => {
+                let network = Network {
+                    alloc,
+                    stations,
+                    frames: Vec::new(alloc),
+                };
+                Ok(Ok((network, ports)))
+            }
             Err(refusal) => Ok(Err(refusal)),
         }
     }
@@ -107,14 +116,15 @@ impl Network {
         ensures some { IfSome self.now (λ net. IfSome result (λ delivery. (w : ℕ) →
             event_of net (Deliver router iface.number frame w)
             ≡ Some (router, brought_on iface.number w delivery.bytes.now))) }
+        ensures place { IfSome result (λ delivery. (delivery.place ≡ iface.number) × (delivery.place ≤ most_ifaces)) }
         ensures none { IfSome self.now (λ net. IfNone result ((w : ℕ) →
             event_of net (Deliver router iface.number frame w) ≡ None)) }
     {
         let station = self.station(router)?;
         let frame = self.frame(frame)?;
-        let port = station.port_on_link_of(iface, frame)?;
+        let place = station.place_on_link_of(iface, frame)?;
         Some(Delivery {
-            port,
+            place,
             bytes: frame.bytes.as_slice(),
         })
     }
@@ -123,13 +133,15 @@ impl Network {
     pub(crate) fn to_router(&self, router: usize, frame: u32) -> Option<Delivery<'_>>
         ensures some { IfSome self.now (λ net. IfSome result (λ delivery. (w : ℕ) →
             event_of net (DeliverUnicast router frame w) ≡ Some (router, brought_to w delivery.bytes.now))) }
+        ensures place { IfSome self.now (λ net. IfSome result (λ delivery. delivery.place ≡ link_count net router)) }
+        ensures within { IfSome result (λ delivery. delivery.place ≤ most_ifaces) }
         ensures none { IfSome self.now (λ net. IfNone result ((w : ℕ) →
             event_of net (DeliverUnicast router frame w) ≡ None)) }
     {
         let station = self.station(router)?;
         let frame = self.frame(frame)?;
         Some(Delivery {
-            port: station.unicast_port(),
+            place: station.unicast_place(),
             bytes: frame.bytes.as_slice(),
         })
     }
@@ -184,30 +196,36 @@ fn are_lawful(nodes: &[Node]) -> bool
     true
 }
 
-// The routers of the nodes. The first that is refused is told.
-fn open_all(alloc: Global, nodes: Vec<Node>) -> Result<Result<Vec<Station>, Refusal>, Fault>
+// The routers of the nodes, and the first port of each. The first that is refused is told.
+fn open_all(
+    alloc: Global,
+    nodes: Vec<Node>,
+) -> Result<Result<(Vec<Station>, Vec<u16>), Refusal>, Fault>
     requires links { list_all is_node (map node_of nodes.items) ≡ true }
     requires few { length nodes.items ≤ most_routers }
-    ensures accepted { IfOk result (λ made. IfOk made (λ stations.
+    ensures accepted { IfOk result (λ made. IfOk made (λ opened.
         (configs_test (map (λ (n : Node). n.config) nodes.items) ≡ Ok tt)
-        × (stations.items ≡ map (λ n. Some (station_of (node_of n))) nodes.items))) }
+        × (opened.0.items ≡ map (λ n. Some (station_of (node_of n))) nodes.items)
+        × (opened.1.items ≡ first_ports nodes.items))) }
     ensures refused { IfOk result (λ made. IfErr made (λ refusal.
         configs_test (map (λ (n : Node). n.config) nodes.items) ≡ Err refusal)) }
     ensures memory { IfErr result (λ fault. fault ≡ Fault.Memory) }
 {
     let mut stations = Vec::new(alloc);
+    let mut ports = Vec::new(alloc);
     let mut port = 0;
     for node in nodes {
         let links = node.links.len();
-        match Station::open(alloc, node, port)? {
+        match Station::open(alloc, node)? {
             Ok(station) => {
-                port += links as u32 + 1;
                 stations.push(station)?;
+                ports.push(port)?;
+                port += links as u16 + 1;
             }
             Err(refusal) => return Ok(Err(refusal)),
         }
     }
-    Ok(Ok(stations))
+    Ok(Ok((stations, ports)))
 }
 
 // An event at a station, which puts what it sends at the end of the frames.

@@ -1,9 +1,8 @@
 ghost use Rattle.std.specs.Prelude.{◌≡◌, ◌≤◌, Err, IfErr, IfOk, IfSome, IsOkUnless, Ok, OnOk, Some, is_some, length, option_map};
 ghost use Rattle.pim_ip.specs.declared.fault.Fault.{Fault};
-ghost use Rattle.pim_model.specs.Limits.{config_test};
+ghost use Rattle.pim_model.specs.Limits.{config_test, most_ifaces};
 ghost use Rattle.pim_model.specs.Network.{is_on_frame_link, sent_by, station_of};
 ghost use Rattle.pim_model.specs.Step.{outcome_of, step};
-ghost use Rattle.pim_net.specs.Ports.{last_port};
 ghost use Rattle.pim_net.specs.Showing.{node_of};
 
 use crate::node::Node;
@@ -27,16 +26,17 @@ impl Model for Frame {
     ghost view = { λ f. record { link = f.link; bytes = f.bytes } };
 }
 
-/// A router with the links of its interfaces and the first of its ports: one for each interface, then one for unicasts.
+/// A router with the links of its interfaces. Of its ports the first are the interfaces', in their order, and the last is
+/// for unicasts.
 #[derive(Drop)]
 pub(crate) struct Station {
     router: Router,
     links: Series<u32>,
-    first_port: u32,
 }
 
 impl Model for Station {
-    ghost use Rattle.std.specs.Prelude.{Option, length, option_map, ◌+◌, ◌<◌};
+    ghost use Rattle.std.specs.Prelude.{Option, length, option_map, ◌≤◌};
+    ghost use Rattle.pim_model.specs.Limits.{most_ifaces};
     ghost use Rattle.pim_model.specs.Network.{Station as StationValue};
     ghost use Rattle.pim_router.specs.Standing.{Standing};
 
@@ -44,18 +44,13 @@ impl Model for Station {
 
     ghost view = { λ s. option_map (λ (r : Standing). record { links = s.links; state = r.state }) s.router };
 
-    ghost invariant = { λ s. s.first_port + length s.links < 7865 };
+    ghost invariant = { λ s. length s.links ≤ most_ifaces };
 }
 
 impl Station {
-    /// The router of a node, with its first port.
-    pub(crate) fn open(
-        alloc: Global,
-        node: Node,
-        first_port: u32,
-    ) -> Result<Result<Station, Refusal>, Fault>
+    /// The router of a node.
+    pub(crate) fn open(alloc: Global, node: Node) -> Result<Result<Station, Refusal>, Fault>
         requires links { length node.links ≡ length node.config.interfaces }
-        requires port { first_port ≤ last_port }
         ensures accepted { IfOk result (λ made. IfOk made (λ station. (config_test node.config ≡ Ok tt)
             × (station ≡ Some (station_of (node_of node))))) }
         ensures refused { IfOk result (λ made. IfErr made (λ refusal. config_test node.config ≡ Err refusal)) }
@@ -63,28 +58,28 @@ impl Station {
     {
         let Node { config, links } = node;
         match Router::new(alloc, config)? {
-            Ok(router) => Ok(Ok(Station {
-                router,
-                links,
-                first_port,
-            })),
+            Ok(router) => Ok(Ok(Station { router, links })),
             Err(refusal) => Ok(Err(refusal)),
         }
     }
 
-    /// The port of an interface that is on the frame's link, if it is.
-    pub(crate) fn port_on_link_of(&self, iface: IfaceId, frame: &Frame) -> Option<u32>
-        ensures { IfSome self.now (λ s. is_some result ≡ is_on_frame_link s iface.number frame.now) }
+    /// The place among the router's ports of an interface that is on the frame's link, if it is.
+    pub(crate) fn place_on_link_of(&self, iface: IfaceId, frame: &Frame) -> Option<u32>
+        ensures on_link { IfSome self.now (λ s. is_some result ≡ is_on_frame_link s iface.number frame.now) }
+        ensures place { IfSome result (λ place. (place ≡ iface.number) × (place ≤ most_ifaces)) }
     {
         match (self.links.as_slice().get(iface.number as usize), frame.link) {
-            (Some(own), Some(link)) if *own == link => Some(self.first_port + iface.number),
+            (Some(own), Some(link)) if *own == link => Some(iface.number),
             _ => None,
         }
     }
 
-    /// The port for unicasts.
-    pub(crate) fn unicast_port(&self) -> u32 {
-        self.first_port + self.links.len() as u32
+    /// The place among the router's ports of the one for unicasts.
+    pub(crate) fn unicast_place(&self) -> u32
+        ensures place { IfSome self.now (λ s. result ≡ length s.links) }
+        ensures within { result ≤ most_ifaces }
+    {
+        self.links.len() as u32
     }
 
     /// The router, to be read.

@@ -1,11 +1,13 @@
 ghost use Rattle.std.specs.Prelude.{◌≡◌, ◌≤◌, IfErr, IfOk, length};
 ghost use Rattle.pim_ip.specs.declared.fault.Fault.{Fault};
-ghost use Rattle.pim_net.specs.Wires.{HasRisen, IsWireOrMemory};
+ghost use Rattle.pim_net.specs.Wires.{IsWireOrMemory};
+ghost use Rattle.pim_net.specs.Wires as counts;
 
 use crate::wire::Wire;
 use pim_types::Fault;
 use std::alloc::Global;
 use std::io;
+use std::marker::Model;
 use std::net::{Net, SocketAddr, UdpSocket};
 use std::time::Duration;
 
@@ -43,9 +45,20 @@ pub struct UdpWire<R> {
     failures: u64,
 }
 
+/// A wire of sockets shows how often it failed.
+impl<R> Model for UdpWire<R> {
+    ghost use Rattle.std.specs.Prelude.{ℕ};
+
+    ghost Value = { ℕ };
+
+    ghost view = { λ wire. wire.failures };
+}
+
 impl<R: Net + Drop> UdpWire<R> {
     /// A wire without sockets yet, which binds them by this handle.
-    pub fn new(alloc: Global, net: R) -> Self {
+    pub fn new(alloc: Global, net: R) -> Self
+        ensures { result ≡ 0 }
+    {
         UdpWire {
             net,
             sockets: Vec::new(alloc),
@@ -56,8 +69,7 @@ impl<R: Net + Drop> UdpWire<R> {
 
 /// The count of failures of a wire after a call.
 pub fn failures_after<T>(before: u64, ended: &Result<T, Fault>) -> u64
-    ensures counted { before ≤ result }
-    ensures fault { IfErr ended.now (λ fault. fault ≡ Fault.Wire → HasRisen before result) }
+    ensures { result ≡ counts.failures_after before ended.now }
 {
     match ended {
         Err(Fault::Wire) => before.saturating_add(1),
@@ -119,7 +131,11 @@ impl<R: Net + Drop> Wire for UdpWire<R> {
 
     ghost holds = { λ wire port packet. Unit {0} };
 
-    ghost failures = { λ wire. wire.failures };
+    ghost sends = { λ before port packet after. Unit {0} };
+
+    ghost gives = { λ before port room packet after. Unit {0} };
+
+    ghost failures = { λ wire. wire };
 
     fn send(&mut self, port: u32, bytes: &[u8]) -> Result<(), Fault> {
         let sent = match bind(&self.net, &mut self.sockets, port) {

@@ -2,20 +2,20 @@
 ghost use Rattle.std.specs.Prelude.{◌≡◌, IfErr};
 ghost use Rattle.pim_ip.specs.declared.fault.Fault.{Fault};
 
-use pim_net::{MemoryWire, Wire, failures_after};
+use pim_net::{Wire, failures_after};
 use pim_types::Fault;
 
-/// A wire in memory, until so many calls have been made: those after them fail.
+/// A wire, until so many calls have been made: those after them fail.
 #[derive(Drop)]
-pub struct FailingWire {
-    wire: MemoryWire,
+pub struct FailingWire<W> {
+    wire: W,
     calls: u32,
     failures: u64,
 }
 
-impl FailingWire {
+impl<W: Wire> FailingWire<W> {
     /// A wire like this one for so many calls.
-    pub fn new(wire: MemoryWire, calls: u32) -> FailingWire {
+    pub fn new(wire: W, calls: u32) -> FailingWire<W> {
         FailingWire {
             wire,
             calls,
@@ -25,8 +25,9 @@ impl FailingWire {
 
     // Counts a call.
     fn begin(&mut self) -> Result<(), Fault>
-        ensures kept { self.new.failures ≡ self.old.failures }
-        ensures wire { IfErr result (λ fault. fault ≡ Fault.Wire) }
+        ensures wire { self.new.wire ≡ self.old.wire }
+        ensures failures { self.new.failures ≡ self.old.failures }
+        ensures fault { IfErr result (λ fault. fault ≡ Fault.Wire) }
     {
         match self.calls.checked_sub(1) {
             Some(calls) => {
@@ -38,27 +39,33 @@ impl FailingWire {
     }
 }
 
-impl Wire for FailingWire {
-    ghost use Rattle.std.specs.Prelude.{false};
+impl<W: Wire> Wire for FailingWire<W> {
+    ghost is_faithful = { W.is_faithful };
 
-    ghost is_faithful = { false };
+    ghost holds = { λ wire port packet. W.holds wire.wire port packet };
 
-    ghost holds = { λ wire port packet. Unit {0} };
+    ghost sends = { λ before port packet after. W.sends before.wire port packet after.wire };
+
+    ghost gives = { λ before port room packet after. W.gives before.wire port room packet after.wire };
 
     ghost failures = { λ wire. wire.failures };
 
     fn send(&mut self, port: u32, bytes: &[u8]) -> Result<(), Fault> {
-        let begun = self.begin();
-        self.failures = failures_after(self.failures, &begun);
-        begun?;
-        self.wire.send(port, bytes)
+        let sent = match self.begin() {
+            Ok(()) => self.wire.send(port, bytes),
+            Err(fault) => Err(fault),
+        };
+        self.failures = failures_after(self.failures, &sent);
+        sent
     }
 
     fn recv(&mut self, port: u32, buffer: &mut [u8]) -> Result<usize, Fault> {
-        let begun = self.begin();
-        self.failures = failures_after(self.failures, &begun);
-        begun?;
-        self.wire.recv(port, buffer)
+        let taken = match self.begin() {
+            Ok(()) => self.wire.recv(port, buffer),
+            Err(fault) => Err(fault),
+        };
+        self.failures = failures_after(self.failures, &taken);
+        taken
     }
 
     fn failures(&self) -> u64 {

@@ -1,4 +1,6 @@
 //! Stored scenarios, and what they print.
+ghost use Rattle.std.specs.Prelude.{string_bytes, true, ◌≡◌, ◌↔◌};
+
 use std::fs;
 use std::io::{self, ErrorKind};
 
@@ -34,7 +36,10 @@ impl Stored {
     }
 
     /// Whether all lines are the stored ones, and so are status and complaint.
-    pub fn is(&self, printed: &Printed) -> bool {
+    pub fn is(&self, printed: &Printed) -> bool
+        ensures { (result ≡ true) ↔ ((printed.now.lines.items ≡ string_bytes self.now.lines)
+            × (printed.now.complaint.items ≡ string_bytes self.now.complaint)) }
+    {
         printed.is(self.lines.as_str(), self.complaint.as_str())
     }
 
@@ -56,7 +61,10 @@ impl Printed {
     }
 
     /// Whether these are its lines, and status and complaint.
-    pub fn is(&self, lines: &str, complaint: &str) -> bool {
+    pub fn is(&self, lines: &str, complaint: &str) -> bool
+        ensures { (result ≡ true) ↔ ((self.now.lines.items ≡ lines.now)
+            × (self.now.complaint.items ≡ complaint.now)) }
+    {
         self.lines.as_slice() == lines.as_bytes()
             && self.complaint.as_slice() == complaint.as_bytes()
     }

@@ -1,44 +1,39 @@
-use Rattle.std.proofs.Common.{◌≡◌, ◌∙◌, ℕ, List, Some, ap, subst, sym}
-use Rattle.std.specs.Prelude.{IfOk, OnOk}
-use Rattle.pim_types.specs.declared.outcome.Outcome.{Outcome}
-use Rattle.pim_model.specs.Network.{Deliver, Network, moved, moved_at}
-use Rattle.pim_net.specs.Showing.{brought_on}
-use Rattle.pim_net.proofs.Events.{moved_none, moved_some}
-use Rattle.pim_net.proofs.Stations.{if_some, of_some}
+use Rattle.std.proofs.Common.{◌≡◌, ◌∙◌, ◌+◌, ℕ, ap, get_or, refl, subst}
+use Rattle.pim_net.specs.Carried.{IsCarried, port_of}
+use Rattle.pim_net.specs.declared.moves.Move.{Move}
+use Rattle.pim_net.proofs.Carries.{delivered, is_there, packet_on, refused, uncounted}
+use Rattle.pim_net.proofs.Stations.{if_some, of_some, on_err}
 use Rattle.pim_net.proofs.net.deliver.Goals as goal
 
-pub returns-in_default-clause-outcome : goal.returns-in_default-clause-outcome
-returns-in_default-clause-outcome g c = λ f. if_some c.args.network.now _ (λ n is.
-    c.bad_move.ensures
-    ∙ ap (λ (x : Outcome × Network). x.0)
-    (sym (moved_none n (Deliver c.args.place.0 c.args.place.1.number c.args.place.2 c.args.draw)
-    (of_some c.args.network.now _ n is c.in_default.ensures.none c.args.draw))))
+pub returns-in_default-clause-moves : goal.returns-in_default-clause-moves
+returns-in_default-clause-moves g c = if_some c.args.network.now _ (λ n is.
+    refused g.W.Wire.is_faithful g.W.Wire.sends g.W.Wire.gives c.args.ports.now n c.args.wire.now
+    (Move.Deliver c.args.place.0 c.args.place.1 c.args.place.2 c.args.draw) c.args.network.now c.args.wire.now c.bad_move.result
+    (of_some c.args.network.now _ n is c.in_default.ensures.none c.args.draw) c.bad_move.ensures is refl)
 
-pub returns-in_default-clause-network : goal.returns-in_default-clause-network
-returns-in_default-clause-network g c = λ f. if_some c.args.network.now _ (λ n is.
-    is
-    ∙ ap (λ (x : Outcome × Network). Some x.1)
-    (sym (moved_none n (Deliver c.args.place.0 c.args.place.1.number c.args.place.2 c.args.draw)
-    (of_some c.args.network.now _ n is c.in_default.ensures.none c.args.draw))))
+pub returns-in_err-bytes-clause-kept : goal.returns-in_err-bytes-clause-kept
+returns-in_err-bytes-clause-kept g c = if_some c.args.network.now _ (λ n is.
+    on_err c.from_residual.result _ (λ fault wire. (
+      is,
+      is_there _ _ (packet_on n c.args.place.0 c.args.place.1 c.args.place.2 c.args.draw _
+          (of_some c.args.network.now _ n is c.in-Some.ensures.some c.args.draw)),
+    )))
 
-pub returns-clause-outcome : goal.returns-clause-outcome
-returns-clause-outcome g c = λ f. if_some c.args.network.now _ (λ n is.
-    let came : moved_at n (c.args.place.0, brought_on c.args.place.1.number c.args.draw c.in_ok-bytes.bytes)
-    ≡ moved n (Deliver c.args.place.0 c.args.place.1.number c.args.place.2 c.args.draw) =
-    ap (λ (bytes : List ℕ). moved_at n (c.args.place.0, brought_on c.args.place.1.number c.args.draw bytes))
-    (c.in_ok-bytes.ensures.carried f)
-    ∙ sym (moved_some n (Deliver c.args.place.0 c.args.place.1.number c.args.place.2 c.args.draw) _
-    (of_some c.args.network.now _ n is c.in-Some.ensures.some c.args.draw)) in
-    subst (λ (x : Outcome × Network). IfOk c.receive.result (λ o. o ≡ x.0)) came
-    (of_some c.args.network.now _ n is c.receive.ensures.outcome))
-
-pub returns-clause-network : goal.returns-clause-network
-returns-clause-network g c = λ f. if_some c.args.network.now _ (λ n is.
-    let came : moved_at n (c.args.place.0, brought_on c.args.place.1.number c.args.draw c.in_ok-bytes.bytes)
-    ≡ moved n (Deliver c.args.place.0 c.args.place.1.number c.args.place.2 c.args.draw) =
-    ap (λ (bytes : List ℕ). moved_at n (c.args.place.0, brought_on c.args.place.1.number c.args.draw bytes))
-    (c.in_ok-bytes.ensures.carried f)
-    ∙ sym (moved_some n (Deliver c.args.place.0 c.args.place.1.number c.args.place.2 c.args.draw) _
-    (of_some c.args.network.now _ n is c.in-Some.ensures.some c.args.draw)) in
-    subst (λ (x : Outcome × Network). OnOk c.receive.result (c.receive.new.self ≡ Some x.1)) came
+pub returns-clause-moves : goal.returns-clause-moves
+returns-clause-moves g c = if_some c.args.network.now _ (λ n is.
+    let event = of_some c.args.network.now _ n is c.in-Some.ensures.some c.args.draw in
+    let port : c.from.result + c.in-Some.delivery.place ≡ port_of c.args.ports.now n
+    (Move.Deliver c.args.place.0 c.args.place.1 c.args.place.2 c.args.draw) =
+    ap (λ (first : ℕ). first + c.in-Some.delivery.place) (c.from.ensures ∙ c.first_port.ensures)
+    ∙ ap (λ (place : ℕ). get_or c.args.ports.now c.args.place.0 0 + place) c.in-Some.ensures.place.0 in
+    delivered g.W.Wire.is_faithful g.W.Wire.sends g.W.Wire.gives c.args.ports.now n c.args.wire.now
+    (Move.Deliver c.args.place.0 c.args.place.1 c.args.place.2 c.args.draw) c.receive.new.self c.carry.new.wire c.receive.result
+    _ c.in_ok-bytes.bytes (packet_on n c.args.place.0 c.args.place.1 c.args.place.2 c.args.draw _ event)
+    (subst (λ (p : ℕ). IsCarried g.W.Wire.is_faithful g.W.Wire.sends g.W.Wire.gives c.args.wire.now p
+    c.in-Some.delivery.bytes.now c.in_ok-bytes.bytes c.carry.new.wire) port c.in_ok-bytes.ensures.carried)
+    (of_some c.args.network.now _ n is c.receive.ensures.outcome)
     (of_some c.args.network.now _ n is c.receive.ensures.network))
+
+pub returns-clause-counted : goal.returns-clause-counted
+returns-clause-counted g c = if_some c.args.network.now _ (λ n is.
+    c.in_ok-bytes.ensures.counted ∙ uncounted _ _ (of_some c.args.network.now _ n is c.receive.ensures.fault))

@@ -6,6 +6,6 @@ use Rattle.pim_net.proofs.network.open_all.Given as goal
 
 abbrev pub invariant-loop-node : goal.invariant-loop-node
 invariant-loop-node l =
-    Opens l.fn.nodes.items l.stations.items (into_iter_items l.node-iterator) l.port
+    Opens l.fn.nodes.items l.stations.items l.ports.items (into_iter_items l.node-iterator) l.port
     × (into_iter_len l.node-iterator ≡ length (into_iter_items l.node-iterator))
     × (goal.iterator-loop-node).can_next l.node-iterator × (goal.iterator-loop-node).is_finite l.node-iterator

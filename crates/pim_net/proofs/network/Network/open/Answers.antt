@@ -13,9 +13,10 @@ pub returns-in-Ok-clause-accepted : goal.returns-in-Ok-clause-accepted
 returns-in-Ok-clause-accepted c =
     let test : lawful c.args.nodes.items ≡ true =
     sym (ap lawful c.deref.ensures.value) ∙ sym c.if-not-are_lawful.ensures in
-    let ok = of_ok _ _ c.in-Ok.stations c.in-Ok.is c.in_ok-stations.ensures.accepted in (
+    let ok = of_ok _ _ (c.in-Ok.stations, c.in-Ok.ports) c.in-Ok.is c.in_ok-stations.ensures.accepted in (
       then_configs c.args.nodes.items test ∙ ok.0,
       network_shown c.args.nodes.items c.in-Ok.stations.items c.new.result.items ok.1 c.new.ensures.items,
+      ok.2,
     )
 
 pub returns-in-Err-clause-refused : goal.returns-in-Err-clause-refused

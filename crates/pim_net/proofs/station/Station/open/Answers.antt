@@ -6,4 +6,4 @@ use Rattle.pim_net.proofs.station.Station.open.Goals as goal
 pub invariant_of-result : goal.invariant_of-result
 invariant_of-result c =
     let ok = of_ok _ _ c.in-Ok.router c.in-Ok.is c.in_ok-router.ensures.accepted in
-    omega (arith, c.requires.links, c.requires.port, few_interfaces c.args.node.config ok.0)
+    omega (arith, c.requires.links, few_interfaces c.args.node.config ok.0)

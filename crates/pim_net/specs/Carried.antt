@@ -1,0 +1,97 @@
+-- What moves ask of a wire, whichever it is, and what becomes of the network by what the wire gives.
+use Rattle.std.specs.Option.{option_map_or}
+use Rattle.std.specs.Prelude.{Bool, IsSome, List, None, Option, Some, [], get_or, length, option_and_then, option_map, slice_get, take, true, ℕ, ◌+◌, ◌<◌, ◌≡◌, ◌∷◌}
+use Rattle.pim_types.specs.declared.event.Event.{Event}
+use Rattle.pim_types.specs.declared.event.EventKind.{EventKind}
+use Rattle.pim_types.specs.declared.outcome.Outcome.{Outcome}
+use Rattle.pim_model.specs.Network.{Network, Station, event_of, moved, moved_at, station_at}
+use Rattle.pim_net.specs.Showing.{brought_on, brought_to, move_of}
+use Rattle.pim_net.specs.declared.moves.Move.{Move}
+
+abbrev pub bytes_in : EventKind → List ℕ
+bytes_in (EventKind.Frame iface bytes) = bytes
+bytes_in (EventKind.Unicast bytes) = bytes
+bytes_in _ = []
+
+-- the frame's bytes, where the move is a delivery that isn't refused
+unfoldable pub packet_of : Network → Move → Option (List ℕ)
+packet_of n (Move.Event router event) = None
+packet_of n (Move.Deliver router iface frame draw) =
+    option_map (λ (e : ℕ × Event). bytes_in (e.1).kind) (event_of n (move_of (Move.Deliver router iface frame draw)))
+packet_of n (Move.DeliverUnicast router frame draw) =
+    option_map (λ (e : ℕ × Event). bytes_in (e.1).kind) (event_of n (move_of (Move.DeliverUnicast router frame draw)))
+
+-- the outcome and the network where these bytes come to the router
+abbrev pub moved_with : Network → Move → List ℕ → Outcome × Network
+moved_with n (Move.Event router event) bytes = moved_at n (router, event)
+moved_with n (Move.Deliver router iface frame draw) bytes = moved_at n (router, brought_on iface.number draw bytes)
+moved_with n (Move.DeliverUnicast router frame draw) bytes = moved_at n (router, brought_to draw bytes)
+
+abbrev pub link_count : Network → ℕ → ℕ
+link_count n r = option_map_or (λ (s : Station). length s.links) (station_at n r) 0
+
+-- the port to which a delivery goes, by the first port of each router
+abbrev pub port_of : List ℕ → Network → Move → ℕ
+port_of ports n (Move.Event router event) = get_or ports router 0
+port_of ports n (Move.Deliver router iface frame draw) = get_or ports router 0 + iface.number
+port_of ports n (Move.DeliverUnicast router frame draw) = get_or ports router 0 + link_count n router
+
+-- two steps, with the network and the wire between them
+pub record AreBoth {W : Type 0} (First Later : Network → W → Type 0) : Type 0 where
+  pub network : Network
+  pub wire : W
+  pub first : First network wire
+  pub later : Later network wire
+
+module _ {W : Type 0} (is_faithful : Bool) (sends : W → ℕ → List ℕ → W → Type 0) (gives : W → ℕ → ℕ → List ℕ → W → Type 0) where
+  -- a packet is sent to a port, and taken there what the wire gives, of at most the packet's length
+  pub record IsCarried (before : W) (port : ℕ) (packet given : List ℕ) (after : W) : Type 0 where
+    pub between : W
+    pub is_sent : sends before port packet between
+    pub is_given : gives between port (length packet) given after
+    pub is_same : is_faithful ≡ true → given ≡ packet
+
+  module _ (ports : List ℕ) where
+    -- a delivery of a packet: what the wire gives comes to the router
+    pub record IsDelivery (n : Network) (before : W) (m : Move) (packet : List ℕ) (o : Outcome) (next : Network) (after : W)
+        : Type 0 where
+      pub given : List ℕ
+      pub carried : IsCarried before (port_of ports n m) packet given after
+      pub moved_is : (o, next) ≡ moved_with n m given
+
+    -- what isn't carried is the written move, and makes no call of the wire
+    abbrev pub IsMoveOf : Option (List ℕ) → Network → W → Move → Outcome → Network → W → Type 0
+    IsMoveOf None n before m o next after = ((o, next) ≡ moved n (move_of m)) × (after ≡ before)
+    IsMoveOf (Some packet) n before m o next after = IsDelivery n before m packet o next after
+
+    abbrev pub IsMove : Network → W → Move → Outcome → Network → W → Type 0
+    IsMove n before m o next after = IsMoveOf (packet_of n m) n before m o next after
+
+    -- move after move
+    unfoldable pub AreMoves : Network → W → List Move → List Outcome → Network → W → Type 0
+    AreMoves n before [] [] last after = (last ≡ n) × (after ≡ before)
+    AreMoves n before (m ∷ ms) (o ∷ os) last after =
+        AreBoth (IsMove n before m o) (λ next wire. AreMoves next wire ms os last after)
+    AreMoves n before [] (o ∷ os) last after = ⊥
+    AreMoves n before (m ∷ ms) [] last after = ⊥
+
+    -- the same of a network that may have ended
+    pub record MovesTo (n : Network) (before : W) (m : Move) (o : Outcome) (last : Option Network) (after : W) : Type 0 where
+      pub network : Network
+      pub is : last ≡ Some network
+      pub move : IsMove n before m o network after
+
+    pub record HasMoved (n : Network) (before : W) (ms : List Move) (os : List Outcome) (last : Option Network) (after : W)
+        : Type 0 where
+      pub network : Network
+      pub is : last ≡ Some network
+      pub moves : AreMoves n before ms os network after
+
+    -- some of the moves were done, and not all: the next is a delivery that isn't refused
+    pub record IsPartWay (n : Network) (before : W) (ms : List Move) (last : Option Network) : Type 0 where
+      pub count : ℕ
+      pub below : count < length ms
+      pub outcomes : List Outcome
+      pub wire : W
+      pub done : HasMoved n before (take count ms) outcomes last wire
+      pub next : IsSome (option_and_then (packet_of done.network) (slice_get ms count))
