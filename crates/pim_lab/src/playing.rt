@@ -14,7 +14,7 @@ use pim_net::{MemoryWire, Wire};
 use pim_scenario::{Move, Scenario, fault, read_scenario};
 use pim_types::{Fault, Series};
 use std::alloc::Global;
-use std::io::Write;
+use std::io::{self, Write};
 
 /// Does the moves of a scenario over its routers, whose frames this wire carries: for each move its answer is printed,
 /// and then each packet that left; at the end the routers' tables, where they are asked for. The status is 0, or 2 where
@@ -52,18 +52,26 @@ pub fn check_text<O: Write, E: Write>(alloc: Global, text: &str, out: &mut O, er
     ensures done { result ≡ 0 → IsAccepted text.now
         × Appends (O.contents out.old) (O.contents out.new) (codes "ok\n") × (err.new ≡ err.old) }
     ensures refused { result ≡ 2 → (r : Refusal) × IsRefused text.now r
-        × Appends (E.contents err.old) (E.contents err.new) (line_of (Complaint.Scenario r)) }
-    ensures memory { result ≡ 4
-        → Appends (E.contents err.old) (E.contents err.new) (line_of (Complaint.Fault Fault.Memory)) }
+        × Appends (E.contents err.old) (E.contents err.new) (line_of (Complaint.Scenario r)) × (out.new ≡ out.old) }
+    ensures memory { result ≡ 4 → Appends (E.contents err.old) (E.contents err.new)
+        (line_of (Complaint.Fault Fault.Memory)) × (out.new ≡ out.old) }
     ensures silent { (IsAccepted text.now → ⊥) → out.new ≡ out.old }
 {
     if let Err(trouble) = check(alloc, text) {
         return trouble.tell(err);
     }
-    match out.writeln("ok") {
+    match write_ok(out) {
         Ok(()) => 0,
         Err(_) => fault(err, Fault::Wire),
     }
+}
+
+// Prints `ok`, and has it written before it ends.
+fn write_ok<O: Write>(out: &mut O) -> io::Result<()>
+    ensures { OnOk result (Appends (O.contents out.old) (O.contents out.new) (codes "ok\n")) }
+{
+    out.writeln("ok")?;
+    out.flush()
 }
 
 // Whether a scenario is accepted, over a wire in memory that nothing uses.
