@@ -1,4 +1,4 @@
-//! Tests alone: known packets and values, against the writers and the parts that no run of the program reaches.
+//! Tests alone: known packets and values, against writers and parts by themselves.
 #![tactic(auto)]
 
 #[cfg(test)]
