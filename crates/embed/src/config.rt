@@ -1,3 +1,4 @@
+//! The configuration of the router.
 use pim_types::{Addr, Config, InterfaceConfig, Prefix, RpRange, Series, SptSwitch};
 use std::alloc::{AllocError, Global};
 

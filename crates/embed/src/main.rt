@@ -1,5 +1,5 @@
-// A router in a program of its own: two interfaces come up, Hellos and a Join(*,G) arrive, and time goes on. What becomes
-// of each event is printed, and what leaves.
+//! A router in a program of its own: two interfaces come up, Hellos and a Join(*,G) arrive, and time goes on. What becomes
+//! of each event is printed, and what leaves.
 #![tactic(auto)]
 
 mod config;

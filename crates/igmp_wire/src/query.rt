@@ -1,3 +1,4 @@
+//! A membership query, read.
 use crate::fields::{Addresses, address_at, number_at};
 use pim_ip::{Addr, Refusal};
 use std::marker::Model;

@@ -1,3 +1,4 @@
+//! The tests that every IGMP message has to pass, in their order.
 ghost use Rattle.std.specs.Prelude.{◌≡◌};
 ghost use Rattle.igmp_wire.specs.Messages.{igmp_reading};
 

@@ -1,3 +1,4 @@
+//! A membership report, read, with its record types.
 use crate::fields::number_at;
 use crate::records::{Records, record_end};
 use pim_ip::Refusal;

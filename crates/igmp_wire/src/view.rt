@@ -1,3 +1,4 @@
+//! An IGMP message of either kind, read.
 use crate::query::QueryView;
 use crate::report::ReportView;
 

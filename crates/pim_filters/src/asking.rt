@@ -1,3 +1,4 @@
+//! What is to be asked after a record of a report.
 use pim_ip::Addr;
 use std::marker::Model;
 

@@ -1,3 +1,4 @@
+//! The sources of a group record and those that a message names, merged.
 ghost use Rattle.std.specs.Iterator.{YieldsFirst, item_count};
 ghost use Rattle.std.specs.Prelude.{◌≡◌};
 ghost use Rattle.pim_filters.specs.Cases.{cases_in, member_case, new_case};

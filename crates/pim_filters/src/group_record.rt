@@ -1,3 +1,4 @@
+//! A group record: what a record of a report and the ends of timers make of it.
 ghost use Rattle.std.specs.Option.{option_map_or};
 ghost use Rattle.std.specs.Prelude.{◌≡◌, ◌==◌, false, filter, find, map, nat_lt, not};
 ghost use Rattle.pim_filters.specs.Members.{bits_of, with_end_lowered, without_end};

@@ -1,3 +1,4 @@
+//! A source of a group record, with its timer.
 ghost use Rattle.std.specs.Option.{option_map_or};
 ghost use Rattle.std.specs.Prelude.{◌≡◌, None, false, nat_lt};
 ghost use Rattle.pim_filters.specs.Members.{fate_at, fate_of, is_named, with_end_lowered, without_end};

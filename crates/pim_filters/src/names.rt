@@ -1,3 +1,4 @@
+//! The addresses that a message names, ascending.
 ghost use Rattle.std.specs.Prelude.{◌≡◌, IfOk};
 ghost use Rattle.pim_filters.specs.Members.{bits_of};
 ghost use Rattle.pim_model.specs.Tables.{ascending};

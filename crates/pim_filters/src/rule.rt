@@ -1,3 +1,4 @@
+//! The record table of RFC 3376, section 6.4: what each type of record does to each source.
 ghost use Rattle.std.specs.Option.{option_map};
 ghost use Rattle.std.specs.Prelude.{◌≡◌, IfOk, filter, filter_map, map};
 ghost use Rattle.pim_filters.specs.Asking.{asked_in_order};

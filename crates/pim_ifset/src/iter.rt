@@ -1,3 +1,4 @@
+//! The walk over the interfaces of a set.
 use pim_types::IfaceId;
 use std::marker::Model;
 

@@ -1,3 +1,4 @@
+//! What makes two sets the same.
 ghost use Rattle.std.specs.Prelude.{◌≡◌, ◌&&◌, ℕ, Bool, nat_lt};
 ghost use Rattle.pim_ifset.specs.Members.{Members, has, set_of};
 

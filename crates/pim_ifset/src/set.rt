@@ -1,3 +1,4 @@
+//! A set of interfaces and of the register tunnel, as a mask of 120 bits and a flag.
 ghost use Rattle.std.specs.Prelude.{◌≡◌, ◌↔◌, ◌+◌, ◌<◌, ◌≤◌, ◌==◌, ◌&&◌, ◌||◌, ℕ, Bool, true, false, not, length, nat_lt, IsTrue, if◌then◌else◌};
 ghost use Rattle.std.specs.List.{list_all};
 

@@ -1,3 +1,4 @@
+//! IPv4 addresses.
 ghost use Rattle.std.specs.Prelude.{◌≡◌, ◌-◌, ◌≤◌, Some};
 ghost use Rattle.byteorder.specs.Endian.{big_bytes, big_from};
 ghost use Rattle.pim_ip.specs.Addr.{dotted_text};

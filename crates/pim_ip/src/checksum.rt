@@ -1,3 +1,4 @@
+//! The Internet checksum.
 ghost use Rattle.std.specs.Prelude.{◌≡◌, ◌+◌, ◌*◌, ◌%◌, ◌≤◌, ℕ, length, take, drop};
 ghost use Rattle.pim_ip.specs.Checksum.{ones, sum16, with_checksum};
 

@@ -1,3 +1,4 @@
+//! Why a call can't be carried out, with its numbers and words.
 ghost use Rattle.std.specs.Prelude.{◌≡◌};
 ghost use Rattle.pim_ip.specs.declared.fault.Fault.TheVariants.{Memory};
 

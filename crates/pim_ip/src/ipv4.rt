@@ -1,3 +1,4 @@
+//! IPv4 packets, read.
 ghost use Rattle.std.specs.Prelude.{◌≡◌, ◌+◌, ◌≤◌, ◌++◌, length, IsTrue, OnOk, OnErr};
 ghost use Rattle.byteorder.specs.Endian.{big_from};
 ghost use Rattle.pim_ip.specs.Ipv4.{packet_limit, is_source, copy_text, ipv4_reading};

@@ -1,3 +1,4 @@
+//! Why input is refused, with its numbers and words.
 use thiserror::Error;
 
 /// Why input was refused. A refused event, list of routes or configuration has changed nothing.

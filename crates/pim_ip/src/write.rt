@@ -1,3 +1,4 @@
+//! IPv4 packets, written: control packets with their header, and copies of packets that go on.
 ghost use Rattle.std.specs.Prelude.{◌≡◌, ◌+◌, ◌^◌, ◌/◌, ◌<◌, ◌≤◌, [], ◌∷◌, ◌++◌, length, take, IsTrue, OnOk, OnErr};
 ghost use Rattle.byteorder.specs.Endian.{big_bytes};
 ghost use Rattle.pim_ip.specs.ControlHeader.{options_of, text_of, ReadsBack};

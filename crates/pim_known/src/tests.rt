@@ -1,2 +1,3 @@
+//! Tests against known bytes and values.
 mod components;
 mod known_packets;

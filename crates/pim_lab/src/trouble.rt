@@ -1,3 +1,4 @@
+//! What ends a run early, with its status and words.
 use pim_scenario::{fault, refused};
 use pim_types::{Fault, Refusal};
 use std::alloc::{AllocError, AllocFailed};

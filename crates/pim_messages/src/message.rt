@@ -1,3 +1,4 @@
+//! The messages that machines send, before they are bytes.
 use igmp_wire::QueryHeader;
 use pim_types::fact::AssertMetric;
 use pim_types::{Addr, Hop, IfaceId, Series};

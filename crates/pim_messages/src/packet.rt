@@ -1,4 +1,4 @@
-// Each message as the packet that leaves.
+//! Each message as the packet that leaves.
 ghost use Rattle.std.specs.Prelude.{◌≡◌, ◌+◌, ◌%◌, ◌^◌, ◌<◌, ◌≤◌, length, IfOk};
 ghost use Rattle.pim_messages.specs.Sendable.{message_of, AssertFits, IsSendable, JoinPruneFits, QueryFits};
 ghost use Rattle.pim_model.specs.State.{address_among, value_among};

@@ -1,3 +1,4 @@
+//! The delays of a link, and delays that a number draws.
 ghost use Rattle.std.specs.Prelude.{◌≡◌, ◌≤◌};
 ghost use Rattle.pim_model.specs.Tables.{delay_in};
 

@@ -1,3 +1,4 @@
+//! A wire in memory.
 ghost use Rattle.std.specs.Prelude.{◌≡◌, []};
 
 use crate::wire::Wire;

@@ -1,3 +1,4 @@
+//! What can happen in a network in one step.
 use pim_types::{Event, IfaceId};
 
 /// What happens in a network in one step. Routers are counted from 0, in the order of the nodes, and frames from 1, in

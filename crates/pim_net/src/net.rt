@@ -1,3 +1,4 @@
+//! A network over a wire: moves in, outcomes out.
 ghost use Rattle.std.specs.Prelude.{◌≡◌, ◌↔◌, [], Err, IfErr, IfNone, IfOk, IfSome, IsOk, IsSome, List, None, Ok, OnOk, Some, get_or, is_some, map, option_map, true, ℕ};
 ghost use Rattle.pim_ip.specs.declared.fault.Fault.{Fault};
 ghost use Rattle.pim_asked.specs.Networks.{MovesAreAsked};

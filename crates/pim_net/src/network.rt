@@ -1,3 +1,4 @@
+//! The routers of a network and every frame that they ever sent, without the wire.
 ghost use Rattle.std.specs.List.{list_all};
 ghost use Rattle.std.specs.Prelude.{◌≡◌, ◌&&◌, ◌++◌, ◌≤◌, ℕ, Err, IfErr, IfNone, IfOk, IfSome, IsOkUnless, IsSome, None, Ok, OnOk, Some, length, map, nat_le, option_copied, option_map, true};
 ghost use Rattle.pim_ip.specs.declared.fault.Fault.{Fault};

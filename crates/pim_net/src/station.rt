@@ -1,3 +1,4 @@
+//! A frame that was sent, and a router with the links and ports of its interfaces.
 ghost use Rattle.std.specs.Prelude.{◌≡◌, ◌≤◌, Err, IfErr, IfOk, IfSome, IsOkUnless, Ok, OnOk, Some, is_some, length, option_map};
 ghost use Rattle.pim_ip.specs.declared.fault.Fault.{Fault};
 ghost use Rattle.pim_model.specs.Limits.{config_test, most_ifaces};

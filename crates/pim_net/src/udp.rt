@@ -1,3 +1,4 @@
+//! A wire of UDP sockets on the loopback interface.
 ghost use Rattle.std.specs.Prelude.{◌≡◌, ◌≤◌, IfErr, IfOk, length};
 ghost use Rattle.pim_ip.specs.declared.fault.Fault.{Fault};
 ghost use Rattle.pim_net.specs.Wires.{IsWireOrMemory};

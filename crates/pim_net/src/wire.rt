@@ -1,3 +1,4 @@
+//! What carries packets between the ports of a network, whatever it is made of.
 ghost use Rattle.std.specs.Prelude.{◌≡◌, ◌≤◌, IfErr, IfOk, OnOk, length, take, true};
 ghost use Rattle.pim_net.specs.Wires.{IsFaultOver, failures_after};
 

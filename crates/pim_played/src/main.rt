@@ -1,8 +1,8 @@
-// Plays stored scenarios: `pim_played NAME ..` plays NAME.toml, with tables where NAME.out has some, and says that it printed what
-// NAME.out has, or what else it printed. Where a scenario ends in a complaint, NAME.err has the status on a line of its own and the
-// complaint. After the word `--failing` names are played over wires that fail from one of their calls on, each in its turn; after
-// `--udp` over sockets; after `--full` where no line can be written; after `--check` they are checked and not played. `--unread`
-// and `--help` print what `pimlab` says of a file that can't be read to its end, and of a request for help.
+//! Plays stored scenarios: `pim_played NAME ..` plays NAME.toml, with tables where NAME.out has some, and says that it printed what
+//! NAME.out has, or what else it printed. Where a scenario ends in a complaint, NAME.err has the status on a line of its own and the
+//! complaint. After the word `--failing` names are played over wires that fail from one of their calls on, each in its turn; after
+//! `--udp` over sockets; after `--full` where no line can be written; after `--check` they are checked and not played. `--unread`
+//! and `--help` print what `pimlab` says of a file that can't be read to its end, and of a request for help.
 #![tactic(auto)]
 
 mod failing;

@@ -1,3 +1,4 @@
+//! Rows that end, and the kinds of their timers.
 ghost use Rattle.std.specs.Prelude.{◌≡◌, ◌≢◌, ℕ, Option, Some};
 ghost use Rattle.pim_tables.specs.Ends.{Kinds};
 

@@ -1,3 +1,4 @@
+//! The facts of one kind under their keys, in an ordered map.
 ghost use Rattle.std.specs.Prelude.{◌≡◌, ◌==◌, ◌++◌, ◌↔◌, ◌&&◌, [], filter, length, IsTrue, IfSome, OnOk, OnErr, Option, Some, None};
 ghost use Rattle.std.specs.List.{list_any};
 ghost use Rattle.std.specs.List.Sorted.{IsStrictlySortedBy};

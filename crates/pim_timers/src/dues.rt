@@ -1,3 +1,4 @@
+//! A queue as one ordered set.
 ghost use Rattle.std.specs.Prelude.{◌≡◌, []};
 ghost use Rattle.pim_timers.specs.Dues.{is_among};
 

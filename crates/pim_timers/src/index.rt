@@ -1,3 +1,4 @@
+//! Timers over any queue: one ordered set, or a wheel.
 ghost use Rattle.std.specs.Prelude.{◌≡◌, IfOk};
 ghost use Rattle.std.specs.FinMap as map;
 

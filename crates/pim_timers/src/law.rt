@@ -1,3 +1,4 @@
+//! Laws of what is next, and of the order of timers.
 ghost use Rattle.std.specs.Prelude.{◌≡◌};
 ghost use Rattle.pim_types.specs.declared.timer.Timer.{Timer as TimerValue};
 ghost use Rattle.pim_types.specs.Timers.{timer_cmp};

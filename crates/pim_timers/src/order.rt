@@ -1,3 +1,4 @@
+//! Which of two timers ends first.
 ghost use Rattle.std.specs.Prelude.{◌≡◌};
 ghost use Rattle.std.specs.Ordering.{is_lt};
 ghost use Rattle.pim_timers.specs.Dues.{IsFirstOfBoth};

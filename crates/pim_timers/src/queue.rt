@@ -1,3 +1,4 @@
+//! What a queue of timers offers.
 ghost use Rattle.std.specs.Prelude.{◌≡◌, ◌&&◌, ◌||◌, Bool, not, OnOk, OnErr};
 ghost use Rattle.pim_timers.specs.Dues.{Due, IsFirst, same_due};
 

@@ -1,3 +1,4 @@
+//! A queue as a ring of slots that remembers its first.
 ghost use Rattle.std.specs.Prelude.{◌≡◌, false, IfOk};
 ghost use Rattle.pim_timers.specs.Dues.{Due};
 ghost use Rattle.pim_timers.specs.Slots.{is_held};

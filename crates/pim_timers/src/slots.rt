@@ -1,3 +1,4 @@
+//! A ring of slots, each an ordered set of what ends in it.
 ghost use Rattle.std.specs.Prelude.{◌≡◌, ◌<◌, ◌≤◌, ◌==◌, ◌&&◌, ◌||◌, false, true, not, IfOk, OnOk, OnErr};
 ghost use Rattle.pim_timers.specs.Dues.{Due, IsFirst, IsFirstOf, same_due};
 ghost use Rattle.pim_timers.specs.Slots.{is_held, place};

@@ -1,3 +1,4 @@
+//! What an index of timers offers.
 ghost use Rattle.std.specs.Prelude.{◌≡◌, ◌≤◌, ◌==◌, OnOk, OnErr, IfSome, IfNone};
 ghost use Rattle.std.specs.FinMap as map;
 ghost use Rattle.pim_timers.specs.Next.{EndAfter, IsLeast, IsNext};

@@ -1,3 +1,4 @@
+//! The configuration of a router, its routes and its RP ranges.
 use crate::series::Series;
 use pim_ip::{Addr, Prefix};
 

@@ -1,3 +1,4 @@
+//! Events.
 use crate::config::{IfaceId, Route, RpRange};
 use crate::series::Series;
 

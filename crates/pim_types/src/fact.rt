@@ -1,3 +1,4 @@
+//! The key of all facts and timers, and the row of each kind of fact.
 ghost use Rattle.std.specs.Prelude.{◌≡◌};
 ghost use Rattle.pim_types.specs.Keys.{iface_key, neighbour_key, rpt_key, source_key, star_key};
 

@@ -1,3 +1,4 @@
+//! What becomes of an event, and the packets that leave.
 use crate::config::IfaceId;
 use crate::series::Series;
 use pim_ip::{Addr, Refusal};

@@ -1,3 +1,4 @@
+//! Unicast routes to an address, and PIM neighbours.
 use crate::config::IfaceId;
 use pim_ip::Addr;
 

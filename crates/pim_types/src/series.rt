@@ -1,3 +1,4 @@
+//! Lists that clauses see as their items: lent ones and owned ones.
 ghost use Rattle.std.specs.Prelude.{◌≡◌, ◌↔◌, [], ◌∷◌, ◌++◌, OnOk, OnErr, IsTrue, length};
 
 use std::alloc::{AllocError, Global};

@@ -1,3 +1,4 @@
+//! The rows of printed tables.
 use crate::config::IfaceId;
 use crate::fact::{AssertRole, Key};
 use pim_ip::Addr;

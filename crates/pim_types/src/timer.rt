@@ -1,3 +1,4 @@
+//! The kinds of timers, in the order in which they fire, and the timer of a fact.
 use crate::fact::Key;
 
 /// What ends. At one moment the kinds fire in this order.

@@ -1,3 +1,4 @@
+//! What the upstream machines compare before and after an event.
 use crate::config::IfaceId;
 use crate::path::Hop;
 use pim_ip::Addr;

@@ -1,3 +1,4 @@
+//! Asserts, read and written.
 ghost use Rattle.std.specs.Prelude.{◌≡◌, ◌^◌, ◌<◌, ◌≤◌, ◌++◌, length, OnOk, OnErr};
 ghost use Rattle.pim_wire.specs.Asserts.{assert_text};
 ghost use Rattle.pim_wire.specs.Bodies.{assert_reading};

@@ -1,4 +1,4 @@
-// Fields and encoded addresses (RFC 7761, section 4.9.1) at places of a message.
+//! Fields and encoded addresses (RFC 7761, section 4.9.1) at places of a message.
 ghost use Rattle.std.specs.Prelude.{◌≡◌, ◌+◌, ◌^◌, ◌<◌, ◌≤◌, length, OnOk};
 ghost use Rattle.byteorder.specs.Endian.{big_from};
 ghost use Rattle.pim_wire.specs.Encoded.{address_at, unicast_at, is_native_ipv4, field_test, unicast_test, source_test, group_test, unicast_text, group_text, source_text};

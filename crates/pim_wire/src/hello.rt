@@ -1,3 +1,4 @@
+//! Hellos, read and written.
 ghost use Rattle.std.specs.Prelude.{◌≡◌, ◌+◌, ◌≤◌, true, ◌++◌, length, OnOk, OnErr};
 ghost use Rattle.pim_wire.specs.Bodies.{hello_reading};
 ghost use Rattle.pim_wire.specs.Hellos.{option_type, option_length, is_option_length, lan_delay_at, with_option, hello_text, option_text, lan_delay_option};

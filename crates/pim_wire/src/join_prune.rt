@@ -1,3 +1,4 @@
+//! Join/Prunes, read and written.
 ghost use Rattle.std.specs.Prelude.{◌≡◌, ◌+◌, ◌*◌, ◌^◌, ◌<◌, ◌≤◌, ◌∷◌, ◌++◌, length, take, drop, flat_map, OnOk, OnErr, option_to_list};
 ghost use Rattle.pim_ip.specs.Checksum.{with_checksum};
 ghost use Rattle.pim_wire.specs.Bodies.{join_prune_reading};

@@ -1,3 +1,4 @@
+//! Registers, Null-Registers and Register-Stops, read and written.
 ghost use Rattle.std.specs.Prelude.{◌≡◌, ◌^◌, ◌<◌, ◌≤◌, [], ◌∷◌, ◌++◌, length, OnOk, OnErr};
 ghost use Rattle.std.specs.Option.{option_copied};
 ghost use Rattle.pim_wire.specs.Bodies.{register_reading, register_stop_reading, inner_reading};

@@ -1,5 +1,5 @@
-// Runs the multicast routers of a scenario: `pimlab run FILE` does its moves and prints what they bring,
-// `pimlab check FILE` makes its routers.
+//! Runs the multicast routers of a scenario: `pimlab run FILE` does its moves and prints what they bring,
+//! `pimlab check FILE` makes its routers.
 #![tactic(auto)]
 
 use pim_lab::{

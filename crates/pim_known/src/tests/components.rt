@@ -1,4 +1,4 @@
-// Parts by themselves: with memory their calls succeed.
+//! Parts by themselves: with memory their calls succeed.
 use igmp_wire::RecordType;
 use pim_filters::{Asking, Fate, GroupRecord};
 use pim_timers::{SortedTimers, Timers, Wheel};
