@@ -15,12 +15,6 @@ begins_longer bytes old more middle e h =
     let within : length old ≤ length middle = rw e (omega arith) in
     sym (take-take (length old) (length middle) bytes within) ∙ rw (h, e) (take_at old more (length old) refl)
 
--- one text more
-pub written_more : {X Y : Type 0} (text : Y → List ℕ) (f : X → Y) (bytes old : List ℕ) (xs : List X) (i : ℕ) (d : X) → i < length xs
-    → bytes ≡ old ++ flat_map text (map f (take i xs)) → bytes ++ text (f (get_or xs i d)) ≡ old ++ flat_map text (map f (take (i + 1) xs))
-written_more text f bytes old xs i d h e =
-    rw (e, map_more f xs i d h) (flat_map_more text old (map f (take i xs)) (f (get_or xs i d)))
-
 -- all so far and one more
 pub All_more : {X : Type 0} (P : ℕ → Type 0) (f : X → ℕ) (xs : List X) (i : ℕ) (d : X) → i < length xs → All P (map f (take i xs)) → P (f (get_or xs i d))
     → All P (map f (take (i + 1) xs))

@@ -104,10 +104,6 @@ unfolding data_seen wins
 data_seen_same s k = grind arith
 
 module _ (s : State) (g src : ℕ) where
-  keepalive_same : Same s (with_keepalive s g src)
-  unfolding with_keepalive
-  keepalive_same = refl
-
   pub here_same : (iif : ℕ) → Same s (source_here s g src iif)
   unfolding source_here settle_register with_keepalive
   here_same iif = grind arith

@@ -17,13 +17,6 @@ use Rattle.pim_model.specs.Hellos.{hellos_triggered}
 use Rattle.pim_model.specs.Writing.{hellos_paid}
 use Rattle.pim_ifaces.specs.Interfaces.{InterfacesRise, IsHeld}
 
--- one more number of a range
-pub find-below : (p : ℕ → Bool) (n m : ℕ) → n < m
-    → find p (range_with_len n (m - n)) ≡ cond (p n) (Some n) (find p (range_with_len (n + 1) (m - (n + 1))))
-find-below p n m below =
-    let more : m - n ≡ suc (m - (n + 1)) = omega arith in
-    rw more refl
-
 -- keys of interfaces compare as the numbers do
 then-equal : (o : Ordering) → ordering_then o Equal ≡ o
 then-equal Less = refl

@@ -74,11 +74,6 @@ pub has_set_of : (p : ℕ → Bool) (t : Bool) (q : ℕ) → has (set_of p t) q 
 unfolding set_of
 has_set_of p t q = has_mask_of p 120 t q
 
--- a set whose members are known is that set
-pub is_set_of : (s : Members) (p : ℕ → Bool) (t : Bool) → ((q : ℕ) → has s q ≡ (nat_lt q 120 && p q)) → s.tunnel ≡ t → s ≡ set_of p t
-unfolding set_of
-is_set_of s p t members tunnel = same_members s (set_of p t) (λ q. members q ∙ sym (has_set_of p t q)) tunnel
-
 -- no bit is set: nothing is in the set where the tunnel is out
 pub empty_without_bits : (t : Bool) → IsTrue (not t) ↔ (((q : ℕ) → has (record { mask = 0; tunnel = t }) q ≡ false) × (t ≡ false))
 empty_without_bits true = (λ h. grind arith, λ h. grind (arith, h.1))

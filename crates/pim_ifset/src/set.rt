@@ -150,17 +150,6 @@ impl IfSet {
         *self = IfSet { tunnel, ..*self };
     }
 
-    /// The same interfaces, with the register tunnel.
-    pub fn with_tunnel(self) -> IfSet
-        ensures interfaces { (q : ℕ) → has result q ≡ has self q }
-        ensures tunnel { result.tunnel ≡ true }
-    {
-        IfSet {
-            tunnel: true,
-            ..self
-        }
-    }
-
     /// The same interfaces, without the register tunnel.
     pub fn without_tunnel(self) -> IfSet
         ensures interfaces { (q : ℕ) → has result q ≡ has self q }

@@ -64,14 +64,6 @@ module _ {R : Type 0} (end_of : R → Option ℕ) (sound : Key × R → Bool) (m
   unfolding drop_at
   drop_at_kept k t = drop_kept (same_key k) t
 
-  pub same_kept : (t : Table R) → TableKeeps end_of sound m t t
-  same_kept t mark by e = e
-
-  pub cond_kept : (b : Bool) (t u v : Table R) → TableKeeps end_of sound m t u → TableKeeps end_of sound m t v
-      → TableKeeps end_of sound m t (cond b u v)
-  cond_kept true t u v f g = f
-  cond_kept false t u v f g = g
-
   pub put_kept_if : (t : Table R) (k : Key) (r : R)
       → ((mark : Mark) → counts m mark ≡ true → shows_row end_of sound mark (k, r) ≡ true
       → shows_in end_of sound mark t ≡ true)
@@ -225,9 +217,6 @@ module _ (m : ℕ) (p : Part) where
   pub part_then : (t u v : Table (Row p)) → PartKeeps t u → PartKeeps u v → PartKeeps t v
   part_then t u v f g =
       each_both _ _ _ (λ end f g mark by e. f mark by (g mark by e)) (ends_of p) f g
-
-  pub part_dropped : (test : Key → Bool) (t : Table (Row p)) → PartKeeps t (drop_where test t)
-  part_dropped test t = each_of_all _ (λ end. drop_kept end (is_sound p) m test t) (ends_of p)
 
   pub part_without : (k : Key) (t : Table (Row p)) → PartKeeps t (drop_at t k)
   part_without k t = each_of_all _ (λ end. drop_at_kept end (is_sound p) m k t) (ends_of p)

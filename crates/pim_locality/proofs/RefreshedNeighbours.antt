@@ -48,12 +48,6 @@ module _ (k : Key) (row old : NeighbourRow) (same : row.priority ≡ old.priorit
   refreshed [] rises e = cc
   refreshed (x ∷ xs) rises e = refreshed_step x xs (key_cmp k x.0) refl rises.0 e (refreshed xs rises.1)
 
-hello_if : (s t u v : State) (b c : Bool) → b ≡ false → c ≡ false → AgreesBut (touching []) s v
-    → AgreesBut (touching []) s (cond b t (cond c u v))
-hello_if s t u v true c e f g = cc
-hello_if s t u v false true e f g = cc
-hello_if s t u v false false e f g = g
-
 pub hello_again_touches_none : (s : State) (i address : ℕ) (h : HelloValue) (w : ℕ) (old : NeighbourRow)
     → IsStrictlySortedBy key_cmp (keys_in s.neighbours) → row_at s.neighbours (neighbour_key i address) ≡ Some old
     → h.priority ≡ old.priority → (hello_holdtime_of h == 0) ≡ false → is_generation_changed s i address h ≡ false

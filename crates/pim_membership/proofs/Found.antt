@@ -37,9 +37,6 @@ not_above m n rest less = go (nat_cmp m n) refl less
     go Greater is less = cc
 
 module _ {R : Type 0} where
-  abbrev BelowKey : Key → Key × R → Type 0
-  BelowKey k e = iface_in e.0 < iface_in k + 1
-
   pub last_highest : (t : Table R) (e : Key × R) → IsStrictlySortedBy key_cmp (keys_in (t ++ e ∷ []))
       → AllByRecursion (λ (x : Key × R). iface_in x.0 < iface_in e.0 + 1) (t ++ e ∷ [])
   unfolding IsStrictlySortedBy keys_in key_cmp

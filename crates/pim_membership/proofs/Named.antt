@@ -81,13 +81,6 @@ module _ (g src : ℕ) where
         go true is = refl
         go false is = absurd (true≢false (sym there ∙ none_at t is i))
 
-    pub none_more : (n : ℕ) (t : Table R) → NoneBelow n t → has_row t (source_key n g src) ≡ false → NoneBelow (n + 1) t
-    none_more n t none at i below = go (i == n) refl
-      where
-        go : (b : Bool) → (i == n) ≡ b → has_row t (source_key i g src) ≡ false
-        go true same = ap (λ (m : ℕ). has_row t (source_key m g src)) (number_of i n same) ∙ at
-        go false other = none i (grind (arith, nat_tests, other))
-
     -- a set of the interfaces that have one tells whether there is any
     pub told_by_set : (n : ℕ) (t : Table R) → IsStrictlySortedBy key_cmp (keys_in t) → ArePlain t
         → AllByRecursion (λ (e : Key × R). iface_in e.0 < n) t → (empty tunnel : Bool) (there : ℕ → Bool)
