@@ -6,10 +6,9 @@ use Rattle.std.specs.Ordering.{is_eq, match_ordering}
 use Rattle.std.specs.declared.cmp.Ordering.{Ordering}
 use Rattle.std.specs.declared.cmp.Ordering.TheVariants.{Less, Equal, Greater}
 use Rattle.pim_types.specs.declared.fact.Key.{Key}
-use Rattle.pim_model.specs.Tables.{Table, change_row, changed_entry, drop_at, drop_where, put, set_row}
+use Rattle.pim_model.specs.Tables.{Table, change_row, changed_entry, drop_at, drop_where, put, rows_where, set_row}
 use Rattle.pim_types.specs.Keys.{key_cmp, same_key}
 use Rattle.pim_types.proofs.Keys.{equal_keys}
-use Rattle.pim_laws.specs.Rows.{rows_where}
 
 other_key : (sees : Key → Bool) (k q : Key) (b c : Bool) → sees k ≡ false → sees q ≡ b → same_key k q ≡ c → b ≡ true
     → not c ≡ true

@@ -8,10 +8,9 @@ use Rattle.std.specs.Option.{option_or}
 use Rattle.pim_types.specs.declared.fact.Key.{Key}
 use Rattle.pim_model.specs.Clearing.{ClearAssert, ClearSptBit, assert_must_go, assert_to_clear, first_by, is_assert_first, spt_must_go, spt_to_clear, to_clear}
 use Rattle.pim_model.specs.State.{State}
-use Rattle.pim_model.specs.Tables.{Table}
+use Rattle.pim_model.specs.Tables.{Table, rows_where}
 use Rattle.pim_laws.proofs.ListLaws.{all_of_filter}
 use Rattle.pim_locality.specs.Locality.{AgreesBut, IsQuiet, of_touched, touched_assert, touched_spt, touched_to_clear}
-use Rattle.pim_laws.specs.Rows.{rows_where}
 use Rattle.pim_locality.specs.Scopes.{reads, scope}
 use Rattle.pim_locality.proofs.Asserts.{assert_must_go_local, reads_itself, spt_must_go_local}
 use Rattle.pim_locality.proofs.UntoldKeys.{same_by_scope}

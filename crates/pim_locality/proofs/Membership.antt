@@ -15,12 +15,11 @@ use Rattle.pim_model.specs.Messages.{Message}
 use Rattle.pim_model.specs.Querier.{each_in_turn, exceeds, group_membership_interval, robustness, group_record_due, is_skipped, is_querier, lower_group, lower_sources, lowered, query_asked, query_end, query_group, query_sources, record_seen, report_seen, send_sources, source_end, source_record_due, sources_sent}
 use Rattle.pim_model.specs.Records.{AskGroup, AskSources, Asked, GroupRecord, Member, apply_record, group_expired, source_expired, is_at_group, is_no_record, put_member, record_of, with_members, with_record, with_repeats_of_rows}
 use Rattle.pim_model.specs.State.{State}
-use Rattle.pim_model.specs.Tables.{Table, change_row, drop_at, drop_where, is_among, is_empty_list, put}
+use Rattle.pim_model.specs.Tables.{Table, change_row, drop_at, drop_where, is_among, is_empty_list, put, rows_where}
 use Rattle.pim_model.specs.Full.{reported_groups}
 use Rattle.pim_model.specs.Downstream.{is_named}
 use Rattle.pim_laws.proofs.TurnLaws.{kept_in_turn}
 use Rattle.pim_locality.specs.Locality.{AgreesBut, touching}
-use Rattle.pim_laws.specs.Rows.{rows_where}
 use Rattle.pim_locality.specs.Scopes.{reads, scope}
 use Rattle.pim_laws.proofs.RowChanges.{changed_elsewhere, dropped_elsewhere, filtered_elsewhere, put_elsewhere}
 use Rattle.pim_locality.proofs.Asserts.{stars_read}

@@ -13,7 +13,7 @@ use Rattle.pim_types.specs.declared.config.Config.{Config}
 use Rattle.pim_types.specs.declared.fact.Key.{Key}
 use Rattle.pim_types.specs.Keys.{is_of_group, key_cmp, same_key, source_in, star_key, group_in}
 use Rattle.pim_model.specs.State.{State, opening}
-use Rattle.pim_model.specs.Tables.{Table, ascending, has_row, keys_in, row_at}
+use Rattle.pim_model.specs.Tables.{Table, ascending, has_row, keys_in, row_at, rows_where}
 use Rattle.pim_model.specs.Messages.{Message}
 use Rattle.pim_model.specs.Querier.{each_in_turn}
 use Rattle.pim_model.specs.Upstream.{Told, fact_keys, group_upstream, groups_of, source_upstream, sources_of, star_told, star_view, upstream, with_join_timer}
@@ -24,7 +24,6 @@ use Rattle.pim_locality.proofs.Turns.{turns_filtered}
 use Rattle.pim_locality.proofs.Touches.{touching_is_closed}
 use Rattle.pim_locality.specs.Locality.{AgreesBut, AreOnce, IsQuiet, touching, own_keys, facts_of_both, own_upstream, touched_upstream}
 use Rattle.pim_locality.proofs.TouchedUpstream.{upstream_of_touched, touched_turn, untouched_turn, filtered_order, first_implies}
-use Rattle.pim_laws.specs.Rows.{rows_where}
 use Rattle.pim_locality.specs.Scopes.{scope, reads}
 
 module _ {X : Type 0} (p q : X → Bool) where

@@ -15,13 +15,12 @@ use Rattle.pim_model.specs.Messages.{Message}
 use Rattle.pim_model.specs.Registers.{could_register, settle_register, settled_register, with_keepalive}
 use Rattle.pim_model.specs.Sets.{Set, inherited_olist, inherited_olist_rpt, spt_bit}
 use Rattle.pim_model.specs.State.{State}
-use Rattle.pim_model.specs.Tables.{Table, drop_at, has_row, put}
+use Rattle.pim_model.specs.Tables.{Table, drop_at, has_row, put, rows_where}
 use Rattle.pim_model.specs.Unicast.{is_connected, is_rpf_interface, is_rpf_interface_rp, route, rp_of, rp_route, rpf_interface_rp}
 use Rattle.pim_laws.proofs.RowLaws.{row_put}
 use Rattle.pim_locality.proofs.Asserts.{reads_itself, source_read, stars_read}
 use Rattle.pim_locality.specs.Touches.{packet_keys}
 use Rattle.pim_locality.specs.Locality.{AgreesBut, touching}
-use Rattle.pim_laws.specs.Rows.{rows_where}
 use Rattle.pim_locality.specs.Scopes.{reads}
 use Rattle.pim_laws.proofs.RowChanges.{dropped_elsewhere, put_elsewhere}
 use Rattle.pim_locality.proofs.Events.{agrees_if, wins_only}

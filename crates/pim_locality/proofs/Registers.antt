@@ -12,9 +12,8 @@ use Rattle.pim_types.specs.declared.fact.RegisterState.{RegisterState}
 use Rattle.pim_types.specs.Keys.{group_in, key_cmp, same_key, source_in}
 use Rattle.pim_model.specs.Registers.{could_register, settle_registers, settled_register}
 use Rattle.pim_model.specs.State.{State}
-use Rattle.pim_model.specs.Tables.{Table, drop_at, drop_where, has_row, keys_in, put, row_at, same_bool}
+use Rattle.pim_model.specs.Tables.{Table, drop_at, drop_where, has_row, keys_in, put, row_at, rows_where, same_bool}
 use Rattle.pim_locality.specs.Locality.{AgreesBut, IsClosed, IsQuiet, is_register_settled, touched_registers}
-use Rattle.pim_laws.specs.Rows.{rows_where}
 use Rattle.pim_locality.specs.Scopes.{reads, scope}
 use Rattle.pim_locality.proofs.Asserts.{could_register_here, reads_itself}
 use Rattle.pim_laws.proofs.RowChanges.{dropped_elsewhere, put_elsewhere}

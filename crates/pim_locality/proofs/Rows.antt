@@ -5,8 +5,7 @@ use Rattle.std.specs.BTreeMap.{is_at}
 use Rattle.pim_types.specs.declared.fact.Key.{Key}
 use Rattle.pim_types.specs.Keys.{key_cmp, same_key, is_on}
 use Rattle.pim_types.proofs.Keys.{equal_keys}
-use Rattle.pim_model.specs.Tables.{Table, row_at, has_row, rows_on}
-use Rattle.pim_laws.specs.Rows.{rows_where}
+use Rattle.pim_model.specs.Tables.{Table, row_at, has_row, rows_on, rows_where}
 
 module _ {R : Type 0} (sees : Key → Bool) (k : Key) (seen : sees k ≡ true) where
   step : (x : Key × R) (xs : Table R) (b : Bool) → sees x.0 ≡ b

@@ -12,7 +12,7 @@ use Rattle.pim_types.specs.declared.upstream.TreeState.{TreeState}
 use Rattle.pim_model.specs.Desires.{is_immediate_empty, is_inherited_empty, join_desired, join_desired_star, prune_desired, rpf_rpt, rpf_source, rpf_star, tree_state, winner_hop}
 use Rattle.pim_model.specs.Receivers.{is_exclude, local_receiver_exclude, local_receiver_exclude_among, local_receiver_include, local_receiver_include_among}
 use Rattle.pim_model.specs.Registers.{could_register, has_other_rp}
-use Rattle.pim_model.specs.Sets.{Set, assert_source, assert_star, immediate_olist, immediate_olist_star, inherited_olist, inherited_olist_rpt, is_better, is_empty, is_kept_alive, lost_assert, lost_assert_rpt, lost_assert_star, pim_exclude, pim_include, pim_include_star, route_metric, rpt_metric, serves, serves_star, spt_metric, tunnel, ◌∖◌, ◌∪◌}
+use Rattle.pim_model.specs.Sets.{Set, assert_source, assert_star, immediate_olist, immediate_olist_star, inherited_olist, inherited_olist_rpt, is_beaten, is_better, is_empty, is_kept_alive, lost_assert, lost_assert_rpt, lost_assert_star, pim_exclude, pim_include, pim_include_star, route_metric, rpt_metric, serves, serves_star, spt_metric, tunnel, ◌∖◌, ◌∪◌}
 use Rattle.pim_model.specs.State.{State, is_own, is_own_among, my_address}
 use Rattle.pim_model.specs.Tables.{below, same_hop, same_option}
 use Rattle.pim_model.specs.Unicast.{is_connected, is_rpf_interface, is_rpf_interface_rp, rpf_interface, rpf_interface_rp}
@@ -144,7 +144,7 @@ module _ (g src : ℕ) (s t : State) (sees : SeesSource g src s t) where
       ∙ sym (by_winner (spt_metric t src i) (assert_source t g src i))
 
   pub lost_assert_same : lost_assert s g src ≡ lost_assert t g src
-  unfolding lost_assert
+  unfolding lost_assert is_beaten
   lost_assert_same = λ j i.
       not (rpf_at_same i j) && sees.losers i j
       && better_same i j

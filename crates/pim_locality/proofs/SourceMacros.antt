@@ -12,7 +12,7 @@ use Rattle.pim_types.specs.declared.upstream.TreeState.{TreeState}
 use Rattle.pim_model.specs.Desires.{is_immediate_empty, is_inherited_empty, join_desired, prune_desired, rpf_rpt, rpf_source, tree_state, winner_hop}
 use Rattle.pim_model.specs.Neighbours.{nbr}
 use Rattle.pim_model.specs.Receivers.{is_exclude, local_receiver_exclude, local_receiver_exclude_among, local_receiver_include, local_receiver_include_among, source_record}
-use Rattle.pim_model.specs.Sets.{assert_source, immediate_olist, inherited_olist, inherited_olist_rpt, is_better, is_empty, is_kept_alive, is_loser, is_register_join, is_winner, joins, lost_assert, lost_assert_rpt, pim_exclude, pim_include, prunes, route_metric, serves, spt_bit, spt_metric, tunnel, ◌∖◌, ◌∪◌}
+use Rattle.pim_model.specs.Sets.{assert_source, immediate_olist, inherited_olist, inherited_olist_rpt, is_beaten, is_better, is_empty, is_kept_alive, is_loser, is_register_join, is_winner, joins, lost_assert, lost_assert_rpt, pim_exclude, pim_include, prunes, route_metric, serves, spt_bit, spt_metric, tunnel, ◌∖◌, ◌∪◌}
 use Rattle.pim_model.specs.State.{State, is_own, my_address}
 use Rattle.pim_types.specs.Keys.{rpt_key, source_key, star_key}
 use Rattle.pim_model.specs.Tables.{same_hop}
@@ -85,7 +85,7 @@ module _ (sees : Key → Bool) (s : State) (g src : ℕ) (rows : ReadsSource see
   spt_metric_local i = λ j. route_metric false (my_address s i) (is_own s src) (route_local sees s src j)
 
   lost_assert_local : lost_assert (scope sees s) g src ≡ lost_assert s g src
-  unfolding lost_assert
+  unfolding lost_assert is_beaten
   lost_assert_local = λ j i.
       not (rpf_at sees s src i j) && is_loser (assert_source_local j i)
       && option_map_or (λ (r : AssertRow). is_better r.winner (spt_metric_local i j)) (assert_source_local j i) false

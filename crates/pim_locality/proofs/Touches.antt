@@ -18,10 +18,9 @@ use Rattle.pim_wire.specs.Values.{JoinPrune}
 use Rattle.pim_model.specs.Downstream.{asserts_after_joins, is_named, joined_keys, keys_taken, pruned_keys, row_after, rpt_rows_joined, to_me, touched_keys}
 use Rattle.pim_model.specs.Sets.{is_loser}
 use Rattle.pim_model.specs.State.{State}
-use Rattle.pim_model.specs.Tables.{Table, keys_in, set_row}
+use Rattle.pim_model.specs.Tables.{Table, keys_in, rows_where, set_row}
 use Rattle.pim_laws.proofs.ListLaws.{any_more}
 use Rattle.pim_locality.specs.Locality.{AgreesBut, IsClosed, touching}
-use Rattle.pim_laws.specs.Rows.{rows_where}
 use Rattle.pim_locality.specs.Scopes.{reads, scope}
 use Rattle.pim_locality.proofs.Asserts.{reads_itself, reads_through, stars_read}
 use Rattle.pim_laws.proofs.RowChanges.{filtered_elsewhere, set_elsewhere}

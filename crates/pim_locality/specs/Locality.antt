@@ -18,10 +18,9 @@ use Rattle.pim_model.specs.Writing.{write_all}
 use Rattle.pim_types.specs.declared.outcome.Emission.{Emission}
 use Rattle.pim_model.specs.Repeat.{until_none}
 use Rattle.pim_model.specs.State.{State, opening}
-use Rattle.pim_model.specs.Tables.{has_row, keys_in, same_bool, set_row, Table}
+use Rattle.pim_model.specs.Tables.{has_row, keys_in, rows_where, same_bool, set_row, Table}
 use Rattle.pim_types.specs.Keys.{group_in, key_cmp, source_in, source_key, star_key}
 use Rattle.pim_model.specs.Upstream.{fact_keys, group_upstream, groups_of, nothing_told, source_upstream, source_view, sources_of, star_told, star_view, upstream}
-use Rattle.pim_laws.specs.Rows.{rows_where}
 use Rattle.pim_locality.specs.Scopes.{reads, rows_of, scope}
 
 abbrev pub StarDesiresAreLocal : Type 0

@@ -4,8 +4,7 @@ use Rattle.pim_types.specs.declared.fact.InterfaceRow.{InterfaceRow}
 use Rattle.pim_types.specs.declared.fact.NeighbourRow.{NeighbourRow}
 use Rattle.pim_types.specs.declared.fact.Key.{Key}
 use Rattle.pim_model.specs.State.{State}
-use Rattle.pim_model.specs.Tables.{Table}
-use Rattle.pim_laws.specs.Rows.{rows_where}
+use Rattle.pim_model.specs.Tables.{Table, rows_where}
 use Rattle.pim_types.specs.Keys.{group_in, is_of_group, source_in}
 
 -- The machines of a key are that of (*,G), or those of (S,G) and (S,G,rpt). They read the rows of (*,G), and those of

@@ -6,10 +6,10 @@ use Rattle.pim_types.specs.declared.fact.AssertMetric.{AssertMetric}
 use Rattle.pim_types.specs.declared.fact.AssertRole.{AssertRole}
 use Rattle.pim_types.specs.declared.fact.AssertRow.{AssertRow}
 use Rattle.pim_types.specs.Keys.{source_key}
-use Rattle.pim_model.specs.Sets.{Set, is_better, is_loser, is_winner, spt_metric}
+use Rattle.pim_model.specs.Sets.{Set, is_beaten, is_better, is_loser, is_winner, spt_metric}
 use Rattle.pim_model.specs.State.{State}
 use Rattle.pim_model.specs.Tables.{has_row, row_at}
-use Rattle.pim_macros.specs.Sights.{Shows, is_beaten}
+use Rattle.pim_macros.specs.Sights.{Shows}
 
 some_row : (test : AssertRow → Bool) (o : Option AssertRow)
     → (is_some o && option_map_or test o false) ≡ option_map_or test o false

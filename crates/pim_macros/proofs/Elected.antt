@@ -11,9 +11,8 @@ use Rattle.pim_wire.specs.declared.hello.Hello.{Hello as HelloValue}
 use Rattle.pim_model.specs.Hellos.{neighbours_replaced}
 use Rattle.pim_model.specs.State.{address_among, value_among}
 use Rattle.pim_model.specs.Neighbours.{is_dr_among}
-use Rattle.pim_model.specs.Tables.{Table, drop_at, drop_where, rows_on, set_row}
+use Rattle.pim_model.specs.Tables.{Table, drop_at, drop_where, rows_on, rows_where, set_row}
 use Rattle.pim_laws.proofs.ListLaws.{filter_within}
-use Rattle.pim_laws.specs.Rows.{rows_where}
 use Rattle.pim_laws.proofs.RowChanges.{set_elsewhere}
 use Rattle.pim_macros.specs.Sights.{Shows, is_dr_on}
 

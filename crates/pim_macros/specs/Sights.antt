@@ -1,16 +1,14 @@
 -- What a sight shows of a state: each of its fields by the definition.
-use Rattle.std.specs.Option.{option_map_or}
-use Rattle.std.specs.Prelude.{List, Option, Some, false, nat_lt, not, option_map, ℕ, ◌&&◌, ◌||◌, ◌≡◌}
+use Rattle.std.specs.Prelude.{List, Option, Some, nat_lt, not, option_map, ℕ, ◌&&◌, ◌||◌, ◌≡◌}
 use Rattle.pim_ip.specs.declared.addr.Addr.{Addr}
 use Rattle.pim_ifset.specs.Members.{Members, has}
 use Rattle.pim_types.specs.declared.config.InterfaceConfig.{InterfaceConfig}
-use Rattle.pim_types.specs.declared.fact.AssertRow.{AssertRow}
 use Rattle.pim_types.specs.declared.fact.NeighbourRow.{NeighbourRow}
 use Rattle.pim_types.specs.declared.path.Path.{Path}
 use Rattle.pim_model.specs.Desires.{join_desired, join_desired_star, winner_hop}
 use Rattle.pim_model.specs.Neighbours.{is_dr, is_dr_among, nbr}
 use Rattle.pim_model.specs.Receivers.{is_exclude, local_receiver_exclude, local_receiver_include}
-use Rattle.pim_model.specs.Sets.{Set, assert_source, assert_star, is_better, is_kept_alive, is_loser, is_winner, joins, joins_star, pim_exclude, pim_include_star, prunes, spt_bit, spt_metric, tunnel, ◌∖◌, ◌∪◌}
+use Rattle.pim_model.specs.Sets.{Set, assert_source, assert_star, is_beaten, is_kept_alive, is_loser, is_winner, joins, joins_star, pim_exclude, pim_include_star, prunes, spt_bit, tunnel, ◌∖◌, ◌∪◌}
 use Rattle.pim_model.specs.State.{State, address_among, value_among}
 use Rattle.pim_model.specs.Tables.{Table, rows_on, same_option}
 use Rattle.pim_model.specs.Unicast.{is_rpf_interface, is_rpf_interface_rp, route, rp_of, rp_route, rpf_interface, rpf_interface_rp}
@@ -29,11 +27,6 @@ is_dr_on configured neighbours i =
 -- the interface of a route
 abbrev pub is_interface_of : Option Path → Set
 is_interface_of path i = same_option (option_map (λ (p : Path). p.iface.number) path) (Some i)
-
--- the winner of the assert of (S,G) is better than the router is on the shortest path tree
-unfoldable pub is_beaten : State → ℕ → ℕ → Set
-is_beaten s g src i =
-    option_map_or (λ (r : AssertRow). is_better r.winner (spt_metric s src i)) (assert_source s g src i) false
 
 -- where the source is wanted because its group is
 abbrev pub wanted_by_group : State → ℕ → ℕ → Set

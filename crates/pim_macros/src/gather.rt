@@ -1,9 +1,9 @@
 //! Sights, gathered of the state as it is.
 ghost use Rattle.std.specs.Prelude.{◌≡◌, ℕ, option_map};
 ghost use Rattle.pim_ifset.specs.Members.{has};
-ghost use Rattle.pim_macros.specs.Sights.{IsSourceSight, IsStarSight, Shows, is_beaten};
+ghost use Rattle.pim_macros.specs.Sights.{IsSourceSight, IsStarSight, Shows};
 ghost use Rattle.pim_model.specs.Desires.{winner_hop};
-ghost use Rattle.pim_model.specs.Sets.{is_kept_alive, spt_bit, tunnel};
+ghost use Rattle.pim_model.specs.Sets.{is_beaten, is_kept_alive, spt_bit, tunnel};
 ghost use Rattle.pim_model.specs.Tables.{has_row, row_at};
 ghost use Rattle.pim_model.specs.Unicast.{route};
 ghost use Rattle.pim_types.specs.Keys.{source_key};
@@ -58,7 +58,7 @@ impl World {
     }
 
     // Whether the winner of the assert of (S,G) on the interface is better than spt_assert_metric(S,I).
-    #[tactic(auto, unfolding(crate::specs::Sights::is_beaten, pim_model::specs::Sets::spt_metric))]
+    #[tactic(auto, unfolding(pim_model::specs::Sets::is_beaten, pim_model::specs::Sets::spt_metric))]
     fn is_beaten(&self, iface: IfaceId, group: Addr, source: Addr, path: Option<Path>) -> bool
         requires { path ≡ route self.now source.bits }
         ensures { result ≡ is_beaten self.now group.bits source.bits iface.number }

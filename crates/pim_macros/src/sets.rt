@@ -20,7 +20,7 @@ impl World {
     }
 
     /// lost_assert(S,G) (RFC 7761, section 4.6.5).
-    #[tactic(auto, unfolding(pim_model::specs::Sets::lost_assert, pim_model::specs::Unicast::rpf_interface, crate::specs::Sights::is_beaten))]
+    #[tactic(auto, unfolding(pim_model::specs::Sets::lost_assert, pim_model::specs::Unicast::rpf_interface, pim_model::specs::Sets::is_beaten))]
     pub fn lost_assert(&self, sight: &SourceSight) -> IfSet
         requires { IsSourceSight self.now sight.now }
         ensures { Shows result (lost_assert self.now sight.now.star.group.bits sight.now.source.bits) }

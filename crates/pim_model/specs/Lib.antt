@@ -26,6 +26,10 @@ pub mod Judging
 pub mod Full
 pub mod Step
 pub mod Cause
+pub mod Cache
+pub mod Plain
+pub mod Rows
+pub mod Reach
 pub mod Sure
 pub mod Printed
 pub mod Network

@@ -143,14 +143,17 @@ lost_assert_rpt s g src i =
     not (is_rpf_interface_rp s g i || (is_rpf_interface s src i && spt_bit s g src))
     && is_loser (assert_source s g src i)
 
--- lost_assert(S,G) (RFC 7761, section 4.6.5): the winner's metric is better than the router's own on the shortest
--- path tree
+-- the winner of the assert of (S,G) is better than the router is on the shortest path tree
+-- reads: the assert of (S,G) on the interface; spt_assert_metric(S,I)
+unfoldable pub is_beaten : State → ℕ → ℕ → Set
+is_beaten s g src i =
+    option_map_or (λ (r : AssertRow). is_better r.winner (spt_metric s src i)) (assert_source s g src i) false
+
+-- lost_assert(S,G) (RFC 7761, section 4.6.5)
 -- reads: the assert of (S,G) on the interface; RPF_interface(S), spt_assert_metric(S,I)
 unfoldable pub lost_assert : State → ℕ → ℕ → Set
 lost_assert s g src i =
-    not (is_rpf_interface s src i)
-    && is_loser (assert_source s g src i)
-    && option_map_or (λ (r : AssertRow). is_better r.winner (spt_metric s src i)) (assert_source s g src i) false
+    not (is_rpf_interface s src i) && is_loser (assert_source s g src i) && is_beaten s g src i
 
 -- ---- local receivers
 

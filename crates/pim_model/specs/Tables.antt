@@ -45,6 +45,10 @@ module _ {R : Type 0} where
   set_row t k None = drop_at t k
   set_row t k (Some row) = put t k row
 
+  -- the rows whose key passes
+  unfoldable pub rows_where : (Key → Bool) → Table R → Table R
+  rows_where test t = filter (λ e. test e.0) t
+
   -- the rows of an interface
   unfoldable pub rows_on : ℕ → Table R → Table R
   rows_on i t = filter (λ e. is_on i e.0) t

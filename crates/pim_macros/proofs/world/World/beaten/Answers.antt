@@ -1,6 +1,6 @@
 use Rattle.std.proofs.Common.{arith}
 use Rattle.std.proofs.lemmas.Grind.{common_steps}
-use Rattle.pim_macros.specs.Sights.{is_beaten}
+use Rattle.pim_model.specs.Sets.{is_beaten}
 use Rattle.pim_macros.proofs.Asserted.{beaten_where_asserted}
 use Rattle.pim_macros.proofs.world.World.beaten.Goals as goal
 

@@ -1,0 +1,40 @@
+-- A plain data event, by what it does: a data packet of a source with a fact, after which nothing but the end of that
+-- fact's keepalive timer differs, and which leaves as copies on links alone. A timer that didn't run and then does
+-- counts as an end that differs.
+use Rattle.std.specs.List.{All}
+use Rattle.std.specs.Prelude.{Ok, Option, Some, ℕ, ◌≡◌}
+use Rattle.pim_ip.specs.Ipv4.{Packet, copy_text}
+use Rattle.pim_types.specs.Keys.{source_key}
+use Rattle.pim_types.specs.declared.config.IfaceId.{IfaceId}
+use Rattle.pim_types.specs.declared.event.Event.{Event}
+use Rattle.pim_types.specs.declared.fact.Key.{Key}
+use Rattle.pim_types.specs.declared.fact.SourceRow.{SourceRow}
+use Rattle.pim_types.specs.declared.outcome.Emission.{Emission}
+use Rattle.pim_types.specs.declared.outcome.Verdict.{Verdict}
+use Rattle.pim_model.specs.declared.accepted.Accepted.{Accepted}
+use Rattle.pim_model.specs.Judging.{judged}
+use Rattle.pim_model.specs.State.{State}
+use Rattle.pim_model.specs.Step.{step}
+use Rattle.pim_model.specs.Tables.{put, row_at}
+use Rattle.pim_model.specs.Writing.{on_link}
+
+-- the fact of a packet's source
+abbrev pub fact_key : Packet → Key
+fact_key p = source_key 0 p.destination p.source
+
+pub record IsCopy (p : Packet) (e : Emission) : Type 0 where
+  pub link : ℕ
+  pub copied : e ≡ on_link link (copy_text p)
+
+pub record IsPlainEvent (s : State) (e : Event) : Type 0 where
+  -- a data packet on a link
+  pub iif : IfaceId
+  pub packet : Packet
+  pub heard : judged s e.kind ≡ Ok (Accepted.Data iif packet)
+  pub done : (step s e).answer ≡ Ok Verdict.Done
+  -- the fact of its source, and the end of its keepalive timer after it
+  pub fact : SourceRow
+  pub known : row_at s.sources (fact_key packet) ≡ Some fact
+  pub end : Option ℕ
+  pub rest : (step s e).state ≡ record s { sources = put s.sources (fact_key packet) (record fact { keepalive = end }) }
+  pub copies : All (IsCopy packet) (step s e).emissions

@@ -1,0 +1,99 @@
+-- The reach of an event: the sources with a fact of which a row, or a route, differs between two of the states that
+-- the event passes through. Of an Advance it is the reaches of its firings.
+use Rattle.std.specs.List.{list_any}
+use Rattle.std.specs.Prelude.{Bool, List, [], false, filter, length, not, ℕ, ◌&&◌, ◌++◌, ◌+◌, ◌-◌, ◌||◌, ◌∷◌}
+use Rattle.pim_types.specs.Keys.{group_in, is_of_group, is_star, names_source, source_in}
+use Rattle.pim_types.specs.declared.fact.Key.{Key}
+use Rattle.pim_model.specs.declared.accepted.Accepted.{Accepted}
+use Rattle.pim_model.specs.Clearing.{Cleared, clear, clearable_count, cleared, to_clear}
+use Rattle.pim_model.specs.Firing.{fire_once, fired}
+use Rattle.pim_model.specs.Registers.{settle_registers}
+use Rattle.pim_model.specs.Repeat.{until_none}
+use Rattle.pim_model.specs.Rows.{same_assert, same_both, same_downstream, same_group_record, same_interface, same_neighbour, same_path, same_register, same_rows, same_source, same_source_record}
+use Rattle.pim_model.specs.State.{State}
+use Rattle.pim_model.specs.Step.{change}
+use Rattle.pim_model.specs.Tables.{Table, has_row, keys_in, rows_where, same_option}
+use Rattle.pim_model.specs.Timers.{Ending, next_due, timers}
+use Rattle.pim_model.specs.Unicast.{route, rp_of, rp_route}
+
+-- ---- two states
+
+-- a key of (*,G)
+abbrev pub names_star : ℕ → Key → Bool
+names_star g k = is_of_group g k && is_star k
+
+-- of the rows whose key passes none differs
+abbrev pub alike_where : {R : Type 0} → (R → R → Bool) → (Key → Bool) → Table R → Table R → Bool
+alike_where same test t u = same_rows same (rows_where test t) (rows_where test u)
+
+-- for a source no row of (S,G) or (S,G,rpt) differs, no group record, no downstream or assert row of (*,G), and none of
+-- route(S), RP(G) and route(RP(G))
+unfoldable pub is_same_for : ℕ → ℕ → State → State → Bool
+is_same_for g src s t =
+    alike_where same_source_record (names_source g src) s.source_records t.source_records
+    && alike_where same_downstream (names_source g src) s.downstream t.downstream
+    && alike_where same_assert (names_source g src) s.asserts t.asserts
+    && alike_where same_source (names_source g src) s.sources t.sources
+    && alike_where same_register (names_source g src) s.registers t.registers
+    && alike_where same_group_record (names_star g) s.group_records t.group_records
+    && alike_where same_downstream (names_star g) s.downstream t.downstream
+    && alike_where same_assert (names_star g) s.asserts t.asserts
+    && same_both same_path (route s src) (route t src) && same_option (rp_of s g) (rp_of t g)
+    && same_both same_path (rp_route s g) (rp_route t g)
+
+-- no interface row and no neighbour row differs
+unfoldable pub keeps_neighbours : State → State → Bool
+keeps_neighbours s t =
+    same_rows same_interface s.interfaces t.interfaces && same_rows same_neighbour s.neighbours t.neighbours
+
+-- ---- the states that a change passes through
+
+abbrev pub to_next : State → Cleared → State × List State
+to_next s c = let next : State = (cleared s c).0 in (next, next ∷ [])
+
+-- the opening, the state after the own change, that with the registers settled, and those after each fact that goes
+unfoldable pub passes : State → State → List State
+passes o changed =
+    let settled : State = settle_registers changed in
+    let clearings : State × List State = until_none (to_clear o) to_next (clearable_count settled) settled in
+    o ∷ changed ∷ settled ∷ clearings.1
+
+-- two of the states differ for the source
+unfoldable pub differs_among : ℕ → ℕ → List State → Bool
+differs_among g src [] = false
+differs_among g src (s ∷ later) =
+    list_any (λ t. not (is_same_for g src s t)) later || differs_among g src later
+
+-- ---- reach
+
+-- the sources with a fact before or after
+unfoldable pub with_facts : State → State → List Key
+with_facts o a = keys_in o.sources ++ filter (λ k. not (has_row o.sources k)) (keys_in a.sources)
+
+-- of an event or a firing, by its opening and its own change
+unfoldable pub reach : State → State → List Key
+reach o changed =
+    filter (λ k. differs_among (group_in k) (source_in k) (passes o changed)) (with_facts o (clear o changed).0)
+
+-- ---- firings
+
+-- the own change of a timer's end
+unfoldable pub own_firing : State → Ending → State
+own_firing s e = (fired (record s { present = e.end }) e.timer.kind e.timer.key).0
+
+-- what is told of each firing, by its opening and its own change: the firings are those of `fire_all`, in its order
+module _ {X : Type 0} (told : State → State → List X) (w : ℕ) where
+  unfoldable pub told_once : State → Ending → State × List X
+  told_once s e = ((fire_once w s e).0, told s (own_firing s e))
+
+  unfoldable pub told_instant : State → Ending → State × List X
+  told_instant s e = until_none (next_due e.end) told_once (length (timers s) + 1) s
+
+  unfoldable pub told_all : ℕ → State → State × List X
+  told_all moment s = until_none (next_due moment) told_instant (moment + 2 - s.present) s
+
+-- of any event that is accepted; of an Advance the reaches of its firings, one after the other, so that a source stands
+-- in it once for each firing that reaches it
+unfoldable pub reach_of : State → ℕ → Accepted → List Key
+reach_of s w (Accepted.Advance moment) = (told_all reach w moment s).1
+reach_of s w a = reach s (change s w a).state
