@@ -1,4 +1,5 @@
 pub mod AbsentGroups
+pub mod Accepted
 pub mod ChosenRows
 pub mod ClearingLaws
 pub mod DueKept

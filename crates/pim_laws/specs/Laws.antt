@@ -13,7 +13,7 @@ use Rattle.pim_model.specs.Firing.{fire_all, fire_instant, fire_once}
 use Rattle.pim_model.specs.Limits.{config_test}
 use Rattle.pim_model.specs.Repeat.{and_then}
 use Rattle.pim_model.specs.State.{State, opening}
-use Rattle.pim_model.specs.Step.{Answered, advanced, run, state_after, step}
+use Rattle.pim_model.specs.Step.{Answered, advanced, step}
 use Rattle.pim_types.specs.Keys.{group_in, iface_in, iface_key, is_of_group, same_key, source_in, source_key, star_key}
 use Rattle.pim_model.specs.Desires.{join_desired_star}
 use Rattle.pim_model.specs.Tables.{ascending, is_among}

@@ -12,6 +12,7 @@ use Rattle.pim_types.specs.declared.fact.SourceRow.{SourceRow}
 use Rattle.pim_types.specs.declared.config.Config.{Config}
 use Rattle.pim_types.specs.declared.fact.Key.{Key}
 use Rattle.pim_types.specs.Keys.{is_of_group, key_cmp, same_key, source_in, star_key, group_in}
+use Rattle.pim_types.proofs.Keys.{key_cmp_total}
 use Rattle.pim_model.specs.State.{State, opening}
 use Rattle.pim_model.specs.Tables.{Table, ascending, has_row, keys_in, row_at, rows_where}
 use Rattle.pim_model.specs.Messages.{Message}
@@ -103,6 +104,12 @@ unfolding scope
 present_touches_none s m h e = refl
 
 -- ---- in tables whose keys rise each key stands once
+
+-- what is above a key is above each one below it
+pub all_later : (k q : Key) (ks : List Key) → key_cmp k q ≡ Less → AllByRecursion (λ y. key_cmp q y ≡ Less) ks
+    → AllByRecursion (λ y. key_cmp k y ≡ Less) ks
+all_later k q [] e all = tt
+all_later k q (y ∷ ks) e all = (key_cmp_total.trans k q y e all.0, all_later k q ks e all.1)
 
 module _ {R : Type 0} where
   below_step : (k q : Key) (r : R) (o : Option R) → key_cmp k q ≡ Less → is_some o ≡ false

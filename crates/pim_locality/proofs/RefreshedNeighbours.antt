@@ -1,5 +1,5 @@
 -- A Hello that says again what it said touches nothing.
-use Rattle.std.proofs.Common.{◌≡◌, ◌==◌, ℕ, Bool, true, false, cond, List, [], ◌∷◌, map, Option, Some, None, is_some, refl, sym, ap, ◌∙◌}
+use Rattle.std.proofs.Common.{◌≡◌, ◌==◌, ℕ, Bool, true, false, cond, [], ◌∷◌, map, Option, Some, None, is_some, refl, sym, ap, ◌∙◌}
 use Rattle.std.specs.BTreeMap.{insert_entry}
 use Rattle.std.specs.List.{AllByRecursion}
 use Rattle.std.specs.List.Sorted.{IsStrictlySortedBy}
@@ -16,13 +16,7 @@ use Rattle.pim_model.specs.Tables.{Table, has_row, keys_in, put, row_at, set_row
 use Rattle.pim_types.specs.Keys.{key_cmp, neighbour_key}
 use Rattle.pim_locality.specs.Locality.{AgreesBut, touching}
 use Rattle.pim_locality.specs.Scopes.{only_priority, reads, scope}
-use Rattle.pim_types.proofs.Keys.{key_cmp_total}
-use Rattle.pim_locality.proofs.OwnKeys.{none_below}
-
-all_later : (k q : Key) (ks : List Key) → key_cmp k q ≡ Less → AllByRecursion (λ y. key_cmp q y ≡ Less) ks
-    → AllByRecursion (λ y. key_cmp k y ≡ Less) ks
-all_later k q [] e all = tt
-all_later k q (y ∷ ks) e all = (key_cmp_total.trans k q y e all.0, all_later k q ks e all.1)
+use Rattle.pim_locality.proofs.OwnKeys.{all_later, none_below}
 
 module _ (k : Key) (row old : NeighbourRow) (same : row.priority ≡ old.priority) where
   refreshed_step : (x : Key × NeighbourRow) (xs : Table NeighbourRow) (o : Ordering) → key_cmp k x.0 ≡ o

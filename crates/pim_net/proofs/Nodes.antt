@@ -5,24 +5,14 @@ use Rattle.std.specs.List.{list_all}
 use Rattle.pim_ip.specs.Tests.{expect, ◌>>◌}
 use Rattle.pim_ip.specs.declared.refusal.Refusal.{Refusal}
 use Rattle.pim_types.specs.declared.config.Config.{Config}
-use Rattle.pim_model.specs.Limits.{config_test, is_between, most_ifaces}
+use Rattle.pim_model.specs.Limits.{config_test}
 use Rattle.pim_model.specs.Network.{Sent, Station, configs_test, is_node, most_routers, network, nodes_test, station_of}
+use Rattle.pim_laws.proofs.Accepted.{few_interfaces}
 use Rattle.pim_net.specs.Ports.{first_ports, ports_from}
 use Rattle.pim_net.specs.Showing.{all_of, node_of}
 use Rattle.pim_net.specs.declared.node.Node.{Node}
 use Rattle.pim_net.proofs.Lookups.{shown}
 use Rattle.pim_net.proofs.Stations.{all_there}
-
-first_passes : (b : Bool) (e : Refusal) (later : Result (Unit {0}) Refusal) → (expect b e >> later) ≡ Ok tt → b ≡ true
-first_passes true e later is = refl
-first_passes false e later is = cc is
-
--- an accepted configuration has at most 120 interfaces
-pub few_interfaces : (c : Config) → config_test c ≡ Ok tt → length c.interfaces ≤ 120
-unfolding config_test
-few_interfaces c ok =
-    let between : is_between 1 most_ifaces (length c.interfaces) ≡ true = first_passes _ _ _ ok in
-    grind (arith, nat_tests, between)
 
 abbrev pub configs_of : List Node → List Config
 configs_of nodes = map (λ (n : Node). n.config) nodes

@@ -1,5 +1,5 @@
 use Rattle.std.proofs.Common.{arith}
-use Rattle.pim_net.proofs.Nodes.{few_interfaces}
+use Rattle.pim_laws.proofs.Accepted.{few_interfaces}
 use Rattle.pim_net.proofs.Stations.{of_ok}
 use Rattle.pim_net.proofs.station.Station.open.Goals as goal
 
