@@ -1,0 +1,177 @@
+-- Where two states agree on a source, nothing of it differs; so a source beside the touched keys isn't named.
+use Rattle.std.proofs.Common.{◌≡◌, ◌==◌, ℕ, Bool, true, false, ◌&&◌, ◌||◌, [], ◌∷◌, filter, Option, Some, None, is_none, is_some, refl, sym, ap, ◌∙◌, eq-eqb}
+use Rattle.std.specs.Cmp.Derive.{both_true}
+use Rattle.std.specs.Option.{option_map_or}
+use Rattle.pim_ip.specs.declared.addr.Addr.{Addr}
+use Rattle.pim_types.specs.declared.fact.AssertMetric.{AssertMetric}
+use Rattle.pim_types.specs.declared.fact.AssertRow.{AssertRow}
+use Rattle.pim_types.specs.declared.fact.DownstreamRow.{DownstreamRow}
+use Rattle.pim_types.specs.declared.fact.Key.{Key}
+use Rattle.pim_types.specs.declared.fact.RegisterRow.{RegisterRow}
+use Rattle.pim_types.specs.declared.fact.RegisterState.{RegisterState}
+use Rattle.pim_types.specs.declared.fact.SourceRow.{SourceRow}
+use Rattle.pim_types.specs.Keys.{group_in, names_source, source_in, source_key}
+use Rattle.pim_types.proofs.Keys.{same_key_same}
+use Rattle.pim_model.specs.Reach.{is_same_for, names_star}
+use Rattle.pim_model.specs.Rows.{same_assert, same_downstream, same_group_record, same_metric, same_register, same_register_state, same_rows, same_source, same_source_record}
+use Rattle.pim_model.specs.Sets.{is_winner}
+use Rattle.pim_model.specs.State.{State}
+use Rattle.pim_model.specs.Tables.{Table, rows_where}
+use Rattle.pim_model.specs.Unicast.{route, rp_of, rp_route}
+use Rattle.pim_laws.proofs.ListLaws.{filter_within}
+use Rattle.pim_locality.specs.Locality.{AgreesOn}
+use Rattle.pim_locality.specs.Scopes.{reads, scope}
+use Rattle.pim_locality.proofs.SharedMacros.{route_local, rp_of_local, rp_route_local}
+use Rattle.pim_locality.proofs.UntoldKeys.{same_by_scope}
+use Rattle.pim_reach.specs.Named.{is_named}
+use Rattle.pim_reach.proofs.Reached.{same_is_unnamed}
+use Rattle.pim_reach.proofs.Sights.{bool_itself, options_same, paths_same}
+use Rattle.pim_reach.proofs.Unreached.{Around}
+
+-- ---- rows like themselves
+
+module _ {R : Type 0} (same : R → R → Bool) (itself : (r : R) → same r r ≡ true) where
+  rows_itself : (t : Table R) → same_rows same t t ≡ true
+  unfolding same_rows
+  rows_itself [] = refl
+  rows_itself (x ∷ xs) = both_true (both_true (same_key_same x.0) (itself x.1)) (rows_itself xs)
+
+  pub rows_equal : (t u : Table R) → t ≡ u → same_rows same t u ≡ true
+  rows_equal t u e = ap (same_rows same t) (sym e) ∙ rows_itself t
+
+metric_itself : (m : AssertMetric) → same_metric m m ≡ true
+metric_itself m =
+    both_true
+    (both_true
+    (both_true (bool_itself m.rpt) (eq-eqb m.preference m.preference refl)) (eq-eqb m.metric m.metric refl))
+    (eq-eqb m.address.bits m.address.bits refl)
+
+assert_itself : (r : AssertRow) → same_assert r r ≡ true
+assert_itself r = both_true (bool_itself (is_winner (Some r))) (metric_itself r.winner)
+
+downstream_itself : (r : DownstreamRow) → same_downstream r r ≡ true
+downstream_itself r = both_true (bool_itself (is_some r.expiry)) (bool_itself (is_some r.pending))
+
+source_itself : (r : SourceRow) → same_source r r ≡ true
+source_itself r = both_true (bool_itself (is_some r.keepalive)) (bool_itself r.spt)
+
+pub register_itself : (r : RegisterRow) → same_register r r ≡ true
+register_itself r = go r.state
+  where
+    go : (x : RegisterState) → same_register_state x x ≡ true
+    go RegisterState.Join = refl
+    go (RegisterState.JoinPending end) = refl
+    go (RegisterState.Prune end) = refl
+
+-- ---- rows that fewer keys pass
+
+pub rows_within : {R : Type 0} (p q : Key → Bool) → ((k : Key) → p k ≡ true → q k ≡ true) → (t u : Table R)
+    → rows_where q t ≡ rows_where q u → rows_where p t ≡ rows_where p u
+unfolding rows_where
+rows_within p q more t u e =
+    sym (filter_within (λ x. p x.0) (λ x. q x.0) (λ x. more x.0) t)
+    ∙ (ap (filter (λ x. p x.0)) e ∙ filter_within (λ x. p x.0) (λ x. q x.0) (λ x. more x.0) u)
+
+-- the rows of (*,G), and those of a source, are the same
+pub record SameStarRows (g : ℕ) (s t : State) : Type 0 where
+  pub group_records : rows_where (names_star g) s.group_records ≡ rows_where (names_star g) t.group_records
+  pub downstream : rows_where (names_star g) s.downstream ≡ rows_where (names_star g) t.downstream
+  pub asserts : rows_where (names_star g) s.asserts ≡ rows_where (names_star g) t.asserts
+
+pub record SameSourceRows (g src : ℕ) (s t : State) : Type 0 where
+  pub source_records : rows_where (names_source g src) s.source_records
+      ≡ rows_where (names_source g src) t.source_records
+  pub downstream : rows_where (names_source g src) s.downstream ≡ rows_where (names_source g src) t.downstream
+  pub asserts : rows_where (names_source g src) s.asserts ≡ rows_where (names_source g src) t.asserts
+  pub sources : rows_where (names_source g src) s.sources ≡ rows_where (names_source g src) t.sources
+  pub registers : rows_where (names_source g src) s.registers ≡ rows_where (names_source g src) t.registers
+
+-- then nothing differs, with the same routes
+pub same_with_rows : (g src : ℕ) (s t : State) → SameStarRows g s t → SameSourceRows g src s t
+    → route s src ≡ route t src → rp_of s g ≡ rp_of t g → rp_route s g ≡ rp_route t g → is_same_for g src s t ≡ true
+unfolding is_same_for
+same_with_rows g src s t star rows path rp rp_path =
+    both_true (both_true (both_true (both_true (both_true (both_true (both_true (both_true (both_true (both_true
+    (rows_equal same_source_record (λ r. bool_itself (is_some r.end)) _ _ rows.source_records)
+    (rows_equal same_downstream downstream_itself _ _ rows.downstream))
+    (rows_equal same_assert assert_itself _ _ rows.asserts))
+    (rows_equal same_source source_itself _ _ rows.sources))
+    (rows_equal same_register register_itself _ _ rows.registers))
+    (rows_equal same_group_record (λ r. bool_itself (is_some r.end)) _ _ star.group_records))
+    (rows_equal same_downstream downstream_itself _ _ star.downstream))
+    (rows_equal same_assert assert_itself _ _ star.asserts))
+    (paths_same _ _ path))
+    (options_same _ _ rp))
+    (paths_same _ _ rp_path)
+
+-- ---- where they agree on the key of the source
+
+star_reads : (g src : ℕ) (k : Key) (a : Bool) (o : Option Addr) → (a && is_none o) ≡ true
+    → (a && ((option_map_or (λ x. x.bits) o 0 == 0) || (option_map_or (λ x. x.bits) o 0 == src))) ≡ true
+star_reads g src k a None e = e
+star_reads g src k true (Some x) e = cc
+star_reads g src k false (Some x) e = cc
+
+source_reads : (a b c z : Bool) → (a && b && c) ≡ true → (a && (z || c)) ≡ true
+source_reads true true true true e = refl
+source_reads true true true false e = refl
+source_reads true true false z e = cc
+source_reads true false c z e = cc
+source_reads false b c z e = cc
+
+star_read : (g src : ℕ) (k : Key) → names_star g k ≡ true → reads (source_key 0 g src) k ≡ true
+unfolding reads
+star_read g src k e = star_reads g src k (group_in k == g) k.source e
+
+source_read : (g src : ℕ) (k : Key) → names_source g src k ≡ true → reads (source_key 0 g src) k ≡ true
+unfolding reads names_source
+source_read g src k e =
+    source_reads (group_in k == g) (is_some k.source) (source_in k == src) (source_in k == 0) e
+
+module _ (g src : ℕ) (s t : State) (agree : AgreesOn (source_key 0 g src) s t) where
+  agreed_star : SameStarRows g s t
+  unfolding scope
+  agreed_star =
+      let k : Key = source_key 0 g src in
+      record {
+        group_records = rows_within (names_star g) (reads k) (star_read g src) s.group_records t.group_records
+            (ap (λ (u : State). u.group_records) agree);
+        downstream = rows_within (names_star g) (reads k) (star_read g src) s.downstream t.downstream
+            (ap (λ (u : State). u.downstream) agree);
+        asserts = rows_within (names_star g) (reads k) (star_read g src) s.asserts t.asserts
+            (ap (λ (u : State). u.asserts) agree);
+      }
+
+  agreed_source : SameSourceRows g src s t
+  unfolding scope
+  agreed_source =
+      let k : Key = source_key 0 g src in
+      record {
+        source_records = rows_within (names_source g src) (reads k) (source_read g src) s.source_records
+            t.source_records (ap (λ (u : State). u.source_records) agree);
+        downstream = rows_within (names_source g src) (reads k) (source_read g src) s.downstream t.downstream
+            (ap (λ (u : State). u.downstream) agree);
+        asserts = rows_within (names_source g src) (reads k) (source_read g src) s.asserts t.asserts
+            (ap (λ (u : State). u.asserts) agree);
+        sources = rows_within (names_source g src) (reads k) (source_read g src) s.sources t.sources
+            (ap (λ (u : State). u.sources) agree);
+        registers = rows_within (names_source g src) (reads k) (source_read g src) s.registers t.registers
+            (ap (λ (u : State). u.registers) agree);
+      }
+
+  agreed_around : Around s t
+  unfolding scope
+  agreed_around = record {
+    settings = ap (λ (u : State). u.settings) agree;
+    configured = ap (λ (u : State). u.configured) agree;
+    priorities = ap (λ (u : State). u.neighbours) agree;
+  }
+
+  pub agreed_is_unnamed : is_named g src s t ≡ false
+  agreed_is_unnamed =
+      let k : Key = source_key 0 g src in
+      same_is_unnamed g src s t agreed_around
+      (same_with_rows g src s t agreed_star agreed_source
+      (same_by_scope k (λ u. route u src) (λ u. route_local (reads k) u src) s t agree)
+      (same_by_scope k (λ u. rp_of u g) (λ u. rp_of_local (reads k) u g) s t agree)
+      (same_by_scope k (λ u. rp_route u g) (λ u. rp_route_local (reads k) u g) s t agree))

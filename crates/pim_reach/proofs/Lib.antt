@@ -1,0 +1,17 @@
+pub mod Advance
+pub mod Agreed
+pub mod Asked
+pub mod Calm
+pub mod CalmFiring
+pub mod Configured
+pub mod Kept
+pub mod Masks
+pub mod Reached
+pub mod Rerouted
+pub mod SameRows
+pub mod Settled
+pub mod Sights
+pub mod Through
+pub mod Touched
+pub mod Unreached
+pub mod Within

@@ -1,0 +1,713 @@
+-- Where routes change, a source with the same routes isn't named: what goes, and which registers change, is of others.
+use Rattle.std.proofs.Common.{◌≡◌, ◌==◌, ℕ, Bool, true, false, not, ◌&&◌, ◌||◌, cond, List, [], ◌∷◌, ◌++◌, filter, fold, map, Option, Some, None, is_none, is_some, option_and_then, option_map, refl, sym, ap, subst, ◌∙◌, eq-eqb, eqb-true}
+use Rattle.std.proofs.lemmas.List.Folds.{list_all-append}
+use Rattle.std.specs.Cmp.{first_so, second_so}
+use Rattle.std.specs.Cmp.Derive.{both_true}
+use Rattle.std.specs.List.{AllByRecursion, find, list_all}
+use Rattle.std.specs.Option.{option_map_or, option_or}
+use Rattle.pim_ip.specs.declared.addr.Addr.{Addr}
+use Rattle.pim_types.specs.declared.config.Route.{Route}
+use Rattle.pim_types.specs.declared.config.RpRange.{RpRange}
+use Rattle.pim_types.specs.declared.fact.AssertRow.{AssertRow}
+use Rattle.pim_types.specs.declared.fact.GroupRecordRow.{GroupRecordRow}
+use Rattle.pim_types.specs.declared.fact.Key.{Key}
+use Rattle.pim_types.specs.declared.fact.RegisterRow.{RegisterRow}
+use Rattle.pim_types.specs.declared.fact.RegisterState.{RegisterState}
+use Rattle.pim_types.specs.declared.fact.SourceRow.{SourceRow}
+use Rattle.pim_types.specs.Keys.{group_in, iface_in, is_star, names_source, source_in, star_key}
+use Rattle.pim_model.specs.Asserts.{assert_forgotten, could_assert_at, is_tracking_at, my_metric_at, without_spt, without_spt_bit}
+use Rattle.pim_model.specs.Clearing.{ClearAssert, ClearSptBit, Cleared, assert_must_go, assert_to_clear, clear, clear_all, clearable_count, cleared, first_by, is_assert_first, is_rpf_at, spt_must_go, spt_to_clear, to_clear}
+use Rattle.pim_model.specs.declared.accepted.Accepted.{Accepted}
+use Rattle.pim_model.specs.Desires.{join_desired, winner_hop}
+use Rattle.pim_model.specs.Reach.{is_same_for, names_star}
+use Rattle.pim_model.specs.Receivers.{is_exclude, is_exclude_among}
+use Rattle.pim_model.specs.Registers.{could_register, registers_after_rps, settle_registers, settled_register}
+use Rattle.pim_model.specs.Rows.{same_both, same_path}
+use Rattle.pim_model.specs.Sets.{assert_star, is_better, is_kept_alive, is_loser, is_winner, joins_star}
+use Rattle.pim_model.specs.State.{State}
+use Rattle.pim_model.specs.Step.{change, rps_replaced}
+use Rattle.pim_model.specs.Tables.{Table, drop_at, has_row, keys_in, put, row_at, rows_where, same_option}
+use Rattle.pim_model.specs.Unicast.{route, route_among, rp_among, rp_of, rp_route}
+use Rattle.pim_laws.proofs.ListLaws.{all_of_filter, first_of_all}
+use Rattle.pim_laws.proofs.RowChanges.{changed_elsewhere, dropped_elsewhere, put_elsewhere}
+use Rattle.pim_laws.proofs.TurnLaws.{kept_to_the_end}
+use Rattle.pim_locality.specs.Locality.{IsQuiet, is_register_settled}
+use Rattle.pim_locality.specs.Scopes.{only_priority}
+use Rattle.pim_locality.specs.Sees.{SeesSource, SeesStar}
+use Rattle.pim_locality.proofs.Registers.{all_keys, nothing_dropped}
+use Rattle.pim_locality.proofs.Rows.{has_row_in_scope, row_in_scope}
+use Rattle.pim_locality.proofs.SameMacros.{could_assert_same, could_assert_star_same, could_register_same, is_tracking_same, is_tracking_star_same, join_desired_same, my_metric_same, my_metric_star_same, rpf_at_same, rpf_rp_at_same}
+use Rattle.pim_reach.specs.Named.{has_same_routes, has_same_rp, is_named, is_rerouted, named_by, named_where}
+use Rattle.pim_reach.proofs.Agreed.{SameSourceRows, SameStarRows, rows_within, same_with_rows}
+use Rattle.pim_reach.proofs.Asked.{asked_alone}
+use Rattle.pim_reach.proofs.Reached.{Keeps, one_cleared, same_is_unnamed}
+use Rattle.pim_reach.proofs.SameRows.{flags, not_false, options, paths}
+use Rattle.pim_reach.proofs.Unreached.{Around, alike, alike_sees, dr_around, kept_alive_same, nbr_around, neighbour_around}
+
+-- ---- either way
+
+pick : {X : Type 0} (P : X → Type 0) (b : Bool) (x y : X) → (b ≡ true → P x) → (b ≡ false → P y) → P (cond b x y)
+pick P true x y f h = f refl
+pick P false x y f h = h refl
+
+both_picked : {X : Type 0} (b : Bool) (x y x' y' : X) → (b ≡ true → x ≡ x') → (b ≡ false → y ≡ y')
+    → cond b x y ≡ cond b x' y'
+both_picked true x y x' y' f h = f refl
+both_picked false x y x' y' f h = h refl
+
+never : (b : Bool) → (b ≡ true → ⊥) → b ≡ false
+never true f = absurd (f refl)
+never false f = refl
+
+-- ---- rows that stay beside others
+
+module _ {R : Type 0} (p q : Key × R → Bool) (sees : Key → Key → Bool) (itself : (k : Key) → sees k k ≡ true)
+    (touched : Key → Bool)
+    (moves : (e : Key × R) → touched e.0 ≡ false → p e ≡ true → q e ≡ true) where
+  tail_step : (test : Key → Bool) (x : Key × R) (xs : Table R) (b : Bool)
+      → list_all p (cond b (x ∷ rows_where test xs) (rows_where test xs)) ≡ true
+      → list_all p (rows_where test xs) ≡ true
+  tail_step test x xs true e = second_so (p x) (list_all p (rows_where test xs)) e
+  tail_step test x xs false e = e
+
+  head_step : (test : Key → Bool) (x : Key × R) (xs : Table R) (b : Bool) → b ≡ true
+      → list_all p (cond b (x ∷ rows_where test xs) (rows_where test xs)) ≡ true
+      → p x ≡ true
+  head_step test x xs true f e = first_so (p x) (list_all p (rows_where test xs)) e
+  head_step test x xs false f e = cc
+
+  all_beside : (t : Table R) → ((k : Key) → touched k ≡ false → list_all p (rows_where (sees k) t) ≡ true)
+      → list_all (λ e. touched e.0 || q e) t ≡ true
+  unfolding rows_where
+  all_beside [] quiet = refl
+  all_beside (x ∷ xs) quiet =
+      both_true
+      (here (touched x.0) refl)
+      (all_beside xs (λ k e. tail_step (sees k) x xs (sees k x.0) (quiet k e)))
+    where
+      here : (b : Bool) → touched x.0 ≡ b → (b || q x) ≡ true
+      here true e = refl
+      here false e = moves x e (head_step (sees x.0) x xs (sees x.0 x.0) (itself x.0) (quiet x.0 e))
+
+  all_kept : (t u : Table R) → ((k : Key) → touched k ≡ false → rows_where (sees k) t ≡ rows_where (sees k) u)
+      → list_all p t ≡ true → list_all (λ e. touched e.0 || q e) u ≡ true
+  unfolding rows_where
+  all_kept t u same e =
+      all_beside u (λ k f. ap (list_all p) (sym (same k f)) ∙ all_of_filter (λ x. sees k x.0) p t e)
+
+-- of rows none of which passes beside the touched ones, those that pass are touched
+module _ {R : Type 0} (touched : Key → Bool) (p : Key × R → Bool) where
+  each_step : (x : Key × R) (xs : Table R) (b c : Bool) → p x ≡ b → touched x.0 ≡ c → (c || not b) ≡ true
+      → AllByRecursion (λ (e : Key × R). touched e.0 ≡ true) xs
+      → AllByRecursion (λ (e : Key × R). touched e.0 ≡ true) (cond b (x ∷ xs) xs)
+  each_step x xs true true e f h ih = (f, ih)
+  each_step x xs true false e f h ih = cc
+  each_step x xs false c e f h ih = ih
+
+  each_touched : (t : Table R) → list_all (λ e. touched e.0 || not (p e)) t ≡ true
+      → AllByRecursion (λ (e : Key × R). touched e.0 ≡ true) (filter p t)
+  each_touched [] e = tt
+  each_touched (x ∷ xs) e =
+      each_step x (filter p xs) (p x) (touched x.0) refl refl
+      (first_so (touched x.0 || not (p x)) (list_all (λ e. touched e.0 || not (p e)) xs) e)
+      (each_touched xs (second_so (touched x.0 || not (p x)) (list_all (λ e. touched e.0 || not (p e)) xs) e))
+
+  find_step : (x d : Key × R) (o : Option (Key × R)) (b c : Bool) → touched x.0 ≡ c → (c || not b) ≡ true
+      → (o ≡ Some d → touched d.0 ≡ true) → cond b (Some x) o ≡ Some d → touched d.0 ≡ true
+  find_step x d o true true e f ih g = let same : x ≡ d = cc in ap (λ (y : Key × R). touched y.0) (sym same) ∙ e
+  find_step x d o true false e f ih g = cc
+  find_step x d o false c e f ih g = ih g
+
+  found_touched : (t : Table R) (d : Key × R) → list_all (λ e. touched e.0 || not (p e)) t ≡ true
+      → find p t ≡ Some d → touched d.0 ≡ true
+  found_touched [] d e f = cc
+  found_touched (x ∷ xs) d e f =
+      find_step x d (find p xs) (p x) (touched x.0) refl
+      (first_so (touched x.0 || not (p x)) (list_all (λ e. touched e.0 || not (p e)) xs) e)
+      (found_touched xs d (second_so (touched x.0 || not (p x)) (list_all (λ e. touched e.0 || not (p e)) xs) e)) f
+
+-- ---- keys
+
+-- of the group and the source, or of the group where there is none
+abbrev at_place : ℕ → ℕ → Key → Bool
+at_place g src k = (group_in k == g) && (source_in k == src)
+
+abbrev names : Key → Key → Bool
+names k = cond (is_star k) (names_star (group_in k)) (names_source (group_in k) (source_in k))
+
+has_source : (o : Option Addr) → is_none o ≡ false → is_some o ≡ true
+has_source None e = cc
+has_source (Some x) e = refl
+
+no_source : (o : Option Addr) → is_some o ≡ true → is_none o ≡ false
+no_source None e = cc
+no_source (Some x) e = refl
+
+names_itself : (k : Key) → names k k ≡ true
+unfolding names_source
+names_itself k =
+    pick (λ (f : Key → Bool). f k ≡ true) (is_star k) (names_star (group_in k))
+    (names_source (group_in k) (source_in k))
+    (λ e. both_true (eq-eqb (group_in k) (group_in k) refl) e)
+    (λ e. both_true (both_true (eq-eqb (group_in k) (group_in k) refl) (has_source k.source e))
+    (eq-eqb (source_in k) (source_in k) refl))
+
+place_itself : (k : Key) → at_place (group_in k) (source_in k) k ≡ true
+place_itself k = both_true (eq-eqb (group_in k) (group_in k) refl) (eq-eqb (source_in k) (source_in k) refl)
+
+named_place : (g src : ℕ) (k : Key) → names_source g src k ≡ true → at_place g src k ≡ true
+unfolding names_source
+named_place g src k e =
+    both_true
+    (first_so (group_in k == g) (is_some k.source)
+    (first_so ((group_in k == g) && is_some k.source) (source_in k == src) e))
+    (second_so ((group_in k == g) && is_some k.source) (source_in k == src) e)
+
+row_same : {R : Type 0} (test : Key → Bool) (k : Key) → test k ≡ true → (t u : Table R)
+    → rows_where test t ≡ rows_where test u → row_at t k ≡ row_at u k
+row_same test k seen t u e =
+    sym (row_in_scope test k seen t) ∙ (ap (λ (rows : Table _). row_at rows k) e ∙ row_in_scope test k seen u)
+
+touched_star : (b p q : Bool) → cond b (not p) (not q) ≡ true → b ≡ true → p ≡ true → ⊥
+touched_star true true q e f h = cc
+touched_star true false q e f h = cc
+touched_star false p q e f h = cc
+
+touched_source : (b p q : Bool) → cond b (not p) (not q) ≡ true → b ≡ false → q ≡ true → ⊥
+touched_source true p q e f h = cc
+touched_source false p true e f h = cc
+touched_source false p false e f h = cc
+
+calm_star : (b p q : Bool) → cond b (not p) (not q) ≡ false → b ≡ true → p ≡ true
+calm_star true true q e f = refl
+calm_star true false q e f = cc
+calm_star false p q e f = cc
+
+calm_source : (b p q : Bool) → cond b (not p) (not q) ≡ false → b ≡ false → q ≡ true
+calm_source true p q e f = cc
+calm_source false p true e f = refl
+calm_source false p false e f = cc
+
+never_not : (b : Bool) → not b ≡ true → b ≡ true → ⊥
+never_not true e f = cc
+never_not false e f = cc
+
+-- ---- the states after a change of routes
+
+module _ (o c : State) (around : Around o c) where
+  -- facts of other keys may go
+  abbrev touches : Key → Bool
+  touches k = cond (is_star k) (not (has_same_rp (group_in k) o c)) (not (has_same_routes (group_in k) (source_in k) o c))
+
+  abbrev touches_place : Key → Bool
+  touches_place k = not (has_same_routes (group_in k) (source_in k) o c)
+
+  star_apart : (g : ℕ) (k : Key) → touches k ≡ true → has_same_rp g o c ≡ true → names_star g k ≡ false
+  star_apart g k e calm =
+      never (names_star g k)
+      (λ f. touched_star (is_star k) (has_same_rp (group_in k) o c) (has_same_routes (group_in k) (source_in k) o c) e
+      (second_so (group_in k == g) (is_star k) f)
+      (ap (λ m. has_same_rp m o c) (eqb-true (group_in k) g (first_so (group_in k == g) (is_star k) f)) ∙ calm))
+
+  same_place : (g src : ℕ) (k : Key) → at_place g src k ≡ true → has_same_routes g src o c ≡ true
+      → has_same_routes (group_in k) (source_in k) o c ≡ true
+  same_place g src k e calm =
+      let group : group_in k ≡ g = eqb-true (group_in k) g (first_so (group_in k == g) (source_in k == src) e) in
+      let source : source_in k ≡ src = eqb-true (source_in k) src (second_so (group_in k == g) (source_in k == src) e) in
+      (λ j. has_same_routes (group j) (source j) o c) ∙ calm
+
+  source_apart : (g src : ℕ) (k : Key) → touches k ≡ true → has_same_routes g src o c ≡ true
+      → names_source g src k ≡ false
+  unfolding names_source
+  source_apart g src k e calm =
+      never (names_source g src k)
+      (λ f. touched_source (is_star k) (has_same_rp (group_in k) o c) (has_same_routes (group_in k) (source_in k) o c) e
+      (no_source k.source
+      (second_so (group_in k == g) (is_some k.source)
+      (first_so ((group_in k == g) && is_some k.source) (source_in k == src) f)))
+      (same_place g src k (named_place g src k f) calm))
+
+  place_apart : (g src : ℕ) (k : Key) → touches_place k ≡ true → has_same_routes g src o c ≡ true
+      → at_place g src k ≡ false
+  place_apart g src k e calm =
+      never (at_place g src k)
+      (λ f. never_not (has_same_routes (group_in k) (source_in k) o c) e (same_place g src k f calm))
+
+  -- where the routes of a source are the same, so is its RP
+  rp_of_routes : (g src : ℕ) → has_same_routes g src o c ≡ true → has_same_rp g o c ≡ true
+  unfolding has_same_routes
+  rp_of_routes g src e = first_so (has_same_rp g o c) (same_both same_path (route o src) (route c src)) e
+
+  -- the rows of a source; its fact and its register by their place
+  record PlaceRows (g src : ℕ) (t : State) : Type 0 where
+    source_records : rows_where (names_source g src) o.source_records
+        ≡ rows_where (names_source g src) t.source_records
+    downstream : rows_where (names_source g src) o.downstream ≡ rows_where (names_source g src) t.downstream
+    asserts : rows_where (names_source g src) o.asserts ≡ rows_where (names_source g src) t.asserts
+    sources : rows_where (at_place g src) o.sources ≡ rows_where (at_place g src) t.sources
+    registers : rows_where (at_place g src) o.registers ≡ rows_where (at_place g src) t.registers
+
+  -- where the routes are the same, so are the rows
+  record Beside (t : State) : Type 0 where
+    kept : Keeps c t
+    star : (g : ℕ) → has_same_rp g o c ≡ true → SameStarRows g o t
+    source : (g src : ℕ) → has_same_routes g src o c ≡ true → PlaceRows g src t
+
+  -- ---- what is read there
+
+  module _ (t : State) (beside : Beside t) where
+    around_now : Around o t
+    around_now = record {
+      settings = around.settings ∙ beside.kept.settings;
+      configured = around.configured ∙ beside.kept.configured;
+      priorities = around.priorities ∙ ap (map only_priority) beside.kept.neighbours;
+    }
+
+    route_now : (x : ℕ) → route c x ≡ route t x
+    unfolding route
+    route_now x = λ j. route_among (beside.kept.configured j) (beside.kept.interfaces j) (beside.kept.routes j) x
+
+    rp_now : (g : ℕ) → rp_of c g ≡ rp_of t g
+    unfolding rp_of
+    rp_now g = λ j. rp_among (beside.kept.ranges j) g
+
+    rp_route_now : (g : ℕ) → rp_route c g ≡ rp_route t g
+    unfolding rp_route
+    rp_route_now g = λ j. option_and_then (λ x. route_now x j) (rp_now g j)
+
+    module _ (g : ℕ) (calm : has_same_rp g o c ≡ true) where
+      same_rp : rp_of o g ≡ rp_of t g
+      unfolding has_same_rp
+      same_rp =
+          options (rp_of o g) (rp_of c g)
+          (first_so (same_option (rp_of o g) (rp_of c g)) (same_both same_path (rp_route o g) (rp_route c g)) calm)
+          ∙ rp_now g
+
+      same_rp_route : rp_route o g ≡ rp_route t g
+      unfolding has_same_rp
+      same_rp_route =
+          paths (rp_route o g) (rp_route c g)
+          (second_so (same_option (rp_of o g) (rp_of c g)) (same_both same_path (rp_route o g) (rp_route c g)) calm)
+          ∙ rp_route_now g
+
+      star_itself : (i : ℕ) → names_star g (star_key i g) ≡ true
+      star_itself i = rw (eq-eqb g g refl) refl
+
+      group_row : (i : ℕ) → row_at o.group_records (star_key i g) ≡ row_at t.group_records (star_key i g)
+      group_row i =
+          row_same (names_star g) (star_key i g) (star_itself i) o.group_records t.group_records
+          (beside.star g calm).group_records
+
+      down_row : (i : ℕ) → row_at o.downstream (star_key i g) ≡ row_at t.downstream (star_key i g)
+      down_row i =
+          row_same (names_star g) (star_key i g) (star_itself i) o.downstream t.downstream
+          (beside.star g calm).downstream
+
+      assert_row : (i : ℕ) → assert_star o g i ≡ assert_star t g i
+      assert_row i =
+          row_same (names_star g) (star_key i g) (star_itself i) o.asserts t.asserts (beside.star g calm).asserts
+
+      star_sees : SeesStar g o t
+      unfolding joins_star has_row is_exclude is_exclude_among
+      star_sees = record {
+        settings = around_now.settings;
+        configured = around_now.configured;
+        dr = λ j i. dr_around o t around_now i j;
+        neighbour = λ j i address. neighbour_around o t around_now i address j;
+        rp = same_rp;
+        rp_path = same_rp_route;
+        joined = λ j i. is_some (down_row i j);
+        losers = λ i. ap is_loser (assert_row i);
+        winners = λ i. ap is_winner (assert_row i);
+        won_by = λ i j. winner_hop (Some i) (λ m. assert_row m j);
+        excluding = λ j i. option_map_or (λ (r : GroupRecordRow). is_some r.end) (group_row i j) false;
+        including = λ j i. is_some (group_row i j) && not
+            (option_map_or (λ (r : GroupRecordRow). is_some r.end) (group_row i j) false);
+        rp_nbr = nbr_around o t around_now (rp_route o g) (rp_route t g) same_rp_route;
+      }
+
+    module _ (g src : ℕ) (calm : has_same_routes g src o c ≡ true) where
+      same_route : route o src ≡ route t src
+      unfolding has_same_routes
+      same_route =
+          paths (route o src) (route c src)
+          (second_so (has_same_rp g o c) (same_both same_path (route o src) (route c src)) calm)
+          ∙ route_now src
+
+      source_rows : SameSourceRows g src o t
+      source_rows =
+          let rows : PlaceRows g src t = beside.source g src calm in
+          record {
+            source_records = rows.source_records;
+            downstream = rows.downstream;
+            asserts = rows.asserts;
+            sources = rows_within (names_source g src) (at_place g src) (named_place g src) o.sources t.sources
+                rows.sources;
+            registers = rows_within (names_source g src) (at_place g src) (named_place g src) o.registers t.registers
+                rows.registers;
+          }
+
+      nothing_differs : is_same_for g src o t ≡ true
+      nothing_differs =
+          same_with_rows g src o t (beside.star g (rp_of_routes g src calm)) source_rows same_route
+          (same_rp g (rp_of_routes g src calm)) (same_rp_route g (rp_of_routes g src calm))
+
+      source_sees : SeesSource g src o t
+      source_sees = alike_sees g src o t around_now (alike g src o t nothing_differs)
+
+      kept_alive : is_kept_alive o g src ≡ is_kept_alive t g src
+      kept_alive = kept_alive_same g src o t around_now (alike g src o t nothing_differs)
+
+      desired_same : join_desired o g src ≡ join_desired t g src
+      desired_same = join_desired_same g src o t source_sees kept_alive
+
+    -- ---- what must go there
+
+    module _ (k : Key) (calm : touches k ≡ false) where
+      rp_calm : is_star k ≡ true → has_same_rp (group_in k) o c ≡ true
+      rp_calm e = calm_star (is_star k) (has_same_rp (group_in k) o c) (has_same_routes (group_in k) (source_in k) o c) calm e
+
+      routes_calm : is_star k ≡ false → has_same_routes (group_in k) (source_in k) o c ≡ true
+      routes_calm e =
+          calm_source (is_star k) (has_same_rp (group_in k) o c) (has_same_routes (group_in k) (source_in k) o c) calm e
+
+      could_at : could_assert_at o k ≡ could_assert_at t k
+      could_at =
+          both_picked (is_star k) _ _ _ _
+          (λ e. could_assert_star_same (group_in k) o t (star_sees (group_in k) (rp_calm e)) (iface_in k))
+          (λ e. could_assert_same (group_in k) (source_in k) o t
+          (source_sees (group_in k) (source_in k) (routes_calm e)) (iface_in k))
+
+      tracking_at : is_tracking_at o k ≡ is_tracking_at t k
+      tracking_at =
+          both_picked (is_star k) _ _ _ _
+          (λ e. is_tracking_star_same (group_in k) o t (star_sees (group_in k) (rp_calm e)) (iface_in k))
+          (λ e. is_tracking_same (group_in k) (source_in k) o t
+          (source_sees (group_in k) (source_in k) (routes_calm e))
+          (desired_same (group_in k) (source_in k) (routes_calm e)) (iface_in k))
+
+      metric_at : my_metric_at o k ≡ my_metric_at t k
+      metric_at =
+          both_picked (is_star k) _ _ _ _
+          (λ e. my_metric_star_same (group_in k) o t (star_sees (group_in k) (rp_calm e)) (iface_in k))
+          (λ e. my_metric_same (group_in k) (source_in k) o t
+          (source_sees (group_in k) (source_in k) (routes_calm e)) (iface_in k))
+
+      rpf_at : is_rpf_at o k ≡ is_rpf_at t k
+      rpf_at =
+          both_picked (is_star k) _ _ _ _
+          (λ e. rpf_rp_at_same (group_in k) o t (star_sees (group_in k) (rp_calm e)) (iface_in k))
+          (λ e. rpf_at_same (group_in k) (source_in k) o t
+          (source_sees (group_in k) (source_in k) (routes_calm e)) (iface_in k))
+
+      must_go_same : (r : AssertRow) → assert_must_go o o (k, r) ≡ assert_must_go o t (k, r)
+      unfolding assert_must_go
+      must_go_same r = λ j.
+          cond (is_winner (Some r)) (not (could_at j))
+          (not (neighbour_around o t around_now (iface_in k) r.winner.address.bits j)
+          || not (tracking_at j)
+          || is_better (metric_at j) r.winner
+          || (is_rpf_at o k && not (rpf_at j)))
+
+    names_same : (k : Key) → touches k ≡ false → rows_where (names k) o.asserts ≡ rows_where (names k) t.asserts
+    names_same k calm =
+        pick (λ (f : Key → Bool). rows_where f o.asserts ≡ rows_where f t.asserts) (is_star k)
+        (names_star (group_in k)) (names_source (group_in k) (source_in k))
+        (λ e. (beside.star (group_in k) (rp_calm k calm e)).asserts)
+        (λ e. (beside.source (group_in k) (source_in k) (routes_calm k calm e)).asserts)
+
+    module _ (quiet : IsQuiet o) where
+      asserts_beside : list_all (λ e. touches e.0 || not (assert_must_go o t e)) t.asserts ≡ true
+      asserts_beside =
+          all_kept (λ e. not (assert_must_go o o e)) (λ e. not (assert_must_go o t e)) names names_itself touches
+          (λ e calm stays. ap not (sym (must_go_same e.0 calm e.1)) ∙ stays) o.asserts t.asserts names_same
+          quiet.clear.asserts
+
+      spts_beside : list_all (λ e. touches_place e.0 || not (spt_must_go t e)) t.sources ≡ true
+      spts_beside =
+          all_kept (λ e. not (spt_must_go o e)) (λ e. not (spt_must_go t e))
+          (λ k. at_place (group_in k) (source_in k)) place_itself touches_place
+          (λ e calm stays. (λ j. not ((e.1).spt
+          && not (sym (desired_same (group_in e.0) (source_in e.0) (not_false _ calm)) j))) ∙ stays) o.sources t.sources
+          (λ k calm. (beside.source (group_in k) (source_in k) (not_false _ calm)).sources) quiet.clear.sources
+
+      abbrev GoesBeside : Cleared → Type 0
+      GoesBeside (ClearAssert k r) = touches k ≡ true
+      GoesBeside (ClearSptBit k) = touches_place k ≡ true
+
+      assert_goes : (d : Cleared) → assert_to_clear o t ≡ Some d → GoesBeside d
+      unfolding assert_to_clear
+      assert_goes d e = go (first_by is_assert_first (filter (assert_must_go o t) t.asserts)) refl e
+        where
+          go : (x : Option (Key × AssertRow)) → first_by is_assert_first (filter (assert_must_go o t) t.asserts) ≡ x
+              → option_map (λ (y : Key × AssertRow). ClearAssert y.0 y.1) x ≡ Some d → GoesBeside d
+          go None was f = cc
+          go (Some y) was f =
+              let same : ClearAssert y.0 y.1 ≡ d = cc in
+              subst GoesBeside same
+              (first_of_all is_assert_first (λ (z : Key × AssertRow). touches z.0 ≡ true)
+              (filter (assert_must_go o t) t.asserts)
+              (each_touched touches (assert_must_go o t) t.asserts asserts_beside) y was)
+
+      spt_goes : (d : Cleared) → spt_to_clear t ≡ Some d → GoesBeside d
+      unfolding spt_to_clear
+      spt_goes d e = go (find (spt_must_go t) t.sources) refl e
+        where
+          go : (x : Option (Key × SourceRow)) → find (spt_must_go t) t.sources ≡ x
+              → option_map (λ (y : Key × SourceRow). ClearSptBit y.0) x ≡ Some d → GoesBeside d
+          go None was f = cc
+          go (Some y) was f =
+              let same : ClearSptBit y.0 ≡ d = cc in
+              subst GoesBeside same (found_touched touches_place (spt_must_go t) t.sources y spts_beside was)
+
+      goes_beside : (d : Cleared) → to_clear o t ≡ Some d → GoesBeside d
+      unfolding to_clear
+      goes_beside d e = go (assert_to_clear o t) refl e
+        where
+          go : (x : Option Cleared) → assert_to_clear o t ≡ x → option_or x (spt_to_clear t) ≡ Some d → GoesBeside d
+          go None was f = spt_goes d f
+          go (Some y) was f = assert_goes d (was ∙ f)
+
+      beside_after : (d : Cleared) → GoesBeside d → Beside (cleared t d).0
+      unfolding cleared assert_forgotten without_spt_bit
+      beside_after (ClearAssert k r) is = record {
+        kept = one_cleared c t (ClearAssert k r) beside.kept;
+        star = λ g calm. record {
+          group_records = (beside.star g calm).group_records;
+          downstream = (beside.star g calm).downstream;
+          asserts = (beside.star g calm).asserts
+              ∙ sym (dropped_elsewhere (names_star g) k (star_apart g k is calm) t.asserts);
+        };
+        source = λ g src calm. record {
+          source_records = (beside.source g src calm).source_records;
+          downstream = (beside.source g src calm).downstream;
+          asserts = (beside.source g src calm).asserts
+              ∙ sym (dropped_elsewhere (names_source g src) k (source_apart g src k is calm) t.asserts);
+          sources = (beside.source g src calm).sources;
+          registers = (beside.source g src calm).registers;
+        };
+      }
+      beside_after (ClearSptBit k) is = record {
+        kept = one_cleared c t (ClearSptBit k) beside.kept;
+        star = λ g calm. record {
+          group_records = (beside.star g calm).group_records;
+          downstream = (beside.star g calm).downstream;
+          asserts = (beside.star g calm).asserts;
+        };
+        source = λ g src calm. record {
+          source_records = (beside.source g src calm).source_records;
+          downstream = (beside.source g src calm).downstream;
+          asserts = (beside.source g src calm).asserts;
+          sources = (beside.source g src calm).sources
+              ∙ sym (changed_elsewhere (at_place g src) without_spt k (place_apart g src k is calm) t.sources);
+          registers = (beside.source g src calm).registers;
+        };
+      }
+
+  -- ---- registers
+
+  module _ (start : Beside c) (quiet : IsQuiet o) where
+    abbrev Stays : Table RegisterRow → Type 0
+    Stays u = (g src : ℕ) → has_same_routes g src o c ≡ true
+        → rows_where (at_place g src) o.registers ≡ rows_where (at_place g src) u
+
+    settled_if : (k : Key) (u : Table RegisterRow) (b d : Bool) → could_register c (group_in k) (source_in k) ≡ b
+        → has_row u k ≡ d → b ≡ d → settled_register c k u ≡ u
+    unfolding settled_register
+    settled_if k u true true e f same = rw (e, f) refl
+    settled_if k u true false e f same = cc
+    settled_if k u false true e f same = cc
+    settled_if k u false false e f same = rw e (nothing_dropped k u f)
+
+    idle : (k : Key) (u : Table RegisterRow) → Stays u → has_same_routes (group_in k) (source_in k) o c ≡ true
+        → is_register_settled o k ≡ true → settled_register c k u ≡ u
+    idle k u stays calm held =
+        let here : Key → Bool = at_place (group_in k) (source_in k) in
+        settled_if k u (could_register c (group_in k) (source_in k)) (has_row u k) refl refl
+        (sym (could_register_same (group_in k) (source_in k) o c (source_sees c start (group_in k) (source_in k) calm)
+        (kept_alive c start (group_in k) (source_in k) calm))
+        ∙ (flags (could_register o (group_in k) (source_in k)) (has_row o.registers k) held
+        ∙ (sym (has_row_in_scope here k (place_itself k) o.registers)
+        ∙ (ap (λ (rows : Table RegisterRow). has_row rows k) (stays (group_in k) (source_in k) calm)
+        ∙ has_row_in_scope here k (place_itself k) u))))
+
+    goes_elsewhere : (k : Key) (u : Table RegisterRow) (test : Key → Bool) → test k ≡ false
+        → (b d : Bool) (row : RegisterRow)
+        → rows_where test (cond b (cond d u (put u k row)) (drop_at u k)) ≡ rows_where test u
+    goes_elsewhere k u test e true true row = refl
+    goes_elsewhere k u test e true false row = put_elsewhere test k e u row
+    goes_elsewhere k u test e false d row = dropped_elsewhere test k e u
+
+    goes_on : (k : Key) (u : Table RegisterRow) → touches_place k ≡ true → Stays u → Stays (settled_register c k u)
+    unfolding settled_register
+    goes_on k u is stays g src calm =
+        stays g src calm
+        ∙ sym (goes_elsewhere k u (at_place g src) (place_apart g src k is calm)
+        (could_register c (group_in k) (source_in k)) (has_row u k) (record { state = RegisterState.Join }))
+
+    turn : (k : Key) (u : Table RegisterRow) (b : Bool) → touches_place k ≡ b
+        → (b || is_register_settled o k) ≡ true → Stays u → Stays (settled_register c k u)
+    turn k u true e f stays = goes_on k u e stays
+    turn k u false e f stays = subst Stays (sym (idle k u stays (not_false _ e) f)) stays
+
+    abbrev is_idle : Key → Bool
+    is_idle k = touches_place k || is_register_settled o k
+
+    turns : (ks : List Key) (u : Table RegisterRow) → Stays u → list_all is_idle ks ≡ true
+        → Stays (fold (λ t k. settled_register c k t) u ks)
+    turns [] u stays e = stays
+    turns (k ∷ ks) u stays e =
+        turns ks (settled_register c k u)
+        (turn k u (touches_place k) refl (first_so (is_idle k) (list_all is_idle ks) e) stays)
+        (second_so (is_idle k) (list_all is_idle ks) e)
+
+    all_idle : list_all is_idle (keys_in c.sources ++ keys_in c.registers) ≡ true
+    all_idle =
+        list_all-append is_idle (keys_in c.sources) (keys_in c.registers)
+        ∙ both_true
+        (all_keys is_idle c.sources
+        ∙ all_kept (λ e. is_register_settled o e.0) (λ e. is_register_settled o e.0)
+        (λ k. at_place (group_in k) (source_in k)) place_itself touches_place (λ e calm f. f) o.sources c.sources
+        (λ k calm. (start.source (group_in k) (source_in k) (not_false _ calm)).sources) quiet.sources_settled)
+        (all_keys is_idle c.registers
+        ∙ all_kept (λ e. is_register_settled o e.0) (λ e. is_register_settled o e.0)
+        (λ k. at_place (group_in k) (source_in k)) place_itself touches_place (λ e calm f. f) o.registers c.registers
+        (λ k calm. (start.source (group_in k) (source_in k) (not_false _ calm)).registers) quiet.registers_settled)
+
+    after_registers : Beside (settle_registers c)
+    unfolding settle_registers
+    after_registers = record {
+      kept = record {
+        settings = refl;
+        configured = refl;
+        routes = refl;
+        ranges = refl;
+        interfaces = refl;
+        neighbours = refl;
+      };
+      star = λ g calm. record {
+        group_records = (start.star g calm).group_records;
+        downstream = (start.star g calm).downstream;
+        asserts = (start.star g calm).asserts;
+      };
+      source = λ g src calm. record {
+        source_records = (start.source g src calm).source_records;
+        downstream = (start.source g src calm).downstream;
+        asserts = (start.source g src calm).asserts;
+        sources = (start.source g src calm).sources;
+        registers = turns (keys_in c.sources ++ keys_in c.registers) c.registers
+            (λ g src calm. (start.source g src calm).registers) all_idle g src calm;
+      };
+    }
+
+    beside_end : Beside (clear o c).0
+    unfolding clear clear_all
+    beside_end =
+        kept_to_the_end (to_clear o) cleared Beside
+        (λ t d beside e. beside_after t beside quiet d (goes_beside t beside quiet d e))
+        (clearable_count (settle_registers c)) (settle_registers c) after_registers
+
+    rerouted_unnamed : (g src : ℕ) → has_same_routes g src o c ≡ true → is_named g src o (clear o c).0 ≡ false
+    rerouted_unnamed g src calm =
+        same_is_unnamed g src o (clear o c).0 (around_now (clear o c).0 beside_end)
+        (nothing_differs (clear o c).0 beside_end g src calm)
+
+    rerouted_alone : named_by o c ≡ named_where (is_rerouted o c) o c
+    rerouted_alone =
+        asked_alone o c (is_rerouted o c)
+        (λ k calm. rerouted_unnamed (group_in k) (source_in k) (not_false _ calm))
+
+-- ---- the two events
+
+-- rows that a map leaves where a test of keys passes
+module _ {R : Type 0} (f : Key × R → Key × R) (keys : (e : Key × R) → (f e).0 ≡ e.0) (test : Key → Bool)
+    (stays : (e : Key × R) → test e.0 ≡ true → f e ≡ e) where
+  mapped_step : (x : Key × R) (ys zs : Table R) (b c : Bool) → test x.0 ≡ b → b ≡ c → ys ≡ zs
+      → cond b (x ∷ ys) ys ≡ cond c (f x ∷ zs) zs
+  mapped_step x ys zs true true e same ih = λ j. sym (stays x e) j ∷ ih j
+  mapped_step x ys zs true false e same ih = cc
+  mapped_step x ys zs false true e same ih = cc
+  mapped_step x ys zs false false e same ih = ih
+
+  mapped_elsewhere : (t : Table R) → rows_where test t ≡ rows_where test (map f t)
+  unfolding rows_where
+  mapped_elsewhere [] = refl
+  mapped_elsewhere (x ∷ xs) =
+      mapped_step x (filter (λ e. test e.0) xs) (filter (λ e. test e.0) (map f xs)) (test x.0) (test (f x).0) refl
+      (ap test (sym (keys x))) (mapped_elsewhere xs)
+
+pub routes_name : (s : State) → IsQuiet s → (w : ℕ) (routes : List Route)
+    → (let c : State = (change s w (Accepted.Routes routes)).state in
+    named_by s c ≡ named_where (is_rerouted s c) s c)
+unfolding change
+routes_name s quiet w routes =
+    rerouted_alone s (record s { routes = routes })
+    (record { settings = refl; configured = refl; priorities = refl })
+    (record {
+      kept = record {
+        settings = refl;
+        configured = refl;
+        routes = refl;
+        ranges = refl;
+        interfaces = refl;
+        neighbours = refl;
+      };
+      star = λ h e. record { group_records = refl; downstream = refl; asserts = refl };
+      source = λ h x e. record {
+        source_records = refl;
+        downstream = refl;
+        asserts = refl;
+        sources = refl;
+        registers = refl;
+      };
+    }) quiet
+
+module _ (s : State) (ranges : List RpRange) where
+  abbrev as_joined : Key × RegisterRow → Key × RegisterRow
+  as_joined e =
+      cond (same_option (rp_of s (group_in e.0)) (rp_among ranges (group_in e.0))) e
+      (e.0, record { state = RegisterState.Join })
+
+  key_stays : (e : Key × RegisterRow) → (as_joined e).0 ≡ e.0
+  key_stays e = go (same_option (rp_of s (group_in e.0)) (rp_among ranges (group_in e.0)))
+    where
+      go : (b : Bool) → (cond b e (e.0, record { state = RegisterState.Join })).0 ≡ e.0
+      go true = refl
+      go false = refl
+
+  row_stays : (g src : ℕ) → has_same_routes g src s (rps_replaced s ranges) ≡ true → (e : Key × RegisterRow)
+      → at_place g src e.0 ≡ true → as_joined e ≡ e
+  unfolding has_same_routes has_same_rp rps_replaced rp_of
+  row_stays g src calm e here =
+      let group : group_in e.0 ≡ g =
+      eqb-true (group_in e.0) g (first_so (group_in e.0 == g) (source_in e.0 == src) here) in
+      let rps : same_option (rp_among s.ranges g) (rp_among ranges g) ≡ true = first_so _ _ (first_so _ _ calm) in
+      ap (λ (b : Bool). let x : Key × RegisterRow = cond b e (e.0, record { state = RegisterState.Join }) in x)
+      ((λ j. same_option (rp_among s.ranges (group j)) (rp_among ranges (group j))) ∙ rps)
+
+pub rps_name : (s : State) → IsQuiet s → (w : ℕ) (ranges : List RpRange)
+    → (let c : State = (change s w (Accepted.Rps ranges)).state in
+    named_by s c ≡ named_where (is_rerouted s c) s c)
+unfolding change rps_replaced registers_after_rps rp_of
+rps_name s quiet w ranges =
+    rerouted_alone s (rps_replaced s ranges)
+    (record { settings = refl; configured = refl; priorities = refl })
+    (record {
+      kept = record {
+        settings = refl;
+        configured = refl;
+        routes = refl;
+        ranges = refl;
+        interfaces = refl;
+        neighbours = refl;
+      };
+      star = λ h e. record { group_records = refl; downstream = refl; asserts = refl };
+      source = λ h x e. record {
+        source_records = refl;
+        downstream = refl;
+        asserts = refl;
+        sources = refl;
+        registers = mapped_elsewhere (as_joined s ranges) (key_stays s ranges) (at_place h x)
+            (row_stays s ranges h x e) s.registers;
+      };
+    }) quiet

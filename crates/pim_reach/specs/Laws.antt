@@ -1,0 +1,136 @@
+-- What the reach of an event says of what the macros see, and of the sources that are named.
+use Rattle.std.specs.List.{list_all, list_any}
+use Rattle.std.specs.List.Sorted.{IsStrictlySortedBy}
+use Rattle.std.specs.Prelude.{List, Some, false, length, true, ℕ, ◌*◌, ◌==◌, ◌≡◌, ◌≤◌}
+use Rattle.pim_types.specs.declared.config.Route.{Route}
+use Rattle.pim_types.specs.declared.config.RpRange.{RpRange}
+use Rattle.pim_types.specs.declared.fact.Key.{Key}
+use Rattle.pim_types.specs.Keys.{key_cmp, same_key, source_key}
+use Rattle.pim_model.specs.Clearing.{clear}
+use Rattle.pim_model.specs.declared.accepted.Accepted.{Accepted}
+use Rattle.pim_model.specs.Firing.{fire_all, fire_once}
+use Rattle.pim_model.specs.Limits.{most_ifaces}
+use Rattle.pim_model.specs.Reach.{differs_among, is_same_for, keeps_neighbours, own_firing, passes, reach, reach_of, told_all}
+use Rattle.pim_model.specs.Rows.{same_both, same_register_state}
+use Rattle.pim_model.specs.Sets.{Set, is_kept_alive, register_state}
+use Rattle.pim_model.specs.State.{State}
+use Rattle.pim_model.specs.Step.{change, done, taken}
+use Rattle.pim_model.specs.Tables.{has_row}
+use Rattle.pim_model.specs.Timers.{Ending}
+use Rattle.pim_ready.specs.Ready.{IsLawful}
+use Rattle.pim_locality.specs.Events.{touched_by_event}
+use Rattle.pim_locality.specs.Locality.{AgreesBut, IsQuiet, touching}
+use Rattle.pim_locality.specs.Sees.{SeesSource}
+use Rattle.pim_locality.specs.Touches.{isnt_neighbour, touched_by}
+use Rattle.pim_reach.specs.Calm.{is_calm, is_calm_event}
+use Rattle.pim_reach.specs.Keeps.{KeepsAnswers}
+use Rattle.pim_reach.specs.Named.{IsMask, is_named, is_rerouted, named_by, named_of, named_where, same_set}
+
+-- where nothing differs that counts for the source, its macros read the same
+abbrev pub UnreachedSees : Type 0
+UnreachedSees = (g src : ℕ) (s t : State) → s.settings ≡ t.settings → s.configured ≡ t.configured
+    → keeps_neighbours s t ≡ true → is_same_for g src s t ≡ true → SeesSource g src s t
+
+-- what is the same of a source that isn't reached: all that its macros read, and its facts but for their ends
+pub record IsUnreached (g src : ℕ) (s t : State) : Type 0 where
+  pub sees : SeesSource g src s t
+  pub fact : has_row s.sources (source_key 0 g src) ≡ has_row t.sources (source_key 0 g src)
+  pub kept_alive : is_kept_alive s g src ≡ is_kept_alive t g src
+  pub register : same_both same_register_state (register_state s g src) (register_state t g src) ≡ true
+
+-- where no interface row and no neighbour row differs
+abbrev pub UnreachedIsSame : Type 0
+UnreachedIsSame = (s : State) (w : ℕ) (a : Accepted) → is_calm s (change s w a).state ≡ true → (g src : ℕ)
+    → differs_among g src (passes s (change s w a).state) ≡ false
+    → IsUnreached g src s (clear s (change s w a).state).0
+
+-- where no interface row and no neighbour row differs, a named source is reached, so no more are named than are reached;
+-- of an event's own change
+abbrev pub NamedIsReached : Type 0
+NamedIsReached = (s : State) (w : ℕ) (a : Accepted) → is_calm s (change s w a).state ≡ true → (g src : ℕ)
+    → is_named g src s (clear s (change s w a).state).0 ≡ true
+    → differs_among g src (passes s (change s w a).state) ≡ true
+
+-- so it is at the end of any event, of an Advance over all its firings
+abbrev pub NamedAreFew : Type 0
+NamedAreFew = (s : State) → IsLawful s → (w : ℕ) (a : Accepted) → keeps_neighbours s (taken s w a).state ≡ true
+    → 2 * length (named_of s w a) ≤ 3 * length (reach_of s w a)
+
+-- and of a firing
+abbrev pub FiredIsReached : Type 0
+FiredIsReached = (s : State) (e : Ending) → is_calm s (own_firing s e) ≡ true → (g src : ℕ)
+    → is_named g src s (clear s (own_firing s e)).0 ≡ true → differs_among g src (passes s (own_firing s e)) ≡ true
+
+abbrev pub FiredAreFew : Type 0
+FiredAreFew = (s : State) (e : Ending) → is_calm s (own_firing s e) ≡ true
+    → 2 * length (named_by s (own_firing s e)) ≤ 3 * length (reach s (own_firing s e))
+
+-- a source that isn't named keeps its answers
+abbrev pub UnnamedKeeps : Type 0
+UnnamedKeeps = (g src : ℕ) (o a : State) → o.settings ≡ a.settings → o.configured ≡ a.configured
+    → length o.configured ≤ most_ifaces → is_named g src o a ≡ false → KeepsAnswers g src o a
+
+-- to the end of the event, and of a firing
+abbrev pub EventKeeps : Type 0
+EventKeeps = (s : State) (w : ℕ) (a : Accepted) → length s.configured ≤ most_ifaces → (g src : ℕ)
+    → is_named g src s (clear s (change s w a).state).0 ≡ false
+    → KeepsAnswers g src s (done s w (change s w a)).state
+
+abbrev pub FiringKeeps : Type 0
+FiringKeeps = (s : State) (w : ℕ) (e : Ending) → length s.configured ≤ most_ifaces → (g src : ℕ)
+    → is_named g src s (clear s (own_firing s e)).0 ≡ false → KeepsAnswers g src s (fire_once w s e).0
+
+-- from a quiet state it is enough to ask the sources that an event touches
+abbrev pub TouchedNames : Type 0
+TouchedNames = (s : State) → IsQuiet s → (w : ℕ) (a : Accepted) (keys : List Key) → touched_by_event s a ≡ Some keys
+    → named_by s (change s w a).state ≡ named_where (touching keys) s (change s w a).state
+
+-- so it is of a firing
+abbrev pub FiredNames : Type 0
+FiredNames = (s : State) → IsQuiet s → (e : Ending) → isnt_neighbour e.timer.kind ≡ true
+    → named_by s (own_firing s e)
+    ≡ named_where (touching (touched_by e.timer.kind e.timer.key)) s (own_firing s e)
+
+-- and of any change
+abbrev pub TouchedAlone : Type 0
+TouchedAlone = (keys : List Key) (o changed : State) → IsQuiet o → AgreesBut (touching keys) o changed
+    → named_by o changed ≡ named_where (touching keys) o changed
+
+-- from a quiet state, with new routes or new RP ranges it is enough to ask those of which a route or the RP differs
+abbrev pub RoutesName : Type 0
+RoutesName = (s : State) → IsQuiet s → (w : ℕ) (routes : List Route)
+    → (let c : State = (change s w (Accepted.Routes routes)).state in
+    named_by s c ≡ named_where (is_rerouted s c) s c)
+
+abbrev pub RpsName : Type 0
+RpsName = (s : State) → IsQuiet s → (w : ℕ) (ranges : List RpRange)
+    → (let c : State = (change s w (Accepted.Rps ranges)).state in
+    named_by s c ≡ named_where (is_rerouted s c) s c)
+
+-- what is told of the firings of an Advance is told of the states that its firings leave
+abbrev pub ToldFires : Type 0
+ToldFires = (told : State → State → List Key) (w moment : ℕ) (s : State)
+    → (told_all told w moment s).0 ≡ (fire_all w moment s).0
+
+-- where no interface row and no neighbour row differs at the end of an event, none differs on the way
+abbrev pub EventIsCalm : Type 0
+EventIsCalm = (s : State) → IsLawful s → (w : ℕ) (a : Accepted) → keeps_neighbours s (taken s w a).state ≡ true
+    → is_calm_event s w a ≡ true
+
+-- the source facts at the end of an event are those that clearing leaves
+abbrev pub EventFacts : Type 0
+EventFacts = (s : State) (w : ℕ) (a : Accepted)
+    → ((clear s (change s w a).state).0).sources ≡ ((done s w (change s w a)).state).sources
+
+-- and of a firing
+abbrev pub FiringFacts : Type 0
+FiringFacts = (s : State) (w : ℕ) (e : Ending) → ((clear s (own_firing s e)).0).sources ≡ ((fire_once w s e).0).sources
+
+-- a set that is kept as a mask is compared by it
+abbrev pub SameMasks : Type 0
+SameMasks = (m n : ℕ) (f h : Set) → IsMask m f → IsMask n h → (m == n) ≡ same_set f h
+
+-- keys that rise are no more than those of a list that has them all: so the bound holds of the named ones in any order
+abbrev pub RisingWithin : Type 0
+RisingWithin = (xs ys : List Key) → IsStrictlySortedBy key_cmp xs
+    → list_all (λ k. list_any (same_key k) ys) xs ≡ true → length xs ≤ length ys

@@ -1,0 +1,4 @@
+pub mod Calm
+pub mod Named
+pub mod Keeps
+pub mod Laws

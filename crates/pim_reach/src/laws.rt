@@ -1,0 +1,115 @@
+//! Laws of the definitions, each the contract of a function with nothing to do.
+
+ghost use Rattle.pim_reach.specs.Laws.{EventFacts, EventIsCalm, EventKeeps, FiredAreFew, FiredIsReached, FiredNames, FiringFacts, FiringKeeps, NamedAreFew, NamedIsReached, RisingWithin, RoutesName, RpsName, SameMasks, ToldFires, TouchedAlone, TouchedNames, UnnamedKeeps, UnreachedIsSame, UnreachedSees};
+
+/// Where nothing differs that counts for a source, its macros read the same.
+#[tactic(auto, using(crate::proofs::Unreached::unreached_sees))]
+pub fn unreached_sees()
+    ensures { UnreachedSees }
+{}
+
+/// Where no neighbour differs, a source that an event names is reached.
+pub fn named_is_reached()
+    ensures { NamedIsReached }
+{}
+
+/// Where no neighbour differs at the end of an event, no more are named than are reached.
+pub fn named_are_few()
+    ensures { NamedAreFew }
+{}
+
+/// A source that a timer's end names is reached.
+pub fn fired_is_reached()
+    ensures { FiredIsReached }
+{}
+
+/// So no more are named than are reached.
+pub fn fired_are_few()
+    ensures { FiredAreFew }
+{}
+
+/// A source that isn't named keeps its answers.
+#[tactic(auto, using(crate::proofs::Kept::unnamed_keeps))]
+pub fn unnamed_keeps()
+    ensures { UnnamedKeeps }
+{}
+
+/// From a quiet state it is enough to ask the sources that an event touches.
+#[tactic(auto, using(crate::proofs::Touched::event_alone))]
+pub fn touched_names()
+    ensures { TouchedNames }
+{}
+
+/// So it is of a timer's end.
+#[tactic(auto, using(crate::proofs::Touched::firing_alone))]
+pub fn fired_names()
+    ensures { FiredNames }
+{}
+
+/// From a quiet state, with new routes it is enough to ask the sources of which a route or the RP differs.
+#[tactic(auto, using(crate::proofs::Rerouted::routes_name))]
+pub fn routes_name()
+    ensures { RoutesName }
+{}
+
+/// So it is with new RP ranges.
+#[tactic(auto, using(crate::proofs::Rerouted::rps_name))]
+pub fn rps_name()
+    ensures { RpsName }
+{}
+
+/// What is told of the firings of an Advance is told of the states that its firings leave.
+pub fn told_fires()
+    ensures { ToldFires }
+{}
+
+/// A source that no event reaches reads the same, and has the same facts but for their ends.
+pub fn unreached_is_same()
+    ensures { UnreachedIsSame }
+{}
+
+/// A source that an event doesn't name keeps its answers to the end of it.
+pub fn event_keeps()
+    ensures { EventKeeps }
+{}
+
+/// So does one that a timer's end doesn't name.
+pub fn firing_keeps()
+    ensures { FiringKeeps }
+{}
+
+/// From a quiet state it is enough to ask the sources that a change touches.
+#[tactic(auto, using(crate::proofs::Touched::touched_alone))]
+pub fn touched_alone()
+    ensures { TouchedAlone }
+{}
+
+/// Where no neighbour differs at the end of an event, none differs on the way.
+#[tactic(auto, using(crate::proofs::CalmFiring::calm_by_end))]
+pub fn event_is_calm()
+    ensures { EventIsCalm }
+{}
+
+/// The source facts at the end of an event are those that clearing leaves.
+#[tactic(auto, using(crate::proofs::Calm::event_facts))]
+pub fn event_facts()
+    ensures { EventFacts }
+{}
+
+/// Keys that rise are no more than those of a list that has them all.
+#[tactic(auto, using(crate::proofs::Within::rising_within))]
+pub fn rising_within()
+    ensures { RisingWithin }
+{}
+
+/// The source facts at the end of a firing are those that clearing leaves.
+#[tactic(auto, using(crate::proofs::Calm::firing_facts))]
+pub fn firing_facts()
+    ensures { FiringFacts }
+{}
+
+/// Two tests that numbers show by their bits are compared by the numbers.
+#[tactic(auto, using(crate::proofs::Masks::same_masks))]
+pub fn same_masks()
+    ensures { SameMasks }
+{}
