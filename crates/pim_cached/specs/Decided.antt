@@ -1,0 +1,40 @@
+-- What a source's answers decide of a packet, and all that becomes of a packet that is plain by them.
+use Rattle.std.specs.Prelude.{Bool, List, Ok, Option, Some, if◌then◌else◌, length, true, ℕ, ◌≡◌}
+use Rattle.pim_ip.specs.Ipv4.{Packet}
+use Rattle.pim_types.specs.declared.config.IfaceId.{IfaceId}
+use Rattle.pim_types.specs.declared.event.Event.{Event}
+use Rattle.pim_types.specs.declared.outcome.Emission.{Emission}
+use Rattle.pim_types.specs.declared.outcome.Verdict.{Verdict}
+use Rattle.pim_model.specs.Cache.{Plain, answers, plain}
+use Rattle.pim_model.specs.declared.accepted.Accepted.{Accepted}
+use Rattle.pim_model.specs.Judging.{judged}
+use Rattle.pim_model.specs.Plain.{fact_key}
+use Rattle.pim_model.specs.Registers.{with_keepalive}
+use Rattle.pim_model.specs.State.{State}
+use Rattle.pim_model.specs.Step.{Answered}
+use Rattle.pim_model.specs.Tables.{has_row}
+use Rattle.pim_model.specs.Writing.{copies_of}
+
+abbrev pub decided : State → IfaceId → Packet → Option Plain
+decided s i p = plain (answers s p.destination p.source) i.number p.time_to_live
+
+-- the state with the keepalive timer of a source set, or as it is
+abbrev pub kept_if : Bool → State → ℕ → ℕ → State
+kept_if keeps s g src = if keeps then with_keepalive s g src else s
+
+unfoldable pub plainly_taken : State → Packet → Plain → Answered
+plainly_taken s p how =
+    let copies : List Emission = copies_of s p how.list in
+    record {
+      answer = Ok Verdict.Done;
+      emissions = copies;
+      copies = length copies;
+      state = kept_if how.keeps s p.destination p.source;
+    }
+
+-- an event brings a packet that the answers of its source, which has a fact, decide
+pub record IsDecided (s : State) (e : Event) (p : Packet) (how : Plain) : Type 0 where
+  pub iif : IfaceId
+  pub heard : judged s e.kind ≡ Ok (Accepted.Data iif p)
+  pub known : has_row s.sources (fact_key p) ≡ true
+  pub answered : decided s iif p ≡ Some how

@@ -1,0 +1,118 @@
+-- Answers kept beside a state, a row for each source with a fact, and how an event leaves them: the named rows are made
+-- anew, or taken out, and no others.
+use Rattle.std.specs.List.{list_any}
+use Rattle.std.specs.Prelude.{Bool, Err, List, None, Ok, Option, Some, [], false, if◌then◌else◌, length, nat_lt, true, ℕ, ◌+◌, ◌-◌, ◌∷◌, ◌≡◌}
+use Rattle.pim_types.specs.declared.event.Event.{Event}
+use Rattle.pim_types.specs.declared.fact.Key.{Key}
+use Rattle.pim_types.specs.declared.outcome.Emission.{Emission}
+use Rattle.pim_types.specs.Keys.{same_key, source_key}
+use Rattle.pim_model.specs.Cache.{Answers, Plain, cached}
+use Rattle.pim_model.specs.declared.accepted.Accepted.{Accepted}
+use Rattle.pim_model.specs.Firing.{fire_once}
+use Rattle.pim_model.specs.Full.{is_full}
+use Rattle.pim_model.specs.Judging.{Judged, judged}
+use Rattle.pim_model.specs.Limits.{most_ifaces}
+use Rattle.pim_model.specs.Reach.{own_firing}
+use Rattle.pim_model.specs.Repeat.{until_none}
+use Rattle.pim_model.specs.State.{State}
+use Rattle.pim_model.specs.Step.{step, taken}
+use Rattle.pim_model.specs.Timers.{Ending, next_due, timers}
+use Rattle.pim_reach.specs.Named.{named_by, named_of}
+
+-- the row of each (S,G), by group and source
+abbrev pub Cache : Type 0
+Cache = ℕ → ℕ → Option Answers
+
+-- the opening's
+abbrev pub no_rows : Cache
+no_rows g src = None
+
+-- ---- the same answers
+
+-- The same of all interfaces that can be configured. Whether SPTbit is reached counts where RPF_interface(S) is one.
+pub record SameAnswers (a b : Answers) : Type 0 where
+  pub immediate : (i : ℕ) → nat_lt i most_ifaces ≡ true → a.immediate i ≡ b.immediate i
+  pub inherited : (i : ℕ) → nat_lt i most_ifaces ≡ true → a.inherited i ≡ b.inherited i
+  pub inherited_rpt : (i : ℕ) → nat_lt i most_ifaces ≡ true → a.inherited_rpt i ≡ b.inherited_rpt i
+  pub has_tunnel : a.has_tunnel ≡ b.has_tunnel
+  pub rpf : a.rpf ≡ b.rpf
+  pub rp_rpf : a.rp_rpf ≡ b.rp_rpf
+  pub spt : a.spt ≡ b.spt
+  pub connected : a.connected ≡ b.connected
+  pub may_register : a.may_register ≡ b.may_register
+  pub registered : a.registered ≡ b.registered
+  pub desired : a.desired ≡ b.desired
+  pub flows : a.flows ≡ b.flows
+  pub reaches : (i : ℕ) → nat_lt i most_ifaces ≡ true → a.rpf ≡ Some i → a.reaches ≡ b.reaches
+  pub watches : a.watches ≡ b.watches
+  pub contested : (i : ℕ) → nat_lt i most_ifaces ≡ true → a.contested i ≡ b.contested i
+
+abbrev pub SameRow : Option Answers → Option Answers → Type 0
+SameRow None None = Unit {0}
+SameRow (Some a) (Some b) = SameAnswers a b
+SameRow _ _ = ⊥
+
+-- the rows are the answers of the sources with a fact, and of no others
+abbrev pub IsCached : Cache → State → Type 0
+IsCached c s = (g src : ℕ) → SameRow (c g src) (cached s g src)
+
+-- ---- after an event
+
+unfoldable pub is_listed : List Key → ℕ → ℕ → Bool
+is_listed names g src = list_any (same_key (source_key 0 g src)) names
+
+-- the named rows as the state has them, the others as they were
+unfoldable pub refreshed : List Key → State → Cache → Cache
+refreshed names s c g src = if is_listed names g src then cached s g src else c g src
+
+pub record Held : Type 0 where
+  pub state : State
+  pub cache : Cache
+
+-- firings, each with its rows made anew
+module _ (w : ℕ) where
+  unfoldable pub held_once : Held → Ending → Held × List Emission
+  held_once h e =
+      let after : State × List Emission = fire_once w h.state e in
+      (record { state = after.0; cache = refreshed (named_by h.state (own_firing h.state e)) after.0 h.cache }, after.1)
+
+  unfoldable pub held_instant : Held → Ending → Held × List Emission
+  held_instant h e = until_none (λ (k : Held). next_due e.end k.state) held_once (length (timers h.state) + 1) h
+
+  unfoldable pub held_all : ℕ → Held → Held × List Emission
+  held_all moment h =
+      until_none (λ (k : Held). next_due moment k.state) held_instant (moment + 2 - (h.state).present) h
+
+unfoldable pub cache_taken : State → ℕ → Accepted → Cache → Cache
+cache_taken s w (Accepted.Advance moment) c = ((held_all w moment (record { state = s; cache = c })).0).cache
+cache_taken s w a c = refreshed (named_of s w a) (taken s w a).state c
+
+abbrev pub cache_unless_full : Bool → Cache → Cache → Cache
+cache_unless_full true c d = c
+cache_unless_full false c d = d
+
+abbrev pub cache_concluded : Cache → (Accepted → Cache) → Judged → Cache
+cache_concluded c next (Err stop) = c
+cache_concluded c next (Ok a) = next a
+
+-- an event that is refused or ignored leaves all rows
+unfoldable pub cache_after : State → Event → Cache → Cache
+cache_after s e c =
+    cache_concluded c (λ a. cache_unless_full (is_full s a) c (cache_taken s e.draw a c)) (judged s e.kind)
+
+-- after several events
+unfoldable pub cache_at_end : State → List Event → Cache → Cache
+cache_at_end s [] c = c
+cache_at_end s (e ∷ es) c = cache_at_end (step s e).state es (cache_after s e c)
+
+-- ---- what rows decide
+
+-- KAT(S,G) is set alike, and copies leave on the same interfaces
+pub record SamePlain (p q : Plain) : Type 0 where
+  pub keeps : p.keeps ≡ q.keeps
+  pub list : (i : ℕ) → nat_lt i most_ifaces ≡ true → p.list i ≡ q.list i
+
+abbrev pub SameDecision : Option Plain → Option Plain → Type 0
+SameDecision None None = Unit {0}
+SameDecision (Some p) (Some q) = SamePlain p q
+SameDecision _ _ = ⊥

@@ -1,0 +1,4 @@
+pub mod Decided
+pub mod PlainLaws
+pub mod Kept
+pub mod KeptLaws

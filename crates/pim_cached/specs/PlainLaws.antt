@@ -1,0 +1,83 @@
+-- What holds of plain packets and of the cache's answers, where the router is at rest.
+use Rattle.std.specs.Prelude.{Some, false, is_some, true, ℕ, ◌≡◌}
+use Rattle.pim_ip.specs.Ipv4.{Packet}
+use Rattle.pim_types.specs.declared.config.IfaceId.{IfaceId}
+use Rattle.pim_types.specs.declared.event.Event.{Event}
+use Rattle.pim_types.specs.Keys.{source_key}
+use Rattle.pim_model.specs.Cache.{Plain, answers, cached}
+use Rattle.pim_model.specs.declared.accepted.Accepted.{Accepted}
+use Rattle.pim_model.specs.Desires.{join_desired}
+use Rattle.pim_model.specs.Full.{is_full}
+use Rattle.pim_model.specs.Plain.{IsPlainEvent, fact_key}
+use Rattle.pim_model.specs.Registers.{could_register, with_keepalive}
+use Rattle.pim_model.specs.State.{State}
+use Rattle.pim_model.specs.Step.{step, taken}
+use Rattle.pim_model.specs.Tables.{has_row}
+use Rattle.pim_locality.specs.Rest.{IsAtRest}
+use Rattle.pim_locality.specs.Sees.{SeesSource}
+use Rattle.pim_cached.specs.Decided.{IsDecided, decided, plainly_taken}
+
+-- ---- a plain packet
+
+-- what the answers decide is what the machine does, with all that follows of it
+abbrev pub PlainIsTaken : Type 0
+PlainIsTaken = (s : State) (w : ℕ) (i : IfaceId) (p : Packet) (how : Plain) → IsAtRest s
+    → has_row s.sources (fact_key p) ≡ true → decided s i p ≡ Some how
+    → taken s w (Accepted.Data i p) ≡ plainly_taken s p how
+
+-- a source with a fact needs no room
+abbrev pub KnownIsNotFull : Type 0
+KnownIsNotFull = (s : State) (i : IfaceId) (p : Packet) → has_row s.sources (fact_key p) ≡ true
+    → is_full s (Accepted.Data i p) ≡ false
+
+-- and of the whole step
+abbrev pub PlainIsStepped : Type 0
+PlainIsStepped = (s : State) (e : Event) (p : Packet) (how : Plain) → IsAtRest s → IsDecided s e p how
+    → step s e ≡ plainly_taken s p how
+
+-- it leaves the cache as it was
+abbrev pub PlainKeepsCache : Type 0
+PlainKeepsCache = (s : State) (e : Event) (p : Packet) (how : Plain) → IsAtRest s → IsDecided s e p how
+    → (g src : ℕ) → cached (step s e).state g src ≡ cached s g src
+
+-- ---- the plain events, and no others, are decided
+
+abbrev pub DecidedIsPlain : Type 0
+DecidedIsPlain = (s : State) (e : Event) (p : Packet) (how : Plain) → IsAtRest s → IsDecided s e p how → IsPlainEvent s e
+
+abbrev pub PlainIsDecided : Type 0
+PlainIsDecided = (s : State) (e : Event) → IsAtRest s → (is : IsPlainEvent s e)
+    → is_some (decided s is.iif is.packet) ≡ true
+
+-- ---- what answers depend on
+
+-- the keepalive timer of a source with a fact changes no answer, its own nor another's
+abbrev pub KeepingChangesNoAnswer : Type 0
+KeepingChangesNoAnswer = (s : State) (g src : ℕ) → IsAtRest s → has_row s.sources (source_key 0 g src) ≡ true
+    → (group source : ℕ) → answers (with_keepalive s g src) group source ≡ answers s group source
+
+-- where a source sees the same, and is desired and registered alike, its answers are the same
+abbrev pub AnswersOfSame : Type 0
+AnswersOfSame = (g src : ℕ) (s t : State) → SeesSource g src s t → join_desired s g src ≡ join_desired t g src
+    → has_row s.registers (source_key 0 g src) ≡ has_row t.registers (source_key 0 g src)
+    → answers s g src ≡ answers t g src
+
+-- a source with a fact is registered where it could be
+abbrev pub RegisteredWhereItCould : Type 0
+RegisteredWhereItCould = (s : State) (g src : ℕ) → IsAtRest s → has_row s.sources (source_key 0 g src) ≡ true
+    → has_row s.registers (source_key 0 g src) ≡ could_register s g src
+
+-- at rest it is desired whether its timer runs or not, so what it sees and CouldRegister(S,G) are enough
+abbrev pub AnswersAtRest : Type 0
+AnswersAtRest = (g src : ℕ) (s t : State) → IsAtRest s → IsAtRest t
+    → has_row s.sources (source_key 0 g src) ≡ true → has_row t.sources (source_key 0 g src) ≡ true
+    → SeesSource g src s t → could_register s g src ≡ could_register t g src → answers s g src ≡ answers t g src
+
+-- so the cache has the same of a source that has a fact in both states, or in neither, where the one with a fact sees the
+-- same
+abbrev pub CacheOfSame : Type 0
+CacheOfSame = (g src : ℕ) (s t : State) → IsAtRest s → IsAtRest t
+    → has_row s.sources (source_key 0 g src) ≡ has_row t.sources (source_key 0 g src)
+    → (has_row s.sources (source_key 0 g src) ≡ true
+    → SeesSource g src s t × (could_register s g src ≡ could_register t g src))
+    → cached s g src ≡ cached t g src
