@@ -8,7 +8,8 @@ use Rattle.std.specs.declared.cmp.Ordering.TheVariants.{Less, Equal, Greater}
 use Rattle.pim_ip.specs.declared.addr.Prefix.{Prefix}
 use Rattle.pim_trie.specs.Entries.{prefix_cmp}
 use Rattle.pim_source_trie.specs.Groups.{Rises}
-use Rattle.pim_source_trie.specs.Rows.{IsHosts, address_in, at_prefix, host_of}
+use Rattle.pim_source_trie.specs.Entries.{host_of}
+use Rattle.pim_source_trie.specs.Rows.{IsHosts, address_in, at_prefix}
 use Rattle.pim_source_trie.proofs.Rising.{each_more}
 use Rattle.pim_source_trie.proofs.RowLaws.{at_host}
 

@@ -15,7 +15,8 @@ use Rattle.pim_types.specs.declared.fact.Key.{Key}
 use Rattle.pim_types.proofs.Keys.{equal_numbers, nat_cmp_same}
 use Rattle.pim_model.specs.Tables.{Table}
 use Rattle.pim_source_trie.specs.Groups.{GroupList, group_entries, table_of}
-use Rattle.pim_source_trie.specs.Rows.{Rows, address_in, at_prefix, host_of, keyed, row_cmp, row_in, without_prefix, without_row}
+use Rattle.pim_source_trie.specs.Entries.{host_of}
+use Rattle.pim_source_trie.specs.Rows.{Rows, address_in, at_prefix, keyed, row_cmp, row_in, without_prefix, without_row}
 use Rattle.pim_source_trie.proofs.Ascents.{Ascends, Below, above_both, absent_below}
 use Rattle.pim_source_trie.proofs.Keyed.{keyed_found, keyed_put, keyed_removed, keyed_stands}
 use Rattle.pim_source_trie.proofs.Rising.{Stands, apart, each_append, insert_first, insert_past, insert_within, lookup_past, lookup_within, remove_none, remove_past, remove_within}

@@ -4,4 +4,5 @@ mod Keyed
 mod Rising
 mod RowLaws
 mod TrieLaws
+mod Visited
 mod WalkLaws

@@ -1,5 +1,5 @@
 -- What the rows of a group are after a change of its sources.
-use Rattle.std.proofs.Common.{Box, ◌≡◌, ℕ, ◌+◌, ◌≤◌, Bool, true, false, cond, List, [], ◌∷◌, Option, Some, None, IsSome, is_some, refl, sym, ap, ◌∙◌, arith}
+use Rattle.std.proofs.Common.{Box, ◌≡◌, ℕ, Bool, true, false, cond, List, [], ◌∷◌, Option, Some, None, IsSome, is_some, refl, sym, ap, ◌∙◌, arith}
 use Rattle.std.proofs.lemmas.Bool.{false≢true}
 use Rattle.std.proofs.lemmas.Bool.Decides.{nat_tests}
 use Rattle.std.specs.Box.{box_value}
@@ -13,8 +13,8 @@ use Rattle.std.specs.declared.cmp.Ordering.TheVariants.{Less, Equal, Greater}
 use Rattle.pim_ip.specs.declared.addr.Prefix.{Prefix}
 use Rattle.pim_ip.specs.Prefixes.{is_host_clear}
 use Rattle.pim_trie.specs.Entries.{is_canonical, prefix_cmp}
-use Rattle.pim_trie.specs.Meter.{raised}
-use Rattle.pim_source_trie.specs.Rows.{IsHosts, SourceList, address_in, at_prefix, host_of, row_cmp, row_in, rows_of, source_rows, without_prefix, without_row}
+use Rattle.pim_source_trie.specs.Entries.{host_of}
+use Rattle.pim_source_trie.specs.Rows.{IsHosts, SourceList, address_in, at_prefix, row_cmp, row_in, rows_of, source_rows, without_prefix, without_row}
 use Rattle.pim_source_trie.proofs.Rising.{each_inserted, each_removed}
 
 pub then_equal : (o : Ordering) → ordering_then o Equal ≡ o
@@ -52,16 +52,6 @@ module _ {X : Type 0} where
   pub hosts_removed : (p : Prefix) (es : List (Prefix × X)) → IsHosts es
       → IsHosts (without_prefix p es)
   hosts_removed p es hosts = each_removed prefix_cmp p (λ e. e.0.length ≡ 32) es hosts
-
--- ---- the nodes that a look-up visits
-
-pub meter_rises : (old new nodes : ℕ) → new ≡ raised old nodes → old ≤ new
-unfolding raised
-meter_rises old new nodes e = omega (arith, e)
-
-pub meter_rises_by : (old new nodes most : ℕ) → new ≡ raised old nodes → nodes ≤ most → new ≤ old + most
-unfolding raised
-meter_rises_by old new nodes most e h = omega (arith, e, h)
 
 module _ {V A : Type 0} where
   -- ---- (*,G)

@@ -15,7 +15,8 @@ use Rattle.pim_types.specs.Keys.{key_cmp, key_of}
 use Rattle.pim_model.specs.Tables.{drop_at, has_row, put, row_at}
 use Rattle.pim_laws.proofs.RemovalLaws.{removed_is_dropped}
 use Rattle.pim_source_trie.specs.Groups.{AreRows, GroupList, IsGroup, IsGroups, Rises, group_entries, table_of}
-use Rattle.pim_source_trie.specs.Rows.{Rows, address_in, at_prefix, host_of, keyed, row_cmp, row_in, without_prefix, without_row}
+use Rattle.pim_source_trie.specs.Entries.{host_of}
+use Rattle.pim_source_trie.specs.Rows.{Rows, address_in, at_prefix, keyed, row_cmp, row_in, without_prefix, without_row}
 use Rattle.pim_source_trie.proofs.Ascents.{Ascends, Below, ascends_of}
 use Rattle.pim_source_trie.proofs.GroupLaws.{emptied_there, groups_found, opened, put_there, removed_absent, removed_there, rows_in, same_there, without_key, table_stands}
 use Rattle.pim_source_trie.proofs.Keyed.{keyed_rises}

@@ -19,9 +19,9 @@ use Rattle.pim_types.specs.declared.fact.Key.{Key}
 use Rattle.pim_types.specs.Keys.{group_in, is_of_group, key_of}
 use Rattle.pim_types.proofs.Keys.{equal_numbers, nat_cmp_same}
 use Rattle.pim_model.specs.Tables.{Table, ascending, insert_number, keys_in}
-use Rattle.pim_source_trie.specs.Entries.{entry_key}
+use Rattle.pim_source_trie.specs.Entries.{entry_key, host_of}
 use Rattle.pim_source_trie.specs.Groups.{GroupList, IsGroup, IsGroups, group_entries, table_of}
-use Rattle.pim_source_trie.specs.Rows.{Rows, address_in, at_prefix, host_of, keyed}
+use Rattle.pim_source_trie.specs.Rows.{Rows, address_in, at_prefix, keyed}
 use Rattle.pim_source_trie.proofs.Ascents.{Ascends, Below, above_both, ascends_of}
 use Rattle.pim_source_trie.proofs.GroupLaws.{rows_in}
 use Rattle.pim_source_trie.proofs.Rising.{each_append}

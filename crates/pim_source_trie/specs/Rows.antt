@@ -1,6 +1,6 @@
 -- The rows of one group: the value of (*,G) under no source, and those of its sources. No public clause cites this
 -- module.
-use Rattle.std.specs.Prelude.{Box, ℕ, ◌≡◌, List, [], ◌∷◌, ◌++◌, Option, Some, None, false, map, option_map}
+use Rattle.std.specs.Prelude.{Box, ℕ, ◌≡◌, List, [], ◌∷◌, ◌++◌, Option, Some, None, filter, false, is_some, map, option_map, unwrap_or}
 use Rattle.std.specs.Box.{box_value}
 use Rattle.std.specs.BTreeMap.{is_at}
 use Rattle.std.specs.List.{AllByRecursion}
@@ -10,15 +10,10 @@ use Rattle.std.specs.Ordering.{nat_cmp}
 use Rattle.std.specs.declared.cmp.Ordering.{Ordering}
 use Rattle.pim_ip.specs.declared.addr.Addr.{Addr}
 use Rattle.pim_ip.specs.declared.addr.Prefix.{Prefix}
-use Rattle.pim_ip.specs.Addr.{addr}
-use Rattle.pim_trie.specs.Entries.{prefix_cmp}
+use Rattle.pim_trie.specs.Entries.{nodes_to, prefix_cmp}
 use Rattle.pim_types.specs.Keys.{key_of}
 use Rattle.pim_model.specs.Tables.{Table}
-use Rattle.pim_source_trie.specs.Entries.{bits_of}
-
--- the prefix of one address
-abbrev pub host_of : ℕ → Prefix
-host_of a = record { address = addr a; length = 32 }
+use Rattle.pim_source_trie.specs.Entries.{bits_of, host_of}
 
 -- the source as a number
 abbrev pub source_of : Option Addr → Option ℕ
@@ -59,6 +54,12 @@ module _ {V : Type 0} where
 
   abbrev pub without_row : Option ℕ → Rows V → Rows V
   without_row s rows = remove_entry (is_at (row_cmp s)) rows
+
+  -- how many nodes lead to a source in the trie of those that have a row; none is visited for (*,G)
+  abbrev pub row_nodes : Rows V → Option ℕ → ℕ
+  row_nodes rows None = 0
+  row_nodes rows (Some s) =
+      nodes_to (map (λ r. (host_of (unwrap_or r.0 0), r)) (filter (λ r. is_some r.0) rows)) (host_of s)
 
   -- the row of (*,G)
   abbrev pub star_rows : Option V → Rows V

@@ -1,7 +1,9 @@
 //! What is under one group.
 ghost use Rattle.std.specs.Prelude.{◌≡◌, ◌≤◌, ◌+◌, ◌∷◌, ◌↔◌, [], IsTrue, IsOk, IfOk, IsSome, OnOk, OnErr, None, option_copied};
 ghost use Rattle.std.specs.BTreeMap.{insert_entry};
-ghost use Rattle.pim_source_trie.specs.Rows.{host_of, row_cmp, row_in, source_of, without_row};
+ghost use Rattle.pim_source_trie.specs.Entries.{host_of};
+ghost use Rattle.pim_source_trie.specs.Rows.{row_cmp, row_in, row_nodes, source_of, without_row};
+ghost use Rattle.pim_trie.specs.Meter.{raised};
 
 use pim_ip::{Addr, Prefix};
 use pim_trie::{Meter, Trie};
@@ -61,11 +63,11 @@ impl<V> Group<V> {
     }
 
     // The value of (*,G), or of a source.
+    #[tactic(auto, using(crate::proofs::Visited::raised_by_none, crate::proofs::Visited::rows_at_most))]
     pub(crate) fn get(&self, source: Option<Addr>, meter: &mut Meter) -> Option<&V>
         ensures value { option_copied result ≡ row_in (source_of source) self.now }
-        ensures rises { meter.old ≤ meter.new }
-        ensures at_most { meter.new ≤ meter.old + 33 }
-        ensures uncounted { source ≡ None → meter.new ≡ meter.old }
+        ensures visited { meter.new ≡ raised meter.old (row_nodes self.now (source_of source)) }
+        ensures at_most { row_nodes self.now (source_of source) ≤ 33 }
     {
         match source {
             None => self.star.as_ref(),

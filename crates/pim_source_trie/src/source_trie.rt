@@ -3,7 +3,8 @@ ghost use Rattle.std.specs.Prelude.{◌≡◌, ◌≤◌, ◌+◌, ◌↔◌, []
 ghost use Rattle.std.specs.List.Sorted.{IsStrictlySortedBy};
 ghost use Rattle.pim_model.specs.Tables.{ascending, drop_at, has_row, keys_in, put, row_at};
 ghost use Rattle.pim_types.specs.Keys.{group_in, is_of_group, key_cmp};
-ghost use Rattle.pim_source_trie.specs.Entries.{entry_key};
+ghost use Rattle.pim_source_trie.specs.Entries.{entry_key, nodes_visited};
+ghost use Rattle.pim_trie.specs.Meter.{raised};
 
 use crate::group::{Group, host};
 use crate::walks::{Entries, Groups};
@@ -67,12 +68,13 @@ impl<V> SourceTrie<V> {
     }
 
     /// The value of (*,G), where `source` is `None`, or of a source of the group. The meter rises by the
-    /// nodes visited, 66 at most.
+    /// nodes visited: those that lead to the group, and from there to its source, 66 at most.
+    #[tactic(auto, using(crate::proofs::Visited::group_at_most, crate::proofs::Visited::visited_at_most))]
     pub fn get(&self, group: Addr, source: Option<Addr>, meter: &mut Meter) -> Option<&V>
         ensures value { option_copied result ≡ row_at self.now (entry_key group source) }
-        ensures rises { meter.old ≤ meter.new }
-        ensures at_most { meter.new ≤ meter.old + 66 }
-        ensures star_at_most { source ≡ None → meter.new ≤ meter.old + 33 }
+        ensures visited { meter.new ≡ raised meter.old (nodes_visited (keys_in self.now) group source) }
+        ensures at_most { nodes_visited (keys_in self.now) group source ≤ 66 }
+        ensures star_at_most { nodes_visited (keys_in self.now) group None ≤ 33 }
     {
         self.groups.get(host(group), meter)?.get(source, meter)
     }

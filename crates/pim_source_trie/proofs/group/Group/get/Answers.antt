@@ -1,6 +1,7 @@
 use Rattle.std.proofs.Common.{Some, None, ap, sym, ◌∙◌}
 use Rattle.std.specs.Option.{option_copied}
-use Rattle.pim_source_trie.proofs.RowLaws.{found_in, meter_rises, meter_rises_by, star_found}
+use Rattle.pim_source_trie.proofs.RowLaws.{found_in, star_found}
+use Rattle.pim_source_trie.proofs.Visited.{raised_alike, rows_visited}
 use Rattle.pim_source_trie.proofs.group.Group.get.Goals as goal
 
 pub returns-in_err-get-in-Some-clause-value : goal.returns-in_err-get-in-Some-clause-value
@@ -9,11 +10,12 @@ returns-in_err-get-in-Some-clause-value g c =
     (found_in c.in-Some.source.bits c.host.result None c.self.inside.star c.self.inside.sources c.self.invariant
     c.host.ensures (sym (ap option_copied c.in_err-get-in-Some.was) ∙ c.get.ensures.value))
 
-pub returns-in_err-get-in-Some-clause-rises : goal.returns-in_err-get-in-Some-clause-rises
-returns-in_err-get-in-Some-clause-rises g c = meter_rises _ _ _ c.get.ensures.visited
-
-pub returns-in_err-get-in-Some-clause-at_most : goal.returns-in_err-get-in-Some-clause-at_most
-returns-in_err-get-in-Some-clause-at_most g c = meter_rises_by _ _ _ 33 c.get.ensures.visited c.get.ensures.at_most
+pub returns-in_err-get-in-Some-clause-visited : goal.returns-in_err-get-in-Some-clause-visited
+returns-in_err-get-in-Some-clause-visited g c =
+    rw (c.in-Some.is, ← c.self.view_is)
+    (raised_alike _ _ _ _ c.get.ensures.visited
+    (rows_visited c.self.inside.star c.self.inside.sources c.self.invariant c.in-Some.source.bits c.host.result
+    c.host.ensures))
 
 pub returns-in-None-clause-value : goal.returns-in-None-clause-value
 returns-in-None-clause-value g c =
@@ -27,8 +29,9 @@ returns-in_ok-get-in-Some-clause-value g c =
     c.self.inside.star c.self.inside.sources c.self.invariant c.host.ensures
     (sym (ap option_copied c.in_ok-get-in-Some.was) ∙ c.get.ensures.value))
 
-pub returns-in_ok-get-in-Some-clause-rises : goal.returns-in_ok-get-in-Some-clause-rises
-returns-in_ok-get-in-Some-clause-rises g c = meter_rises _ _ _ c.get.ensures.visited
-
-pub returns-in_ok-get-in-Some-clause-at_most : goal.returns-in_ok-get-in-Some-clause-at_most
-returns-in_ok-get-in-Some-clause-at_most g c = meter_rises_by _ _ _ 33 c.get.ensures.visited c.get.ensures.at_most
+pub returns-in_ok-get-in-Some-clause-visited : goal.returns-in_ok-get-in-Some-clause-visited
+returns-in_ok-get-in-Some-clause-visited g c =
+    rw (c.in-Some.is, ← c.self.view_is)
+    (raised_alike _ _ _ _ c.get.ensures.visited
+    (rows_visited c.self.inside.star c.self.inside.sources c.self.invariant c.in-Some.source.bits c.host.result
+    c.host.ensures))

@@ -1,0 +1,219 @@
+-- How many nodes a look-up visits.
+use Rattle.std.proofs.Common.{Box, ◌≡◌, ◌≢◌, ℕ, ◌+◌, ◌≤◌, Bool, true, false, ◌&&◌, ◌||◌, if◌then◌else◌, List, [], ◌∷◌, map, Option, Some, None, count_by, is_some, nat_le, refl, sym, ap, ◌∙◌, add-zero, arith}
+use Rattle.std.proofs.lemmas.List.Folds.{list_any-append}
+use Rattle.std.specs.Box.{box_value}
+use Rattle.std.specs.List.{AllByRecursion, filter, list_any, range_with_len}
+use Rattle.std.specs.Option.{unwrap_or}
+use Rattle.pim_ip.specs.declared.addr.Addr.{Addr}
+use Rattle.pim_ip.specs.declared.addr.Prefix.{Prefix}
+use Rattle.pim_ip.specs.Prefixes.{contains}
+use Rattle.pim_trie.specs.Entries.{is_canonical, nodes_along, nodes_to, passes}
+use Rattle.pim_trie.specs.Meter.{raised}
+use Rattle.pim_trie.proofs.Counts.{prefix_at_most}
+use Rattle.pim_types.specs.declared.fact.Key.{Key}
+use Rattle.pim_types.specs.Keys.{group_in, is_of_group, key_of, source_in}
+use Rattle.pim_model.specs.Tables.{Table, keys_in}
+use Rattle.pim_laws.proofs.TableLaws.{any_in_filter, any_of_map}
+use Rattle.pim_source_trie.specs.Entries.{group_nodes, host_of, nodes_visited, source_nodes}
+use Rattle.pim_source_trie.specs.Groups.{GroupList, IsGroup, IsGroups, group_entries, table_of}
+use Rattle.pim_source_trie.specs.Rows.{IsHosts, Rows, SourceList, address_in, at_prefix, keyed, row_nodes, rows_of, source_of, source_rows}
+use Rattle.pim_source_trie.proofs.GroupLaws.{rows_in}
+use Rattle.pim_source_trie.proofs.RowLaws.{host_canonical}
+use Rattle.pim_source_trie.proofs.WalkLaws.{walk_found}
+
+-- ---- the same prefixes, the same nodes
+
+-- entries of the same prefixes, in whichever order and however often
+abbrev pub SamePrefixes : {V W : Type 0} → List (Prefix × V) → List (Prefix × W) → Type 0
+SamePrefixes es fs = (test : Prefix → Bool) → list_any (λ e. test e.0) es ≡ list_any (λ e. test e.0) fs
+
+pub nodes_same : {V W : Type 0} (es : List (Prefix × V)) (fs : List (Prefix × W)) → SamePrefixes es fs → (p : Prefix)
+    → nodes_to es p ≡ nodes_to fs p
+unfolding nodes_to nodes_along passes
+nodes_same es fs same p = λ i.
+    if is_canonical p then count_by (λ length. same (λ q. nat_le length q.length
+    && contains (record { address = q.address; length = length }) p.address.bits) i) (range_with_len 0 (p.length + 1))
+    else 0
+
+pub none_visited : (V : Type 0) (a : ℕ) → nodes_to {V = V} [] (host_of a) ≡ 0
+unfolding nodes_to nodes_along passes
+none_visited V a = rw (host_canonical a) refl
+
+-- ---- two look-ups
+
+pub raised_alike : (old new n m : ℕ) → new ≡ raised old n → n ≡ m → new ≡ raised old m
+raised_alike old new n m e same = e ∙ ap (raised old) same
+
+pub raised_by_none : (old : ℕ) → old ≡ raised old 0
+unfolding raised
+raised_by_none old = omega arith
+
+pub raised_twice : (old between new first second : ℕ) → between ≡ raised old first → new ≡ raised between second
+    → new ≡ raised old (first + second)
+unfolding raised
+raised_twice old between new first second e f = omega (arith, e, f)
+
+-- ---- the groups
+
+each_alike : {X : Type 0} (b : Bool) (xs : List X) → (b || list_any (λ x. b) xs) ≡ b
+each_alike true xs = refl
+each_alike false [] = refl
+each_alike false (x ∷ xs) = each_alike false xs
+
+host_is : (p : Prefix) → p.length ≡ 32 → p ≡ host_of p.address.bits
+host_is p whole = λ j. record { address = p.address; length = whole j }
+
+abbrev tests_group : {V : Type 0} → (Prefix → Bool) → Key × V → Bool
+tests_group test e = test (host_of (group_in e.0))
+
+one_group : {V : Type 0} (test : Prefix → Bool) (g : ℕ) (rows : Rows V) → rows ≢ []
+    → list_any (tests_group test) (keyed g rows) ≡ test (host_of g)
+unfolding keyed
+one_group test g [] full = absurd (full refl)
+one_group {V} test g (r ∷ rows) full =
+    ap (λ b. test (host_of g) || b)
+    (any_of_map (tests_group test) (λ (r : Option ℕ × V). (key_of 0 g r.0 false, r.1)) rows)
+    ∙ each_alike (test (host_of g)) rows
+
+module _ {V A : Type 0} (test : Prefix → Bool) where
+  all_groups : (es : GroupList V A) → IsHosts es → AllByRecursion IsGroup es
+      → list_any (λ e. test e.0) es ≡ list_any (tests_group test) (table_of es)
+  unfolding table_of
+  all_groups [] hosts each = refl
+  all_groups (e ∷ es) hosts each =
+      (λ i. test (host_is e.0 hosts.0 i) || all_groups es hosts.1 each.1 i)
+      ∙ ap (λ b. b || list_any (tests_group test) (table_of es)) (sym (one_group test (address_in e) (box_value e.1) each.0.0))
+      ∙ sym (list_any-append (tests_group test) (group_entries e) (table_of es))
+
+  groups_alike : (es : GroupList V A) → IsGroups es
+      → list_any (λ e. test e.0) es ≡ list_any (λ (e : Prefix × Key). test e.0) (map (λ k. (host_of (group_in k), k)) (keys_in (table_of es)))
+  unfolding keys_in
+  groups_alike es whole =
+      all_groups es whole.hosts whole.each
+      ∙ sym (any_of_map (λ (e : Prefix × Key). test e.0) (λ k. (host_of (group_in k), k)) (keys_in (table_of es))
+      ∙ any_of_map (λ k. test (host_of (group_in k))) (λ (e : Key × V). e.0) (table_of es))
+
+pub groups_visited : {V A : Type 0} (es : GroupList V A) → IsGroups es → (g : ℕ) (p : Prefix) → p ≡ host_of g
+    → nodes_to es p ≡ group_nodes (keys_in (table_of es)) g
+unfolding group_nodes
+groups_visited es whole g p named =
+    nodes_same es (map (λ k. (host_of (group_in k), k)) (keys_in (table_of es))) (λ test. groups_alike test es whole) p
+    ∙ ap (nodes_to (map (λ k. (host_of (group_in k), k)) (keys_in (table_of es)))) named
+
+-- ---- the sources of a group, as their trie holds them
+
+abbrev tests_row : {V : Type 0} → (Prefix → Bool) → Option ℕ × V → Bool
+tests_row test r = is_some r.0 && test (host_of (unwrap_or r.0 0))
+
+module _ {V A : Type 0} (test : Prefix → Bool) where
+  all_sources : (es : SourceList V A) → IsHosts es → list_any (λ e. test e.0) es ≡ list_any (tests_row test) (source_rows es)
+  unfolding source_rows
+  all_sources [] hosts = refl
+  all_sources (e ∷ es) hosts = λ i. test (host_is e.0 hosts.0 i) || all_sources es hosts.1 i
+
+  with_star : (star : Option V) (es : SourceList V A) → IsHosts es
+      → list_any (λ e. test e.0) es ≡ list_any (tests_row test) (rows_of star es)
+  unfolding rows_of
+  with_star None es hosts = all_sources es hosts
+  with_star (Some v) es hosts = all_sources es hosts
+
+  rows_alike : (star : Option V) (es : SourceList V A) → IsHosts es
+      → list_any (λ e. test e.0) es
+      ≡ list_any (λ (e : Prefix × (Option ℕ × V)). test e.0) (map (λ r. (host_of (unwrap_or r.0 0), r)) (filter (λ r. is_some r.0) (rows_of star es)))
+  rows_alike star es hosts =
+      with_star star es hosts
+      ∙ sym (any_of_map (λ (e : Prefix × (Option ℕ × V)). test e.0) (λ r. (host_of (unwrap_or r.0 0), r))
+      (filter (λ r. is_some r.0) (rows_of star es))
+      ∙ any_in_filter (λ r. is_some r.0) (λ r. test (host_of (unwrap_or r.0 0))) (rows_of star es))
+
+pub rows_visited : {V A : Type 0} (star : Option V) (es : SourceList V A) → IsHosts es → (s : ℕ) (p : Prefix)
+    → p ≡ host_of s → nodes_to es p ≡ row_nodes (rows_of star es) (Some s)
+rows_visited star es hosts s p named =
+    nodes_same es (map (λ r. (host_of (unwrap_or r.0 0), r)) (filter (λ r. is_some r.0) (rows_of star es)))
+    (λ test. rows_alike test star es hosts) p
+    ∙ ap (nodes_to (map (λ r. (host_of (unwrap_or r.0 0), r)) (filter (λ r. is_some r.0) (rows_of star es)))) named
+
+-- ---- the sources of a group, as the table has them
+
+abbrev tests_source : (Prefix → Bool) → Key → Bool
+tests_source test k = is_some k.source && test (host_of (source_in k))
+
+row_tested : (test : Prefix → Bool) (g : ℕ) (o : Option ℕ)
+    → (is_some o && test (host_of (unwrap_or o 0))) ≡ tests_source test (key_of 0 g o false)
+row_tested test g None = refl
+row_tested test g (Some n) = refl
+
+module _ {V : Type 0} (test : Prefix → Bool) where
+  sources_alike : (g : ℕ) (rows : Rows V) (t : Table V) → keyed g rows ≡ filter (λ e. is_of_group g e.0) t
+      → list_any (λ (e : Prefix × (Option ℕ × V)). test e.0) (map (λ r. (host_of (unwrap_or r.0 0), r)) (filter (λ r. is_some r.0) rows))
+      ≡ list_any (λ (e : Prefix × Key). test e.0)
+      (map (λ k. (host_of (source_in k), k)) (filter (λ k. is_some k.source) (filter (is_of_group g) (keys_in t))))
+  unfolding keys_in keyed
+  sources_alike g rows t is =
+      any_of_map (λ (e : Prefix × (Option ℕ × V)). test e.0) (λ r. (host_of (unwrap_or r.0 0), r))
+      (filter (λ r. is_some r.0) rows)
+      ∙ any_in_filter (λ (r : Option ℕ × V). is_some r.0) (λ r. test (host_of (unwrap_or r.0 0))) rows
+      ∙ (λ i. list_any (λ r. row_tested test g r.0 i) rows)
+      ∙ sym (any_of_map (λ (e : Key × V). tests_source test e.0) (λ (r : Option ℕ × V). (key_of 0 g r.0 false, r.1)) rows)
+      ∙ ap (list_any (λ (e : Key × V). tests_source test e.0)) is
+      ∙ any_in_filter (λ (e : Key × V). is_of_group g e.0) (λ e. tests_source test e.0) t
+      ∙ sym (any_of_map (λ (e : Prefix × Key). test e.0) (λ k. (host_of (source_in k), k))
+      (filter (λ k. is_some k.source) (filter (is_of_group g) (keys_in t)))
+      ∙ any_in_filter (λ (k : Key). is_some k.source) (λ k. test (host_of (source_in k)))
+      (filter (is_of_group g) (keys_in t))
+      ∙ any_in_filter (is_of_group g) (tests_source test) (keys_in t)
+      ∙ any_of_map (λ k. is_of_group g k && tests_source test k) (λ (e : Key × V). e.0) t)
+
+-- past the group, where it is found; where it isn't, no key is of it
+pub sources_visited : {V A : Type 0} (es : GroupList V A) → IsGroups es → (g : ℕ) (p : Prefix) → p ≡ host_of g
+    → (o : Option (Box (Rows V) A)) → o ≡ at_prefix p es → (s : ℕ)
+    → row_nodes (rows_in o) (Some s) ≡ source_nodes (keys_in (table_of es)) g s
+unfolding source_nodes
+sources_visited es whole g p named o is s =
+    nodes_same (map (λ r. (host_of (unwrap_or r.0 0), r)) (filter (λ r. is_some r.0) (rows_in o)))
+    (map (λ k. (host_of (source_in k), k))
+    (filter (λ k. is_some k.source) (filter (is_of_group g) (keys_in (table_of es)))))
+    (λ test. sources_alike test g (rows_in o) (table_of es) (walk_found g es whole p named o is)) (host_of s)
+
+-- ---- both
+
+module _ {V A : Type 0} (es : GroupList V A) (whole : IsGroups es) (group : Addr) (p : Prefix) (named : p ≡ host_of group.bits)
+  where
+    pub absent_visited : None ≡ at_prefix p es → (source : Option Addr)
+        → nodes_to es p ≡ nodes_visited (keys_in (table_of es)) group source
+    absent_visited none None = groups_visited es whole group.bits p named
+    absent_visited none (Some source) =
+        let past : source_nodes (keys_in (table_of es)) group.bits source.bits
+        ≡ 0 = sym (sources_visited es whole group.bits p named None none source.bits) ∙ none_visited (Option ℕ × V) source.bits in
+        omega (arith, groups_visited es whole group.bits p named, past)
+
+    pub found_visited : (was : Box (Rows V) A) → Some was ≡ at_prefix p es → (rows : Rows V) → rows ≡ box_value was
+        → (source : Option Addr)
+        → nodes_to es p + row_nodes rows (source_of source) ≡ nodes_visited (keys_in (table_of es)) group source
+    found_visited was some rows shown None = add-zero (nodes_to es p) ∙ groups_visited es whole group.bits p named
+    found_visited was some rows shown (Some source) =
+        λ i. groups_visited es whole group.bits p named i
+        + (ap (λ rs. row_nodes rs (Some source.bits)) shown
+        ∙ sources_visited es whole group.bits p named (Some was) some source.bits) i
+
+-- ---- at most
+
+pub rows_at_most : {V : Type 0} (rows : Rows V) (s : Option ℕ) → row_nodes rows s ≤ 33
+rows_at_most rows None = omega arith
+rows_at_most rows (Some s) =
+    prefix_at_most (map (λ r. (host_of (unwrap_or r.0 0), r)) (filter (λ r. is_some r.0) rows)) (host_of s)
+
+pub group_at_most : (keys : List Key) (g : ℕ) → group_nodes keys g ≤ 33
+unfolding group_nodes
+group_at_most keys g = prefix_at_most (map (λ k. (host_of (group_in k), k)) keys) (host_of g)
+
+pub source_at_most : (keys : List Key) (g src : ℕ) → source_nodes keys g src ≤ 33
+unfolding source_nodes
+source_at_most keys g src =
+    prefix_at_most
+    (map (λ k. (host_of (source_in k), k)) (filter (λ k. is_some k.source) (filter (is_of_group g) keys))) (host_of src)
+
+pub visited_at_most : (keys : List Key) (group : Addr) (source : Option Addr) → nodes_visited keys group source ≤ 66
+visited_at_most keys group None = omega (arith, group_at_most keys group.bits)
+visited_at_most keys group (Some source) =
+    omega (arith, group_at_most keys group.bits, source_at_most keys group.bits source.bits)
