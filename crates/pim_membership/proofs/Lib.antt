@@ -1,3 +1,4 @@
+mod Counted
 mod Receivers
 mod Told
 mod Writes

@@ -34,7 +34,7 @@ pub not_rpt : (b : Bool) → not b ≡ true → b ≡ false
 not_rpt true e = cc
 not_rpt false e = refl
 
-source_again : (o : Option Addr) → option_map (λ n. record { bits = n }) (option_map (λ (a : Addr). a.bits) o) ≡ o
+pub source_again : (o : Option Addr) → option_map (λ n. record { bits = n }) (option_map (λ (a : Addr). a.bits) o) ≡ o
 source_again None = refl
 source_again (Some a) = refl
 

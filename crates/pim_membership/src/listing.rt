@@ -1,7 +1,7 @@
 //! What is listed of all groups and sources.
 ghost use Rattle.std.specs.Prelude.{◌≡◌, ◌<◌, ◌≤◌, ◌+◌, [], ℕ, None, Some, OnErr, OnOk, filter};
-ghost use Rattle.pim_model.specs.Tables.{row_at};
-ghost use Rattle.pim_source_trie.specs.Entries.{entry_key};
+ghost use Rattle.pim_model.specs.Tables.{keys_in, row_at};
+ghost use Rattle.pim_source_trie.specs.Entries.{entry_key, nodes_visited, raised};
 ghost use Rattle.pim_types.specs.Keys.{is_of_group};
 ghost use Rattle.pim_membership.specs.Listing.{Lists, Side, Writes, in_side, listed, record_key, source_bits};
 
@@ -40,9 +40,7 @@ impl Listing {
     // What is listed of (*,G), where `source` is `None`, or of a source of the group.
     pub(crate) fn get(&self, group: Addr, source: Option<Addr>, meter: &mut Meter) -> Listed
         ensures sides { (x : Side) (i : ℕ) → in_side x result i ≡ listed self.now x i group.bits (source_bits source) }
-        ensures rises { meter.old ≤ meter.new }
-        ensures at_most { meter.new ≤ meter.old + 66 }
-        ensures star_at_most { source ≡ None → meter.new ≤ meter.old + 33 }
+        ensures visited { meter.new ≡ raised meter.old (nodes_visited (keys_in self.now) group source) }
     {
         match self.entries.get(group, source, meter) {
             Some(listed) => *listed,

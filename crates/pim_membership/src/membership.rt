@@ -10,6 +10,7 @@ ghost use Rattle.pim_model.specs.Records.{is_at_group};
 ghost use Rattle.pim_model.specs.Tables.{change_row, drop_at, drop_where, has_row, keys_in, put, row_at, set_row};
 ghost use Rattle.pim_model.specs.Timers.{is_ending_first};
 ghost use Rattle.pim_model.specs.Upstream.{sources_of};
+ghost use Rattle.pim_source_trie.specs.Entries.{nodes_visited, raised};
 ghost use Rattle.pim_tables.specs.Ends.{due_of};
 ghost use Rattle.pim_types.specs.Keys.{iface_in, iface_key, is_on, key_cmp, names_source, source_in, source_key, star_key};
 ghost use Rattle.pim_types.specs.declared.fact.GroupRecordRow.{GroupRecordRow as GroupRecord};
@@ -507,10 +508,11 @@ impl Membership {
         self.source_repeats.name_none();
     }
 
-    /// Whether there is any fact of the source of the group. The meter rises by the nodes that are visited, 66 at most.
+    /// Whether there is any fact of the source of the group. The meter rises by the nodes that are
+    /// visited: 66 at most, and at least those that lead to the source among those with a record.
     pub fn has_facts(&self, group: Addr, source: Addr, meter: &mut Meter) -> bool
         ensures any { result ≡ list_any (names_source group.bits source.bits) (membership_keys self.now) }
-        ensures rises { meter.old ≤ meter.new }
+        ensures at_least { raised meter.old (nodes_visited (keys_in self.now.source_records) group (Some source)) ≤ meter.new }
         ensures at_most { meter.new ≤ meter.old + 66 }
     {
         // It tells that no other fact is of a source.
@@ -542,11 +544,12 @@ impl Membership {
     }
 
     /// The interfaces on which the group has receivers of all its sources, but those excluded: it is in EXCLUDE
-    /// there. The meter rises by the nodes that are visited, 33 at most.
+    /// there. The meter rises by the nodes that are visited: 33 at most, and at least those that lead to the group among
+    /// those with a record.
     pub fn receivers_star(&self, group: Addr, meter: &mut Meter) -> IfSet
         ensures interfaces { (i : ℕ) → has result i ≡ is_exclude_among self.now.group_records group.bits i }
         ensures tunnel { result.tunnel ≡ false }
-        ensures rises { meter.old ≤ meter.new }
+        ensures at_least { raised meter.old (nodes_visited (keys_in self.now.group_records) group None) ≤ meter.new }
         ensures at_most { meter.new ≤ meter.old + 33 }
     {
         self.group_records
@@ -561,7 +564,8 @@ impl Membership {
         ensures interfaces { (i : ℕ) → has result i ≡ local_receiver_include_among self.now.group_records
             self.now.source_records group.bits source.bits i }
         ensures tunnel { result.tunnel ≡ false }
-        ensures rises { meter.old ≤ meter.new }
+        ensures at_least { raised meter.old (nodes_visited (keys_in self.now.group_records) group None
+            + nodes_visited (keys_in self.now.source_records) group (Some source)) ≤ meter.new }
         ensures at_most { meter.new ≤ meter.old + 99 }
     {
         let groups = self.group_records.listed(group, None, meter);
@@ -576,7 +580,8 @@ impl Membership {
         ensures interfaces { (i : ℕ) → has result i ≡ local_receiver_exclude_among self.now.group_records
             self.now.source_records group.bits source.bits i }
         ensures tunnel { result.tunnel ≡ false }
-        ensures rises { meter.old ≤ meter.new }
+        ensures at_least { raised meter.old (nodes_visited (keys_in self.now.group_records) group None
+            + nodes_visited (keys_in self.now.source_records) group (Some source)) ≤ meter.new }
         ensures at_most { meter.new ≤ meter.old + 99 }
     {
         let groups = self.group_records.listed(group, None, meter);

@@ -11,6 +11,7 @@ ghost use Rattle.pim_tables.specs.Ends.{due_of, row_endings};
 ghost use Rattle.pim_tables.specs.RowsOf.{first_key};
 ghost use Rattle.pim_types.specs.Keys.{iface_in, is_on, key_cmp, names_source};
 ghost use Rattle.pim_ifset.specs.Members.{has};
+ghost use Rattle.pim_source_trie.specs.Entries.{nodes_visited, raised};
 ghost use Rattle.pim_membership.specs.Sources.{Gathers};
 ghost use Rattle.pim_membership.specs.Listing.{IsListed, Lists, is_record_key, record_key};
 
@@ -77,6 +78,7 @@ impl<R: Record> Drop for Records<R> {
 
 impl<R: Record> Model for Records<R> {
     ghost use Rattle.pim_model.specs.Tables.{Table};
+    ghost use Rattle.pim_source_trie.specs.Entries.{nodes_visited, raised};
     ghost use Rattle.pim_membership.specs.Sources.{Gathers};
     ghost use Rattle.pim_membership.specs.Listing.{IsListed};
 
@@ -155,7 +157,7 @@ impl<R: Record> Records<R> {
         ensures there { (i : ℕ) → has result.there i ≡ has_row self.now (record_key i group source) }
         ensures running { (i : ℕ)
             → has result.running i ≡ option_map_or R.runs (row_at self.now (record_key i group source)) false }
-        ensures rises { meter.old ≤ meter.new }
+        ensures at_least { raised meter.old (nodes_visited (keys_in self.now) group source) ≤ meter.new }
         ensures at_most { meter.new ≤ meter.old + 66 }
         ensures star_at_most { source ≡ None → meter.new ≤ meter.old + 33 }
     {
@@ -165,7 +167,7 @@ impl<R: Record> Records<R> {
     // Whether the source of the group has a record, on any interface.
     pub(crate) fn has_source(&self, group: Addr, source: Addr, meter: &mut Meter) -> bool
         ensures any { result ≡ list_any (names_source group.bits source.bits) (keys_in self.now) }
-        ensures rises { meter.old ≤ meter.new }
+        ensures at_least { raised meter.old (nodes_visited (keys_in self.now) group (Some source)) ≤ meter.new }
         ensures at_most { meter.new ≤ meter.old + 66 }
     {
         // These tell that the keys rise, and of which form they are.

@@ -4,5 +4,5 @@ mod Keyed
 mod Rising
 mod RowLaws
 mod TrieLaws
-mod Visited
+pub mod Visited
 mod WalkLaws

@@ -1,6 +1,7 @@
 -- How many nodes a look-up visits.
-use Rattle.std.proofs.Common.{Box, ◌≡◌, ◌≢◌, ℕ, ◌+◌, ◌≤◌, Bool, true, false, ◌&&◌, ◌||◌, if◌then◌else◌, List, [], ◌∷◌, map, Option, Some, None, count_by, is_some, nat_le, refl, sym, ap, ◌∙◌, add-zero, arith}
+use Rattle.std.proofs.Common.{Box, ◌≡◌, ◌≢◌, ℕ, ◌+◌, ◌≤◌, Bool, true, false, ◌&&◌, ◌||◌, if◌then◌else◌, List, [], ◌∷◌, map, Option, Some, None, cond, count_by, is_some, nat_le, refl, sym, ap, ◌∙◌, add-zero, arith}
 use Rattle.std.proofs.lemmas.List.Folds.{list_any-append}
+use Rattle.std.proofs.lemmas.List.Sums.{sum_by-cons}
 use Rattle.std.specs.Box.{box_value}
 use Rattle.std.specs.List.{AllByRecursion, filter, list_any, range_with_len}
 use Rattle.std.specs.Option.{unwrap_or}
@@ -35,6 +36,43 @@ nodes_same es fs same p = λ i.
     && contains (record { address = q.address; length = length }) p.address.bits) i) (range_with_len 0 (p.length + 1))
     else 0
 
+-- ---- more prefixes, as many nodes at least
+
+counted_more : {X : Type 0} (p q : X → Bool) → ((x : X) → p x ≡ true → q x ≡ true) → (xs : List X)
+    → count_by p xs ≤ count_by q xs
+counted_more p q more [] = omega arith
+counted_more p q more (x ∷ xs) =
+    omega (
+      arith,
+      sum_by-cons (λ x. cond (p x) 1 0) x xs,
+      sum_by-cons (λ x. cond (q x) 1 0) x xs,
+      one (p x) (q x) (more x),
+      counted_more p q more xs,
+    )
+  where
+    one : (b c : Bool) → (b ≡ true → c ≡ true) → cond b 1 0 ≤ cond c 1 0
+    one true c also = rw (also refl) (omega arith)
+    one false c also = omega arith
+
+abbrev pub MorePrefixes : {V W : Type 0} → List (Prefix × V) → List (Prefix × W) → Type 0
+MorePrefixes es fs =
+    (test : Prefix → Bool) → list_any (λ e. test e.0) es ≡ true → list_any (λ e. test e.0) fs ≡ true
+
+nodes_more : {V W : Type 0} (es : List (Prefix × V)) (fs : List (Prefix × W)) → MorePrefixes es fs → (p : Prefix)
+    → nodes_to es p ≤ nodes_to fs p
+unfolding nodes_to nodes_along passes
+nodes_more es fs more p = by (is_canonical p)
+  where
+    along : nodes_along es p.address.bits p.length ≤ nodes_along fs p.address.bits p.length
+    along =
+        counted_more (passes es p.address.bits) (passes fs p.address.bits)
+        (λ length. more (λ q. nat_le length q.length
+        && contains (record { address = q.address; length = length }) p.address.bits)) (range_with_len 0 (p.length + 1))
+
+    by : (b : Bool) → cond b (nodes_along es p.address.bits p.length) 0 ≤ cond b (nodes_along fs p.address.bits p.length) 0
+    by true = along
+    by false = omega arith
+
 pub none_visited : (V : Type 0) (a : ℕ) → nodes_to {V = V} [] (host_of a) ≡ 0
 unfolding nodes_to nodes_along passes
 none_visited V a = rw (host_canonical a) refl
@@ -43,6 +81,11 @@ none_visited V a = rw (host_canonical a) refl
 
 pub raised_alike : (old new n m : ℕ) → new ≡ raised old n → n ≡ m → new ≡ raised old m
 raised_alike old new n m e same = e ∙ ap (raised old) same
+
+pub raised_in_turn : (old between new first second : ℕ) → raised old first ≤ between → raised between second ≤ new
+    → raised old (first + second) ≤ new
+unfolding raised
+raised_in_turn old between new first second e f = omega (arith, e, f)
 
 pub raised_by_none : (old : ℕ) → old ≡ raised old 0
 unfolding raised
@@ -138,6 +181,16 @@ rows_visited star es hosts s p named =
 abbrev tests_source : (Prefix → Bool) → Key → Bool
 tests_source test k = is_some k.source && test (host_of (source_in k))
 
+any_source : (g : ℕ) (test : Prefix → Bool) (ks : List Key)
+    → list_any (λ (e : Prefix × Key). test e.0)
+    (map (λ k. (host_of (source_in k), k)) (filter (λ k. is_some k.source) (filter (is_of_group g) ks)))
+    ≡ list_any (λ k. is_of_group g k && tests_source test k) ks
+any_source g test ks =
+    any_of_map (λ (e : Prefix × Key). test e.0) (λ k. (host_of (source_in k), k))
+    (filter (λ k. is_some k.source) (filter (is_of_group g) ks))
+    ∙ any_in_filter (λ (k : Key). is_some k.source) (λ k. test (host_of (source_in k))) (filter (is_of_group g) ks)
+    ∙ any_in_filter (is_of_group g) (tests_source test) ks
+
 row_tested : (test : Prefix → Bool) (g : ℕ) (o : Option ℕ)
     → (is_some o && test (host_of (unwrap_or o 0))) ≡ tests_source test (key_of 0 g o false)
 row_tested test g None = refl
@@ -157,11 +210,7 @@ module _ {V : Type 0} (test : Prefix → Bool) where
       ∙ sym (any_of_map (λ (e : Key × V). tests_source test e.0) (λ (r : Option ℕ × V). (key_of 0 g r.0 false, r.1)) rows)
       ∙ ap (list_any (λ (e : Key × V). tests_source test e.0)) is
       ∙ any_in_filter (λ (e : Key × V). is_of_group g e.0) (λ e. tests_source test e.0) t
-      ∙ sym (any_of_map (λ (e : Prefix × Key). test e.0) (λ k. (host_of (source_in k), k))
-      (filter (λ k. is_some k.source) (filter (is_of_group g) (keys_in t)))
-      ∙ any_in_filter (λ (k : Key). is_some k.source) (λ k. test (host_of (source_in k)))
-      (filter (is_of_group g) (keys_in t))
-      ∙ any_in_filter (is_of_group g) (tests_source test) (keys_in t)
+      ∙ sym (any_source g test (keys_in t)
       ∙ any_of_map (λ k. is_of_group g k && tests_source test k) (λ (e : Key × V). e.0) t)
 
 -- past the group, where it is found; where it isn't, no key is of it
@@ -181,6 +230,7 @@ module _ {V A : Type 0} (es : GroupList V A) (whole : IsGroups es) (group : Addr
   where
     pub absent_visited : None ≡ at_prefix p es → (source : Option Addr)
         → nodes_to es p ≡ nodes_visited (keys_in (table_of es)) group source
+    unfolding nodes_visited
     absent_visited none None = groups_visited es whole group.bits p named
     absent_visited none (Some source) =
         let past : source_nodes (keys_in (table_of es)) group.bits source.bits
@@ -190,6 +240,7 @@ module _ {V A : Type 0} (es : GroupList V A) (whole : IsGroups es) (group : Addr
     pub found_visited : (was : Box (Rows V) A) → Some was ≡ at_prefix p es → (rows : Rows V) → rows ≡ box_value was
         → (source : Option Addr)
         → nodes_to es p + row_nodes rows (source_of source) ≡ nodes_visited (keys_in (table_of es)) group source
+    unfolding nodes_visited
     found_visited was some rows shown None = add-zero (nodes_to es p) ∙ groups_visited es whole group.bits p named
     found_visited was some rows shown (Some source) =
         λ i. groups_visited es whole group.bits p named i
@@ -198,22 +249,104 @@ module _ {V A : Type 0} (es : GroupList V A) (whole : IsGroups es) (group : Addr
 
 -- ---- at most
 
+pub raised_at_most : (old new nodes most : ℕ) → new ≡ raised old nodes → nodes ≤ most → new ≤ old + most
+unfolding raised
+raised_at_most old new nodes most e h = omega (arith, e, h)
+
 pub rows_at_most : {V : Type 0} (rows : Rows V) (s : Option ℕ) → row_nodes rows s ≤ 33
 rows_at_most rows None = omega arith
 rows_at_most rows (Some s) =
     prefix_at_most (map (λ r. (host_of (unwrap_or r.0 0), r)) (filter (λ r. is_some r.0) rows)) (host_of s)
 
-pub group_at_most : (keys : List Key) (g : ℕ) → group_nodes keys g ≤ 33
+group_at_most : (keys : List Key) (g : ℕ) → group_nodes keys g ≤ 33
 unfolding group_nodes
 group_at_most keys g = prefix_at_most (map (λ k. (host_of (group_in k), k)) keys) (host_of g)
 
-pub source_at_most : (keys : List Key) (g src : ℕ) → source_nodes keys g src ≤ 33
+source_at_most : (keys : List Key) (g src : ℕ) → source_nodes keys g src ≤ 33
 unfolding source_nodes
 source_at_most keys g src =
     prefix_at_most
     (map (λ k. (host_of (source_in k), k)) (filter (λ k. is_some k.source) (filter (is_of_group g) keys))) (host_of src)
 
+pub star_at_most : (keys : List Key) (group : Addr) → nodes_visited keys group None ≤ 33
+unfolding nodes_visited
+star_at_most keys group = group_at_most keys group.bits
+
 pub visited_at_most : (keys : List Key) (group : Addr) (source : Option Addr) → nodes_visited keys group source ≤ 66
+unfolding nodes_visited
 visited_at_most keys group None = omega (arith, group_at_most keys group.bits)
 visited_at_most keys group (Some source) =
     omega (arith, group_at_most keys group.bits, source_at_most keys group.bits source.bits)
+
+-- ---- keys of the same groups and sources
+
+module _ (ks qs : List Key) where
+  abbrev pub SameGroups : Type 0
+  SameGroups = (test : ℕ → Bool) → list_any (λ k. test (group_in k)) ks ≡ list_any (λ k. test (group_in k)) qs
+
+  abbrev pub SameSources : ℕ → Type 0
+  SameSources g =
+      (test : ℕ → Bool)
+      → list_any (λ k. is_of_group g k && (is_some k.source && test (source_in k))) ks
+      ≡ list_any (λ k. is_of_group g k && (is_some k.source && test (source_in k))) qs
+
+  same_group_nodes : SameGroups → (g : ℕ) → group_nodes ks g ≡ group_nodes qs g
+  unfolding group_nodes
+  same_group_nodes same g =
+      nodes_same (map (λ k. (host_of (group_in k), k)) ks) (map (λ k. (host_of (group_in k), k)) qs)
+      (λ test.
+      any_of_map (λ (e : Prefix × Key). test e.0) (λ k. (host_of (group_in k), k)) ks
+      ∙ same (λ n. test (host_of n))
+      ∙ sym (any_of_map (λ (e : Prefix × Key). test e.0) (λ k. (host_of (group_in k), k)) qs)) (host_of g)
+
+  same_source_nodes : (g : ℕ) → SameSources g → (src : ℕ) → source_nodes ks g src ≡ source_nodes qs g src
+  unfolding source_nodes
+  same_source_nodes g same src =
+      nodes_same
+      (map (λ k. (host_of (source_in k), k)) (filter (λ k. is_some k.source) (filter (is_of_group g) ks)))
+      (map (λ k. (host_of (source_in k), k)) (filter (λ k. is_some k.source) (filter (is_of_group g) qs)))
+      (λ test. any_source g test ks ∙ same (λ n. test (host_of n)) ∙ sym (any_source g test qs)) (host_of src)
+
+  pub same_visited : SameGroups → (group : Addr) → SameSources group.bits → (source : Option Addr)
+      → nodes_visited ks group source ≡ nodes_visited qs group source
+  unfolding nodes_visited
+  same_visited groups group sources None = same_group_nodes groups group.bits
+  same_visited groups group sources (Some source) =
+      λ i. same_group_nodes groups group.bits i + same_source_nodes group.bits sources source.bits i
+
+-- ---- keys of more groups and sources
+
+module _ (ks qs : List Key) where
+  abbrev pub MoreGroups : Type 0
+  MoreGroups =
+      (test : ℕ → Bool) → list_any (λ k. test (group_in k)) ks ≡ true → list_any (λ k. test (group_in k)) qs ≡ true
+
+  abbrev pub MoreSources : ℕ → Type 0
+  MoreSources g =
+      (test : ℕ → Bool) → list_any (λ k. is_of_group g k && (is_some k.source && test (source_in k))) ks ≡ true
+      → list_any (λ k. is_of_group g k && (is_some k.source && test (source_in k))) qs ≡ true
+
+  more_group_nodes : MoreGroups → (g : ℕ) → group_nodes ks g ≤ group_nodes qs g
+  unfolding group_nodes
+  more_group_nodes more g =
+      nodes_more (map (λ k. (host_of (group_in k), k)) ks) (map (λ k. (host_of (group_in k), k)) qs)
+      (λ test here.
+      any_of_map (λ (e : Prefix × Key). test e.0) (λ k. (host_of (group_in k), k)) qs
+      ∙ more (λ n. test (host_of n))
+      (sym (any_of_map (λ (e : Prefix × Key). test e.0) (λ k. (host_of (group_in k), k)) ks) ∙ here)) (host_of g)
+
+  more_source_nodes : (g : ℕ) → MoreSources g → (src : ℕ) → source_nodes ks g src ≤ source_nodes qs g src
+  unfolding source_nodes
+  more_source_nodes g more src =
+      nodes_more
+      (map (λ k. (host_of (source_in k), k)) (filter (λ k. is_some k.source) (filter (is_of_group g) ks)))
+      (map (λ k. (host_of (source_in k), k)) (filter (λ k. is_some k.source) (filter (is_of_group g) qs)))
+      (λ test here. any_source g test qs ∙ more (λ n. test (host_of n)) (sym (any_source g test ks) ∙ here))
+      (host_of src)
+
+  pub raised_more : MoreGroups → (group : Addr) → MoreSources group.bits → (source : Option Addr) → (old : ℕ)
+      → raised old (nodes_visited ks group source) ≤ raised old (nodes_visited qs group source)
+  unfolding raised nodes_visited
+  raised_more groups group sources None old = omega (arith, more_group_nodes groups group.bits)
+  raised_more groups group sources (Some source) old =
+      omega (arith, more_group_nodes groups group.bits, more_source_nodes group.bits sources source.bits)

@@ -5,6 +5,7 @@ use Rattle.pim_ip.specs.Addr.{addr}
 use Rattle.pim_ip.specs.declared.addr.Addr.{Addr}
 use Rattle.pim_ip.specs.declared.addr.Prefix.{Prefix}
 use Rattle.pim_trie.specs.Entries.{nodes_to}
+pub use Rattle.pim_trie.specs.Meter.{raised}
 use Rattle.pim_types.specs.declared.fact.Key.{Key}
 use Rattle.pim_types.specs.Keys.{group_in, is_of_group, key_of, source_in}
 
@@ -34,6 +35,6 @@ source_nodes keys g src =
     (host_of src)
 
 -- how many lead to (*,G), or past it to a source of the group: at most 33, or 66
-abbrev pub nodes_visited : List Key → Addr → Option Addr → ℕ
+unfoldable pub nodes_visited : List Key → Addr → Option Addr → ℕ
 nodes_visited keys group None = group_nodes keys group.bits
 nodes_visited keys group (Some source) = group_nodes keys group.bits + source_nodes keys group.bits source.bits

@@ -69,7 +69,7 @@ impl<V> SourceTrie<V> {
 
     /// The value of (*,G), where `source` is `None`, or of a source of the group. The meter rises by the
     /// nodes visited: those that lead to the group, and from there to its source, 66 at most.
-    #[tactic(auto, using(crate::proofs::Visited::group_at_most, crate::proofs::Visited::visited_at_most))]
+    #[tactic(auto, using(crate::proofs::Visited::star_at_most, crate::proofs::Visited::visited_at_most))]
     pub fn get(&self, group: Addr, source: Option<Addr>, meter: &mut Meter) -> Option<&V>
         ensures value { option_copied result ≡ row_at self.now (entry_key group source) }
         ensures visited { meter.new ≡ raised meter.old (nodes_visited (keys_in self.now) group source) }

@@ -3,7 +3,7 @@ ghost use Rattle.std.specs.Prelude.{◌≡◌, ◌≤◌, ◌+◌, ◌&&◌, [],
 ghost use Rattle.std.specs.List.Sorted.{IsStrictlySortedBy};
 ghost use Rattle.pim_model.specs.Tables.{ascending, has_row, keys_in, row_at};
 ghost use Rattle.pim_types.specs.Keys.{group_in, is_of_group, key_cmp};
-ghost use Rattle.pim_source_trie.specs.Entries.{entry_key};
+ghost use Rattle.pim_source_trie.specs.Entries.{entry_key, nodes_visited, raised};
 ghost use Rattle.pim_store.specs.Said.{AreEntries, SetsMarks, Writes, is_about, row_says, said, seen, source_bits, tunnel_in};
 ghost use Rattle.pim_store.specs.declared.marks.Mark.{Mark as MarkValue};
 
@@ -95,9 +95,10 @@ impl Index {
     pub(crate) fn get(&self, group: Addr, source: Option<Addr>, meter: &mut Meter) -> Marks
         ensures marks { (x : MarkValue) (i : ℕ) → seen x result i ≡ said self.now x i group.bits (source_bits source) }
         ensures bare { (x : MarkValue) → tunnel_in x result ≡ false }
-        ensures rises { meter.old ≤ meter.new }
-        ensures at_most { meter.new ≤ meter.old + 66 }
-        ensures star_at_most { source ≡ None → meter.new ≤ meter.old + 33 }
+        ensures visited { meter.new ≡ raised meter.old (nodes_visited (keys_in self.now) group source) }
+
+        // Of every index.
+        ensures entries { AreEntries self.now }
     {
         match self.entries.get(group, source, meter) {
             Some(marks) => *marks,
@@ -110,10 +111,10 @@ impl Index {
     pub(crate) fn contains(&self, group: Addr, source: Addr, meter: &mut Meter) -> bool
         ensures found { result ≡ has_row self.now (entry_key group (Some source)) }
 
+        ensures visited { meter.new ≡ raised meter.old (nodes_visited (keys_in self.now) group (Some source)) }
+
         // Of every index.
         ensures entries { AreEntries self.now }
-        ensures rises { meter.old ≤ meter.new }
-        ensures at_most { meter.new ≤ meter.old + 66 }
     {
         match self.entries.get(group, Some(source), meter) {
             Some(_) => true,

@@ -8,6 +8,7 @@ ghost use Rattle.pim_model.specs.Sets.{is_loser, is_winner};
 ghost use Rattle.pim_model.specs.Tables.{change_row, drop_at, drop_where, has_row, keys_in, row_at, set_row};
 ghost use Rattle.pim_model.specs.Timers.{is_ending_first};
 ghost use Rattle.pim_model.specs.Upstream.{groups_of, sources_of};
+ghost use Rattle.pim_source_trie.specs.Entries.{nodes_visited, raised};
 ghost use Rattle.pim_tables.specs.Ends.{due_of};
 ghost use Rattle.pim_types.specs.Keys.{group_in, iface_in, is_of_group, is_on, names_source, rpt_key, same_key, source_key};
 ghost use Rattle.pim_store.specs.Bare.{IsWithoutTunnel};
@@ -441,10 +442,11 @@ impl Store {
     }
 
     /// Whether there is a fact of the source of the group. The meter rises by the nodes that it visits.
+    #[tactic(auto, using(pim_source_trie::proofs::Visited::visited_at_most))]
     pub fn has_facts(&self, group: Addr, source: Addr, meter: &mut Meter) -> bool
         ensures has { result ≡ list_any (names_source group.bits source.bits) (stored_keys self.now) }
-        ensures rises { meter.old ≤ meter.new }
-        ensures at_most { meter.new ≤ meter.old + 66 }
+        ensures visited { meter.new ≡ raised meter.old (nodes_visited (stored_keys self.now) group (Some source)) }
+        ensures at_most { nodes_visited (stored_keys self.now) group (Some source) ≤ 66 }
     {
         self.index.contains(group, source, meter)
     }
@@ -483,7 +485,8 @@ impl Store {
 
     /// What there is of (*,G), where `source` is `None`, or of (S,G) with its (S,G,rpt): of the downstream states
     /// and asserts the interfaces that have them, and whether there are the others. The meter rises by the nodes
-    /// that it visits.
+    /// that it visits: as many as lead to the group, and to the source, where a trie has those of all facts.
+    #[tactic(auto, using(pim_source_trie::proofs::Visited::star_at_most, pim_source_trie::proofs::Visited::visited_at_most))]
     pub fn marks(&self, group: Addr, source: Option<Addr>, meter: &mut Meter) -> Marks
         ensures joined { (i : ℕ) → has result.joined i ≡ has_row self.now.downstream (fact_key i group source false) }
         ensures branched { (i : ℕ)
@@ -500,9 +503,9 @@ impl Store {
         ensures source { result.has_source ≡ has_row self.now.sources (fact_key 0 group source false) }
         ensures register { result.has_register ≡ has_row self.now.registers (fact_key 0 group source false) }
         ensures tunnels { IsWithoutTunnel result }
-        ensures rises { meter.old ≤ meter.new }
-        ensures at_most { meter.new ≤ meter.old + 66 }
-        ensures star_at_most { source ≡ None → meter.new ≤ meter.old + 33 }
+        ensures visited { meter.new ≡ raised meter.old (nodes_visited (stored_keys self.now) group source) }
+        ensures at_most { nodes_visited (stored_keys self.now) group source ≤ 66 }
+        ensures star_at_most { nodes_visited (stored_keys self.now) group None ≤ 33 }
     {
         self.index.get(group, source, meter)
     }

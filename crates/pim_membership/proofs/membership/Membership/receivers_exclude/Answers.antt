@@ -1,4 +1,5 @@
 use Rattle.std.proofs.Common.{◌&&◌, not, ◌∙◌}
+use Rattle.pim_source_trie.proofs.Visited.{raised_in_turn}
 use Rattle.pim_membership.proofs.Receivers.{excluded_is, group_runs}
 use Rattle.pim_membership.proofs.membership.Membership.receivers_exclude.Goals as goal
 
@@ -10,3 +11,7 @@ returns-clause-interfaces c = rw (← c.self.view_is) (λ i.
     ∙ (λ j. group_runs c.self.inside.group_records c.self.inside.source_records c.args.group.bits c.args.source.bits i
     && (c.listed-sources.ensures.there i j && not (c.listed-sources.ensures.running i j)))
     ∙ excluded_is c.self.inside.group_records c.self.inside.source_records c.args.group.bits c.args.source.bits i)
+
+pub returns-clause-at_least : goal.returns-clause-at_least
+returns-clause-at_least c = rw (← c.self.view_is)
+    (raised_in_turn _ _ _ _ _ c.listed-groups.ensures.at_least c.listed-sources.ensures.at_least)

@@ -1,6 +1,7 @@
 use Rattle.std.proofs.Common.{◌&&◌, not, ◌∙◌}
 use Rattle.pim_types.specs.Keys.{source_key}
 use Rattle.pim_model.specs.Tables.{has_row}
+use Rattle.pim_source_trie.proofs.Visited.{raised_in_turn}
 use Rattle.pim_membership.proofs.Receivers.{included_is}
 use Rattle.pim_membership.proofs.membership.Membership.receivers_include.Goals as goal
 
@@ -12,3 +13,7 @@ returns-clause-interfaces c = rw (← c.self.view_is) (λ i.
     ∙ (λ j. (c.listed-groups.ensures.there i j && not (c.listed-groups.ensures.running i j))
     && has_row c.self.inside.source_records (source_key i c.args.group.bits c.args.source.bits))
     ∙ included_is c.self.inside.group_records c.self.inside.source_records c.args.group.bits c.args.source.bits i)
+
+pub returns-clause-at_least : goal.returns-clause-at_least
+returns-clause-at_least c = rw (← c.self.view_is)
+    (raised_in_turn _ _ _ _ _ c.listed-groups.ensures.at_least c.listed-sources.ensures.at_least)

@@ -1,6 +1,8 @@
 use Rattle.std.proofs.Common.{refl, ◌∙◌}
 use Rattle.pim_store.specs.declared.marks.Mark.TheVariants.{Joined, Branched, Pruned, Lost, Won, HasJoinTimer, HasOverrideTimer, HasSource, HasRegister}
 use Rattle.pim_store.proofs.Indexed.{row_lost, row_there, row_won}
+use Rattle.pim_source_trie.proofs.Visited.{raised_alike}
+use Rattle.pim_store.proofs.Walked.{marks_visited}
 use Rattle.pim_store.proofs.store.Store.marks.Goals as goal
 
 pub returns-clause-joined : goal.returns-clause-joined
@@ -48,3 +50,9 @@ returns-clause-tunnels c = record {
   lost = c.get.ensures.bare Lost;
   won = c.get.ensures.bare Won;
 }
+
+pub returns-clause-visited : goal.returns-clause-visited
+returns-clause-visited c =
+    rw (← c.self.view_is)
+    (raised_alike _ _ _ _ c.get.ensures.visited
+    (marks_visited _ _ c.get.ensures.entries c.self.invariant c.args.group c.args.source))
