@@ -1,0 +1,489 @@
+"""What is wrong with a scenario file: every fault with its line, and the number with which `pimlab` refuses it.
+
+The rules are those of docs/USING.md. 39 is anything that keeps the file from being read as a scenario; 30 to 38 are the tests of a
+router's configuration, asked in this order, of one router after the other.
+"""
+import re
+from dataclasses import dataclass
+from difflib import get_close_matches
+
+import toml_lines
+
+MOST_ROUTERS, MOST_IFACES, MOST_ROUTES, MOST_RPS = 64, 120, 100_000, 256
+BELOW = 2**32
+MULTICAST = 0xE000_0000
+# What splits the words of a route, as Unicode has it.
+WHITE_SPACE = re.compile("[\t-\r \x85\xa0\u1680\u2000-\u200a\u2028\u2029\u202f\u205f\u3000]+")
+
+ROUTER_KEYS = ["name", "iface", "limit", "spt", "rv", "qi", "qri", "lmqi", "routes", "rps"]
+IFACE_KEYS = ["link", "address", "priority", "propagation", "override"]
+MOVE_KEYS = {
+    "up": ["router", "iface", "draw"],
+    "down": ["router", "iface", "draw"],
+    "advance": ["router", "moment", "draw"],
+    "frame": ["router", "iface", "hex", "draw"],
+    "unicast": ["router", "hex", "draw"],
+    "routes": ["router", "list", "draw"],
+    "rps": ["router", "list", "draw"],
+    "deliver": ["router", "iface", "frame", "draw"],
+    "carry": ["router", "frame", "draw"],
+    "settle": ["draw"],
+}
+ROUTE_FORM = '"PREFIX NEXTHOP IFACE PREFERENCE METRIC", as "10.1.0.0/24 10.0.0.1 0 110 20"'
+RP_FORM = '"PREFIX RP", as "239.0.0.0/8 10.0.0.1"'
+FORMS = {
+    "name": 'a text, as name = "edge"',
+    "iface of a router": 'a list of interfaces, as iface = [{ link = "lan", address = "10.0.0.1/24" }]',
+    "link": 'a text, as link = "lan"',
+    "address": 'the router\'s address with the length of its subnet, as "10.0.0.1/24"',
+    "router": 'the name of a router, as router = "edge"',
+    "do": "one of " + ", ".join(MOVE_KEYS),
+    "moment": "a moment in ms, a whole number from 0, as moment = 5000",
+    "iface": "the number of an interface, counted from 0",
+    "frame": "the number of a packet as it is printed after `frame`, `copy` or `unicast`, counted from 1",
+    "hex": "an IPv4 packet in hexadecimal, two digits a byte and no blanks",
+    "draw": "a whole number from 0",
+    "list of routes": f"a list of routes, each {ROUTE_FORM}",
+    "list of rps": f"a list of RP ranges, each {RP_FORM}",
+}
+
+
+@dataclass(frozen=True)
+class Fault:
+    """A fault: its line, where in the file it is, what is wrong, and the number of the refusal."""
+
+    line: int
+    where: str
+    what: str
+    number: int = 39
+
+
+@dataclass
+class Iface:
+    line: int
+    link: str = ""
+    address: int | None = None
+    length: int | None = None
+    # The propagation delay and the override interval, each with its line.
+    delays: tuple = ((500, 0), (2500, 0))
+
+
+@dataclass
+class Route:
+    line: int
+    text: str
+    address: int
+    length: int
+    next_hop: int
+    iface: int = 0
+    preference: int = 0
+
+
+# ---- words
+
+
+def found(value):
+    """What a value is, in words."""
+    shown = value.held if value.kind in ("number", "decimal", "date or time") else None
+    if value.kind == "text":
+        shown = '"' + (value.held if len(value.held) <= 40 else value.held[:37] + "..") + '"'
+    if value.kind == "truth value":
+        shown = "true" if value.held else "false"
+    return f"the {value.kind} {shown}" if shown is not None else f"a {value.kind}"
+
+
+def nearest(word, words):
+    near = get_close_matches(word.lower(), words, 1, 0.6)
+    return f"; is `{near[0]}` meant?" if near else ""
+
+
+def count(words):
+    return f"{len(words)} word{'' if len(words) == 1 else 's'}"
+
+
+def dotted(address):
+    return ".".join(str(address >> shift & 255) for shift in (24, 16, 8, 0))
+
+
+def number_in(text):
+    """Decimal digits without a sign, below 2^32."""
+    return int(text) if re.fullmatch("[0-9]+", text) and int(text) < BELOW else None
+
+
+def address_in(text):
+    if not re.fullmatch(r"(?:0|[1-9][0-9]{0,2})(?:\.(?:0|[1-9][0-9]{0,2})){3}", text):
+        return None
+    parts = [int(part) for part in text.split(".")]
+    return sum(part << shift for part, shift in zip(parts, (24, 16, 8, 0))) if max(parts) < 256 else None
+
+
+def prefix_in(text):
+    """An address and a length, or None. A length is any number below 2^32 here."""
+    head, slash, tail = text.partition("/")
+    address, length = address_in(head), number_in(tail)
+    return (address, length) if slash and address is not None and length is not None else None
+
+
+def why_no_address(text):
+    if not text:
+        return "it is empty"
+    if re.search(r"[^0-9.]", text):
+        return f"it has the character {re.search(r'[^0-9.]', text)[0]!r}"
+    parts = text.split(".")
+    if len(parts) != 4 or "" in parts:
+        return "an address has four numbers with dots between them"
+    if any(len(part) > 1 and part[0] == "0" for part in parts):
+        return "a number of it has a 0 in front"
+    return "a number of it is above 255"
+
+
+def why_no_prefix(text):
+    head, slash, tail = text.partition("/")
+    if address_in(head) is None:
+        return f"`{head}` is no address: {why_no_address(head)}"
+    return f"`{tail}` is no length" if slash else "the length of the subnet is missing, as /24"
+
+
+def is_host(address):
+    """Not 0.0.0.0, and below 224.0.0.0."""
+    return 0 < address < MULTICAST
+
+
+def mask(length):
+    return (BELOW - 1) << (32 - length) & (BELOW - 1)
+
+
+# ---- the file as it is read: refusal 39
+
+
+class Judge:
+    """Reads a document as a scenario, and gathers its faults."""
+
+    def __init__(self):
+        self.faults, self.routers, self.moves = [], [], []
+        self.names = {}
+
+    def fault(self, line, where, what, number=39):
+        self.faults.append(Fault(line, where, what, number))
+
+    def only(self, table, known, where, of_what):
+        for key in table.held:
+            if key not in known:
+                more = nearest(key, known) or f": its keys are {', '.join(known)}"
+                self.fault(table.key_lines[key], where, f"`{key}` is no key of {of_what}{more}")
+
+    def wanted(self, table, key, kind, where, form=None):
+        """What stands at a key that must be there."""
+        value = table.get(key)
+        form = form or FORMS[key]
+        if value is None:
+            self.fault(table.line, where, f"`{key}` is missing: it is {form}")
+        elif value.kind != kind:
+            self.fault(value.line, where, f"`{key}` is {found(value)}, and wanted is {form}")
+        return value.held if value is not None and value.kind == kind else None
+
+    def number(self, table, key, default, where, form=None):
+        """A number from 0 and below 2^32; None where it is missing, without a default, or is none."""
+        value = table.get(key)
+        form = form or FORMS.get(key, "a whole number")
+        if value is None:
+            if default is None:
+                self.fault(table.line, where, f"`{key}` is missing: it is {form}")
+            return default
+        if value.kind != "number":
+            self.fault(value.line, where, f"`{key}` is {found(value)}, and wanted is {form}" + self.quoted(value))
+        elif not 0 <= value.held < BELOW:
+            what = "below 0" if value.held < 0 else "too large: it has to be below 2^32 (4294967296)"
+            self.fault(value.line, where, f"`{key}` is {value.held}, which is {what}")
+        else:
+            return value.held
+        return None
+
+    @staticmethod
+    def quoted(value):
+        return ", without quotes" if value.kind == "text" and re.fullmatch(r"\s*[0-9]+\s*", value.held) else ""
+
+    def tables(self, value, what):
+        """The tables of a list of them."""
+        if value is None:
+            return []
+        if value.kind == "table":
+            self.fault(value.line, "", f"`{what}` is one table: a list of tables is wanted, whose headers have double brackets, [[{what}]]")
+            return []
+        if value.kind != "list":
+            self.fault(value.line, "", f"`{what}` is {found(value)}, and a list of tables is wanted: [[{what}]]")
+            return []
+        for at, inner in enumerate(value.held):
+            if inner.kind != "table":
+                self.fault(inner.line, f"{what} {at}", f"it is {found(inner)}, and a table is wanted")
+        return [inner for inner in value.held if inner.kind == "table"]
+
+    def document(self, root):
+        self.only(root, ["router", "move"], "", "a scenario")
+        routers = self.tables(root.get("router"), "router")
+        for at, table in enumerate(routers):
+            self.routers.append(self.router(table, at))
+        if len(routers) > MOST_ROUTERS:
+            line = routers[MOST_ROUTERS].line
+            self.fault(line, "", f"there are {len(routers)} routers, and at most {MOST_ROUTERS} may be")
+        for at, table in enumerate(self.tables(root.get("move"), "move")):
+            self.moves.append(table)
+            self.move(table, f"move {at + 1}")
+
+    # ---- routers
+
+    def router(self, table, at):
+        name = table.get("name")
+        where = f'router "{name.held}"' if name is not None and name.kind == "text" else f"router {at + 1} of the file"
+        self.only(table, ROUTER_KEYS, where, "a router")
+        if self.wanted(table, "name", "text", where) is not None:
+            if name.held in self.names:
+                self.fault(name.line, where, f"another router has this name, in line {self.names[name.held]}")
+            self.names.setdefault(name.held, name.line)
+        made = {"line": table.line, "where": where, "table": table, "ifaces": self.ifaces(table, where)}
+        for key, default in (("limit", 65536), ("rv", 2), ("qi", 125), ("qri", 100), ("lmqi", 10)):
+            made[key] = self.number(table, key, default, where)
+        spt = table.get("spt")
+        if spt is not None and (spt.kind != "text" or spt.held not in ("always", "never")):
+            self.fault(spt.line, where, f'`spt` is {found(spt)}, and wanted is "always" or "never"')
+        made["routes"] = self.texts(table, "routes", where, self.route, FORMS["list of routes"], False)
+        made["rps"] = self.texts(table, "rps", where, self.rp, FORMS["list of rps"], False)
+        return made
+
+    def ifaces(self, table, where):
+        values = table.get("iface")
+        if values is not None and values.kind == "table":
+            what = "`iface` is one table: a list is wanted, as iface = [{ .. }], or headers [[router.iface]]"
+            return self.fault(values.line, where, what) or []
+        held = self.wanted(table, "iface", "list", where, FORMS["iface of a router"])
+        return [self.iface(inner, f"{where}, interface {at}") for at, inner in enumerate(held or [])]
+
+    def iface(self, table, where):
+        made = Iface(table.line)
+        if table.kind != "table":
+            what = f'it is {found(table)}, and a table is wanted, as {{ link = "lan", address = "10.0.0.1/24" }}'
+            return self.fault(table.line, where, what) or made
+        self.only(table, IFACE_KEYS, where, "an interface")
+        made.link = self.wanted(table, "link", "text", where)
+        text = self.wanted(table, "address", "text", where)
+        if text is not None:
+            made.line = table.get("address").line
+            if prefix_in(text) is None:
+                self.fault(made.line, where, f'`address` is "{text}": {why_no_prefix(text)}; wanted is {FORMS["address"]}')
+            made.address, made.length = prefix_in(text) or (None, None)
+        self.number(table, "priority", 1, where)
+        delays = (("propagation", 500), ("override", 2500))
+        made.delays = [(self.number(table, key, default, where), table.key_lines.get(key)) for key, default in delays]
+        return made
+
+    def texts(self, table, key, where, read, form, must):
+        """The texts of a list, each read by `read`."""
+        value = table.get(key)
+        if value is None and not must:
+            return []
+        made = []
+        for at, inner in enumerate(self.wanted(table, key, "list", where, form) or []):
+            place = f"{where}, `{key}` {at}"
+            if inner.kind != "text":
+                self.fault(inner.line, place, f"it is {found(inner)}, and a text is wanted: {form.partition('each ')[2]}")
+                continue
+            words = [word for word in WHITE_SPACE.split(inner.held) if word]
+            made += [route for route in [read(words, inner, place)] if route]
+        return made
+
+    def numbers(self, words, names, inner, place):
+        for word, name in zip(words, names):
+            if number_in(word) is None:
+                self.fault(inner.line, place, f'"{inner.held}": the {name} `{word}` is no whole number below 2^32')
+
+    def route(self, words, inner, place):
+        if len(words) != 5:
+            what = f'"{inner.held}" has {count(words)}, and a route has five: {ROUTE_FORM}'
+            return self.fault(inner.line, place, what)
+        prefix, next_hop = prefix_in(words[0]), address_in(words[1])
+        if prefix is None:
+            self.fault(inner.line, place, f'"{inner.held}": the prefix is wrong: {why_no_prefix(words[0])}')
+        if next_hop is None:
+            self.fault(inner.line, place, f'"{inner.held}": the next hop `{words[1]}` is no address: {why_no_address(words[1])}')
+        self.numbers(words[2:], ("interface", "preference", "metric"), inner, place)
+        iface, preference, metric = map(number_in, words[2:])
+        if None in (prefix, next_hop, iface, preference, metric):
+            return None
+        return Route(inner.line, inner.held, *prefix, next_hop, iface, preference)
+
+    def rp(self, words, inner, place):
+        if len(words) != 2:
+            return self.fault(inner.line, place, f'"{inner.held}" has {count(words)}, and an RP range has two: {RP_FORM}')
+        prefix, rp = prefix_in(words[0]), address_in(words[1])
+        if prefix is None:
+            self.fault(inner.line, place, f'"{inner.held}": the prefix is wrong: {why_no_prefix(words[0])}')
+        if rp is None:
+            self.fault(inner.line, place, f'"{inner.held}": the RP `{words[1]}` is no address: {why_no_address(words[1])}')
+        return Route(inner.line, inner.held, *prefix, rp) if prefix and rp is not None else None
+
+    # ---- moves
+
+    def move(self, table, where):
+        kind = self.wanted(table, "do", "text", where)
+        if kind is not None and kind not in MOVE_KEYS:
+            more = nearest(kind, list(MOVE_KEYS)) or f": wanted is {FORMS['do']}"
+            self.fault(table.get("do").line, where, f'`do` is "{kind}", which there isn\'t{more}')
+        if kind not in MOVE_KEYS:
+            return
+        where, keys = f"{where} ({kind})", MOVE_KEYS[kind]
+        self.only(table, ["do", *keys], where, f'"{kind}"')
+        if "router" in keys:
+            self.of_router(table, where)
+        for key in ("iface", "frame"):
+            if key in keys:
+                self.number(table, key, None, where)
+        self.number(table, "draw", 0, where)
+        if kind == "advance":
+            self.moment(table, where)
+        if "hex" in keys:
+            self.packet(table, where)
+        if "list" in keys:
+            self.entries(kind, table, where)
+
+    def entries(self, kind, table, where=""):
+        """The routes of a move `routes`, or the ranges of a move `rps`."""
+        read = self.route if kind == "routes" else self.rp
+        return self.texts(table, "list", where, read, FORMS[f"list of {kind}"], True)
+
+    def of_router(self, table, where):
+        name = self.wanted(table, "router", "text", where)
+        # Where a router's own name can't be read, that is told, and not each move of it.
+        if name is not None and name not in self.names and len(self.names) == len(self.routers):
+            more = nearest(name, list(self.names)) or f": its routers are {', '.join(self.names) or 'none'}"
+            self.fault(table.get("router").line, where, f'there is no router "{name}" in the file{more}')
+
+    def moment(self, table, where):
+        value = table.get("moment")
+        if self.wanted(table, "moment", "number", where) is not None and value.held < 0:
+            self.fault(value.line, where, f"`moment` is {value.held}, which is below 0")
+
+    def packet(self, table, where):
+        text = self.wanted(table, "hex", "text", where)
+        if text is None:
+            return
+        wrong = re.search(r"[^0-9A-Fa-f]", text)
+        if wrong:
+            what = f"`hex` has {wrong[0]!r} as its character {wrong.start() + 1}"
+            self.fault(table.get("hex").line, where, f"{what}: wanted is {FORMS['hex']}")
+        elif len(text) % 2:
+            self.fault(table.get("hex").line, where, f"`hex` has {len(text)} digits, which is odd: each byte has two")
+
+
+# ---- a router's configuration: refusals 30 to 38
+
+
+def route_fault(route, ifaces):
+    """Why a route is refused, or None."""
+    prefix = f"{dotted(route.address)}/{route.length}"
+    if route.length > 32:
+        return f"the prefix length of {prefix} is above 32"
+    if route.address & ~mask(route.length) & (BELOW - 1):
+        return f"{prefix} has host bits set: {dotted(route.address & mask(route.length))}/{route.length} is the prefix"
+    if route.iface >= len(ifaces):
+        return f"there is no interface {route.iface}: the router has {len(ifaces)}, counted from 0"
+    if not is_host(route.next_hop):
+        return f"the next hop {dotted(route.next_hop)} is no host's address"
+    if route.next_hop in [iface.address for iface in ifaces]:
+        return f"the next hop {dotted(route.next_hop)} is an address of the router itself"
+    return f"the preference {route.preference} is above 2147483646" if route.preference > 0x7FFF_FFFE else None
+
+
+def rp_fault(route):
+    """Why an RP range is refused, or None."""
+    prefix = f"{dotted(route.address)}/{route.length}"
+    if route.length > 32:
+        return f"the prefix length of {prefix} is above 32"
+    if route.address & ~mask(route.length) & (BELOW - 1):
+        return f"{prefix} has host bits set: {dotted(route.address & mask(route.length))}/{route.length} is the prefix"
+    if route.address < MULTICAST or route.address > 0xEFFF_FFFF or route.length < 4:
+        return f"{prefix} isn't inside 224.0.0.0/4"
+    return None if is_host(route.next_hop) else f"the RP {dotted(route.next_hop)} is no host's address"
+
+
+def list_faults(routes, most, one):
+    """What is wrong with a list of routes or RP ranges, as (line, text)."""
+    if len(routes) > most:
+        yield routes[most].line, f"there are {len(routes)}, and at most {most} may be"
+    lines = {}
+    for route in routes:
+        key = (route.address, route.length)
+        what = one(route) or (f"this prefix stands twice: in line {lines[key]} already" if key in lines else None)
+        lines.setdefault(key, route.line)
+        if what:
+            yield route.line, f'"{route.text}": {what}'
+
+
+def overlaps(one, other):
+    return any((a.address ^ b.address) & mask(a.length) == 0 for a, b in ((one, other), (other, one)))
+
+
+def iface_faults(router):
+    """Tests 30 to 33 and 36 of a router's interfaces, as (number, line, where, what)."""
+    ifaces, where = router["ifaces"], router["where"]
+    if not 1 <= len(ifaces) <= MOST_IFACES:
+        yield 30, router["table"].get("iface").line, where, f"it has {len(ifaces)} interfaces: 1 to {MOST_IFACES} may be"
+    for at, iface in enumerate(ifaces):
+        place = f"{where}, interface {at}"
+        shown = f"{dotted(iface.address)}/{iface.length}"
+        if not is_host(iface.address):
+            yield 31, iface.line, place, f"{dotted(iface.address)} is no host's address: 0.0.0.0, or 224.0.0.0 and above"
+        if not 1 <= iface.length <= 31:
+            yield 32, iface.line, place, f"the prefix length of {shown} is {iface.length}: 1 to 31 may be"
+        for before, other in enumerate(ifaces[:at]):
+            if 1 <= iface.length <= 31 and 1 <= other.length <= 31 and overlaps(iface, other):
+                what = f"its subnet {shown} overlaps that of interface {before}, {dotted(other.address)}/{other.length}, in line {other.line}"
+                yield 33, iface.line, place, what
+        for key, (value, line), most in zip(("propagation", "override"), iface.delays, (32767, 65535)):
+            if value > most:
+                yield 36, line, place, f"`{key}` is {value} ms, and at most {most} may be"
+
+
+def value_faults(router):
+    """Tests 34 and 35, as (number, line, where, what)."""
+    where, table = router["where"], router["table"]
+    rows = [(34, "limit", 1, 1_000_000, ""), (35, "rv", 2, 7, ""), (35, "qi", 1, 31744, " seconds")]
+    rows += [(35, "qri", 1, 31744, " tenths of a second"), (35, "lmqi", 1, 255, " tenths of a second")]
+    for number, key, low, high, unit in rows:
+        if not low <= router[key] <= high:
+            yield number, table.key_lines[key], where, f"`{key}` is {router[key]}: {low} to {high}{unit} may be"
+    if router["qri"] >= 10 * router["qi"]:
+        line = table.key_lines.get("qri") or table.key_lines.get("qi")
+        what = f"`qri` is {router['qri']} tenths of a second, which isn't below `qi`, {router['qi']} seconds"
+        yield 35, line, where, what
+
+
+def configuration_faults(router):
+    where, ifaces = router["where"], router["ifaces"]
+    yield from iface_faults(router)
+    yield from value_faults(router)
+    for line, what in list_faults(router["routes"], MOST_ROUTES, lambda route: route_fault(route, ifaces)):
+        yield 37, line, f"{where}, `routes`", what
+    for line, what in list_faults(router["rps"], MOST_RPS, rp_fault):
+        yield 38, line, f"{where}, `rps`", what
+
+
+# ---- the whole
+
+
+def faults_of(text):
+    """The faults of a scenario's text by line, with the judge that read it, and the number that `pimlab` gives: 0 where it is accepted."""
+    judge = Judge()
+    try:
+        root = toml_lines.read(text)
+    except toml_lines.Unreadable as wrong:
+        judge.fault(wrong.line, "", f"this is no TOML: {wrong.what}")
+        return judge, 39
+    judge.document(root)
+    number = 39 if judge.faults else 0
+    if not number:
+        for router in judge.routers:
+            found_here = [Fault(line, where, what, test) for test, line, where, what in configuration_faults(router)]
+            number = number or min((fault.number for fault in found_here), default=0)
+            judge.faults += found_here
+    judge.faults.sort(key=lambda fault: fault.line)
+    return judge, number
