@@ -1,0 +1,6 @@
+"""What the tools for people share: packets, scenario files and printed lines, each read in one place.
+
+`packets` reads and writes packets, `scenario` the scenario file, `printed` the lines of `pimlab run`; `story` puts the two
+together: what each move was, and which packet a delivery brought; `trees` are the trees that stand by the tables, and
+`words` says all of it to people.
+"""

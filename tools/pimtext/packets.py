@@ -1,0 +1,385 @@
+"""IPv4, PIM version 2 and IGMP version 3 packets, read and written.
+
+Readings are strict, by the formats of RFC 791, RFC 7761 (4.9) and RFC 3376 (4): the first test that fails is raised as
+`Refused` with the number of the refusal, as docs/USING.md lists them. They stand on no code of the router. Addresses are
+dotted text.
+"""
+from dataclasses import dataclass
+
+SHORT, VERSION, CHECKSUM, LENGTH, ADDRESS, GROUP, OLD, UNKNOWN, FRAGMENT = range(1, 10)
+IGMP, UDP, PIM = 2, 17, 103
+# The longest packet that comes on a link, and the longest one that comes as a unicast: a Register with such a one in it.
+MOST_IN_A_FRAME, MOST_IN_A_UNICAST = 1500, 1528
+HELLO, REGISTER, REGISTER_STOP, JOIN_PRUNE, ASSERT = 0, 1, 2, 3, 5
+RECORD_KINDS = {1: "IS_IN", 2: "IS_EX", 3: "TO_IN", 4: "TO_EX", 5: "ALLOW", 6: "BLOCK"}
+INFINITE = (0x7FFFFFFF, 0xFFFFFFFF)
+
+
+class Refused(Exception):
+    """A test of the reading failed; the first argument is the refusal's number."""
+
+
+def expect(holds, number):
+    if not holds:
+        raise Refused(number)
+
+
+def word(data, place):
+    return int.from_bytes(data[place:place + 2], "big")
+
+
+def sum16(data):
+    """The one's complement of the one's complement sum of 16-bit words; an odd length is padded by a zero."""
+    total = sum(word(data + b"\0", place) for place in range(0, len(data), 2))
+    while total > 0xFFFF:
+        total = (total & 0xFFFF) + (total >> 16)
+    return total ^ 0xFFFF
+
+
+def dotted(data):
+    return ".".join(map(str, data))
+
+
+def octets(address):
+    return bytes(map(int, str(address).split(".")))
+
+
+def is_multicast(data):
+    return 224 <= data[0] < 240
+
+
+def is_host(data):
+    return data[0] < 224 and any(data)
+
+
+# ---- what packets say
+
+
+@dataclass(frozen=True)
+class Hello:
+    """Options that aren't there are None. Times in ms but for the holdtime, which is in seconds."""
+    holdtime: int | None = None
+    propagation: int | None = None
+    override: int | None = None
+    priority: int | None = None
+    generation: int | None = None
+
+
+@dataclass(frozen=True)
+class Register:
+    is_null: bool
+    inner: "Packet"
+
+
+@dataclass(frozen=True)
+class RegisterStop:
+    group: str
+    source: str
+
+
+@dataclass(frozen=True)
+class Entry:
+    """A source that is joined or pruned: for a shared tree it is the RP, with both bits."""
+    source: str
+    mask: int
+    wildcard: bool
+    rpt: bool
+
+
+@dataclass(frozen=True)
+class GroupEntries:
+    group: str
+    mask: int
+    joins: tuple
+    prunes: tuple
+
+
+@dataclass(frozen=True)
+class JoinPrune:
+    upstream: str
+    holdtime: int
+    groups: tuple
+
+
+@dataclass(frozen=True)
+class Assert:
+    group: str
+    mask: int
+    source: str
+    rpt: bool
+    preference: int
+    metric: int
+
+    def is_infinite(self):
+        return self.rpt and (self.preference, self.metric) == INFINITE
+
+
+@dataclass(frozen=True)
+class OtherPim:
+    kind: int
+
+
+@dataclass(frozen=True)
+class Query:
+    """`response` is in tenths of a second, `interval` in seconds. Group 0.0.0.0 asks for all groups."""
+    group: str
+    sources: tuple
+    response: int
+    suppress: bool
+    robustness: int
+    interval: int
+
+
+@dataclass(frozen=True)
+class Record:
+    kind: int
+    group: str
+    sources: tuple
+
+
+@dataclass(frozen=True)
+class Report:
+    records: tuple
+
+
+@dataclass(frozen=True)
+class Data:
+    """Ports are None where the packet isn't a whole UDP packet; then all that follows the IP header is the payload."""
+    payload: bytes
+    source_port: int | None = None
+    destination_port: int | None = None
+
+
+@dataclass(frozen=True)
+class Packet:
+    source: str
+    destination: str
+    ttl: int
+    protocol: int
+    size: int
+    body: object
+
+
+# ---- readings
+
+
+class Fields:
+    """The fields of a message, from first to last."""
+
+    def __init__(self, data, place=0):
+        self.data, self.place = data, place
+
+    def take(self, count):
+        expect(self.place + count <= len(self.data), SHORT)
+        self.place += count
+        return self.data[self.place - count:self.place]
+
+    def number(self, size=2):
+        return int.from_bytes(self.take(size), "big")
+
+    def is_left(self):
+        return self.place < len(self.data)
+
+    def addresses(self, count):
+        taken = self.take(4 * count)
+        return tuple(dotted(taken[place:place + 4]) for place in range(0, len(taken), 4))
+
+    def encoded(self, size):
+        """An encoded address of so many bytes, its family and encoding read."""
+        field = self.take(size)
+        expect(field[:2] == b"\1\0", ADDRESS)
+        return field[2:]
+
+    def unicast(self):
+        return self.encoded(6)
+
+    def group(self):
+        """The group and its mask."""
+        field = self.encoded(8)
+        expect(is_multicast(field[2:]), GROUP)
+        return dotted(field[2:]), field[1]
+
+    def source(self):
+        field = self.encoded(8)
+        return Entry(dotted(field[2:]), field[1], bool(field[0] & 2), bool(field[0] & 1))
+
+
+def read_hello(fields):
+    known = {1: ("holdtime", 2), 2: ("delay", 4), 19: ("priority", 4), 20: ("generation", 4)}
+    found = {}
+    while fields.is_left():
+        kind, length = fields.number(), fields.number()
+        name, size = known.get(kind, (None, length))
+        expect(length == size, LENGTH)
+        found[name] = int.from_bytes(fields.take(length), "big")
+    delay = found.pop("delay", None)
+    found.pop(None, None)
+    if delay is None:
+        return Hello(**found)
+    return Hello(propagation=delay >> 16 & 0x7FFF, override=delay & 0xFFFF, **found)
+
+
+def read_null(inner):
+    """The packet in a Null-Register: a header alone, of which only the addresses count."""
+    expect(len(inner) >= 20, SHORT)
+    expect(inner[10:12] == b"\0\0" or sum16(inner[:20]) == 0, CHECKSUM)
+    return Packet(dotted(inner[12:16]), dotted(inner[16:20]), inner[8], inner[9], len(inner), Data(b""))
+
+
+def read_register(fields):
+    is_null, inner = bool(fields.take(4)[0] & 0x40), fields.data[8:]
+    packet = read_null(inner) if is_null else read_data(inner)
+    expect(is_host(octets(packet.source)), ADDRESS)
+    expect(is_multicast(octets(packet.destination)), GROUP)
+    return Register(is_null, packet)
+
+
+def read_register_stop(fields):
+    return RegisterStop(fields.group()[0], dotted(fields.unicast()))
+
+
+def read_group_entries(fields):
+    group, mask = fields.group()
+    joins, prunes = fields.number(), fields.number()
+    sources = [fields.source() for _ in range(joins + prunes)]
+    return GroupEntries(group, mask, tuple(sources[:joins]), tuple(sources[joins:]))
+
+
+def read_join_prune(fields):
+    upstream = dotted(fields.unicast())
+    groups, holdtime = fields.take(2)[1], fields.number()
+    return JoinPrune(upstream, holdtime, tuple(read_group_entries(fields) for _ in range(groups)))
+
+
+def read_assert(fields):
+    group, mask = fields.group()
+    source = fields.unicast()
+    expect(source[0] < 224, ADDRESS)
+    preference, metric = fields.number(4), fields.number(4)
+    return Assert(group, mask, dotted(source), bool(preference >> 31), preference & 0x7FFFFFFF, metric)
+
+
+PIM_READERS = {
+    HELLO: read_hello, REGISTER: read_register, REGISTER_STOP: read_register_stop, JOIN_PRUNE: read_join_prune, ASSERT: read_assert,
+}
+
+
+def read_pim(data):
+    expect(len(data) >= 4, SHORT)
+    expect(data[0] >> 4 == 2, VERSION)
+    kind = data[0] & 15
+    expect(kind != REGISTER or len(data) >= 8, SHORT)
+    expect(sum16(data) == 0 or (kind == REGISTER and sum16(data[:8]) == 0), CHECKSUM)
+    return PIM_READERS[kind](Fields(data, 4)) if kind in PIM_READERS else OtherPim(kind)
+
+
+def code_value(code):
+    """What a byte of a query means: below 128 itself, else a mantissa and an exponent."""
+    return code if code < 128 else (code & 15 | 16) << ((code >> 4 & 7) + 3)
+
+
+def read_query(data):
+    expect(len(data) != 8, OLD)
+    expect(len(data) >= 12, LENGTH)
+    expect(not any(data[4:8]) or is_multicast(data[4:8]), GROUP)
+    fields = Fields(data, 10)
+    sources = fields.addresses(fields.number())
+    return Query(dotted(data[4:8]), sources, code_value(data[1]), bool(data[8] & 8), data[8] & 7, code_value(data[9]))
+
+
+def read_record(fields):
+    kind, auxiliary = fields.take(2)
+    count = fields.number()
+    group = fields.take(4)
+    expect(is_multicast(group) or kind not in RECORD_KINDS, GROUP)
+    sources = fields.addresses(count)
+    fields.take(4 * auxiliary)
+    return Record(kind, dotted(group), sources)
+
+
+def read_report(data):
+    fields = Fields(data, 6)
+    return Report(tuple(read_record(fields) for _ in range(fields.number())))
+
+
+def read_igmp(data):
+    expect(len(data) >= 8, SHORT)
+    expect(sum16(data) == 0, CHECKSUM)
+    expect(data[0] not in (0x12, 0x16, 0x17), OLD)
+    expect(data[0] in (0x11, 0x22), UNKNOWN)
+    return read_query(data) if data[0] == 0x11 else read_report(data)
+
+
+def read_header(data, limit):
+    """The header's fields of an IPv4 packet, by their names, and what it carries."""
+    expect(len(data) <= limit, LENGTH)
+    expect(len(data) >= 20, SHORT)
+    expect(data[0] >> 4 == 4, VERSION)
+    header, total = 4 * (data[0] & 15), word(data, 2)
+    expect(header >= 20, LENGTH)
+    expect(total >= header, LENGTH)
+    expect(len(data) >= total, SHORT)
+    expect(sum16(data[:header]) == 0, CHECKSUM)
+    expect(word(data, 6) & 0x3FFF == 0, FRAGMENT)
+    expect(data[12] < 224 and (any(data[12:16]) or data[9] == IGMP), ADDRESS)
+    head = {"source": dotted(data[12:16]), "destination": dotted(data[16:20]), "ttl": data[8], "protocol": data[9], "size": total}
+    return head, data[header:total]
+
+
+def data_packet(head, content):
+    is_udp = head["protocol"] == UDP and len(content) >= 8 and word(content, 4) == len(content)
+    body = Data(content[8:], word(content, 0), word(content, 2)) if is_udp else Data(content)
+    return Packet(**head, body=body)
+
+
+def read(data, limit=MOST_IN_A_UNICAST):
+    """The packet that these bytes are, from the IP header on. Raises Refused."""
+    head, content = read_header(data, limit)
+    reader = {PIM: read_pim, IGMP: read_igmp}.get(head["protocol"])
+    return Packet(**head, body=reader(content)) if reader else data_packet(head, content)
+
+
+def read_data(data):
+    """The same, whatever it carries: a copy that a router forwards is data."""
+    return data_packet(*read_header(data, MOST_IN_A_FRAME))
+
+
+def refusal(data, limit):
+    """The refusal of a packet, None where it is lawful."""
+    try:
+        read(data, limit)
+    except Refused as refused:
+        return refused.args[0]
+    return None
+
+
+# ---- writings
+
+
+def with_number(data, place, number, size=2):
+    return data[:place] + (number % 256 ** size).to_bytes(size, "big") + data[place + size:]
+
+
+def write(protocol, source, destination, ttl, body, options=b""):
+    """An IPv4 packet; options are a multiple of four bytes."""
+    length = 20 + len(options)
+    head = bytes([0x40 + length // 4, 0]) + (length + len(body)).to_bytes(2, "big") + bytes([0, 0, 0, 0, ttl, protocol, 0, 0])
+    head += octets(source) + octets(destination) + options
+    return with_number(head, 10, sum16(head)) + body
+
+
+def write_report(host, records):
+    """What a host tells its routers by IGMPv3."""
+    body = bytes([0x22, 0, 0, 0, 0, 0]) + len(records).to_bytes(2, "big")
+    for record in records:
+        body += bytes([record.kind, 0]) + len(record.sources).to_bytes(2, "big") + octets(record.group)
+        body += b"".join(map(octets, record.sources))
+    return write(IGMP, host, "224.0.0.22", 1, with_number(body, 2, sum16(body)), b"\x94\x04\0\0")
+
+
+def write_data(source, group, payload, ttl=16, port=5000):
+    """A UDP packet with its checksum."""
+    size = 8 + len(payload)
+    body = port.to_bytes(2, "big") * 2 + size.to_bytes(2, "big") + b"\0\0" + payload
+    pseudo = octets(source) + octets(group) + bytes([0, UDP]) + size.to_bytes(2, "big")
+    return write(UDP, source, group, ttl, with_number(body, 6, sum16(pseudo + body) or 0xFFFF))

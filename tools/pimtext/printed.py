@@ -1,0 +1,143 @@
+"""The lines that `pimlab run` prints, as objects."""
+import math
+from typing import NamedTuple
+
+NEVER = math.inf
+ANY = "*"
+
+
+class Answer(NamedTuple):
+    """What a router answered to a move or to a delivery of a settle: `done`, `ignored REASON` or `refused NUMBER`."""
+    move: int
+    router: str
+    verdict: str
+    cause: str | None
+
+    def __str__(self):
+        return self.verdict if self.cause is None else f"{self.verdict} {self.cause}"
+
+
+class Emission(NamedTuple):
+    """A packet that left: `where` is a link, or for a unicast its destination."""
+    kind: str
+    number: int
+    where: str
+    data: bytes
+
+
+class Heading(NamedTuple):
+    """The tables of this router follow."""
+    router: str
+
+
+# Rows of the tables. Ends are in ms; `never` is infinite, and an end that isn't there is None.
+
+
+class Neighbour(NamedTuple):
+    iface: int
+    address: str
+    end: float | None
+
+
+class GroupRecord(NamedTuple):
+    iface: int
+    group: str
+    mode: str
+    end: float | None
+
+
+class SourceRecord(NamedTuple):
+    iface: int
+    group: str
+    source: str
+    end: float | None
+
+
+class Downstream(NamedTuple):
+    iface: int
+    group: str
+    source: str
+    kind: str
+    state: str
+    end: float | None
+    pending: float | None
+
+
+class AssertState(NamedTuple):
+    iface: int
+    group: str
+    source: str
+    role: str
+    winner: str
+    end: float | None
+
+
+class Upstream(NamedTuple):
+    group: str
+    source: str
+    end: float | None
+
+
+class SharedTree(NamedTuple):
+    group: str
+    source: str
+    state: str
+
+
+class Active(NamedTuple):
+    group: str
+    source: str
+    end: float | None
+    spt: str
+    register: str
+
+
+ROWS = {
+    "N": Neighbour, "G": GroupRecord, "S": SourceRecord, "D": Downstream, "A": AssertState, "U": Upstream, "R": SharedTree, "F": Active,
+}
+PACKETS = ("frame", "copy", "unicast")
+
+
+def end_of(text):
+    return {"-": None, "never": NEVER}.get(text) if not text.isdigit() else int(text)
+
+
+def value_of(column, text):
+    if column == "iface":
+        return int(text)
+    return end_of(text) if column in ("end", "pending") else text
+
+
+def row_of(letter, texts):
+    kind = ROWS[letter]
+    if len(texts) != len(kind._fields):
+        raise ValueError(f"a row {letter} of {len(texts)} columns")
+    return kind(*map(value_of, kind._fields, texts))
+
+
+def parsed(line):
+    """What a line says: an Answer, an Emission, a Heading or a row. Raises ValueError for any other line."""
+    first, _, rest = line.partition(" ")
+    if first == "move":
+        return answer_of(rest)
+    if first in PACKETS:
+        number, rest = rest.split(" ", 1)
+        where, data = rest.rsplit(" ", 1)
+        return Emission(first, int(number), where, bytes.fromhex(data))
+    if first == "router":
+        return Heading(rest)
+    if first in ROWS:
+        return row_of(first, rest.split(" "))
+    raise ValueError(f"no line of pimlab run: {line[:80]!r}")
+
+
+def answer_of(text):
+    """A router's name may have blanks, so what is known is taken off both ends."""
+    number, rest = text.split(" ", 1)
+    name, _, last = rest.rpartition(" ")
+    if last == "done":
+        return Answer(int(number), name, "done", None)
+    name, _, verdict = name.rpartition(" ")
+    if verdict not in ("ignored", "refused"):
+        raise ValueError(f"no answer: {text[:80]!r}")
+    return Answer(int(number), name, verdict, last)

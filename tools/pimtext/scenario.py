@@ -1,0 +1,151 @@
+"""The scenario file as plain objects, read and written; docs/USING.md says what its keys mean.
+
+What the program would refuse isn't looked for here: these are the scenarios that it has played.
+"""
+import json
+import subprocess
+import sys
+import tomllib
+from dataclasses import dataclass, field
+from ipaddress import IPv4Interface, IPv4Network, ip_interface, ip_network
+from pathlib import Path
+
+PIMLAB = Path(__file__).resolve().parent.parent.parent / "pimlab"
+
+
+@dataclass
+class Interface:
+    number: int
+    link: str
+    own: IPv4Interface
+    priority: int = 1
+
+    @property
+    def address(self):
+        return str(self.own.ip)
+
+
+@dataclass
+class Router:
+    """`table` is the router's table in the file."""
+    name: str
+    interfaces: list
+    table: dict
+    routes: list = field(default_factory=list)
+    rps: list = field(default_factory=list)
+
+    def on(self, link):
+        """Its interfaces on a link."""
+        return [interface for interface in self.interfaces if interface.link == link]
+
+    def has(self, address):
+        return any(interface.address == address for interface in self.interfaces)
+
+
+@dataclass
+class Scenario:
+    routers: list
+    moves: list
+
+    def router(self, name):
+        return next(router for router in self.routers if router.name == name)
+
+    def links(self):
+        """The links with their subnets, in the order in which they are named."""
+        found = {}
+        for router in self.routers:
+            for interface in router.interfaces:
+                found.setdefault(interface.link, interface.own.network)
+        return found
+
+    def text(self, moves=None):
+        """The file again, with the first of its moves alone where a number is given."""
+        return text_of([router.table for router in self.routers], self.moves[:moves])
+
+
+@dataclass(frozen=True)
+class Route:
+    prefix: IPv4Network
+    next_hop: str
+    iface: int
+
+
+def routes_of(texts):
+    """Routes as they stand in the file."""
+    rows = [text.split() for text in texts]
+    return [Route(ip_network(prefix), hop, int(iface)) for prefix, hop, iface, *_ in rows]
+
+
+def rps_of(texts):
+    """RP ranges as they stand in the file: pairs of a prefix and an address."""
+    rows = [text.split() for text in texts]
+    return [(ip_network(prefix), rp) for prefix, rp in rows]
+
+
+def interface_of(number, table):
+    return Interface(number, table["link"], ip_interface(table["address"]), table.get("priority", 1))
+
+
+def router_of(table):
+    interfaces = [interface_of(number, row) for number, row in enumerate(table["iface"])]
+    return Router(table["name"], interfaces, table, routes_of(table.get("routes", [])), rps_of(table.get("rps", [])))
+
+
+def scenario_of(tables):
+    """The scenario of a file's tables."""
+    return Scenario([router_of(table) for table in tables.get("router", [])], tables.get("move", []))
+
+
+def read(path):
+    """The scenario of a file; ends the program with a line where it isn't there or isn't TOML."""
+    try:
+        return scenario_of(tomllib.loads(Path(path).read_text()))
+    except OSError as reason:
+        sys.exit(f"{path} can't be read: {reason.strerror}")
+    except (tomllib.TOMLDecodeError, UnicodeDecodeError) as reason:
+        sys.exit(f"{path} isn't TOML: {reason}")
+    except (KeyError, ValueError, TypeError) as reason:
+        sys.exit(f"{path} is no scenario ({reason}); tools/why {path} says what is wrong")
+
+
+# ---- written
+
+
+def value_text(value):
+    """A value as TOML has it, tables in one line. JSON's texts and numbers are TOML's too."""
+    if isinstance(value, dict):
+        return "{ " + ", ".join(f"{key} = {value_text(item)}" for key, item in value.items()) + " }"
+    if isinstance(value, list):
+        return "[" + ", ".join(map(value_text, value)) + "]"
+    return json.dumps(value, ensure_ascii=False)
+
+
+def rows_text(name, tables):
+    return "\n".join([f"{name} = [", *(f"  {value_text(table)}," for table in tables), "]"])
+
+
+def text_of(routers, moves):
+    return rows_text("router", routers) + "\n\n" + rows_text("move", moves) + "\n"
+
+
+# ---- played
+
+
+class Refused(Exception):
+    """The program didn't play the scenario; the text is its own line."""
+
+
+def run_text(text):
+    """The lines that the program prints of a scenario's text, with tables."""
+    ran = subprocess.run([PIMLAB, "run", "-", "--tables"], input=text, capture_output=True, text=True)
+    if ran.returncode:
+        raise Refused(ran.stderr.strip())
+    return ran.stdout.splitlines()
+
+
+def run_file(path):
+    """The same of a file. What the program says on standard error stands there; its status ends this program."""
+    ran = subprocess.run([PIMLAB, "run", path, "--tables"], stdout=subprocess.PIPE, text=True)
+    if ran.returncode:
+        sys.exit(ran.returncode)
+    return ran.stdout.splitlines()

@@ -1,0 +1,183 @@
+"""The printed lines beside their scenario: what each move was, and which packet a delivery brought."""
+from dataclasses import dataclass, field
+from itertools import chain
+
+from pimtext import packets, printed
+
+# How many deliveries one settle makes at most.
+SETTLE_LIMIT = 10_000
+IGNORED = "ignored"
+
+
+@dataclass(frozen=True)
+class Sent:
+    """A packet that a router sent: `where` is a link, or for a unicast its destination; `moment` is the router's, in ms."""
+    kind: str
+    number: int
+    where: str
+    data: bytes
+    router: str
+    move: int
+    moment: int
+
+    def is_unicast(self):
+        return self.kind == "unicast"
+
+    def packet(self):
+        """The packet read; raises packets.Refused where it is malformed."""
+        return packets.read_data(self.data) if self.kind == "copy" else packets.read(self.data)
+
+
+@dataclass
+class Step:
+    """A move, or a delivery of a settle: who took what, and what left. `did` is the move's table, None where it isn't known."""
+    move: int
+    router: str
+    verdict: str
+    cause: str | None
+    moment: int
+    did: dict | None = None
+    brought: Sent | None = None
+    iface: int | None = None
+    sent: list = field(default_factory=list)
+
+    def answer(self):
+        return self.verdict if self.cause is None else f"{self.verdict} {self.cause}"
+
+    def is_settle(self):
+        return self.did is not None and self.did["do"] == "settle"
+
+
+@dataclass
+class Tables:
+    """What a router knows at last: rows as pimtext.printed has them."""
+    router: str
+    moment: int
+    rows: list = field(default_factory=list)
+
+    def of(self, kind):
+        return [row for row in self.rows if isinstance(row, kind)]
+
+
+class Untold(Exception):
+    """The lines aren't those of the scenario."""
+
+
+def sending_interface(scenario, sent):
+    """The interface that a packet on a link left on: that of its address, else the router's first one on the link."""
+    here = scenario.router(sent.router).on(sent.where)
+    source = packets.dotted(sent.data[12:16])
+    return next((interface for interface in here if interface.address == source), here[0]).number
+
+
+def receivers(scenario, sent):
+    """Whom a settle brings a packet to: pairs of a router's name and an interface, None for a unicast."""
+    if sent.is_unicast():
+        owners = (router.name for router in scenario.routers if router.has(sent.where))
+        return [(name, None) for name in owners][:1]
+    left = (sent.router, sending_interface(scenario, sent))
+    ports = [(router.name, interface.number) for router in scenario.routers for interface in router.on(sent.where)]
+    return [port for port in ports if port != left]
+
+
+class Teller:
+    """Follows the lines, one after the other. Without a scenario it knows what the lines say alone."""
+
+    def __init__(self, scenario=None):
+        self.scenario = scenario
+        self.moments = {}
+        self.sent = []
+        self.taken = 0
+        self.begun = 0
+        self.settling = iter(())
+
+    def moment(self, router):
+        return self.moments.get(router, 0)
+
+    def deliveries(self):
+        """What the settle that has begun delivers. What is sent meanwhile follows, so it is asked after each delivery's packets."""
+        made = 0
+        while self.taken < len(self.sent) and made < SETTLE_LIMIT:
+            sent = self.sent[self.taken]
+            self.taken += 1
+            for receiver in receivers(self.scenario, sent):
+                if made == SETTLE_LIMIT:
+                    break
+                made += 1
+                yield sent, *receiver
+
+    def begin(self, number):
+        """Goes on to a move. Settles in between had nothing to deliver."""
+        while self.begun < number:
+            self.end_settle()
+            self.begun += 1
+            if self.move(self.begun)["do"] == "settle":
+                self.settling = self.deliveries()
+
+    def end_settle(self):
+        if next(self.settling, None) is not None:
+            raise Untold(f"move {self.begun}: not all deliveries are answered")
+
+    def move(self, number):
+        if number > len(self.scenario.moves):
+            raise Untold(f"the scenario has no move {number}")
+        return self.scenario.moves[number - 1]
+
+    def step(self, answer):
+        """The step that an answer begins."""
+        step = Step(answer.move, answer.router, answer.verdict, answer.cause, self.moment(answer.router))
+        if self.scenario is None:
+            return step
+        self.begin(answer.move)
+        step.did = self.move(answer.move)
+        if step.is_settle():
+            self.deliver(step)
+        else:
+            self.make(step)
+        return step
+
+    def deliver(self, step):
+        step.brought, router, step.iface = next(self.settling, (None, None, None))
+        if router != step.router:
+            raise Untold(f"move {step.move}: {step.router} answers where {router} takes a packet")
+
+    def make(self, step):
+        """A move of its own."""
+        did = step.did
+        if did["router"] != step.router:
+            raise Untold(f"move {step.move} is one of {did['router']}")
+        step.iface = did.get("iface")
+        if did["do"] == "advance" and step.verdict == "done":
+            self.moments[step.router] = step.moment = did["moment"]
+        if did["do"] in ("deliver", "carry") and 1 <= did["frame"] <= len(self.sent):
+            step.brought = self.sent[did["frame"] - 1]
+
+    def sending(self, step, emission):
+        sent = Sent(*emission, step.router, step.move, step.moment)
+        self.sent.append(sent)
+        step.sent.append(sent)
+
+    def tell(self, lines):
+        """Steps and then tables, each as soon as it is whole."""
+        whole = None
+        for said in chain(map(printed.parsed, lines), [None]):
+            if isinstance(said, printed.Emission):
+                self.sending(whole, said)
+            elif said is None or isinstance(said, (printed.Answer, printed.Heading)):
+                if whole is not None:
+                    yield whole
+                whole = self.begun_by(said)
+            else:
+                whole.rows.append(said)
+
+    def begun_by(self, said):
+        if isinstance(said, printed.Answer):
+            return self.step(said)
+        return None if said is None else Tables(said.router, self.moment(said.router))
+
+
+def played(scenario, lines):
+    """All steps, and the tables by routers' names."""
+    told = list(Teller(scenario).tell(lines))
+    steps = [part for part in told if isinstance(part, Step)]
+    return steps, {part.router: part for part in told if isinstance(part, Tables)}

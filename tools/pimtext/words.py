@@ -1,0 +1,188 @@
+"""What packets, answers and moves are, in words for people; one line each."""
+from pimtext import packets, printed
+from pimtext.packets import RECORD_KINDS, Refused
+
+REFUSALS = {
+    1: "Short", 2: "BadVersion", 3: "BadChecksum", 4: "BadLength", 5: "BadAddress", 6: "NotMulticast", 7: "OldVersion",
+    8: "UnknownType", 9: "Fragment", 20: "MomentBack", 21: "MomentFar", 22: "NoInterface", 23: "InterfaceDown", 24: "Full",
+    25: "BadRoutes", 26: "BadRps", 27: "BadMove", 30: "InterfaceCount", 31: "InterfaceAddress", 32: "InterfaceLength",
+    33: "Overlap", 34: "BadLimit", 35: "BadQuerier", 36: "BadDelay", 37: "ConfiguredRoutes", 38: "ConfiguredRps", 39: "BadScenario",
+}
+PIM_KINDS = {4: "Bootstrap", 6: "Graft", 7: "Graft-Ack", 8: "Candidate-RP-Advertisement"}
+PROTOCOLS = {1: "ICMP", 2: "IGMP", 6: "TCP", 17: "UDP", 103: "PIM"}
+NO_GROUP = "0.0.0.0"
+
+
+def seconds(moment):
+    """A moment or an end, of ms, in seconds."""
+    if moment is None:
+        return "-"
+    return "never" if moment == printed.NEVER else f"{moment // 1000}.{moment % 1000:03} s"
+
+
+def listed(items):
+    return "{" + ", ".join(items) + "}"
+
+
+def ranged(address, mask):
+    return address if mask == 32 else f"{address}/{mask}"
+
+
+def tree(group, source, kind=""):
+    return f"({source}, {group}{', rpt' if kind == 'rpt' else ''})"
+
+
+# ---- packets
+
+
+def hello(body):
+    said = {
+        "holdtime": "for {} s", "priority": "DR priority {}", "generation": "generation {}",
+        "propagation": "propagation delay {} ms", "override": "override interval {} ms",
+    }
+    told = [text.format(getattr(body, name)) for name, text in said.items() if getattr(body, name) is not None]
+    return "Hello " + (", ".join(told) or "without options") + (": a farewell" if body.holdtime == 0 else "")
+
+
+def register(body):
+    inner = body.inner
+    if body.is_null:
+        return f"Null-Register of {tree(inner.destination, inner.source)}"
+    return f"Register of [{inner.source} > {inner.destination}: {data(inner)}]"
+
+
+def register_stop(body):
+    return f"Register-Stop of {tree(body.group, body.source)}"
+
+
+def entry(group, source):
+    """A source of a Join/Prune as the tree that it means. With both bits the source is the RP."""
+    group = ranged(group.group, group.mask)
+    if source.wildcard:
+        by = f"by {source.source}" if source.rpt else f"of {source.source}, without the bit R"
+        return f"{tree(group, '*')} {by}"
+    return tree(group, ranged(source.source, source.mask), "rpt" if source.rpt else "")
+
+
+def join_prune(body):
+    said = []
+    for group in body.groups:
+        for verb, sources in (("join", group.joins), ("prune", group.prunes)):
+            said += [f"{verb} {entry(group, source)}" for source in sources]
+    return f"Join/Prune to {body.upstream} for {body.holdtime} s: " + ("; ".join(said) or "nothing")
+
+
+def assert_words(body):
+    whom = tree(ranged(body.group, body.mask), "*" if body.source == NO_GROUP else body.source)
+    if body.is_infinite():
+        return f"AssertCancel of {whom}"
+    return f"Assert of {whom}, {'by the RP, ' if body.rpt else ''}preference {body.preference}, metric {body.metric}"
+
+
+def query(body):
+    whom = "of all groups" if body.group == NO_GROUP else f"of {body.group}"
+    if body.sources:
+        whom += f", sources {listed(body.sources)}"
+    said = [f"answer within {body.response / 10:g} s", f"robustness {body.robustness}", f"interval {body.interval} s"]
+    return f"query {whom}: " + ", ".join(said + ["suppressed"] * body.suppress)
+
+
+def record(body):
+    return f"{RECORD_KINDS.get(body.kind, f'type {body.kind}')} {body.group} {listed(body.sources)}"
+
+
+def report(body):
+    return "report: " + ("; ".join(map(record, body.records)) or "no record")
+
+
+def data(packet):
+    """A data packet, without its addresses."""
+    body, protocol = packet.body, PROTOCOLS.get(packet.protocol, f"protocol {packet.protocol}")
+    port = "" if body.destination_port is None else f" to port {body.destination_port}"
+    return f"data, {protocol}{port}, {len(body.payload)} bytes, TTL {packet.ttl}"
+
+
+WRITERS = {
+    packets.Hello: hello, packets.Register: register, packets.RegisterStop: register_stop, packets.JoinPrune: join_prune,
+    packets.Assert: assert_words, packets.Query: query, packets.Report: report,
+}
+
+
+def packet(read):
+    """A packet on one line: its addresses, its kind, and what it says."""
+    head = f"{read.source} > {read.destination}: "
+    if isinstance(read.body, packets.Data):
+        return head + data(read)
+    if isinstance(read.body, packets.OtherPim):
+        return head + f"PIM {PIM_KINDS.get(read.body.kind, f'type {read.body.kind}')}"
+    return head + f"{PROTOCOLS[read.protocol]} " + WRITERS[type(read.body)](read.body)
+
+
+def bytes_given(content, limit=packets.MOST_IN_A_FRAME):
+    """The same of bytes that somebody gives a router, which may be anything."""
+    try:
+        return packet(packets.read(content, limit))
+    except Refused as refused:
+        return f"{len(content)} bytes, malformed: {REFUSALS[refused.args[0]]}"
+
+
+# ---- answers and moves
+
+
+def answer(verdict, cause):
+    if verdict == "refused":
+        return f"refused {cause} ({REFUSALS.get(int(cause), 'unknown')})"
+    return verdict if cause is None else f"{verdict} ({cause})"
+
+
+def place(router, iface):
+    """An interface by its number and link."""
+    if router is None or not 0 <= iface < len(router.interfaces):
+        return str(iface)
+    return f"{iface} {router.interfaces[iface].link}"
+
+
+def move(did, router, brought=None):
+    """What a move does at its router."""
+    match did["do"]:
+        case "up" | "down":
+            return f"{place(router, did['iface'])} goes {did['do']}"
+        case "advance":
+            return f"time goes on to {seconds(did['moment'])}"
+        case "frame":
+            return f"takes on {place(router, did['iface'])}: {bytes_given(bytes.fromhex(did['hex']))}"
+        case "unicast":
+            return f"takes as a unicast: {bytes_given(bytes.fromhex(did['hex']), packets.MOST_IN_A_UNICAST)}"
+        case "routes" | "rps":
+            return f"gets new {'routes' if did['do'] == 'routes' else 'RP ranges'}: " + ("; ".join(did["list"]) or "none")
+        case "deliver":
+            return f"takes on {place(router, did['iface'])}: packet {did['frame']}{of(brought)}"
+        case "carry":
+            return f"takes as a unicast: packet {did['frame']}{of(brought)}"
+    return did["do"]
+
+
+def of(brought):
+    return "" if brought is None else f" of {brought.router}, {short(brought)}"
+
+
+def short(sent):
+    """The kind of a packet that a router sent, in a word or two."""
+    body = sent.packet().body
+    names = {packets.JoinPrune: "Join/Prune", packets.RegisterStop: "Register-Stop", packets.Data: "data"}
+    if isinstance(body, packets.Register) and body.is_null:
+        return "Null-Register"
+    if isinstance(body, packets.Query):
+        return "IGMP query"
+    return names.get(type(body), type(body).__name__)
+
+
+def step(told, scenario):
+    """What a step was: the move, or which packet a settle delivered."""
+    if told.did is None:
+        return ""
+    router = scenario.router(told.router)
+    if not told.is_settle():
+        return move(told.did, router, told.brought)
+    where = "as a unicast" if told.iface is None else f"on {place(router, told.iface)}"
+    return f"settle brings {where}: packet {told.brought.number}{of(told.brought)}"
