@@ -1,0 +1,26 @@
+"""The stored scenarios with the lines that they print, and tools as modules."""
+import sys
+from importlib.machinery import SourceFileLoader
+from importlib.util import module_from_spec, spec_from_loader
+from pathlib import Path
+
+TOOLS = Path(__file__).resolve().parent.parent
+DATA = TOOLS.parent / "crates" / "pim_played" / "data"
+EXAMPLES = TOOLS.parent / "examples"
+
+
+def played():
+    """The scenarios that aren't refused, each with its lines."""
+    for path in sorted(DATA.glob("*.toml")):
+        if not path.with_suffix(".err").exists():
+            yield path, path.with_suffix(".out").read_text().splitlines()
+
+
+def tool(name):
+    """The tool of this name as a module."""
+    loader = SourceFileLoader(name, str(TOOLS / name))
+    module = module_from_spec(spec_from_loader(name, loader))
+    sys.dont_write_bytecode, was = True, sys.dont_write_bytecode
+    loader.exec_module(module)
+    sys.dont_write_bytecode = was
+    return module

@@ -1,0 +1,39 @@
+"""The printed lines shown to people."""
+import unittest
+from collections import Counter
+
+from pimtext import scenario, story
+from tests import stored
+
+show = stored.tool("show")
+
+
+class Shown(unittest.TestCase):
+    def test_every_stored_line_is_told(self):
+        for path, lines in stored.played():
+            read = scenario.read(path)
+            letters = Counter(line.split()[0] for line in lines)
+            for known in (read, None):
+                said = list(show.shown(lines, known))
+                heads = Counter(line.split()[0] for line in said if line)
+                with self.subTest(path=path.name):
+                    self.assertEqual(heads["packet"], letters["frame"] + letters["copy"] + letters["unicast"])
+                    self.assertEqual(heads["move"], letters["move"])
+                    self.assertFalse([line for line in said if line.startswith("    packet") and "malformed" in line])
+
+    def test_the_first_packet_of_an_example(self):
+        path = stored.EXAMPLES / "shared_to_source_tree.toml"
+        said = list(show.shown(path.with_suffix(".out").read_text().splitlines(), scenario.read(path)))
+        self.assertIn("move 16 rp: settle brings as a unicast: packet 19 of first, Register: done", said)
+        self.assertIn("move 18 last: settle brings on 1 first-last: packet 27 of first, data: done", said)
+        self.assertIn("    2 home     239.1.1.1  exclude  260.001 s", said)
+        self.assertIn("router rp at 0.001 s", said)
+
+    def test_lines_of_another_scenario_are_found(self):
+        lines = (stored.EXAMPLES / "one_join.out").read_text().splitlines()
+        with self.assertRaises((story.Untold, StopIteration)):
+            list(show.shown(lines, scenario.read(stored.EXAMPLES / "lan_assert.toml")))
+
+
+if __name__ == "__main__":
+    unittest.main()
