@@ -115,6 +115,12 @@ def row_of(letter, texts):
     return kind(*map(value_of, kind._fields, texts))
 
 
+def rows_of(rows, table, /, **values):
+    """The rows of a table that have these values in these columns."""
+    found = (row for row in rows if isinstance(row, table))
+    return [row for row in found if all(getattr(row, column) == value for column, value in values.items())]
+
+
 def parsed(line):
     """What a line says: an Answer, an Emission, a Heading or a row. Raises ValueError for any other line."""
     first, _, rest = line.partition(" ")

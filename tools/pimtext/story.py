@@ -6,7 +6,6 @@ from pimtext import packets, printed
 
 # How many deliveries one settle makes at most.
 SETTLE_LIMIT = 10_000
-IGNORED = "ignored"
 
 
 @dataclass(frozen=True)
@@ -55,8 +54,8 @@ class Tables:
     moment: int
     rows: list = field(default_factory=list)
 
-    def of(self, kind):
-        return [row for row in self.rows if isinstance(row, kind)]
+    def of(self, table, /, **values):
+        return printed.rows_of(self.rows, table, **values)
 
 
 class Untold(Exception):
