@@ -1,5 +1,5 @@
 -- Worked runs of Joins and Prunes.
-use Rattle.std.specs.Prelude.{List, None, Option, Some, [], map, true, ℕ, ◌++◌, ◌≡◌, ◌∷◌}
+use Rattle.std.specs.Prelude.{List, None, Option, Some, [], map, ℕ, ◌++◌, ◌≡◌, ◌∷◌}
 use Rattle.pim_types.specs.declared.event.Event.{Event}
 use Rattle.pim_types.specs.declared.outcome.Outcome.{Outcome}
 use Rattle.pim_types.specs.declared.table.DownstreamState.{DownstreamState}

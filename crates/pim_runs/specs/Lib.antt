@@ -9,6 +9,8 @@ pub mod Data
 pub mod Causes
 pub mod Changes
 pub mod Routes
+pub mod Cached
+pub mod Reached
 pub mod Limits
 pub mod SourceSpecific
 pub mod TwoRouters

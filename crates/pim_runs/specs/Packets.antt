@@ -1,6 +1,6 @@
 -- The packets of the worked runs, byte by byte: a line with the IPv4 header, and one with what it carries.
 -- G is 225.1.1.1, the RP 10.9.9.9.
-use Rattle.std.specs.Prelude.{List, ℕ, ◌++◌}
+use Rattle.std.specs.Prelude.{List, [], ℕ, ◌++◌, ◌-◌, ◌∷◌}
 use Rattle.pim_types.specs.declared.outcome.Emission.{Emission}
 use Rattle.pim_runs.specs.Words.{address, hex, on, to}
 
@@ -105,6 +105,24 @@ abbrev pub join_source_200 : List ℕ
 join_source_200 =
     hex "45 c0 00 36 00 00 00 00 01 67 cd 92 0a 00 01 02 e0 00 00 0d"
     ++ hex "23 00 da 1f 01 00 0a 00 01 01 00 01 00 d2 01 00 00 20 e1 01 01 01 00 01 00 00 01 00 04 20 0a 00 03 c8"
+
+-- Join(10.0.3.k,G), for k up to 231
+abbrev pub join_source_of : ℕ → List ℕ
+join_source_of k =
+    hex "45 c0 00 36 00 00 00 00 01 67 cd 92 0a 00 01 02 e0 00 00 0d" ++ hex "23 00 da" ++ (0xe7 - k)
+    ∷ hex "01 00 0a 00 01 01 00 01 00 d2 01 00 00 20 e1 01 01 01 00 01 00 00 01 00 04 20 0a 00 03" ++ k ∷ []
+
+-- Prune(10.0.3.5,G)
+abbrev pub prune_source : List ℕ
+prune_source =
+    hex "45 c0 00 36 00 00 00 00 01 67 cd 92 0a 00 01 02 e0 00 00 0d"
+    ++ hex "23 00 da e2 01 00 0a 00 01 01 00 01 00 d2 01 00 00 20 e1 01 01 01 00 00 00 01 01 00 04 20 0a 00 03 05"
+
+-- Join(10.0.2.5,G) with holdtime 65535
+abbrev pub join_host_forever : List ℕ
+join_host_forever =
+    hex "45 c0 00 36 00 00 00 00 01 67 cd 92 0a 00 01 02 e0 00 00 0d"
+    ++ hex "23 00 dc b4 01 00 0a 00 01 01 00 01 ff ff 01 00 00 20 e1 01 01 01 00 01 00 00 01 00 04 20 0a 00 02 05"
 
 -- Join(10.0.3.5,G) with holdtime 0
 abbrev pub join_source_for_0_s : List ℕ
@@ -466,6 +484,12 @@ packet =
 abbrev pub packet_6 : List ℕ
 packet_6 =
     hex "45 00 00 1c 00 00 00 00 40 11 8b c9 0a 00 03 06 e1 01 01 01"
+    ++ hex "00 01 00 02 00 03 00 04"
+
+-- from 10.0.3.k to G, on 0, for k up to 207
+abbrev pub packet_of : ℕ → List ℕ
+packet_of k =
+    hex "45 00 00 1c 00 00 00 00 40 11 8b" ++ (0xcf - k) ∷ hex "0a 00 03" ++ k ∷ hex "e1 01 01 01"
     ++ hex "00 01 00 02 00 03 00 04"
 
 -- from 10.0.2.5 to G, on 2

@@ -3,6 +3,7 @@
 #![tactic(auto)]
 
 pub mod asserts;
+pub mod cached;
 pub mod causes;
 pub mod changes;
 pub mod data;
@@ -10,6 +11,7 @@ pub mod joins;
 pub mod limits;
 pub mod membership;
 pub mod neighbours;
+pub mod reached;
 pub mod readings;
 pub mod routes;
 pub mod source_specific;
