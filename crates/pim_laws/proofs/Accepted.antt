@@ -11,7 +11,7 @@ first_passes true e later is = refl
 first_passes false e later is = cc is
 
 -- at most 120 interfaces
-pub few_interfaces : (c : Config) → config_test c ≡ Ok tt → length c.interfaces ≤ most_ifaces
+pub few_interfaces : (c : Config) → config_test c ≡ Ok tt → length c.interfaces ≤ 120
 unfolding config_test
 few_interfaces c ok =
     let between : is_between 1 most_ifaces (length c.interfaces) ≡ true = first_passes _ _ _ ok in

@@ -1,12 +1,15 @@
 -- The reach of an event: the sources with a fact of which a row, or a route, differs between two of the states that
 -- the event passes through. Of an Advance it is the reaches of its firings.
 use Rattle.std.specs.List.{list_any}
-use Rattle.std.specs.Prelude.{Bool, List, [], false, filter, length, not, ℕ, ◌&&◌, ◌++◌, ◌+◌, ◌-◌, ◌||◌, ◌∷◌}
-use Rattle.pim_types.specs.Keys.{group_in, is_of_group, is_star, names_source, source_in}
+use Rattle.std.specs.Prelude.{Bool, Err, List, Ok, [], false, filter, if◌then◌else◌, length, not, ℕ, ◌&&◌, ◌++◌, ◌+◌, ◌-◌, ◌||◌, ◌∷◌}
+use Rattle.pim_types.specs.declared.event.Event.{Event}
 use Rattle.pim_types.specs.declared.fact.Key.{Key}
-use Rattle.pim_model.specs.declared.accepted.Accepted.{Accepted}
+use Rattle.pim_types.specs.Keys.{group_in, is_of_group, is_star, names_source, source_in}
 use Rattle.pim_model.specs.Clearing.{Cleared, clear, clearable_count, cleared, to_clear}
+use Rattle.pim_model.specs.declared.accepted.Accepted.{Accepted}
 use Rattle.pim_model.specs.Firing.{fire_once, fired}
+use Rattle.pim_model.specs.Full.{is_full}
+use Rattle.pim_model.specs.Judging.{Judged, judged}
 use Rattle.pim_model.specs.Registers.{settle_registers}
 use Rattle.pim_model.specs.Repeat.{until_none}
 use Rattle.pim_model.specs.Rows.{same_assert, same_both, same_downstream, same_group_record, same_interface, same_neighbour, same_path, same_register, same_rows, same_source, same_source_record}
@@ -92,8 +95,16 @@ module _ {X : Type 0} (told : State → State → List X) (w : ℕ) where
   unfoldable pub told_all : ℕ → State → State × List X
   told_all moment s = until_none (next_due moment) told_instant (moment + 2 - s.present) s
 
--- of any event that is accepted; of an Advance the reaches of its firings, one after the other, so that a source stands
--- in it once for each firing that reaches it
+-- of what was accepted; of an Advance the reaches of its firings, one after the other, so that a source stands in it
+-- once for each firing that reaches it
 unfoldable pub reach_of : State → ℕ → Accepted → List Key
 reach_of s w (Accepted.Advance moment) = (told_all reach w moment s).1
 reach_of s w a = reach s (change s w a).state
+
+-- what is told of an event: nothing where it is refused or ignored, or there is no room
+abbrev pub where_accepted : {X : Type 0} → State → (Accepted → List X) → Judged → List X
+where_accepted s told (Err stop) = []
+where_accepted s told (Ok a) = if is_full s a then [] else told a
+
+unfoldable pub event_reach : State → Event → List Key
+event_reach s e = where_accepted s (reach_of s e.draw) (judged s e.kind)

@@ -1,5 +1,5 @@
 -- What is told of each firing goes on from the states that the firings leave, and what bounds each bounds all.
-use Rattle.std.proofs.Common.{◌≡◌, ℕ, zero, suc, ◌+◌, ◌*◌, ◌-◌, ◌≤◌, Bool, true, ◌&&◌, List, [], ◌∷◌, ◌++◌, length, Option, Some, None, refl, sym, ap, subst, ◌∙◌, arith, length-append}
+use Rattle.std.proofs.Common.{◌≡◌, ℕ, zero, suc, ◌+◌, ◌-◌, ◌≤◌, Bool, true, ◌&&◌, List, [], ◌∷◌, ◌++◌, length, Option, Some, None, refl, sym, ap, subst, ◌∙◌, arith, length-append}
 use Rattle.std.proofs.lemmas.List.Folds.{list_all-append}
 use Rattle.std.specs.Cmp.{first_so, second_so}
 use Rattle.std.specs.List.{list_all}
@@ -11,7 +11,7 @@ use Rattle.pim_model.specs.Timers.{Ending, next_due, timers}
 use Rattle.pim_reach.specs.Calm.{is_calm}
 use Rattle.pim_reach.specs.Named.{named_by}
 use Rattle.pim_reach.proofs.Configured.{firing_configured}
-use Rattle.pim_reach.proofs.Reached.{few}
+use Rattle.pim_reach.proofs.Reached.{named_within}
 
 -- ---- the same states
 
@@ -58,7 +58,7 @@ as_it_is s = s
 -- ---- the bound of each is that of all
 
 abbrev Few : {X Y : Type 0} → List X → List Y → Type 0
-Few xs ys = 2 * length xs ≤ 3 * length ys
+Few xs ys = length xs ≤ length ys
 
 few_more : {X Y : Type 0} (xs xs' : List X) (ys ys' : List Y) → Few xs ys → Few xs' ys' → Few (xs ++ xs') (ys ++ ys')
 few_more xs xs' ys ys' e f = rw (length-append xs xs', length-append ys ys') (omega (arith, e, f))
@@ -117,7 +117,7 @@ module _ (w : ℕ) where
       → Few (told_once named_by w s e).1 (told_once reach w s e).1
   unfolding told_once
   few_once s e all =
-      few s (own_firing s e) (firing_configured s e) (first_so (is_calm s (own_firing s e)) true all)
+      named_within s (own_firing s e) (firing_configured s e) (first_so (is_calm s (own_firing s e)) true all)
 
   once_same : {X Y : Type 0} (told : State → State → List X) (also : State → State → List Y) (t : State) (d : Ending)
       → (told_once told w t d).0 ≡ (told_once also w t d).0

@@ -4,6 +4,7 @@ pub mod Asked
 pub mod Calm
 pub mod CalmFiring
 pub mod Configured
+pub mod Few
 pub mod Kept
 pub mod Masks
 pub mod Reached

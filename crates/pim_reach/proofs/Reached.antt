@@ -1,6 +1,6 @@
 -- A named source is reached: if nothing of it differs from the opening in any of the states that the change passes
 -- through, nothing differs in the last of them.
-use Rattle.std.proofs.Common.{◌≡◌, ℕ, zero, suc, ◌≤◌, ◌*◌, Bool, true, false, not, ◌&&◌, ◌||◌, cond, List, [], ◌∷◌, filter, length, Option, Some, None, refl, ap, ◌∙◌, arith}
+use Rattle.std.proofs.Common.{◌≡◌, ℕ, zero, suc, ◌≤◌, Bool, true, false, not, ◌&&◌, ◌||◌, cond, List, [], ◌∷◌, filter, length, Option, Some, None, refl, ap, ◌∙◌, arith}
 use Rattle.std.specs.Cmp.{first_so, second_so}
 use Rattle.std.specs.Cmp.Derive.{both_true}
 use Rattle.std.specs.List.{list_all, list_any}
@@ -187,6 +187,3 @@ module _ (o changed : State) (is : IsConfigured o changed) where
       fewer (λ k. is_named (group_in k) (source_in k) o (clear o changed).0)
       (λ k. differs_among (group_in k) (source_in k) (passes o changed))
       (λ k. named_is_reached calm (group_in k) (source_in k)) (with_facts o (clear o changed).0)
-
-  pub few : is_calm o changed ≡ true → 2 * length (named_by o changed) ≤ 3 * length (reach o changed)
-  few calm = omega (arith, named_within calm)

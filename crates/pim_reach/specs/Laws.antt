@@ -1,20 +1,21 @@
 -- What the reach of an event says of what the macros see, and of the sources that are named.
 use Rattle.std.specs.List.{list_all, list_any}
 use Rattle.std.specs.List.Sorted.{IsStrictlySortedBy}
-use Rattle.std.specs.Prelude.{List, Some, false, length, true, ℕ, ◌*◌, ◌==◌, ◌≡◌, ◌≤◌}
+use Rattle.std.specs.Prelude.{List, Some, false, length, true, ℕ, ◌==◌, ◌≡◌, ◌≤◌}
 use Rattle.pim_types.specs.declared.config.Route.{Route}
 use Rattle.pim_types.specs.declared.config.RpRange.{RpRange}
+use Rattle.pim_types.specs.declared.event.Event.{Event}
 use Rattle.pim_types.specs.declared.fact.Key.{Key}
 use Rattle.pim_types.specs.Keys.{key_cmp, same_key, source_key}
 use Rattle.pim_model.specs.Clearing.{clear}
 use Rattle.pim_model.specs.declared.accepted.Accepted.{Accepted}
 use Rattle.pim_model.specs.Firing.{fire_all, fire_once}
 use Rattle.pim_model.specs.Limits.{most_ifaces}
-use Rattle.pim_model.specs.Reach.{differs_among, is_same_for, keeps_neighbours, own_firing, passes, reach, reach_of, told_all}
+use Rattle.pim_model.specs.Reach.{differs_among, event_reach, is_same_for, keeps_neighbours, own_firing, passes, reach, reach_of, told_all}
 use Rattle.pim_model.specs.Rows.{same_both, same_register_state}
 use Rattle.pim_model.specs.Sets.{Set, is_kept_alive, register_state}
 use Rattle.pim_model.specs.State.{State}
-use Rattle.pim_model.specs.Step.{change, done, taken}
+use Rattle.pim_model.specs.Step.{change, done, step, taken}
 use Rattle.pim_model.specs.Tables.{has_row}
 use Rattle.pim_model.specs.Timers.{Ending}
 use Rattle.pim_ready.specs.Ready.{IsLawful}
@@ -24,7 +25,7 @@ use Rattle.pim_locality.specs.Sees.{SeesSource}
 use Rattle.pim_locality.specs.Touches.{isnt_neighbour, touched_by}
 use Rattle.pim_reach.specs.Calm.{is_calm, is_calm_event}
 use Rattle.pim_reach.specs.Keeps.{KeepsAnswers}
-use Rattle.pim_reach.specs.Named.{IsMask, is_named, is_rerouted, named_by, named_of, named_where, same_set}
+use Rattle.pim_reach.specs.Named.{IsMask, event_named, is_named, is_rerouted, named_by, named_of, named_where, same_set}
 
 -- where nothing differs that counts for the source, its macros read the same
 abbrev pub UnreachedSees : Type 0
@@ -51,10 +52,15 @@ NamedIsReached = (s : State) (w : ℕ) (a : Accepted) → is_calm s (change s w 
     → is_named g src s (clear s (change s w a).state).0 ≡ true
     → differs_among g src (passes s (change s w a).state) ≡ true
 
--- so it is at the end of any event, of an Advance over all its firings
+-- so it is at the end of what was accepted, of an Advance over all its firings
 abbrev pub NamedAreFew : Type 0
 NamedAreFew = (s : State) → IsLawful s → (w : ℕ) (a : Accepted) → keeps_neighbours s (taken s w a).state ≡ true
-    → 2 * length (named_of s w a) ≤ 3 * length (reach_of s w a)
+    → length (named_of s w a) ≤ length (reach_of s w a)
+
+-- and of any event, accepted or not
+abbrev pub EventNamesFew : Type 0
+EventNamesFew = (s : State) → IsLawful s → (e : Event) → keeps_neighbours s (step s e).state ≡ true
+    → length (event_named s e) ≤ length (event_reach s e)
 
 -- and of a firing
 abbrev pub FiredIsReached : Type 0
@@ -63,7 +69,7 @@ FiredIsReached = (s : State) (e : Ending) → is_calm s (own_firing s e) ≡ tru
 
 abbrev pub FiredAreFew : Type 0
 FiredAreFew = (s : State) (e : Ending) → is_calm s (own_firing s e) ≡ true
-    → 2 * length (named_by s (own_firing s e)) ≤ 3 * length (reach s (own_firing s e))
+    → length (named_by s (own_firing s e)) ≤ length (reach s (own_firing s e))
 
 -- a source that isn't named keeps its answers
 abbrev pub UnnamedKeeps : Type 0

@@ -3,15 +3,17 @@
 use Rattle.std.specs.Int.{bit_at}
 use Rattle.std.specs.List.{list_all}
 use Rattle.std.specs.Prelude.{Bool, List, filter, nat_lt, not, ℕ, ◌&&◌, ◌==◌, ◌≡◌}
+use Rattle.pim_types.specs.declared.event.Event.{Event}
 use Rattle.pim_types.specs.declared.fact.Key.{Key}
 use Rattle.pim_types.specs.Keys.{group_in, source_in, source_key}
 use Rattle.pim_model.specs.Cache.{may_register}
 use Rattle.pim_model.specs.Clearing.{clear}
 use Rattle.pim_model.specs.declared.accepted.Accepted.{Accepted}
 use Rattle.pim_model.specs.Desires.{join_desired, winner_hop}
+use Rattle.pim_model.specs.Judging.{judged}
 use Rattle.pim_model.specs.Limits.{most_ifaces}
 use Rattle.pim_model.specs.Neighbours.{is_dr, nbr}
-use Rattle.pim_model.specs.Reach.{told_all, with_facts}
+use Rattle.pim_model.specs.Reach.{told_all, where_accepted, with_facts}
 use Rattle.pim_model.specs.Receivers.{is_exclude, local_receiver_exclude, local_receiver_include}
 use Rattle.pim_model.specs.Registers.{could_register}
 use Rattle.pim_model.specs.Rows.{same_both, same_path, same_register_state}
@@ -95,10 +97,13 @@ named_where asked o changed =
     let after : State = (clear o changed).0 in
     filter (λ k. is_named (group_in k) (source_in k) o after) (filter asked (with_facts o after))
 
--- of any event; of an Advance those of its firings, one after the other
+-- of what was accepted; of an Advance those of its firings, one after the other
 unfoldable pub named_of : State → ℕ → Accepted → List Key
 named_of s w (Accepted.Advance moment) = (told_all named_by w moment s).1
 named_of s w a = named_by s (change s w a).state
+
+unfoldable pub event_named : State → Event → List Key
+event_named s e = where_accepted s (named_of s e.draw) (judged s e.kind)
 
 -- ---- routes and RP ranges
 

@@ -1,6 +1,6 @@
 //! Laws of the definitions, each the contract of a function with nothing to do.
 
-ghost use Rattle.pim_reach.specs.Laws.{EventFacts, EventIsCalm, EventKeeps, FiredAreFew, FiredIsReached, FiredNames, FiringFacts, FiringKeeps, NamedAreFew, NamedIsReached, RisingWithin, RoutesName, RpsName, SameMasks, ToldFires, TouchedAlone, TouchedNames, UnnamedKeeps, UnreachedIsSame, UnreachedSees};
+ghost use Rattle.pim_reach.specs.Laws.{EventFacts, EventIsCalm, EventKeeps, EventNamesFew, FiredAreFew, FiredIsReached, FiredNames, FiringFacts, FiringKeeps, NamedAreFew, NamedIsReached, RisingWithin, RoutesName, RpsName, SameMasks, ToldFires, TouchedAlone, TouchedNames, UnnamedKeeps, UnreachedIsSame, UnreachedSees};
 
 /// Where nothing differs that counts for a source, its macros read the same.
 #[tactic(auto, using(crate::proofs::Unreached::unreached_sees))]
@@ -13,9 +13,16 @@ pub fn named_is_reached()
     ensures { NamedIsReached }
 {}
 
-/// Where no neighbour differs at the end of an event, no more are named than are reached.
+/// Where no neighbour differs at the end of what was accepted, no more are named than are reached.
+#[tactic(auto, using(crate::proofs::Few::named_are_few))]
 pub fn named_are_few()
     ensures { NamedAreFew }
+{}
+
+/// So it is of any event, accepted or not.
+#[tactic(auto, using(crate::proofs::Few::event_names_few))]
+pub fn event_names_few()
+    ensures { EventNamesFew }
 {}
 
 /// A source that a timer's end names is reached.

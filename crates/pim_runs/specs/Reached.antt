@@ -1,11 +1,9 @@
 -- Worked runs of the reach of events: whose facts they change, and how many that are.
-use Rattle.std.specs.Prelude.{Bool, Err, List, None, Ok, Option, Some, [], false, length, map, option_map, true, ℕ, ◌*◌, ◌++◌, ◌+◌, ◌∷◌, ◌≡◌}
+use Rattle.std.specs.Prelude.{Bool, List, [], false, length, map, true, ℕ, ◌*◌, ◌++◌, ◌+◌, ◌∷◌, ◌≡◌}
 use Rattle.pim_types.specs.declared.event.Event.{Event}
 use Rattle.pim_types.specs.declared.fact.Key.{Key}
 use Rattle.pim_types.specs.Keys.{source_key}
-use Rattle.pim_model.specs.declared.accepted.Accepted.{Accepted}
-use Rattle.pim_model.specs.Judging.{Judged, judged}
-use Rattle.pim_model.specs.Reach.{keeps_neighbours, reach_of}
+use Rattle.pim_model.specs.Reach.{event_reach, keeps_neighbours}
 use Rattle.pim_model.specs.State.{State}
 use Rattle.pim_model.specs.Step.{state_after, step}
 use Rattle.pim_model.specs.Tables.{below}
@@ -18,24 +16,13 @@ use Rattle.pim_runs.specs.Words.{advance, down, frame, routes_to}
 
 -- ---- what is looked at
 
-abbrev pub if_accepted : {X : Type 0} → (Accepted → X) → Judged → Option X
-if_accepted f (Ok a) = Some (f a)
-if_accepted f (Err stop) = None
-
--- the reach of an event that is accepted
-abbrev pub reached : State → Event → Option (List Key)
-reached s e = if_accepted (λ a. reach_of s e.draw a) (judged s e.kind)
-
--- how many times the cache may be touched: three times its size
-abbrev pub most_touched : State → Event → Option ℕ
-most_touched s e = option_map (λ (keys : List Key). 3 * length keys) (reached s e)
+-- how many times the cache may be touched: three times the size of the reach
+abbrev pub most_touched : State → Event → ℕ
+most_touched s e = 3 * length (event_reach s e)
 
 -- whether the interfaces and the neighbours stay, but for the owed Hello and their ends
 abbrev pub stays_around : State → Event → Bool
 stays_around s e = keeps_neighbours s (step s e).state
-
-abbrev pub none : Option (List Key)
-none = Some []
 
 -- 10.0.3.5, 10.0.3.200
 abbrev pub its_key : Key
@@ -44,25 +31,29 @@ its_key = source_key 0 group source
 abbrev pub key_200 : Key
 key_200 = source_key 0 group (source + 195)
 
-abbrev pub it_alone : Option (List Key)
-it_alone = Some (its_key ∷ [])
+abbrev pub it_alone : List Key
+it_alone = its_key ∷ []
 
 -- ---- events of one group
+
+-- 10.0.0.9 said Hello a second ago
+abbrev pub greeted : State
+greeted = state_after joined_and_sent (frame 0 hello_for_105_s ∷ advance 1000 ∷ [])
 
 -- What only moves ends reaches nothing: the Join again, the packet again, a Hello again, a report again.
 abbrev pub EndsReachNone : Type 0
 EndsReachNone =
-    (reached (state_after joined_and_sent (advance 1000 ∷ [])) (frame 1 join_source) ≡ none)
-    × (reached (state_after joined_and_sent (advance 1000 ∷ [])) (frame 0 packet) ≡ none)
-    × (reached (state_after joined_and_sent (frame 0 hello_for_105_s ∷ advance 1000 ∷ [])) (frame 0 hello_for_105_s) ≡ none)
-    × (stays_around (state_after joined_and_sent (frame 0 hello_for_105_s ∷ advance 1000 ∷ [])) (frame 0 hello_for_105_s) ≡ true)
-    × (reached (state_after watched (advance 1000 ∷ [])) (frame 2 to_exclude) ≡ none)
+    (event_reach (state_after joined_and_sent (advance 1000 ∷ [])) (frame 1 join_source) ≡ [])
+    × (event_reach (state_after joined_and_sent (advance 1000 ∷ [])) (frame 0 packet) ≡ [])
+    × (event_reach greeted (frame 0 hello_for_105_s) ≡ [])
+    × (stays_around greeted (frame 0 hello_for_105_s) ≡ true)
+    × (event_reach (state_after watched (advance 1000 ∷ [])) (frame 2 to_exclude) ≡ [])
 
 -- The first packet of a joined source reaches it, and so does the last Prune.
 abbrev pub FirstAndLastReachIt : Type 0
 FirstAndLastReachIt =
-    (reached (after (frame 1 join_source ∷ [])) (frame 0 packet) ≡ it_alone)
-    × (reached joined_and_sent (frame 1 prune_source) ≡ it_alone)
+    (event_reach (after (frame 1 join_source ∷ [])) (frame 0 packet) ≡ it_alone)
+    × (event_reach joined_and_sent (frame 1 prune_source) ≡ it_alone)
     × (stays_around joined_and_sent (frame 1 prune_source) ≡ true)
 
 -- 10.0.3.5 to 10.0.3.12 are joined on 1, and send
@@ -74,10 +65,10 @@ eight_sent = after
 abbrev pub OneOfEightIsReached : Type 0
 OneOfEightIsReached =
     (length eight_sent.sources ≡ 8)
-    × (reached eight_sent (frame 1 (join_source_of 6)) ≡ none)
-    × (most_touched eight_sent (frame 1 (join_source_of 6)) ≡ Some 0)
-    × (reached eight_sent (frame 1 prune_source) ≡ it_alone)
-    × (most_touched eight_sent (frame 1 prune_source) ≡ Some 3)
+    × (event_reach eight_sent (frame 1 (join_source_of 6)) ≡ [])
+    × (most_touched eight_sent (frame 1 (join_source_of 6)) ≡ 0)
+    × (event_reach eight_sent (frame 1 prune_source) ≡ it_alone)
+    × (most_touched eight_sent (frame 1 prune_source) ≡ 3)
 
 -- ---- time
 
@@ -85,8 +76,8 @@ OneOfEightIsReached =
 -- Hellos, queries and the Joins between reach nothing.
 abbrev pub TimeReachesOnceAFiring : Type 0
 TimeReachesOnceAFiring =
-    (reached joined_and_sent (advance 209999) ≡ none)
-    × (reached joined_and_sent (advance 210000) ≡ Some (its_key ∷ its_key ∷ []))
+    (event_reach joined_and_sent (advance 209999) ≡ [])
+    × (event_reach joined_and_sent (advance 210000) ≡ its_key ∷ its_key ∷ [])
     × (stays_around joined_and_sent (advance 210000) ≡ true)
 
 -- ---- routes, neighbours, interfaces
@@ -94,19 +85,19 @@ TimeReachesOnceAFiring =
 -- A longer route reaches the sources that it takes over, and the same routes again none.
 abbrev pub LongerRouteReachesOneSource : Type 0
 LongerRouteReachesOneSource =
-    (reached two_sent (routes_to with_longer_route) ≡ Some (key_200 ∷ []))
-    × (most_touched two_sent (routes_to with_longer_route) ≡ Some 3)
+    (event_reach two_sent (routes_to with_longer_route) ≡ key_200 ∷ [])
+    × (most_touched two_sent (routes_to with_longer_route) ≡ 3)
     × (stays_around two_sent (routes_to with_longer_route) ≡ true)
-    × (reached two_sent (routes_to base_routes) ≡ none)
+    × (event_reach two_sent (routes_to base_routes) ≡ [])
 
 -- Another RP reaches all sources of its groups.
 abbrev pub OtherRpReachesItsGroups : Type 0
 OtherRpReachesItsGroups =
-    (reached two_sent other_rp ≡ Some (its_key ∷ key_200 ∷ [])) × (stays_around two_sent other_rp ≡ true)
+    (event_reach two_sent other_rp ≡ its_key ∷ key_200 ∷ []) × (stays_around two_sent other_rp ≡ true)
 
 -- A better DR and an interface that goes down change neighbours, so nothing is said of what they touch.
 abbrev pub NeighboursAreNoReach : Type 0
 NeighboursAreNoReach =
     (stays_around asked_and_sent (frame 2 hello_of_10_0_2_9) ≡ false)
     × (stays_around joined_and_sent (down 1) ≡ false)
-    × (reached joined_and_sent (down 1) ≡ it_alone)
+    × (event_reach joined_and_sent (down 1) ≡ it_alone)
