@@ -336,16 +336,4 @@ pub calm_by_end : (s : State) → IsLawful s → (w : ℕ) (a : Accepted) → ke
     → is_calm_event s w a ≡ true
 unfolding taken is_calm_event
 calm_by_end s lawful w (Accepted.Advance moment) e = advance_calm w moment s lawful e
-calm_by_end s lawful w (Accepted.Up i) e = event_calm s w (Accepted.Up i) e
-calm_by_end s lawful w (Accepted.Down i) e = event_calm s w (Accepted.Down i) e
-calm_by_end s lawful w (Accepted.Routes routes) e = event_calm s w (Accepted.Routes routes) e
-calm_by_end s lawful w (Accepted.Rps ranges) e = event_calm s w (Accepted.Rps ranges) e
-calm_by_end s lawful w (Accepted.Hello i from h) e = event_calm s w (Accepted.Hello i from h) e
-calm_by_end s lawful w (Accepted.JoinPruneToMe i m) e = event_calm s w (Accepted.JoinPruneToMe i m) e
-calm_by_end s lawful w (Accepted.JoinPruneSeen i m) e = event_calm s w (Accepted.JoinPruneSeen i m) e
-calm_by_end s lawful w (Accepted.Assert i from a) e = event_calm s w (Accepted.Assert i from a) e
-calm_by_end s lawful w (Accepted.Query i from q) e = event_calm s w (Accepted.Query i from q) e
-calm_by_end s lawful w (Accepted.Report i records) e = event_calm s w (Accepted.Report i records) e
-calm_by_end s lawful w (Accepted.Data i p) e = event_calm s w (Accepted.Data i p) e
-calm_by_end s lawful w (Accepted.Register p r) e = event_calm s w (Accepted.Register p r) e
-calm_by_end s lawful w (Accepted.RegisterStop from r) e = event_calm s w (Accepted.RegisterStop from r) e
+calm_by_end s lawful w a e = event_calm s w a e

@@ -101,14 +101,7 @@ change_configured s w (Accepted.Down i) = record { settings = refl; configured =
 change_configured s w (Accepted.Routes routes) = record { settings = refl; configured = refl }
 change_configured s w (Accepted.Rps ranges) = record { settings = refl; configured = refl }
 change_configured s w (Accepted.Hello i from h) = hello_after s i.number from.bits h w
-change_configured s w (Accepted.JoinPruneToMe i m) = by_keys s w (Accepted.JoinPruneToMe i m) _ refl
-change_configured s w (Accepted.JoinPruneSeen i m) = by_keys s w (Accepted.JoinPruneSeen i m) _ refl
-change_configured s w (Accepted.Assert i from a) = by_keys s w (Accepted.Assert i from a) _ refl
-change_configured s w (Accepted.Query i from q) = by_keys s w (Accepted.Query i from q) _ refl
-change_configured s w (Accepted.Report i records) = by_keys s w (Accepted.Report i records) _ refl
-change_configured s w (Accepted.Data i p) = by_keys s w (Accepted.Data i p) _ refl
-change_configured s w (Accepted.Register p r) = by_keys s w (Accepted.Register p r) _ refl
-change_configured s w (Accepted.RegisterStop from r) = by_keys s w (Accepted.RegisterStop from r) _ refl
+change_configured s w a = by_keys s w a _ refl
 
 -- ---- firings
 

@@ -20,19 +20,7 @@ few_named : (s : State) (w : ℕ) (a : Accepted) → is_calm_event s w a ≡ tru
     → length (named_of s w a) ≤ length (reach_of s w a)
 unfolding is_calm_event named_of reach_of
 few_named s w (Accepted.Advance moment) calm = few_all w moment s calm
-few_named s w (Accepted.Up i) calm = named_within s (change s w (Accepted.Up i)).state (change_configured s w (Accepted.Up i)) calm
-few_named s w (Accepted.Down i) calm = named_within s (change s w (Accepted.Down i)).state (change_configured s w (Accepted.Down i)) calm
-few_named s w (Accepted.Routes routes) calm = named_within s (change s w (Accepted.Routes routes)).state (change_configured s w (Accepted.Routes routes)) calm
-few_named s w (Accepted.Rps ranges) calm = named_within s (change s w (Accepted.Rps ranges)).state (change_configured s w (Accepted.Rps ranges)) calm
-few_named s w (Accepted.Hello i from h) calm = named_within s (change s w (Accepted.Hello i from h)).state (change_configured s w (Accepted.Hello i from h)) calm
-few_named s w (Accepted.JoinPruneToMe i m) calm = named_within s (change s w (Accepted.JoinPruneToMe i m)).state (change_configured s w (Accepted.JoinPruneToMe i m)) calm
-few_named s w (Accepted.JoinPruneSeen i m) calm = named_within s (change s w (Accepted.JoinPruneSeen i m)).state (change_configured s w (Accepted.JoinPruneSeen i m)) calm
-few_named s w (Accepted.Assert i from a) calm = named_within s (change s w (Accepted.Assert i from a)).state (change_configured s w (Accepted.Assert i from a)) calm
-few_named s w (Accepted.Query i from q) calm = named_within s (change s w (Accepted.Query i from q)).state (change_configured s w (Accepted.Query i from q)) calm
-few_named s w (Accepted.Report i records) calm = named_within s (change s w (Accepted.Report i records)).state (change_configured s w (Accepted.Report i records)) calm
-few_named s w (Accepted.Data i p) calm = named_within s (change s w (Accepted.Data i p)).state (change_configured s w (Accepted.Data i p)) calm
-few_named s w (Accepted.Register p r) calm = named_within s (change s w (Accepted.Register p r)).state (change_configured s w (Accepted.Register p r)) calm
-few_named s w (Accepted.RegisterStop from r) calm = named_within s (change s w (Accepted.RegisterStop from r)).state (change_configured s w (Accepted.RegisterStop from r)) calm
+few_named s w a calm = named_within s (change s w a).state (change_configured s w a) calm
 
 pub named_are_few : (s : State) → IsLawful s → (w : ℕ) (a : Accepted) → keeps_neighbours s (taken s w a).state ≡ true
     → length (named_of s w a) ≤ length (reach_of s w a)
