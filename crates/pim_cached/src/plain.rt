@@ -8,11 +8,13 @@ pub fn plain_is_taken()
 {}
 
 /// A source with a fact needs no room.
+#[tactic(auto, using(crate::proofs::PlainPackets::known_is_not_full))]
 pub fn known_is_not_full()
     ensures { KnownIsNotFull }
 {}
 
 /// So it is of the whole step.
+#[tactic(auto, using(crate::proofs::PlainPackets::plain_is_stepped))]
 pub fn plain_is_stepped()
     ensures { PlainIsStepped }
 {}
@@ -38,6 +40,7 @@ pub fn keeping_changes_no_answer()
 {}
 
 /// Where a source sees the same, and is desired and registered alike, its answers are the same.
+#[tactic(auto, using(crate::proofs::SameAnswers::answers_same))]
 pub fn answers_of_same()
     ensures { AnswersOfSame }
 {}
@@ -48,11 +51,13 @@ pub fn registered_where_it_could()
 {}
 
 /// At rest what a source sees and CouldRegister(S,G) are enough.
+#[tactic(auto, using(crate::proofs::KeptAlive::answers_at_rest))]
 pub fn answers_at_rest()
     ensures { AnswersAtRest }
 {}
 
 /// So the cache has the same of a source with a fact that sees the same.
+#[tactic(auto, using(crate::proofs::KeptAlive::cache_of_same))]
 pub fn cache_of_same()
     ensures { CacheOfSame }
 {}

@@ -66,6 +66,7 @@ pub fn rps_name()
 {}
 
 /// What is told of the firings of an Advance is told of the states that its firings leave.
+#[tactic(auto, using(crate::proofs::Advance::told_fires))]
 pub fn told_fires()
     ensures { ToldFires }
 {}
