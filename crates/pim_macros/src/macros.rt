@@ -3,6 +3,8 @@ ghost use Rattle.std.specs.Prelude.{◌≡◌, option_map, option_and_then};
 ghost use Rattle.pim_model.specs.Neighbours.{nbr};
 ghost use Rattle.pim_model.specs.Unicast.{is_rp, route, rp_of, rp_route};
 ghost use Rattle.pim_model.specs.Upstream.{periodic_end};
+ghost use Rattle.pim_mrib.specs.Routes.{route_nodes, rp_nodes};
+ghost use Rattle.pim_trie.specs.Meter.{raised};
 
 use crate::world::World;
 use pim_trie::Meter;
@@ -12,17 +14,19 @@ use pim_types::{Addr, Hop, Path};
 const JOIN_PERIOD: u64 = 60_000;
 
 impl World {
-    /// RP(G): none of a source-specific group.
+    /// RP(G): none of a source-specific group. The meter rises by the nodes that are visited, 33 at most.
     #[tactic(auto, unfolding(pim_model::specs::Unicast::rp_of))]
     pub fn rp(&self, group: Addr, meter: &mut Meter) -> Option<Addr>
-        ensures { option_map (λ a. a.bits) result ≡ rp_of self.now group.bits }
+        ensures value { option_map (λ a. a.bits) result ≡ rp_of self.now group.bits }
+        ensures visited { meter.new ≡ raised meter.old (rp_nodes self.now.ranges group.bits) }
     {
         self.mrib.rp(group, meter)
     }
 
-    /// Whether the address is RP(G).
+    /// Whether the address is RP(G). The meter rises by the nodes that are visited, 33 at most.
     pub fn is_rp(&self, group: Addr, address: Addr, meter: &mut Meter) -> bool
-        ensures { result ≡ is_rp self.now group.bits address.bits }
+        ensures value { result ≡ is_rp self.now group.bits address.bits }
+        ensures visited { meter.new ≡ raised meter.old (rp_nodes self.now.ranges group.bits) }
     {
         match self.rp(group, meter) {
             Some(rp) => rp == address,
@@ -30,10 +34,12 @@ impl World {
         }
     }
 
-    /// The route to the address.
+    /// The route to the address. The meter rises by the nodes of the trie of routes that are visited, 33 at most.
     #[tactic(auto, unfolding(pim_model::specs::Unicast::route))]
     pub fn route(&self, address: Addr, meter: &mut Meter) -> Option<Path>
-        ensures { result ≡ route self.now address.bits }
+        ensures value { result ≡ route self.now address.bits }
+        ensures visited { meter.new ≡ raised meter.old
+            (route_nodes self.now.configured self.now.interfaces self.now.routes address.bits) }
     {
         self.mrib.route(&self.interfaces, address, meter)
     }

@@ -9,7 +9,7 @@ loop-key-preserved-in-Continue-1 c = (
   found (λ e. is_rp_changed c.args.world.now c.args.next.now.ranges e.0) _ c.loop-key.keys.items c.push.new.self.items
       (c.in-Some.key.now, c.in-Some.field-0-1.now) c.loop-key.key-iterator c.next.new.self c.is_other_rp.result
       c.in-Some.ensures.steps c.in_ok-push.ensures.items
-      (c.is_other_rp.ensures ∙ asked_rp _ _ _ _ c.rp-before.ensures c.rp-after.ensures.value)
+      (c.is_other_rp.ensures ∙ asked_rp _ _ _ _ c.rp-before.ensures.value c.rp-after.ensures.value)
       c.if-is_other_rp.true c.loop-key.invariant.0,
   c.loop-key.invariant.1,
 )
@@ -19,7 +19,7 @@ loop-key-preserved c = (
   passed (λ e. is_rp_changed c.args.world.now c.args.next.now.ranges e.0) _ c.loop-key.keys.items
       (c.in-Some.key.now, c.in-Some.field-0-1.now) c.loop-key.key-iterator c.next.new.self c.is_other_rp.result
       c.in-Some.ensures.steps
-      (c.is_other_rp.ensures ∙ asked_rp _ _ _ _ c.rp-before.ensures c.rp-after.ensures.value)
+      (c.is_other_rp.ensures ∙ asked_rp _ _ _ _ c.rp-before.ensures.value c.rp-after.ensures.value)
       c.if-is_other_rp.false c.loop-key.invariant.0,
   c.loop-key.invariant.1,
 )
