@@ -9,7 +9,7 @@ use Rattle.pim_model.specs.Step.{run, state_after}
 use Rattle.pim_model.specs.Tables.{below}
 use Rattle.pim_runs.specs.Base.{after, group, host, opened_with, source}
 use Rattle.pim_runs.specs.Data.{active, joined_and_sent, stopped}
-use Rattle.pim_runs.specs.Packets.{allow_source, copy_on_1, hello_of_10_0_2_9, host_packet, join_host_forever, join_source, join_source_200, packet, packet_of, prune_source_up, to_exclude}
+use Rattle.pim_runs.specs.Packets.{allow_source, copy_on_1, hello_of_10_0_2_9, host_packet, join_host_forever, join_source, join_source_200, join_source_forever, packet, packet_of, prune_source_up, to_exclude}
 use Rattle.pim_runs.specs.Routes.{rp_on_1, with_longer_route}
 use Rattle.pim_runs.specs.Words.{advance, done_with_copies, down, frame, join_prunes, routes_to}
 
@@ -78,6 +78,29 @@ JoinedSourceIsCached =
     × (decided_of joined_and_sent source 0 64 ≡ goes true (1 ∷ []))
     × (run joined_and_sent (frame 0 packet ∷ []) ≡ done_with_copies 1 (copy_on_1 ∷ []) ∷ [])
     × (seen_of joined_and_sent (source + 1) ≡ None)
+
+abbrev pub a_second_later : State
+a_second_later = state_after joined_and_sent (advance 1000 ∷ [])
+
+-- A plain packet leaves as a copy, and moves its source's keepalive timer.
+abbrev pub PlainPacketMovesItsTimer : Type 0
+PlainPacketMovesItsTimer =
+    (decided_of a_second_later source 0 64 ≡ goes true (1 ∷ []))
+    × (run a_second_later (frame 0 packet ∷ []) ≡ done_with_copies 1 (copy_on_1 ∷ []) ∷ [])
+    × (rows (state_after a_second_later (frame 0 packet ∷ [])) Table.Active ≡ active source (Some 211000) true None ∷ [])
+
+-- joined on 1 without an end, sent once, and silent until the keepalive timer ended
+abbrev pub joined_and_silent : State
+joined_and_silent = after (frame 1 join_source_forever ∷ frame 0 packet ∷ advance 210000 ∷ [])
+
+-- It may also start the timer of a source that has its SPTbit alone.
+abbrev pub PlainPacketStartsTheTimer : Type 0
+PlainPacketStartsTheTimer =
+    (rows joined_and_silent Table.Active ≡ active source None true None ∷ [])
+    × (seen_of joined_and_silent source ≡ seen (1 ∷ []) 0 true)
+    × (decided_of joined_and_silent source 0 64 ≡ goes true (1 ∷ []))
+    × (rows (state_after joined_and_silent (frame 0 packet ∷ [])) Table.Active
+    ≡ active source (Some 420000) true None ∷ [])
 
 -- packets of 10.0.3.6 to 10.0.3.205, which nobody joined
 abbrev pub flooded : State

@@ -1,11 +1,21 @@
 //! Worked runs of the forwarding cache.
 #![tactic(auto, unfolding(crate::proofs::OnLiterals::machine_on_literals))]
 
-ghost use Rattle.pim_runs.specs.Cached.{BetterDrEmptiesTheRow, DownEmptiesTheRow, JoinedSourceIsCached, LongerRouteMovesOneRow, OpeningIsNotPlain, OthersMakeNoRow, RegisteredIsNotPlain, SptBitIsSetOnce, StrayOfTheGroupIsNotPlain, StrayOfTheSourceIsNotPlain, UnknownIsNotPlain, WatchedIsPlain};
+ghost use Rattle.pim_runs.specs.Cached.{BetterDrEmptiesTheRow, DownEmptiesTheRow, JoinedSourceIsCached, LongerRouteMovesOneRow, OpeningIsNotPlain, OthersMakeNoRow, PlainPacketMovesItsTimer, PlainPacketStartsTheTimer, RegisteredIsNotPlain, SptBitIsSetOnce, StrayOfTheGroupIsNotPlain, StrayOfTheSourceIsNotPlain, UnknownIsNotPlain, WatchedIsPlain};
 
 /// The row of a joined source sends its packets to the link that joined it.
 pub fn joined_source_is_cached()
     ensures { JoinedSourceIsCached }
+{}
+
+/// A plain packet moves the end of its source's keepalive timer.
+pub fn plain_packet_moves_its_timer()
+    ensures { PlainPacketMovesItsTimer }
+{}
+
+/// A plain packet may start that timer.
+pub fn plain_packet_starts_the_timer()
+    ensures { PlainPacketStartsTheTimer }
 {}
 
 /// Packets that nobody wants make no row.
