@@ -1,0 +1,171 @@
+"""Hosts: what they want by IGMPv3, what they send, and what they received."""
+from dataclasses import dataclass, field
+
+from lab.playing import Action
+from pimtext import packets
+
+# How often a host tells a change on a link that loses packets, and the ms between (RFC 3376, 8.1 and 8.11).
+ROBUSTNESS, UNSOLICITED_INTERVAL = 2, 1000
+IS_IN, IS_EX, TO_IN, TO_EX, ALLOW, BLOCK = packets.RECORD_KINDS
+
+
+@dataclass(frozen=True)
+class Received:
+    """A packet of data that a host received: `path` are the names of the routers that it came by, from the first hop on."""
+    moment: int
+    group: str
+    source: str
+    payload: bytes
+    ttl: int
+    path: tuple
+
+
+@dataclass(frozen=True)
+class Wish:
+    """Which sources of a group a host wants: these, or all but these."""
+    is_exclude: bool
+    sources: frozenset
+
+    def has(self, source):
+        return (source in self.sources) != self.is_exclude
+
+
+NOTHING = Wish(False, frozenset())
+
+
+def change(old, new):
+    """The record kinds and sources that tell a change of a wish (RFC 3376, 5.1)."""
+    if old.is_exclude != new.is_exclude:
+        return [(TO_EX if new.is_exclude else TO_IN, new.sources)]
+    more, fewer = new.sources - old.sources, old.sources - new.sources
+    pairs = [(ALLOW, fewer), (BLOCK, more)] if new.is_exclude else [(ALLOW, more), (BLOCK, fewer)]
+    return [(kind, sources) for kind, sources in pairs if sources]
+
+
+def answer(wish, query):
+    """The record kind and sources that answer a query, or None (RFC 3376, 5.2)."""
+    asked = frozenset(query.sources)
+    if not asked:
+        return (IS_EX if wish.is_exclude else IS_IN), wish.sources
+    wanted = asked - wish.sources if wish.is_exclude else asked & wish.sources
+    return (IS_IN, wanted) if wanted else None
+
+
+def record(kind, group, sources):
+    return packets.Record(kind, group, tuple(sorted(sources, key=packets.octets)))
+
+
+@dataclass(eq=False)
+class Host:
+    name: str
+    link: object
+    address: str
+    net: object = field(repr=False)
+    wishes: dict = field(default_factory=dict, repr=False)
+    received: list = field(default_factory=list, repr=False)
+
+    def join(self, group, source=None):
+        """Wants a group, of every source or of one, from the present on."""
+        old = self.wish(group)
+        if source is None:
+            self.turn(group, Wish(True, frozenset()))
+        else:
+            self.turn(group, Wish(old.is_exclude, old.sources - {source} if old.is_exclude else old.sources | {source}))
+
+    def leave(self, group, source=None):
+        """Wants it no more, or not of this source."""
+        old = self.wish(group)
+        if source is None:
+            self.turn(group, NOTHING)
+        else:
+            self.turn(group, Wish(old.is_exclude, old.sources | {source} if old.is_exclude else old.sources - {source}))
+
+    def wish(self, group):
+        return self.wishes.get(group, NOTHING)
+
+    def wants(self, group, source):
+        return self.wish(group).has(source)
+
+    def turn(self, group, new):
+        """Another wish: it is told to the routers."""
+        records = [record(kind, group, sources) for kind, sources in change(self.wish(group), new)]
+        self.wishes[group] = new
+        if new == NOTHING:
+            del self.wishes[group]
+        if records:
+            for again in range(ROBUSTNESS if self.link.loss else 1):
+                report = packets.write_report(self.address, records)
+                self.net.schedule(Speech(self, report), self.net.now + again * UNSOLICITED_INTERVAL)
+
+    def hear(self, query):
+        """Answers a query; the answer is what it wants by then."""
+        if self.wishes:
+            self.net.schedule(Reply(self, query), self.net.present + self.net.chance.randint(0, 100 * query.response))
+
+    def records(self, query):
+        """What it says to a query at the present."""
+        groups = sorted(self.wishes, key=packets.octets) if query.group == "0.0.0.0" else [query.group] * (query.group in self.wishes)
+        answers = [(group, answer(self.wishes[group], query)) for group in groups]
+        return [record(told[0], group, told[1]) for group, told in answers if told]
+
+    def send(self, group, payload=b"", ttl=16, after=0.0):
+        """Sends a packet of data to a group, at the present or so many seconds later."""
+        data = packets.write_data(self.address, group, payload, ttl)
+        self.net.schedule(Speech(self, data), self.net.now + round(1000 * after))
+
+    def stream(self, group, every=1.0, times=10):
+        """Sends packets one after the other from the present on; the first says `1`, the next `2`, and so on."""
+        for number in range(times):
+            self.send(group, str(number + 1).encode(), after=number * every)
+
+    def take(self, moment, packet, path):
+        """A packet of data that came."""
+        if self.wants(packet.destination, packet.source):
+            self.received.append(
+                Received(moment, packet.destination, packet.source, packet.body.payload, packet.ttl, path))
+            self.received.sort(key=lambda each: each.moment)
+
+    def payloads(self, group=None):
+        """What the packets said that came, of all groups or of one, in their order."""
+        return [each.payload for each in self.received if group in (None, each.group)]
+
+
+class Speech(Action):
+    """A host's packet comes to all routers on its link, but for those to which it is lost; so do its data to other hosts."""
+
+    def __init__(self, host, data):
+        super().__init__()
+        self.host, self.data = host, data
+        chance = host.net.chance
+        self.ports = [(port, chance.getrandbits(32)) for port in host.link.ports if chance.random() >= host.link.loss]
+
+    def moves(self):
+        return self.given(self.data)
+
+    def given(self, data):
+        return [
+            {"do": "frame", "router": port.router.name, "iface": port.number, "hex": data.hex(), "draw": draw}
+            for port, draw in self.ports if port.is_up()
+        ]
+
+    def done(self, moment):
+        packet = packets.read(self.data)
+        if isinstance(packet.body, packets.Data):
+            for other in self.host.link.hosts:
+                if other is not self.host and self.host.net.chance.random() >= self.host.link.loss:
+                    other.take(moment, packet, ())
+
+
+class Reply(Speech):
+    """A host's answer to a query."""
+
+    def __init__(self, host, query):
+        super().__init__(host, b"")
+        self.query = query
+
+    def moves(self):
+        records = self.host.records(self.query)
+        return self.given(packets.write_report(self.host.address, records)) if records else []
+
+    def done(self, moment):
+        pass

@@ -1,0 +1,128 @@
+"""Time: what is due at which moment, and how it is played by `./pimlab`.
+
+The program plays a scenario from its beginning, so the moves of all coming moments are played at once, as if nothing in them
+asked for another one. Where a packet does, for it is to be delivered, or a host answers it, the moves up to then are kept and
+the rest is planned anew. Of the kept moves those that did nothing are dropped: time that only passed.
+"""
+from dataclasses import dataclass, field, replace
+
+from pimtext import scenario, story
+
+# How many moves are planned at once: more after a plan that could be kept whole.
+FEWEST, MOST = 100, 4000
+
+
+class Action:
+    """Something that happens at a moment: moves, which are asked for when they are planned."""
+
+    def __init__(self, moves=()):
+        self.made = list(moves)
+
+    def moves(self):
+        return self.made
+
+    def done(self, moment):
+        """It happened, and will not be planned anew."""
+
+
+@dataclass(frozen=True)
+class Due:
+    """What is scheduled: at one moment the lower order comes first."""
+    moment: int
+    order: float
+    action: Action = field(compare=False)
+
+    def key(self):
+        return self.moment, self.order
+
+
+@dataclass
+class Batch:
+    """All that happens at one moment. `is_step` where time passes for all routers; `before` counts the moves played before it."""
+    moment: int
+    dues: list
+    is_step: bool
+    moves: list = field(default_factory=list)
+    steps: list = field(default_factory=list)
+    before: int = 0
+
+    def make(self, clocks, draws, settle):
+        """Its moves: each router comes to the moment before it does anything else."""
+        wanted = [move for due in self.dues for move in due.action.moves()]
+        concerned = clocks if self.is_step or settle is not None else {move["router"] for move in wanted}
+        for router in [name for name in clocks if name in concerned and clocks[name] < self.moment]:
+            self.moves.append({"do": "advance", "router": router, "moment": self.moment, "draw": draws[router]})
+            clocks[router] = self.moment
+        self.moves += wanted
+        if settle is not None:
+            self.moves.append({"do": "settle", "draw": settle})
+
+    def busy(self):
+        """The places of the moves that did anything: time that passed did where its router sent, or took something after it."""
+        routers = {step.router for step in self.steps if step.sent or step.did["do"] != "advance"}
+        settled = any(step.is_settle() for step in self.steps)
+        for place, move in enumerate(self.moves):
+            if settled if move["do"] == "settle" else move["do"] != "advance" or move["router"] in routers:
+                yield place
+
+
+@dataclass
+class Player:
+    """The routers' tables in the scenario file, the draw of each for time that passes, and the moves that are kept."""
+    routers: list
+    draws: dict
+    moves: list = field(default_factory=list)
+    clocks: dict = field(default_factory=dict)
+    tables: dict = field(default_factory=dict)
+    played: scenario.Scenario | None = None
+    told: list = field(default_factory=list)
+    size: int = FEWEST
+
+    def __post_init__(self):
+        self.clocks = {table["name"]: 0 for table in self.routers}
+
+    def plan(self, batches, settle):
+        """As many of the batches as are played at once, with their moves."""
+        clocks, planned, moves = dict(self.clocks), [], 0
+        for batch in batches:
+            batch.before = len(self.moves) + moves
+            batch.make(clocks, self.draws, settle)
+            planned.append(batch)
+            moves += len(batch.moves)
+            if moves >= self.size:
+                break
+        return planned
+
+    def play(self, planned):
+        """Plays what is kept and then these, which get their steps."""
+        moves = self.moves + [move for batch in planned for move in batch.moves]
+        self.played = scenario.scenario_of({"router": self.routers, "move": moves})
+        self.told, self.tables = story.played(self.played, scenario.run_text(self.played.text()))
+        coming = [batch for batch in planned for _ in batch.moves]
+        for step in self.told:
+            if step.move > len(self.moves):
+                coming[step.move - len(self.moves) - 1].steps.append(step)
+
+    def keep(self, batch):
+        """Keeps the moves of a batch that did anything. Answers its packets, which have the numbers of the kept moves."""
+        numbers = {}
+        for place in batch.busy():
+            move = batch.moves[place]
+            self.moves.append(move)
+            numbers[batch.before + place + 1] = len(self.moves)
+            if move["do"] == "advance":
+                self.clocks[move["router"]] = batch.moment
+        return [replace(sent, move=numbers[sent.move]) for step in batch.steps for sent in step.sent]
+
+    def grow(self, is_whole):
+        """The next plan is larger after one that was kept whole."""
+        self.size = min(2 * self.size, MOST) if is_whole else FEWEST
+
+
+def batches(dues, steps, end):
+    """The coming batches up to a moment: of what is due, and of the steps of time."""
+    here = {moment: [] for moment in steps}
+    for due in sorted(dues, key=Due.key):
+        if due.moment <= end:
+            here.setdefault(due.moment, []).append(due)
+    return [Batch(moment, here[moment], moment in steps) for moment in sorted(here)]

@@ -1,0 +1,135 @@
+"""Routers and links, and the routes between them by shortest path."""
+import heapq
+from dataclasses import dataclass, field
+from ipaddress import IPv4Network
+from itertools import count
+
+# Routes have OSPF's preference.
+PREFERENCE = 110
+
+
+@dataclass(eq=False)
+class Router:
+    """`options` are keys of the scenario file's router, as `spt` or `limit`."""
+    name: str
+    options: dict
+    net: object = field(repr=False)
+    ports: list = field(default_factory=list, repr=False)
+    is_up: bool = True
+
+    def stop(self):
+        """It falls silent at the present: all its interfaces go down, and other routers' routes go round it."""
+        self.net.change_router(self, False)
+
+    def start(self):
+        """It comes again, with new generation IDs."""
+        self.net.change_router(self, True)
+
+    def port(self, link):
+        """Its first interface on a link."""
+        return next(port for port in self.ports if port.link is link)
+
+    @property
+    def address(self):
+        """The address of its first interface."""
+        return self.ports[0].address
+
+    def rows(self, kind, **values):
+        """The rows of a table, as of the end of the last `run`, that have these values."""
+        return self.net.tables()[self.name].of(kind, **values)
+
+    def neighbours(self):
+        """The names of the routers that it has as PIM neighbours."""
+        from pimtext.printed import Neighbour
+        return {self.net.owner(row.address).name for row in self.rows(Neighbour)}
+
+
+@dataclass(eq=False)
+class Port:
+    """An interface of a router; `options` are keys of the scenario file's interface, as `priority`."""
+    router: Router
+    number: int
+    link: "Link"
+    address: str
+    options: dict = field(default_factory=dict)
+
+    def is_up(self):
+        return self.router.is_up and self.link.is_up
+
+    def table(self):
+        return {"link": self.link.name, "address": f"{self.address}/{self.link.subnet.prefixlen}", **self.options}
+
+
+@dataclass(eq=False)
+class Link:
+    """`loss` is the share of packets that are lost on it, for each receiver by itself."""
+    name: str
+    subnet: IPv4Network
+    cost: int
+    loss: float
+    net: object = field(repr=False)
+    ports: list = field(default_factory=list, repr=False)
+    hosts: list = field(default_factory=list, repr=False)
+    is_up: bool = True
+
+    def down(self):
+        """It fails at the present: its routers' interfaces go down, and the routes go round it."""
+        self.net.change_link(self, False)
+
+    def up(self):
+        self.net.change_link(self, True)
+
+    def configure(self, router, **options):
+        """Sets keys of a router's interface on this link, as `priority`, before the first `run`."""
+        self.net.find(router).port(self).options.update(options)
+
+    def packets(self, kind=None):
+        """What routers sent on it, all or of one kind: a class of pimtext.packets."""
+        return [sent for sent in self.net.packets(kind) if sent.where == self.name and not sent.is_unicast()]
+
+
+@dataclass(frozen=True)
+class Way:
+    """How a router comes to another one: the distance, the links on the way, and the first hop with the port to it."""
+    distance: int
+    links: tuple
+    hop: str | None = None
+    port: Port | None = None
+
+
+def ways(origin):
+    """The shortest way to each router that can be reached; of equal ones the one found first, by ports in their order."""
+    found, order = {}, count()
+    waiting = [(0, next(order), origin, Way(0, ()))]
+    while waiting:
+        _, _, router, way = heapq.heappop(waiting)
+        if router in found:
+            continue
+        found[router] = way
+        for onward, longer in onwards(router, way):
+            heapq.heappush(waiting, (longer.distance, next(order), onward, longer))
+    return found
+
+
+def onwards(router, way):
+    """The routers next to one, with the ways to them."""
+    for port in router.ports:
+        for other in port.link.ports:
+            if other is not port and port.is_up() and other.is_up():
+                hop, first = (way.hop, way.port) if way.links else (other.address, port)
+                yield other.router, Way(way.distance + port.link.cost, (*way.links, port.link), hop, first)
+
+
+def routes(origin):
+    """A router's routes as the scenario file has them: to each link that isn't its own."""
+    best = {}
+    for router, way in ways(origin).items():
+        for port in router.ports:
+            metric = way.distance + port.link.cost
+            if way.links and port.link.is_up and metric < best.get(port.link, (way, metric + 1))[1]:
+                best[port.link] = way, metric
+    own = {port.link for port in origin.ports}
+    return [
+        f"{link.subnet} {way.hop} {way.port.number} {PREFERENCE} {metric}"
+        for link, (way, metric) in sorted(best.items(), key=lambda pair: pair[0].subnet) if link not in own
+    ]

@@ -1,0 +1,53 @@
+"""A tree as the routers have it."""
+from dataclasses import dataclass
+
+from pimtext import trees
+from pimtext.printed import ANY
+from pimtext.words import tree as tree_name
+
+
+@dataclass(frozen=True)
+class Tree:
+    """By router: the name of the link on which it expects the packets, None where it is the root, and those it sends them on."""
+    group: str
+    source: str
+    incoming: dict
+    outgoing: dict
+
+    def __bool__(self):
+        return bool(self.incoming)
+
+    def routers(self):
+        """The names of the routers that have joined it."""
+        return set(self.incoming)
+
+    def links(self):
+        """The names of the links on which its packets are sent."""
+        return set().union(*self.outgoing.values())
+
+    def path(self, host):
+        """The names of the routers from the root to a host; empty where the tree doesn't reach it."""
+        found, link = [], host.link.name
+        while router := next((name for name, links in self.outgoing.items() if link in links and name not in found), None):
+            found.insert(0, router)
+            link = self.incoming[router]
+        return found
+
+    def __str__(self):
+        rows = [
+            f"  {name}: from {self.incoming[name] or 'itself'} to {', '.join(sorted(self.outgoing[name])) or 'none'}"
+            for name in self.incoming
+        ]
+        return "\n".join([tree_name(self.group, self.source), *(rows or ["  nobody has joined it"])])
+
+
+def tree_of(known, priorities, group, source=ANY):
+    """The tree by what the routers know."""
+    incoming, outgoing = {}, {}
+    for name, state in known.items():
+        for branch in trees.branches(state, priorities):
+            if (branch.group, branch.source) == (group, source):
+                interfaces = state.router.interfaces
+                incoming[name] = None if branch.incoming is None else interfaces[branch.incoming].link
+                outgoing[name] = {interfaces[number].link for number in branch.outgoing}
+    return Tree(group, source, incoming, outgoing)
