@@ -339,4 +339,15 @@ def integer(word):
 
 
 def read(text):
+    """The document of a text, as a table."""
     return Reader(text).document()
+
+
+def plain(value):
+    """A value as `tomllib` has it."""
+    match value.kind:
+        case "table":
+            return {key: plain(held) for key, held in value.held.items()}
+        case "list":
+            return [plain(held) for held in value.held]
+    return value.held

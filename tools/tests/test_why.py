@@ -1,28 +1,21 @@
-#!/usr/bin/env python3
-"""Tries `tools/why` against the program: breaks good scenarios in many ways, and compares each with what `pimlab check` answers.
+"""`tools/why` against the program: good scenarios broken in many ways, and runs with something odd in them.
 
-    tools/tests/why [--files N] [--seed N]
-
-First come breaks of known places, where the line that `why` names must be the broken one; then N (600) random ones. Prints what differs,
-and a closing line; the status is 1 where anything differs.
+FILES and SEED in the environment ask for another number of random breaks (300) and for others.
 """
-import sys
-
-sys.dont_write_bytecode = True
-
-import argparse
+import os
 import random
 import re
 import subprocess
+import sys
 import tempfile
+import unittest
 from collections import Counter
 from concurrent.futures import ThreadPoolExecutor
-from pathlib import Path
 
-ROOT = Path(__file__).resolve().parent.parent.parent
-sys.path.insert(0, str(ROOT / "tools"))
-
-from scenario_faults import faults_of  # noqa: E402
+from pimtext import notes, scenario, toml_lines
+from pimtext.faults import faults_of
+from pimtext.scenario import PIMLAB
+from tests import stored
 
 GOOD = """\
 [[router]]
@@ -226,10 +219,10 @@ def program_says(text):
     with tempfile.NamedTemporaryFile("w", suffix=".toml", newline="", encoding="utf-8") as file:
         file.write(text)
         file.flush()
-        ran = subprocess.run([sys.executable, ROOT / "pimlab", "check", file.name], capture_output=True, text=True)
+        ran = subprocess.run([sys.executable, PIMLAB, "check", file.name], capture_output=True, text=True)
     told = re.fullmatch(r"pimlab: scenario refused: (\d+)\n", ran.stderr)
     if ran.returncode and not told:
-        sys.exit(f"pimlab check fails: {ran.stderr}")
+        raise RuntimeError(f"pimlab check fails: {ran.stderr}")
     return int(told[1]) if told else 0
 
 
@@ -283,7 +276,7 @@ def broken(text, random_of):
 
 def random_breaks(count, seed):
     random_of = random.Random(seed)
-    good = [GOOD] + [path.read_text() for path in sorted((ROOT / "examples").glob("*.toml"))]
+    good = [GOOD] + [path.read_text() for path in sorted(stored.EXAMPLES.glob("*.toml"))]
     for at in range(count):
         text = good[at % len(good)]
         for _ in range(random_of.choice((1, 1, 1, 2))):
@@ -305,31 +298,117 @@ def judged(case):
         return f"{len(judge.faults)} faults, and {wanted}", wanted
     if lines and not 1 <= min(lines) <= max(lines) <= text.count("\n") + 1:
         return f"the lines {lines} aren't in the file", wanted
-    # A key that is missing for another is told at its table.
     if wanted and line is not None and not any(line <= at <= line + 1 for at in lines):
         return f"the break is in line {line}, and told are {lines}", wanted
     return None, wanted
 
 
-def main():
-    parser = argparse.ArgumentParser(description=__doc__.partition("\n\n")[0])
-    parser.add_argument("--files", type=int, default=600, help="how many random breaks")
-    parser.add_argument("--seed", type=int, default=1)
-    given = parser.parse_args()
-    cases = [*breaks(), *random_breaks(given.files, given.seed)]
-    # The first call may build.
-    program_says("")
-    numbers, bad = Counter(), 0
-    with ThreadPoolExecutor(2) as pool:
-        for (text, _, line), (wrong, number) in zip(cases, pool.map(judged, cases)):
-            numbers[number] += 1
-            if wrong:
-                bad += 1
-                print(f"-- {wrong}\n{text}")
-    told = ", ".join(f"{count} with {number}" for number, count in sorted(numbers.items()) if number)
-    print(f"{len(cases)} files: {numbers[0]} accepted, refused {told}; {bad} differ")
-    sys.exit(1 if bad else 0)
+class Refused(unittest.TestCase):
+    def compare(self, cases):
+        """Every case is judged as the program does; answers how many have which number."""
+        # The first call may build.
+        program_says("")
+        with ThreadPoolExecutor(2) as pool:
+            answers = list(pool.map(judged, cases))
+        for (text, _, _), (wrong, _) in zip(cases, answers):
+            with self.subTest(wrong):
+                self.assertIsNone(wrong, text)
+        return Counter(number for _, number in answers)
+
+    def test_known_breaks_are_found_in_their_lines(self):
+        numbers = self.compare(list(breaks()))
+        self.assertEqual(set(numbers), {0, *range(30, 40)})
+        self.assertGreater(sum(numbers.values()) - numbers[0], 130)
+
+    def test_random_breaks_are_found_where_the_program_refuses(self):
+        count, seed = int(os.environ.get("FILES", 300)), int(os.environ.get("SEED", 1))
+        numbers = self.compare(list(random_breaks(count, seed)))
+        print(f"{count} files: {dict(sorted(numbers.items()))}", file=sys.stderr)
+        self.assertGreater(sum(numbers.values()) - numbers[0], count // 3)
+
+    def test_stored_scenarios_are_judged_as_stored(self):
+        for path in sorted(stored.DATA.glob("*.toml")):
+            told = path.with_suffix(".err")
+            number = re.search(r"scenario refused: (\d+)", told.read_text()) if told.exists() else None
+            try:
+                text = path.read_bytes().decode()
+            except UnicodeDecodeError:
+                continue
+            with self.subTest(path.name):
+                self.assertEqual(faults_of(text)[1], int(number[1]) if number else 0)
+
+
+# A run in which everything is as it should be: two routers, and a host that asks for a group.
+RUN = """\
+router = [
+  { name = "hub", rps = ["239.0.0.0/8 10.0.0.2"], iface = [{ link = "lan", address = "10.0.0.2/24" }] },
+  { name = "edge", rps = ["239.0.0.0/8 10.0.0.2"], iface = [
+    { link = "lan", address = "10.0.0.1/24" },
+    { link = "home", address = "10.3.0.1/24" },
+  ] },
+]
+move = [
+  { do = "up", router = "hub", iface = 0, draw = 1 },
+  { do = "up", router = "edge", iface = 0, draw = 2 },
+  { do = "up", router = "edge", iface = 1, draw = 3 },
+  { do = "advance", router = "hub", moment = 5000 },
+  { do = "advance", router = "edge", moment = 5000 },
+  { do = "settle" },
+  { do = "frame", router = "edge", iface = 1, hex = "46c0002800000000010239aa0a03004de0000016940400002200e9fb0000000104000000ef010101" },
+  { do = "settle" },
+]
+"""
+# What is changed in it, and what is noted then.
+ODD = [
+    ('{ do = "advance", router = "hub", moment = 5000 },\n', "", "2: router hub is never advanced"),
+    ('{ do = "advance", router = "hub", moment = 5000 },\n', "", "10.0.0.2 on interface 0, towards the group's RP 10.0.0.2, is no neighbour"),
+    ('"hub", moment = 5000', '"hub", moment = 1', "no Hello has left interface 0: it leaves by moment 5000, and the router was advanced to 1"),
+    ('{ do = "up", router = "edge", iface = 1, draw = 3 },\n', "", "interface 1 (link home) never goes up"),
+    ('{ do = "up", router = "edge", iface = 1, draw = 3 },\n', "", "move 6 (frame), router edge: it was refused 23 (InterfaceDown)"),
+    ('iface = 1, draw = 3', "iface = 0, draw = 3", "it was ignored (Already)"),
+    ('iface = 1, draw = 3', "iface = 2, draw = 3", "refused 22 (NoInterface): the router has no interface of this number; they are counted from 0, and it has 2"),
+    ('"edge", rps = ["239.0.0.0/8', '"edge", rps = ["238.0.0.0/8', "no RP range has the group"),
+    ('"edge", rps = ["239.0.0.0/8 10.0.0.2', '"edge", rps = ["239.0.0.0/8 10.9.9.9', "it has no route to the group's RP 10.9.9.9"),
+    ('  { do = "settle" },\n]', '  { do = "deliver", router = "hub", iface = 0, frame = 99 },\n]', "there is no packet 99 yet: 8 were sent before"),
+    ('  { do = "settle" },\n]', '  { do = "deliver", router = "hub", iface = 0, frame = 3 },\n]', "packet 3 was sent on the link home, and interface 0 is on lan"),
+    ('  { do = "settle" },\n]', "]", "2 packets reach nobody"),
+    ('  { do = "settle" },\n]', '  { do = "routes", router = "hub", list = ["10.3.0.1/24 10.0.0.1 0 1 1"] },\n]', "10.3.0.1/24 has host bits set: 10.3.0.0/24 is the prefix"),
+    ('  { do = "settle" },\n]', '  { do = "rps", router = "hub", list = ["10.0.0.0/8 10.0.0.2"] },\n]', "10.0.0.0/8 isn't inside 224.0.0.0/4"),
+]
+
+
+class Odd(unittest.TestCase):
+    def noted(self, text):
+        judge, number = faults_of(text)
+        self.assertEqual(number, 0)
+        return list(notes.notes(judge, scenario.scenario_of(toml_lines.plain(toml_lines.read(text))), scenario.run_text(text)))
+
+    def test_nothing_is_odd_in_a_good_run(self):
+        self.assertEqual(self.noted(RUN), [])
+
+    def test_what_is_odd_is_noted(self):
+        for before, after, wanted in ODD:
+            self.assertEqual(RUN.count(before), 1, before)
+            said = self.noted(RUN.replace(before, after))
+            with self.subTest(wanted):
+                self.assertTrue(any(wanted in note for note in said), said)
+
+    def test_each_stored_run_can_be_noted(self):
+        for path, lines in stored.played():
+            text = path.read_text()
+            judge, _ = faults_of(text)
+            with self.subTest(path.name):
+                list(notes.notes(judge, scenario.scenario_of(toml_lines.plain(toml_lines.read(text))), lines))
+
+
+class Words(unittest.TestCase):
+    def test_every_refusal_and_reason_of_a_move_has_its_meaning(self):
+        using = (stored.TOOLS.parent / "docs" / "USING.md").read_text()
+        refusals = using.partition("## Refusals")[2].partition("## Reasons")[0]
+        numbers = {number for number in re.findall(r"^\| (\d+) \|", refusals, re.M) if int(number) < 25}
+        reasons = set(re.findall(r"^\| `([A-Z]\w+)` \| ", using.partition("## Reasons to ignore")[2].partition("##")[0], re.M))
+        self.assertEqual(set(notes.MEANINGS), numbers | reasons)
 
 
 if __name__ == "__main__":
-    main()
+    unittest.main()

@@ -7,7 +7,7 @@ import re
 from dataclasses import dataclass
 from difflib import get_close_matches
 
-import toml_lines
+from pimtext import toml_lines
 
 MOST_ROUTERS, MOST_IFACES, MOST_ROUTES, MOST_RPS = 64, 120, 100_000, 256
 BELOW = 2**32
