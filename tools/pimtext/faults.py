@@ -1,7 +1,7 @@
 """What is wrong with a scenario file: every fault with its line, and the number with which `pimlab` refuses it.
 
-The rules are those of docs/USING.md. 39 is anything that keeps the file from being read as a scenario; 30 to 38 are the tests of a
-router's configuration, asked in this order, of one router after the other.
+The rules are those of docs/USING.md. 39 is anything that keeps the file from being read as a scenario; 30 to 38 are the tests of
+a router's configuration, asked in this order, of one router after the other.
 """
 import re
 from dataclasses import dataclass
@@ -208,11 +208,10 @@ class Judge:
         if value is None:
             return []
         if value.kind == "table":
-            self.fault(value.line, "", f"`{what}` is one table: a list of tables is wanted, whose headers have double brackets, [[{what}]]")
-            return []
+            told = f"`{what}` is one table: a list of tables is wanted, whose headers have double brackets, [[{what}]]"
+            return self.fault(value.line, "", told) or []
         if value.kind != "list":
-            self.fault(value.line, "", f"`{what}` is {found(value)}, and a list of tables is wanted: [[{what}]]")
-            return []
+            return self.fault(value.line, "", f"`{what}` is {found(value)}, and a list of tables is wanted: [[{what}]]") or []
         for at, inner in enumerate(value.held):
             if inner.kind != "table":
                 self.fault(inner.line, f"{what} {at}", f"it is {found(inner)}, and a table is wanted")
@@ -436,8 +435,8 @@ def iface_faults(router):
             yield 32, iface.line, place, f"the prefix length of {shown} is {iface.length}: 1 to 31 may be"
         for before, other in enumerate(ifaces[:at]):
             if 1 <= iface.length <= 31 and 1 <= other.length <= 31 and overlaps(iface, other):
-                what = f"its subnet {shown} overlaps that of interface {before}, {dotted(other.address)}/{other.length}, in line {other.line}"
-                yield 33, iface.line, place, what
+                theirs = f"interface {before}, {dotted(other.address)}/{other.length}, in line {other.line}"
+                yield 33, iface.line, place, f"its subnet {shown} overlaps that of {theirs}"
         for key, (value, line), most in zip(("propagation", "override"), iface.delays, (32767, 65535)):
             if value > most:
                 yield 36, line, place, f"`{key}` is {value} ms, and at most {most} may be"
@@ -471,7 +470,7 @@ def configuration_faults(router):
 
 
 def faults_of(text):
-    """The faults of a scenario's text by line, with the judge that read it, and the number that `pimlab` gives: 0 where it is accepted."""
+    """The judge of a scenario's text, with its faults by line, and the number that `pimlab` gives: 0 where it is accepted."""
     judge = Judge()
     try:
         root = toml_lines.read(text)

@@ -14,7 +14,7 @@ MEANINGS = {
     "1": "the packet is shorter than its lengths and counts say: is it cut, or is an Ethernet header before it?",
     "2": "the IP version isn't 4, or PIM's isn't 2",
     "3": "a checksum is wrong: the IP header's, PIM's or IGMP's",
-    "4": "a wrong IP length, or more than 1,500 bytes, 1,528 as a unicast; a Hello option of a wrong length; a query of 9 to 11 bytes",
+    "4": "a wrong IP length; more than 1,500 bytes, 1,528 as a unicast; a Hello option of a wrong length; a query of 9 to 11 bytes",
     "5": "an IP source that no host has, an encoded address of another family, or a wrong source in an Assert",
     "6": "a group field, or the destination of a registered packet, isn't in 224.0.0.0/4",
     "7": "IGMPv1 or IGMPv2, which the router doesn't speak",
@@ -26,7 +26,7 @@ MEANINGS = {
     "23": "the interface is down when the packet comes: an `up` is missing before, or the packet is lost on purpose",
     "24": "it needs more new facts than `limit` leaves room for, or is the Hello of a 65th neighbour on the interface",
     "Own": "the packet's source is an address of the router, which hears itself",
-    "NotForMe": "on a link it is IGMP or data to no group, a Register or a Register-Stop; as a unicast it is for another, or none of these two",
+    "NotForMe": "on a link: IGMP or data to no group, a Register or Register-Stop; as a unicast: for another router, or not one of these two",
     "OtherType": "a PIM message of a type that the router doesn't know, as Bootstrap",
     "Mask": "an Assert or Register-Stop for a range of groups",
     "LinkLocal": "a group in 224.0.0.0/24, which never leaves its link",
@@ -63,8 +63,8 @@ class Notes:
                 if move == number:
                     yield self.at_move(number, f", router {router}: {self.odd(number, router, verdict, cause, times)}")
             if made[number] >= story.SETTLE_LIMIT:
-                told = f" stopped at its limit of {story.SETTLE_LIMIT} deliveries, and later packets wait for the next settle: is there a loop?"
-                yield self.at_move(number, told)
+                limit = f"its limit of {story.SETTLE_LIMIT} deliveries"
+                yield self.at_move(number, f" stopped at {limit}, and later packets wait for the next settle: is there a loop?")
 
     def odd(self, number, router, verdict, cause, times):
         is_settle = self.played.moves[number - 1]["do"] == "settle"
@@ -99,7 +99,8 @@ class Notes:
         sent, interfaces = before[did["frame"] - 1], self.known[router].router.interfaces
         if sent.is_unicast():
             return f"packet {sent.number} is a unicast, which `carry` brings"
-        there = f"interface {did['iface']} is on {interfaces[did['iface']].link}" if did["iface"] < len(interfaces) else f"it has no interface {did['iface']}"
+        iface = did["iface"]
+        there = f"interface {iface} is on {interfaces[iface].link}" if iface < len(interfaces) else f"it has no interface {iface}"
         return f"packet {sent.number} was sent on the link {sent.where}, and {there}"
 
     # ---- time and interfaces
@@ -110,9 +111,11 @@ class Notes:
             up = {step.iface: step.moment for step in self.steps if self.is_up(step, name)}
             for interface in known.router.interfaces:
                 if interface.number not in up:
-                    yield self.at_router(name, f": interface {interface.number} (link {interface.link}) never goes up: it needs a move `up`")
+                    told = f": interface {interface.number} (link {interface.link}) never goes up: it needs a move `up`"
+                    yield self.at_router(name, told)
             if name not in advanced:
-                yield self.at_router(name, " is never advanced: its clock stands at 0, so no timer of it ends, and no Hello leaves it of itself")
+                told = ": its clock stands at 0, so no timer of it ends, and no Hello leaves it of itself"
+                yield self.at_router(name, " is never advanced" + told)
                 continue
             for number in sorted(known.up - self.greeted(name)):
                 yield from self.silent(name, number, up[number] + HELLO_DELAY)

@@ -4,6 +4,7 @@
 Decimal numbers, dates and times are told from one another by their looks alone: no scenario has any.
 """
 import re
+from bisect import bisect_left
 from dataclasses import dataclass, field
 
 # The most parts of a key, and the most lists and inline tables in one another.
@@ -51,11 +52,12 @@ def table(line, origin=""):
 class Reader:
     def __init__(self, text):
         self.text, self.at = text.removeprefix("\ufeff"), 0
+        self.ends = [found.start() for found in re.finditer("\n", self.text)]
 
     # ---- places
 
     def line(self, at=None):
-        return self.text.count("\n", 0, self.at if at is None else at) + 1
+        return bisect_left(self.ends, self.at if at is None else at) + 1
 
     def fail(self, what, at=None):
         raise Unreadable(self.line(at), what)
@@ -123,7 +125,8 @@ class Reader:
         char = self.first()
         ends_line = char == "\n" or self.starts("\r\n")
         if not char or (ends_line and len(mark) == 1):
-            self.fail(f"a text that begins with {mark} isn't closed on its line" if len(mark) == 1 else f"{mark} isn't closed", begin)
+            what = f"a text that begins with {mark} isn't closed on its line"
+            self.fail(what if len(mark) == 1 else f"{mark} isn't closed", begin)
         if not ends_line and char != "\t" and (ord(char) < 32 or ord(char) == 127):
             self.fail(f"a text has the control character {ord(char):#04x}")
         self.at += 1
@@ -298,7 +301,7 @@ class Reader:
             is_many = found.kind == "list" and found.origin == "header"
             if many:
                 raise Unreadable(line, f"`{part}` is a {found.kind} {since}, and [[{part}]] wants a list of tables")
-            raise Unreadable(line, f"`{part}` is a list of tables {since}: write [[{part}]]" if is_many else f"`{part}` is there {since} already")
+            raise Unreadable(line, f"`{part}` is " + (f"a list of tables {since}: write [[{part}]]" if is_many else f"there {since} already"))
         return path
 
     def document(self):
