@@ -1,23 +1,20 @@
 """A network: its routers, links and hosts, the packets between them, and time."""
-import math
 import random
-from collections import defaultdict
 from ipaddress import ip_network
 from itertools import count
 from pathlib import Path
 
 from lab.hosts import Host
-from lab.playing import Action, Due, Player, batches
-from lab.topology import Link, Port, Router, routes, ways
+from lab.playing import Action, Player
+from lab.topology import Link, Port, Router, routes
+from lab.traffic import HOSTS, START, Chances, Traffic
 from lab.tree import tree_of
-from pimtext import packets, story, trees, words
+from pimtext import packets, trees, words
 from pimtext.printed import ANY
-from pimtext.scenario import text_of
+from pimtext.scenario import scenario_of, text_of
 
 MOST_ROUTERS = 64
 FIRST_HOST = 101
-# How many of what is scheduled next goes before a packet that is overtaken.
-OVERTAKEN_BY = 50
 
 
 class Network:
@@ -27,14 +24,12 @@ class Network:
 
     def __init__(self, seed=0, loss=0.0, delay=(0.0, 0.0), reorder=0.0, step=1.0):
         self.chance = random.Random(seed)
-        self.loss, self.reorder, self.step = loss, reorder, round(1000 * step)
-        self.delay = tuple(round(1000 * seconds) for seconds in delay)
+        self.loss, self.step, self.order = loss, round(1000 * step), count()
         self.routers, self.links, self.hosts, self.ranges = {}, {}, {}, []
         self.now = self.present = self.stepped = 0
-        self.dues, self.order = [], count()
-        self.player = None
-        self.settles = not (loss or reorder or self.delay[1])
-        self.sent, self.paths, self.odd, self.latest, self.fresh = [], {}, [], defaultdict(int), []
+        self.player, self.sent, self.paths, self.odd = None, [], {}, []
+        self.traffic = Traffic(self, None, Chances(seed, tuple(round(1000 * seconds) for seconds in delay), reorder))
+        self.settles = not (loss or reorder or delay[1])
 
     # ---- what it is made of
 
@@ -148,63 +143,61 @@ class Network:
     def draw(self):
         return self.chance.getrandbits(32)
 
-    def schedule(self, action, moment, later=0):
-        """What is to happen at a moment, `later` than others that happen then."""
-        due = Due(moment, next(self.order) + later, action)
-        self.dues.append(due)
-        self.fresh.append(due)
+    def schedule(self, action, moment):
+        """What is to happen at a moment by the hosts or by whoever runs the network."""
+        self.traffic.schedule(action, moment, (HOSTS, next(self.order)))
 
     def start(self):
         """All interfaces come up at moment 0."""
         tables = [self.table(router) for router in self.routers.values()]
         self.player = Player(tables, {name: self.draw() for name in self.routers})
+        self.traffic.read = scenario_of({"router": tables})
         moves = [self.turned(port) for router in self.routers.values() for port in router.ports]
-        self.dues.insert(0, Due(0, -1, Action(moves)))
+        self.traffic.schedule(Action(moves), 0, (START,))
 
     def run(self, seconds):
         """Time passes, with all that happens in it."""
         if self.player is None:
             self.start()
         end = self.now + round(1000 * seconds)
-        while not self.run_on(end):
-            pass
+        while self.traffic.coming(self.stepped, self.step, end):
+            self.run_on(end)
         self.now = self.present = end
         return self
 
-    def steps(self, end):
-        """The coming steps of time; the last one is the end."""
-        return {*range(self.stepped + self.step, end, self.step), end}
-
     def run_on(self, end):
-        """Plays what is planned up to the end, and keeps it up to where its packets ask for more; says whether that was all."""
-        coming = batches(self.dues, self.steps(end), end)
-        planned = self.player.plan(coming, self.draw() if self.settles else None)
+        """Plays what is planned up to the end, and keeps it as far as it is what really comes."""
+        settle = self.draw() if self.settles else None
+        planned = self.player.plan(self.traffic.copy(), self.stepped, self.step, end, settle)
         self.player.play(planned)
-        self.fresh, kept = [], 0
+        kept = 0
         for batch in planned:
-            if any(due.moment <= batch.moment for due in self.fresh):
+            coming = self.traffic.coming(self.stepped, self.step, end)
+            if coming is None or not batch.is_as(coming):
                 break
             self.keep(batch)
             kept += 1
         self.player.grow(kept == len(planned))
-        return kept == len(coming)
 
     def keep(self, batch):
         """A batch happened."""
         self.present = batch.moment
         self.stepped = batch.moment if batch.is_step else self.stepped
+        self.traffic.drop(batch)
         for due in batch.dues:
-            self.dues.remove(due)
             due.action.done(batch.moment)
         for step in batch.steps:
-            came = () if step.brought is None else self.paths[step.brought.number]
-            self.paths.update((sent.number, (*came, step.router)) for sent in step.sent)
-            if step.verdict != "done":
-                self.odd.append((batch.moment, step))
+            self.follow(step, batch.moment)
         for sent in self.player.keep(batch):
             self.leave(sent)
 
-    # ---- packets
+    def follow(self, step, moment):
+        """What a router did: which way its packets came, and whether it took what came."""
+        came = () if step.brought is None else self.paths[step.brought.number]
+        self.paths.update((sent.number, (*came, step.router)) for sent in step.sent)
+        self.traffic.learn(step)
+        if step.verdict != "done":
+            self.odd.append((moment, step))
 
     def leave(self, sent):
         """A router sent a packet: hosts hear it at once, routers by a settle or by deliveries of their own."""
@@ -212,8 +205,7 @@ class Network:
         if not sent.is_unicast():
             self.tell_hosts(self.links[sent.where], sent, sent.packet())
         if not self.settles:
-            for name, iface in story.receivers(self.player.played, sent):
-                self.bring(sent, self.routers[name], iface)
+            self.traffic.leave(sent, self.present)
 
     def tell_hosts(self, link, sent, packet):
         for host in link.hosts:
@@ -223,28 +215,6 @@ class Network:
                 host.hear(packet.body)
             elif sent.kind == "copy":
                 host.take(self.present, packet, self.paths[sent.number])
-
-    def bring(self, sent, router, iface):
-        """Schedules a delivery, unless the packet is lost."""
-        links = self.links_to(sent, router)
-        arrives = math.prod(1 - link.loss for link in links) if links is not None and router.is_up else 0
-        if self.chance.random() >= arrives:
-            return
-        moment, later = self.present + sum(self.chance.randint(*self.delay) for _ in links), 0
-        way = sent.router, sent.where, router.name, iface
-        if self.chance.random() < self.reorder:
-            moment, later = moment + self.delay[1], OVERTAKEN_BY
-        else:
-            self.latest[way] = moment = max(moment, self.latest[way])
-        self.schedule(Action([delivery(sent, router, iface, self.draw())]), moment, later)
-
-    def links_to(self, sent, router):
-        """The links on which a packet comes to a router, None where it can't."""
-        if sent.is_unicast():
-            way = ways(self.routers[sent.router]).get(router)
-            return None if way is None else way.links
-        link = self.links[sent.where]
-        return (link,) if link.is_up else None
 
     # ---- what came of it
 
@@ -279,9 +249,3 @@ class Network:
         """Writes it to a file."""
         Path(path).write_text(self.scenario())
 
-
-def delivery(sent, router, iface, draw):
-    """The move that brings a packet to a router, as a unicast where there is no interface."""
-    if iface is None:
-        return {"do": "carry", "router": router.name, "frame": sent.number, "draw": draw}
-    return {"do": "deliver", "router": router.name, "iface": iface, "frame": sent.number, "draw": draw}

@@ -1,8 +1,8 @@
-"""Time: what is due at which moment, and how it is played by `./pimlab`.
+"""Time: what happens at a moment, and how it is played by `./pimlab`.
 
-The program plays a scenario from its beginning, so the moves of all coming moments are played at once, as if nothing in them
-asked for another one. Where a packet does, for it is to be delivered, or a host answers it, the moves up to then are kept and
-the rest is planned anew. Of the kept moves those that did nothing are dropped: time that only passed.
+The program plays a scenario from its beginning, so the moves of all coming moments are planned and played at once. Where
+what they bring isn't what the plan was made for, as where a host answers a query, or a packet has to be delivered, the moves
+up to then are kept and the rest is planned anew. Of the kept moves those that did nothing are dropped: time that only passed.
 """
 from dataclasses import dataclass, field, replace
 
@@ -27,10 +27,10 @@ class Action:
 
 @dataclass(frozen=True)
 class Due:
-    """What is scheduled: at one moment the lower order comes first."""
+    """What is scheduled: at one moment the lower order comes first, and no two have the same."""
     moment: int
-    order: float
-    action: Action = field(compare=False)
+    order: tuple
+    action: Action
 
     def key(self):
         return self.moment, self.order
@@ -45,6 +45,11 @@ class Batch:
     moves: list = field(default_factory=list)
     steps: list = field(default_factory=list)
     before: int = 0
+
+    def is_as(self, other):
+        """Whether another one has the same moment, and the same happens in it."""
+        return (self.moment, self.is_step) == (other.moment, other.is_step) and \
+            [due.key() for due in self.dues] == [due.key() for due in other.dues]
 
     def make(self, clocks, draws, settle):
         """Its moves: each router comes to the moment before it does anything else."""
@@ -81,16 +86,19 @@ class Player:
     def __post_init__(self):
         self.clocks = {table["name"]: 0 for table in self.routers}
 
-    def plan(self, batches, settle):
-        """As many of the batches as are played at once, with their moves."""
-        clocks, planned, moves = dict(self.clocks), [], 0
-        for batch in batches:
-            batch.before = len(self.moves) + moves
+    def plan(self, traffic, stepped, step, end, settle):
+        """As many of the coming batches as are played at once, with their moves, by a traffic of guesses."""
+        clocks, planned, before = dict(self.clocks), [], len(self.moves)
+        while before < len(self.moves) + self.size and (batch := traffic.coming(stepped, step, end)):
+            traffic.drop(batch)
+            stepped = batch.moment if batch.is_step else stepped
+            batch.before = before
             batch.make(clocks, self.draws, settle)
+            if settle is None:
+                for move in batch.moves:
+                    traffic.guess(move, batch.moment)
             planned.append(batch)
-            moves += len(batch.moves)
-            if moves >= self.size:
-                break
+            before += len(batch.moves)
         return planned
 
     def play(self, planned):
@@ -118,11 +126,3 @@ class Player:
         """The next plan is larger after one that was kept whole."""
         self.size = min(2 * self.size, MOST) if is_whole else FEWEST
 
-
-def batches(dues, steps, end):
-    """The coming batches up to a moment: of what is due, and of the steps of time."""
-    here = {moment: [] for moment in steps}
-    for due in sorted(dues, key=Due.key):
-        if due.moment <= end:
-            here.setdefault(due.moment, []).append(due)
-    return [Batch(moment, here[moment], moment in steps) for moment in sorted(here)]

@@ -368,6 +368,13 @@ def write(protocol, source, destination, ttl, body, options=b""):
     return with_number(head, 10, sum16(head)) + body
 
 
+def aged(data):
+    """A packet with a TTL lower by one, and nothing else changed."""
+    head = 4 * (data[0] & 15)
+    older = with_number(with_number(data[:head], 8, data[8] - 1, 1), 10, 0)
+    return with_number(older, 10, sum16(older)) + data[head:]
+
+
 def write_report(host, records):
     """What a host tells its routers by IGMPv3."""
     body = bytes([0x22, 0, 0, 0, 0, 0]) + len(records).to_bytes(2, "big")

@@ -1,0 +1,120 @@
+"""What is due: what hosts do, and packets on their way between routers, where no settle delivers them.
+
+Whether a packet is lost, how long it takes and whether it is overtaken follows from the seed, its number and its receiver. So
+a plan can guess the packets that routers will send, and what becomes of them: data go on as those before them did. A wrong
+guess costs a play; it never decides anything.
+"""
+import math
+import random
+from dataclasses import dataclass, field
+
+from lab.playing import Action, Batch, Due
+from lab.topology import ways
+from pimtext import packets, story
+
+# What is due at one moment goes in this order.
+START, HOSTS, DELIVERIES, OVERTAKEN = range(4)
+
+
+@dataclass
+class Chances:
+    """What packets suffer: `delay` in ms, from least to most on each link."""
+    seed: int
+    delay: tuple
+    reorder: float
+
+    def of(self, *words):
+        return random.Random(f"{self.seed} {' '.join(map(str, words))}")
+
+
+def is_data(data):
+    return data[9] not in (packets.PIM, packets.IGMP)
+
+
+def delivery(number, router, iface, draw):
+    """The move that brings a packet to a router, as a unicast where there is no interface."""
+    if iface is None:
+        return {"do": "carry", "router": router.name, "frame": number, "draw": draw}
+    return {"do": "deliver", "router": router.name, "iface": iface, "frame": number, "draw": draw}
+
+
+@dataclass
+class Traffic:
+    """`read` is the scenario without its moves. `latest` is when the last packet of each way comes, which the next ones don't
+    overtake; `habits` is on which links each router sent the last data that came on an interface from a source to a group."""
+    net: object
+    read: object
+    chances: Chances
+    dues: dict = field(default_factory=dict)
+    latest: dict = field(default_factory=dict)
+    content: dict = field(default_factory=dict)
+    habits: dict = field(default_factory=dict)
+
+    def copy(self):
+        """Another one for guesses."""
+        return Traffic(self.net, self.read, self.chances, dict(self.dues), dict(self.latest), dict(self.content), self.habits)
+
+    # ---- what is due
+
+    def schedule(self, action, moment, order):
+        self.dues[moment, order] = Due(moment, order, action)
+
+    def coming(self, stepped, step, end):
+        """The next batch up to the end, None where there is none; the last step of time is the end."""
+        tick = min(stepped + step, end) if stepped < end else math.inf
+        moment = min([tick, *(moment for moment, _ in self.dues)])
+        if moment > end:
+            return None
+        here = [self.dues[key] for key in sorted(key for key in self.dues if key[0] == moment)]
+        return Batch(moment, here, moment == tick)
+
+    def drop(self, batch):
+        for due in batch.dues:
+            del self.dues[due.key()]
+
+    # ---- packets on their way
+
+    def leave(self, sent, moment):
+        """A router sent a packet: it is to be delivered, unless it is lost."""
+        self.content[sent.number] = sent.data
+        for name, iface in story.receivers(self.read, sent):
+            self.bring(sent, self.net.routers[name], iface, moment)
+
+    def bring(self, sent, router, iface, moment):
+        chance = self.chances.of(sent.number, router.name, iface)
+        links = self.links_to(sent, router)
+        arrives = math.prod(1 - link.loss for link in links) if links is not None and router.is_up else 0
+        if chance.random() >= arrives:
+            return
+        moment += sum(chance.randint(*self.chances.delay) for _ in links)
+        way, order = (sent.router, sent.where, router.name, iface), DELIVERIES
+        if chance.random() < self.chances.reorder:
+            moment, order = moment + self.chances.delay[1], OVERTAKEN
+        else:
+            self.latest[way] = moment = max(moment, self.latest.get(way, 0))
+        move = delivery(sent.number, router, iface, chance.getrandbits(32))
+        self.schedule(Action([move]), moment, (order, sent.number, router.name, -1 if iface is None else iface))
+
+    def links_to(self, sent, router):
+        """The links on which a packet comes to a router, None where it can't."""
+        if sent.is_unicast():
+            way = ways(self.net.routers[sent.router]).get(router)
+            return None if way is None else way.links
+        link = self.net.links[sent.where]
+        return (link,) if link.is_up else None
+
+    # ---- guesses
+
+    def learn(self, step):
+        """How a router sent data on."""
+        data = step.brought.data if step.brought else bytes.fromhex(step.did.get("hex", ""))
+        if len(data) >= 20 and is_data(data) and all(sent.kind == "copy" for sent in step.sent):
+            self.habits[step.router, step.iface, data[12:20]] = [sent.where for sent in step.sent]
+
+    def guess(self, move, moment):
+        """What a router will send where it takes data: what it sent the last time."""
+        data = self.content.get(move["frame"]) if move["do"] == "deliver" else bytes.fromhex(move.get("hex", ""))
+        if data and is_data(data):
+            for link in self.habits.get((move["router"], move["iface"], data[12:20]), []):
+                number = len(self.content) + 1
+                self.leave(story.Sent("copy", number, link, packets.aged(data), move["router"], 0, moment), moment)
