@@ -25,7 +25,7 @@ class Network:
     def __init__(self, seed=0, loss=0.0, delay=(0.0, 0.0), reorder=0.0, step=1.0):
         self.chance = random.Random(seed)
         self.loss, self.step, self.order = loss, round(1000 * step), count()
-        self.routers, self.links, self.hosts, self.ranges = {}, {}, {}, []
+        self.routers, self.links, self.hosts, self.ranges, self.fixed = {}, {}, {}, [], {}
         self.now = self.present = self.stepped = 0
         self.player, self.sent, self.paths, self.odd = None, [], {}, []
         self.traffic = Traffic(self, None, Chances(seed, tuple(round(1000 * seconds) for seconds in delay), reorder))
@@ -77,12 +77,22 @@ class Network:
         return host
 
     def rp(self, router, groups="224.0.0.0/4", address=None):
-        """The RP of a range of groups, by the address of its first interface where none is given."""
+        """The RP of a range of groups. Where no address of it is given, it is that of a link of its own, which never fails."""
         router = self.find(router)
-        self.ranges = [(prefix, owner, own) for prefix, owner, own in self.ranges if prefix != groups]
-        self.ranges.append((groups, router, address))
+        self.ranges = [row for row in self.ranges if row[0] != groups]
+        self.ranges.append((groups, address or self.loopback(router)))
         if self.player:
             self.each("rps", lambda router: self.rps())
+
+    def rps(self):
+        return [f"{prefix} {address}" for prefix, address in self.ranges]
+
+    def loopback(self, router):
+        """The address of a router on a link that is its alone."""
+        name = f"{router.name}-lo"
+        if name not in self.links:
+            self.link(router, name=name, subnet=f"10.255.{len(self.ranges)}.0/30", loss=0.0)
+        return router.port(self.links[name]).address
 
     def find(self, router):
         """A router by its name, which is made where there is none."""
@@ -100,13 +110,10 @@ class Network:
         """The router that has an address."""
         return next(router for router in self.routers.values() for port in router.ports if port.address == address)
 
-    def rps(self):
-        return [f"{prefix} {address or router.address}" for prefix, router, address in self.ranges]
-
     def table(self, router):
         """A router's table in the scenario file."""
         ports = [port.table() for port in router.ports]
-        return {"name": router.name, "iface": ports, "routes": routes(router), "rps": self.rps(), **router.options}
+        return {"name": router.name, "iface": ports, "routes": self.routes_of(router), "rps": self.rps(), **router.options}
 
     # ---- what changes
 
@@ -125,18 +132,31 @@ class Network:
             thing.is_up = is_up
             self.settles = False
             self.schedule(Action([self.turned(port) for port in ports]), self.now)
-            self.each("routes", routes)
+            self.each("routes", self.routes_of)
 
     def turned(self, port):
         do = "up" if port.is_up() else "down"
         return {"do": do, "router": port.router.name, "iface": port.number, "draw": self.draw()}
 
+    def news(self, do, router, texts):
+        return {"do": do, "router": router.name, "list": texts, "draw": self.draw()}
+
     def each(self, do, listing):
         """New routes or ranges for all routers that are up."""
-        self.schedule(Action([
-            {"do": do, "router": router.name, "list": listing(router), "draw": self.draw()}
-            for router in self.routers.values() if router.is_up
-        ]), self.now)
+        here = [router for router in self.routers.values() if router.is_up]
+        self.schedule(Action([self.news(do, router, listing(router)) for router in here]), self.now)
+
+    def routes(self, router, *texts):
+        """Routes that a router has beside, or in the place of, those by shortest path: `PREFIX NEXTHOP IFACE PREFERENCE METRIC`."""
+        router = self.find(router)
+        self.fixed[router] = self.fixed.get(router, ()) + texts
+        if self.player:
+            self.schedule(Action([self.news("routes", router, self.routes_of(router))]), self.now)
+
+    def routes_of(self, router):
+        fixed = self.fixed.get(router, ())
+        prefixes = {text.split()[0] for text in fixed}
+        return [*fixed, *(text for text in routes(router) if text.split()[0] not in prefixes)]
 
     # ---- time
 

@@ -4,6 +4,8 @@ from dataclasses import dataclass, field
 from ipaddress import IPv4Network
 from itertools import count
 
+from pimtext.printed import Neighbour
+
 # Routes have OSPF's preference.
 PREFERENCE = 110
 
@@ -29,18 +31,12 @@ class Router:
         """Its first interface on a link."""
         return next(port for port in self.ports if port.link is link)
 
-    @property
-    def address(self):
-        """The address of its first interface."""
-        return self.ports[0].address
-
     def rows(self, kind, **values):
         """The rows of a table, as of the end of the last `run`, that have these values."""
         return self.net.tables()[self.name].of(kind, **values)
 
     def neighbours(self):
         """The names of the routers that it has as PIM neighbours."""
-        from pimtext.printed import Neighbour
         return {self.net.owner(row.address).name for row in self.rows(Neighbour)}
 
 

@@ -1,0 +1,172 @@
+"""Networks in Python: routes, hosts, lossy links, and the examples."""
+import subprocess
+import sys
+import tomllib
+import unittest
+
+from lab import GroupRecord, Network, hosts, topology
+from lab.hosts import ALLOW, BLOCK, IS_EX, IS_IN, TO_EX, TO_IN, Wish
+from pimtext import packets, scenario, story
+from tests import stored
+
+GROUP = "239.1.1.1"
+
+
+def small(**words):
+    """A camera, two routers of which the second is the RP, and a viewer; the viewer has joined."""
+    net = Network(**words)
+    net.line("r1", "r2")
+    net.rp("r2")
+    camera, viewer = net.host("camera", "r1"), net.host("viewer", "r2")
+    net.run(10)
+    viewer.join(GROUP)
+    net.run(5)
+    return net, camera, viewer
+
+
+def received(**words):
+    """The numbers of a stream's packets that a viewer received, in their order, and when the first one came after it was sent."""
+    net = Network(**words)
+    net.line("r1", "r2")
+    camera, viewer = net.host("camera", "r1"), net.host("viewer", "r2")
+    net.run(10)
+    viewer.join("232.1.1.1", camera.address)
+    net.run(5)
+    camera.stream("232.1.1.1", every=0.05, times=20)
+    net.run(5)
+    return [int(payload) for payload in viewer.payloads()], viewer.received[0].moment - 15_000
+
+
+def wish(is_exclude, *sources):
+    return Wish(is_exclude, frozenset(sources))
+
+
+class Routes(unittest.TestCase):
+    def test_shortest_paths(self):
+        net = Network()
+        net.link("a", "b", cost=1)
+        net.link("b", "c", cost=1)
+        net.link("a", "c", cost=5)
+        net.host("far", "c")
+        self.assertEqual(topology.routes(net.routers["a"]), ["10.0.2.0/24 10.0.1.2 0 110 2", "10.0.4.0/24 10.0.1.2 0 110 12"])
+
+    def test_fixed_routes_take_the_place_of_others(self):
+        net = Network()
+        net.line("a", "b", "c")
+        net.routes("a", "10.0.2.0/24 10.0.1.9 0 1 1", "10.9.0.0/16 10.0.1.2 0 1 1")
+        self.assertEqual(net.routes_of(net.routers["a"]), ["10.0.2.0/24 10.0.1.9 0 1 1", "10.9.0.0/16 10.0.1.2 0 1 1"])
+
+    def test_wrong_networks_are_told(self):
+        net = Network()
+        net.link("a", "b")
+        with self.assertRaises(ValueError):
+            net.link("a", "b")
+        with self.assertRaises(ValueError):
+            net.tables()
+        net.run(1)
+        with self.assertRaises(ValueError):
+            net.host("late", "a")
+
+
+class Hosts(unittest.TestCase):
+    def test_changes_are_told_as_the_rfc_has_it(self):
+        self.assertEqual(hosts.change(wish(False), wish(True)), [(TO_EX, frozenset())])
+        self.assertEqual(hosts.change(wish(True, "1"), wish(False, "2")), [(TO_IN, {"2"})])
+        self.assertEqual(hosts.change(wish(False, "1", "2"), wish(False, "2", "3")), [(ALLOW, {"3"}), (BLOCK, {"1"})])
+        self.assertEqual(hosts.change(wish(True, "1", "2"), wish(True, "2", "3")), [(ALLOW, {"1"}), (BLOCK, {"3"})])
+        self.assertEqual(hosts.change(wish(True), wish(True)), [])
+
+    def test_answers_are_those_of_the_rfc(self):
+        general = packets.Query("0.0.0.0", (), 100, False, 2, 125)
+        some = packets.Query(GROUP, ("1", "2"), 10, False, 2, 125)
+        self.assertEqual(hosts.answer(wish(True, "1"), general), (IS_EX, {"1"}))
+        self.assertEqual(hosts.answer(wish(False, "1"), some), (IS_IN, {"1"}))
+        self.assertEqual(hosts.answer(wish(True, "1"), some), (IS_IN, {"2"}))
+        self.assertIsNone(hosts.answer(wish(False, "3"), some))
+
+    def test_a_host_that_stays_is_served_for_ever(self):
+        net, camera, viewer = small(step=5)
+        net.run(600)
+        camera.send(GROUP, b"late")
+        net.run(5)
+        self.assertEqual(viewer.payloads(), [b"late"])
+
+    def test_one_host_leaves_and_another_one_on_its_link_stays(self):
+        net = Network()
+        net.line("r1", "r2")
+        net.rp("r2")
+        camera, viewer = net.host("camera", "r1"), net.host("viewer", "r2")
+        second = net.host("second", "viewer")
+        net.run(10)
+        viewer.join(GROUP)
+        second.join(GROUP)
+        net.run(5)
+        viewer.leave(GROUP)
+        net.run(10)
+        camera.send(GROUP, b"one")
+        net.run(1)
+        self.assertEqual((viewer.payloads(), second.payloads()), ([], [b"one"]))
+        second.leave(GROUP)
+        net.run(10)
+        self.assertEqual(net.routers["r2"].rows(GroupRecord), [])
+
+    def test_a_group_but_for_a_source(self):
+        net, camera, viewer = small()
+        viewer.leave(GROUP, camera.address)
+        net.run(5)
+        camera.send(GROUP, b"unwanted")
+        net.run(5)
+        self.assertEqual(viewer.received, [])
+
+
+class Links(unittest.TestCase):
+    LOSSY = {"seed": 3, "loss": 0.2, "delay": (0.001, 0.03), "reorder": 0.3}
+
+    def test_what_is_saved_plays_the_same(self):
+        for words in ({}, self.LOSSY):
+            net, camera, viewer = small(**words)
+            camera.stream(GROUP, every=0.25, times=8)
+            net.run(20)
+            read = scenario.scenario_of(tomllib.loads(net.scenario()))
+            steps, tables = story.played(read, scenario.run_text(net.scenario()))
+            again = [(sent.number, sent.where, sent.data, sent.move) for step in steps for sent in step.sent]
+            self.assertEqual(again, [(sent.number, sent.where, sent.data, sent.move) for sent in net.sent])
+            self.assertEqual({name: table.rows for name, table in tables.items()}, {n: t.rows for n, t in net.tables().items()})
+
+    def test_a_seed_says_it_all(self):
+        seen = []
+        for seed in (1, 1, 2):
+            net, camera, viewer = small(**{**self.LOSSY, "seed": seed})
+            camera.stream(GROUP, every=0.1, times=20)
+            net.run(5)
+            seen.append([(packet.moment, packet.payload) for packet in viewer.received])
+        self.assertEqual(seen[0], seen[1])
+        self.assertNotEqual(seen[0], seen[2])
+
+    def test_all_is_lost(self):
+        net, camera, viewer = small(loss=1.0)
+        camera.stream(GROUP, times=3)
+        net.run(5)
+        self.assertEqual((viewer.received, net.routers["r1"].neighbours()), ([], set()))
+
+    def test_packets_are_late_and_keep_their_order(self):
+        numbers, first = received(delay=(0.01, 0.2))
+        self.assertEqual(numbers, list(range(1, 21)))
+        self.assertTrue(10 <= first <= 200, first)
+
+    def test_some_are_overtaken(self):
+        numbers, _ = received(delay=(0.01, 0.1), reorder=0.5)
+        self.assertNotEqual(numbers, list(range(1, 21)))
+        self.assertEqual(sorted(numbers), list(range(1, 21)))
+
+
+class Examples(unittest.TestCase):
+    def test_each_example(self):
+        for path in sorted((stored.TOOLS / "lab" / "examples").glob("*.py")):
+            with self.subTest(path=path.name):
+                ran = subprocess.run([sys.executable, stored.TOOLS / "lab", path], capture_output=True, text=True)
+                self.assertEqual((ran.returncode, ran.stderr), (0, ""))
+
+
+if __name__ == "__main__":
+    unittest.main()
