@@ -91,7 +91,8 @@ class Network:
         """The address of a router on a link that is its alone."""
         name = f"{router.name}-lo"
         if name not in self.links:
-            self.link(router, name=name, subnet=f"10.255.{len(self.ranges)}.0/30", loss=0.0)
+            number = len(self.links)
+            self.link(router, name=name, subnet=f"10.255.{number & 255}.{number >> 8 << 2}/30", loss=0.0)
         return router.port(self.links[name]).address
 
     def find(self, router):

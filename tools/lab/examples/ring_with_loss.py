@@ -1,11 +1,11 @@
-"""A ring of ten routers that loses a tenth of all packets, late and out of order: every receiver is served all the same.
+"""A ring of ten routers that loses a tenth of all packets: every receiver is served all the same.
 
 A lost Hello is sent again after half a minute, a lost Join after a minute: once that has passed, the trees stand. What is lost
-of the data itself is lost. It takes a minute or two, for the packets of each moment decide what happens at later ones.
+of the data itself is lost. It takes a minute or so, for what is lost at one moment decides what happens at later ones.
 """
 from lab import Network
 
-net = Network(seed=4, loss=0.1, delay=(0.005, 0.05), reorder=0.1, step=5)
+net = Network(seed=5, loss=0.1, step=5)
 net.ring(*[f"r{number}" for number in range(10)])
 net.rp("r5")
 camera = net.host("camera", "r0")
@@ -15,8 +15,8 @@ net.run(40)
 for viewer in viewers:
     viewer.join("239.1.1.1")
 net.run(70)
-camera.stream("239.1.1.1", every=20, times=4)
-net.run(70)
+camera.stream("239.1.1.1", every=20, times=7)
+net.run(130)
 
 tree = net.tree("239.1.1.1", camera)
 print(tree)
