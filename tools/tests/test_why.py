@@ -393,6 +393,15 @@ class Odd(unittest.TestCase):
             with self.subTest(wanted):
                 self.assertTrue(any(wanted in note for note in said), said)
 
+    def test_a_settle_that_stops_at_its_limit_is_noted(self):
+        names = [f"r{number}" for number in range(1, 65)]
+        links = [[{"link": "lan", "address": f"10.0.0.{number}/24"}] for number in range(1, 65)]
+        routers = [{"name": name, "iface": link} for name, link in zip(names, links)]
+        moves = [{"do": "up", "router": name, "iface": 0} for name in names]
+        moves += [{"do": "advance", "router": name, "moment": 40_000} for name in names]
+        said = self.noted(scenario.text_of(routers, [*moves, {"do": "settle"}]))
+        self.assertTrue(any("move 129 (settle) stopped at its limit of 10000 deliveries" in note for note in said), said)
+
     def test_each_stored_run_can_be_noted(self):
         for path, lines in stored.played():
             text = path.read_text()
