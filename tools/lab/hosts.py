@@ -104,7 +104,8 @@ class Host:
 
     def records(self, query):
         """What it says to a query at the present."""
-        groups = sorted(self.wishes, key=packets.octets) if query.group == "0.0.0.0" else [query.group] * (query.group in self.wishes)
+        asked = [group for group in self.wishes if query.group in ("0.0.0.0", group)]
+        groups = sorted(asked, key=packets.octets)
         answers = [(group, answer(self.wishes[group], query)) for group in groups]
         return [record(told[0], group, told[1]) for group, told in answers if told]
 

@@ -42,7 +42,7 @@ class Network:
         return self.routers[name]
 
     def link(self, *routers, name=None, subnet=None, cost=10, loss=None):
-        """A link of two or more routers, or of one for its hosts. Routers are told by name too, and are made where they are new."""
+        """A link of routers, or of one for its hosts. They are told by name too, and are made where they are new."""
         routers = [self.find(router) for router in routers]
         name = name or "-".join(router.name for router in routers)
         self.is_new(name, self.links)
@@ -148,7 +148,7 @@ class Network:
         self.schedule(Action([self.news(do, router, listing(router)) for router in here]), self.now)
 
     def routes(self, router, *texts):
-        """Routes that a router has beside, or in the place of, those by shortest path: `PREFIX NEXTHOP IFACE PREFERENCE METRIC`."""
+        """Routes that go before those by shortest path, as `PREFIX NEXTHOP IFACE PREFERENCE METRIC`."""
         router = self.find(router)
         self.fixed[router] = self.fixed.get(router, ()) + texts
         if self.player:
@@ -256,8 +256,9 @@ class Network:
 
     def troubles(self):
         """What routers refused or ignored, in words."""
+        played = self.player.played
         return [
-            f"at {words.seconds(moment)} {step.router}: {words.step(step, self.player.played)}: {words.answer(step.verdict, step.cause)}"
+            f"at {words.seconds(moment)} {step.router}: {words.step(step, played)}: {words.answer(step.verdict, step.cause)}"
             for moment, step in self.odd
         ]
 

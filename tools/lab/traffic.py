@@ -1,6 +1,6 @@
 """What is due: what hosts do, and packets on their way between routers, where no settle delivers them.
 
-Whether a packet is lost, how long it takes and whether it is overtaken follows from the seed, its number and its receiver. So
+Whether a packet is lost, how long it takes and whether it is overtaken follows from a seed, its number and its receiver. So
 a plan can guess the packets that routers will send, and what becomes of them: data go on as those before them did. A wrong
 guess costs a play; it never decides anything.
 """

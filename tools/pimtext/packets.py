@@ -260,7 +260,8 @@ def read_assert(fields):
 
 
 PIM_READERS = {
-    HELLO: read_hello, REGISTER: read_register, REGISTER_STOP: read_register_stop, JOIN_PRUNE: read_join_prune, ASSERT: read_assert,
+    HELLO: read_hello, REGISTER: read_register, REGISTER_STOP: read_register_stop, JOIN_PRUNE: read_join_prune,
+    ASSERT: read_assert,
 }
 
 

@@ -93,7 +93,8 @@ class Active(NamedTuple):
 
 
 ROWS = {
-    "N": Neighbour, "G": GroupRecord, "S": SourceRecord, "D": Downstream, "A": AssertState, "U": Upstream, "R": SharedTree, "F": Active,
+    "N": Neighbour, "G": GroupRecord, "S": SourceRecord, "D": Downstream, "A": AssertState, "U": Upstream,
+    "R": SharedTree, "F": Active,
 }
 PACKETS = ("frame", "copy", "unicast")
 

@@ -94,7 +94,7 @@ class Teller:
         return self.moments.get(router, 0)
 
     def deliveries(self):
-        """What the settle that has begun delivers. What is sent meanwhile follows, so it is asked after each delivery's packets."""
+        """What the settle that has begun delivers. What is sent meanwhile follows: it is asked after each delivery."""
         made = 0
         while self.taken < len(self.sent) and made < SETTLE_LIMIT:
             sent = self.sent[self.taken]

@@ -23,7 +23,8 @@ def sent_of(path, lines):
 
 def fields(path, *names, where="frame"):
     """These fields of each packet, as tshark reads them; it doesn't look into UDP."""
-    words = ["tshark", "-n", "--disable-protocol", "udp", "-r", path, "-Y", where, "-T", "fields", *(word for name in names for word in ("-e", name))]
+    wanted = [word for name in names for word in ("-e", name)]
+    words = ["tshark", "-n", "--disable-protocol", "udp", "-r", path, "-Y", where, "-T", "fields", *wanted]
     read = subprocess.run(words, capture_output=True, text=True, check=True).stdout
     return [line.split("\t") for line in read.splitlines()]
 

@@ -15,14 +15,14 @@ net.run(40)
 for viewer in viewers:
     viewer.join("239.1.1.1")
 net.run(70)
-camera.stream("239.1.1.1", every=20, times=7)
-net.run(130)
+camera.stream("239.1.1.1", every=40, times=3)
+net.run(125)
 
 tree = net.tree("239.1.1.1", camera)
 print(tree)
 seen = {viewer: len(viewer.received) for viewer in viewers}
-camera.stream("239.1.1.1", every=1, times=8)
-net.run(10)
+camera.stream("239.1.1.1", every=0.1, times=8)
+net.run(1)
 for viewer in viewers:
     last = viewer.received[seen[viewer]:]
     print(f"{viewer.name}: {len(last)} of the last 8 packets, by {' '.join(last[-1].path)}")
