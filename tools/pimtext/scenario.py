@@ -48,7 +48,10 @@ class Scenario:
     moves: list
 
     def router(self, name):
-        return next(router for router in self.routers if router.name == name)
+        for router in self.routers:
+            if router.name == name:
+                return router
+        raise LookupError(f"the scenario has no router {name!r}")
 
     def links(self):
         """The links with their subnets, in the order in which they are named."""

@@ -31,7 +31,7 @@ class Shown(unittest.TestCase):
 
     def test_lines_of_another_scenario_are_found(self):
         lines = (stored.EXAMPLES / "one_join.out").read_text().splitlines()
-        with self.assertRaises((story.Untold, StopIteration)):
+        with self.assertRaises((story.Untold, LookupError)):
             list(show.shown(lines, scenario.read(stored.EXAMPLES / "lan_assert.toml")))
 
 
