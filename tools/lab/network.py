@@ -225,7 +225,9 @@ class Network:
         self.sent.append(sent)
         if not sent.is_unicast():
             self.tell_hosts(self.links[sent.where], sent, sent.packet())
-        if not self.settles:
+        if self.settles:
+            self.traffic.note(sent)
+        else:
             self.traffic.leave(sent, self.present)
 
     def tell_hosts(self, link, sent, packet):

@@ -41,7 +41,8 @@ def delivery(number, router, iface, draw):
 @dataclass
 class Traffic:
     """`read` is the scenario without its moves. `latest` is when the last packet of each way comes, which the next ones don't
-    overtake; `habits` is on which links each router sent the last data that came on an interface from a source to a group."""
+    overtake, `content` what each packet was by its number; `habits` is on which links each router sent the last data that came
+    on an interface from a source to a group."""
     net: object
     read: object
     chances: Chances
@@ -49,10 +50,12 @@ class Traffic:
     latest: dict = field(default_factory=dict)
     content: dict = field(default_factory=dict)
     habits: dict = field(default_factory=dict)
+    last: int = 0
 
     def copy(self):
         """Another one for guesses."""
-        return Traffic(self.net, self.read, self.chances, dict(self.dues), dict(self.latest), dict(self.content), self.habits)
+        return Traffic(self.net, self.read, self.chances, dict(self.dues), dict(self.latest), dict(self.content), self.habits,
+                       self.last)
 
     # ---- what is due
 
@@ -74,9 +77,13 @@ class Traffic:
 
     # ---- packets on their way
 
+    def note(self, sent):
+        """A router sent a packet."""
+        self.content[sent.number], self.last = sent.data, sent.number
+
     def leave(self, sent, moment):
         """A router sent a packet: it is to be delivered, unless it is lost."""
-        self.content[sent.number] = sent.data
+        self.note(sent)
         for name, iface in story.receivers(self.read, sent):
             self.bring(sent, self.net.routers[name], iface, moment)
 
@@ -116,5 +123,5 @@ class Traffic:
         data = self.content.get(move["frame"]) if move["do"] == "deliver" else bytes.fromhex(move.get("hex", ""))
         if data and is_data(data):
             for link in self.habits.get((move["router"], move["iface"], data[12:20]), []):
-                number = len(self.content) + 1
-                self.leave(story.Sent("copy", number, link, packets.aged(data), move["router"], 0, moment), moment)
+                copy = story.Sent("copy", self.last + 1, link, packets.aged(data), move["router"], 0, moment)
+                self.leave(copy, moment)
