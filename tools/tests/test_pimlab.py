@@ -1,0 +1,79 @@
+"""`./pimlab`: the stored scenarios print their lines, and its words, streams and status are the program's."""
+import os
+import shutil
+import subprocess
+import sys
+import tempfile
+import unittest
+from concurrent.futures import ThreadPoolExecutor
+from pathlib import Path
+
+from pimtext.scenario import PIMLAB
+from tests import stored
+
+ONE_JOIN = stored.EXAMPLES / "one_join.toml"
+
+
+def called(*words, **how):
+    """Its status and what it printed, called with these words."""
+    ran = subprocess.run([sys.executable, PIMLAB, *words], stdout=subprocess.PIPE, stderr=subprocess.PIPE, **how)
+    return ran.returncode, ran.stdout, ran.stderr
+
+
+def printed(path):
+    """The same of a stored scenario, and what is stored of it."""
+    out, err = path.with_suffix(".out"), path.with_suffix(".err")
+    lines = out.read_bytes() if out.exists() else b""
+    tables = ["--tables"] if b"\nrouter " in lines else []
+    status, _, told = err.read_bytes().partition(b"\n") if err.exists() else (b"0", b"", b"")
+    return called("run", path, *tables), (int(status), lines, told)
+
+
+class Stored(unittest.TestCase):
+    def test_stored_scenarios_print_their_lines(self):
+        paths = sorted(stored.DATA.glob("*.toml"))
+        # The first call may build.
+        called("check", ONE_JOIN)
+        with ThreadPoolExecutor(2) as pool:
+            for path, (said, wanted) in zip(paths, pool.map(printed, paths)):
+                with self.subTest(path.name):
+                    self.assertEqual(said, wanted)
+
+
+class Called(unittest.TestCase):
+    def test_a_file_by_its_name_in_a_folder(self):
+        self.assertEqual(called("check", ONE_JOIN.name, cwd=stored.EXAMPLES), (0, b"ok\n", b""))
+
+    def test_standard_input(self):
+        self.assertEqual(called("check", "-", input=ONE_JOIN.read_bytes()), (0, b"ok\n", b""))
+
+    def test_a_file_that_is_not_there_goes_by_the_name_given(self):
+        self.assertEqual(called("run", "not\nthere"), (2, b"", b"pimlab: cannot read not\nthere\n"))
+
+    def test_words_that_are_refused(self):
+        self.assertEqual(called(), (2, b"", b"pimlab: command line refused\n"))
+        self.assertEqual(called("run", ONE_JOIN, "--wire", "none"), (2, b"", b"pimlab: command line refused\n"))
+
+    def test_help(self):
+        status, out, err = called("--help")
+        self.assertEqual((status, err), (0, b""))
+        self.assertIn(b"Usage: pimlab <COMMAND>", out)
+
+    def test_a_line_that_cannot_be_written(self):
+        with open("/dev/full", "wb") as full:
+            ran = subprocess.run([sys.executable, PIMLAB, "check", ONE_JOIN], stdout=full, stderr=subprocess.PIPE)
+        self.assertEqual((ran.returncode, ran.stderr), (3, b"pimlab: wire fault\n"))
+
+    def test_without_a_build_and_without_the_kit_it_says_so_in_one_line(self):
+        with tempfile.TemporaryDirectory() as room:
+            shutil.copy(PIMLAB, room)
+            shutil.copy(PIMLAB.parent / "crates.txt", room)
+            os.mkdir(f"{room}/crates")
+            how = {"env": {"PATH": "/nowhere"}, "capture_output": True}
+            ran = subprocess.run([sys.executable, Path(room) / "pimlab", "check", ONE_JOIN], **how)
+        self.assertEqual((ran.returncode, ran.stdout, ran.stderr.count(b"\n")), (1, b"", 1))
+        self.assertIn(b"there is no command `rt`", ran.stderr)
+
+
+if __name__ == "__main__":
+    unittest.main()
