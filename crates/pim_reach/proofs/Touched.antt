@@ -63,13 +63,18 @@ pub event_alone : (s : State) → IsQuiet s → (w : ℕ) (a : Accepted) (keys :
     → touched_by_event s a ≡ Some keys → named_by s (change s w a).state ≡ named_where (touching keys) s (change s w a).state
 event_alone s quiet w a keys e = touched_alone keys s (change s w a).state quiet (change_touches s w a keys e)
 
-pub firing_alone : (s : State) → IsQuiet s → (e : Ending) → isnt_neighbour e.timer.kind ≡ true
-    → named_by s (own_firing s e) ≡ named_where (touching (touched_by e.timer.kind e.timer.key)) s (own_firing s e)
+-- the own change of a timer's end, its moment with it
+pub firing_agrees : (s : State) (e : Ending) → isnt_neighbour e.timer.kind ≡ true
+    → AgreesBut (touching (touched_by e.timer.kind e.timer.key)) s (own_firing s e)
 unfolding own_firing
-firing_alone s quiet e is =
+firing_agrees s e is =
     let keys : List Key = touched_by e.timer.kind e.timer.key in
     let opened : State = record s { present = e.end } in
-    touched_alone keys s (fired opened e.timer.kind e.timer.key).0 quiet
-    (agrees_then (touching keys) s opened (fired opened e.timer.kind e.timer.key).0
+    agrees_then (touching keys) s opened (fired opened e.timer.kind e.timer.key).0
     (widened [] keys s opened refl (present_touches_none s e.end))
-    (timer_touches opened e.timer.key e.timer.kind is))
+    (timer_touches opened e.timer.key e.timer.kind is)
+
+pub firing_alone : (s : State) → IsQuiet s → (e : Ending) → isnt_neighbour e.timer.kind ≡ true
+    → named_by s (own_firing s e) ≡ named_where (touching (touched_by e.timer.kind e.timer.key)) s (own_firing s e)
+firing_alone s quiet e is =
+    touched_alone (touched_by e.timer.kind e.timer.key) s (own_firing s e) quiet (firing_agrees s e is)

@@ -1,0 +1,15 @@
+pub mod Links
+pub mod Made
+pub mod Copies
+pub mod Served
+pub mod Counting
+pub mod Fewer
+pub mod Within
+pub mod Asserts
+pub mod Others
+pub mod Bounded
+pub mod Reports
+pub mod Read
+pub mod Settings
+pub mod Independent
+pub mod Brought

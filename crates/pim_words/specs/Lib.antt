@@ -1,0 +1,5 @@
+pub mod Copies
+pub mod Served
+pub mod Bounded
+pub mod Independent
+pub mod Brought
