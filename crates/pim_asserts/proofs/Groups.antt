@@ -15,8 +15,8 @@ use Rattle.pim_model.specs.Tables.{Table}
 use Rattle.pim_model.specs.Upstream.{groups_of, source_view, sources_of, star_view}
 use Rattle.pim_laws.proofs.ListLaws.{each_more, each_of_all}
 use Rattle.pim_laws.proofs.Numbers.{RisesFrom, rises_ascending}
-use Rattle.pim_macros.specs.Touches.{touched_keys}
-use Rattle.pim_macros.specs.declared.touched.Touched.{Touched}
+use Rattle.pim_world.specs.Touches.{touched_keys}
+use Rattle.pim_world.specs.declared.touched.Touched.{Touched}
 use Rattle.pim_opening.specs.declared.opening.SourceOpening.{SourceOpening}
 use Rattle.pim_opening.specs.Openings.{group_opening, is_whole, opening_of, source_opening, touched_sources}
 use Rattle.pim_ready.proofs.RisingKeys.{Up}

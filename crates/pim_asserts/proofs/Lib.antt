@@ -18,6 +18,7 @@ mod FirstInterface
 mod PartToClear
 mod Fuel
 mod Progress
+mod Alone
 mod SptBit
 mod Receiving
 mod Needed

@@ -1,5 +1,5 @@
 -- Where a loop over changes stands: what was cleared so far, and what is left.
-use Rattle.std.proofs.Common.{◌≡◌, None, false, ◌<◌, ◌≤◌, ◌+◌, ℕ, List, [], ◌∷◌, ◌++◌, refl, ap, sym, ◌∙◌, append-nil, append_assoc, drop, get_or, length}
+use Rattle.std.proofs.Common.{◌≡◌, None, false, ◌<◌, ◌≤◌, ◌+◌, ℕ, List, [], ◌∷◌, ◌++◌, refl, ap, sym, ◌∙◌, drop, get_or, length}
 use Rattle.std.proofs.lemmas.List.{drop_more, drop_all}
 use Rattle.pim_ip.specs.Addr.{addr}
 use Rattle.pim_types.specs.declared.upstream.TreeState.{TreeState}
@@ -7,14 +7,8 @@ use Rattle.pim_opening.specs.declared.opening.SourceOpening.{SourceOpening}
 use Rattle.pim_model.specs.Messages.{Message}
 use Rattle.pim_model.specs.Querier.{each_in_turn}
 use Rattle.pim_model.specs.State.{State}
-use Rattle.pim_macros.specs.Turns.{Taking, saying}
-
-pub said_nothing : (t : Taking) → saying t [] ≡ t
-said_nothing t = ap (λ (ms : List Message). let u : Taking = record t { messages = ms } in u) (append-nil t.messages)
-
-pub said_both : (t : Taking) (ms ns : List Message) → saying (saying t ms) ns ≡ saying t (ms ++ ns)
-said_both t ms ns =
-    ap (λ (xs : List Message). let u : Taking = record t { messages = xs } in u) (append_assoc t.messages ms ns)
+use Rattle.pim_world.proofs.Said.{said_both, said_nothing}
+use Rattle.pim_world.specs.Turns.{Taking, saying}
 
 -- what is left to do makes of the state and of the turn what the whole makes of those at the beginning
 pub record Stands (left whole : State × List Message) (t before : Taking) : Type 0 where

@@ -1,6 +1,7 @@
 //! What must go after a change: asserts, and SPTbits with the asserts that they kept.
-ghost use Rattle.std.specs.Prelude.{◌≡◌, OnOk, Some};
-ghost use Rattle.pim_macros.specs.Turns.{saying};
+ghost use Rattle.std.specs.Prelude.{◌≡◌, ◌∷◌, [], OnOk, Some, false};
+ghost use Rattle.pim_macros.specs.Sights.{IsSourceSight};
+ghost use Rattle.pim_world.specs.Turns.{saying};
 ghost use Rattle.pim_model.specs.Asserts.{without_spt_bit};
 ghost use Rattle.pim_model.specs.Querier.{each_in_turn};
 ghost use Rattle.pim_model.specs.Desires.{join_desired};
@@ -8,11 +9,13 @@ ghost use Rattle.pim_model.specs.Tables.{row_at};
 ghost use Rattle.pim_types.specs.Keys.{source_key};
 ghost use Rattle.pim_asserts.specs.Opened.{clear_asserts, clear_bit, clear_bits, clear_by, clear_source, clear_star};
 
+use crate::going::first_of_source;
 use crate::part::{Part, clear_part};
-use pim_macros::{Turn, World};
+use pim_macros::{SourceSight, StarSight};
 use pim_opening::{GroupOpening, Opening, SourceOpening};
 use pim_types::fact::SourceRow;
 use pim_types::{Addr, IfaceId, Key};
+use pim_world::{Turn, World};
 use std::alloc::AllocError;
 
 // The asserts of (*,G), where all of the group was opened.
@@ -113,7 +116,7 @@ fn forget_spt_bit(
         .keepalive
         .is_some()
         .then_some(SourceRow { spt: false, ..row });
-    world.set_source(group, source, left)
+    world.store_mut().set_source(group, source, left)
 }
 
 // An SPTbit that JoinDesired(S,G) doesn't keep, and the asserts that must go without it.
@@ -127,7 +130,10 @@ fn clear_bit(
     ensures state { OnOk result (world.new ≡ (clear_bit group.bits world.old opened).0) }
     ensures messages { OnOk result (turn.new ≡ saying turn.old (clear_bit group.bits world.old opened).1) }
 {
-    let Some(row) = world.source_at(Key::source(IfaceId::NONE, group, opened.source)) else {
+    let Some(row) = world
+        .store()
+        .source(Key::source(IfaceId::NONE, group, opened.source))
+    else {
         return Ok(());
     };
     if !row.spt || is_joined(world, turn, group, opened.source) {
@@ -142,9 +148,9 @@ fn is_joined(world: &World, turn: &mut Turn, group: Addr, source: Addr) -> bool
     ensures desired { result ≡ join_desired world.now group.bits source.bits }
     ensures silent { turn.new ≡ turn.old }
 {
-    let star = world.gather_star(group, &mut turn.meter);
-    let sight = world.gather_source(star, source, &mut turn.meter);
-    world.join_desired(&sight)
+    let star = StarSight::of(world, group, &mut turn.meter);
+    let sight = SourceSight::of(world, star, source, &mut turn.meter);
+    sight.join_desired()
 }
 
 // The SPTbits of a group's sources, one source after the other.
@@ -184,4 +190,81 @@ pub fn clear(world: &mut World, turn: &mut Turn, opening: &Opening) -> Result<()
 {
     clear_all_asserts(world, turn, opening.groups())?;
     clear_all_bits(world, turn, opening.groups())
+}
+
+// The asserts of the sight's source. The sight is true of the state before, and then of the state after.
+#[tactic(auto, unfolding(crate::specs::Opened::clear_source))]
+fn clear_source_seen(
+    world: &mut World,
+    turn: &mut Turn,
+    opened: SourceOpening,
+    sight: &mut SourceSight,
+) -> Result<(), AllocError>
+    requires sight { IsSourceSight world.old sight.old }
+    requires source { sight.old.source ≡ opened.source }
+    ensures state { OnOk result (world.new ≡ (clear_source sight.old.star.group.bits world.old opened).0) }
+    ensures messages { OnOk result (turn.new
+        ≡ saying turn.old (clear_source sight.old.star.group.bits world.old opened).1) }
+    ensures sight { OnOk result (IsSourceSight world.new sight.new) }
+    ensures group { OnOk result (sight.new.star.group ≡ sight.old.star.group) }
+    ensures source { OnOk result (sight.new.source ≡ sight.old.source) }
+{
+    // It tells that asserts are under keys of their kind, each of which stands once.
+    world.are_keyed();
+    let Some(_) = first_of_source(world, sight, opened.view.iface) else {
+        return Ok(());
+    };
+    clear_source(world, turn, sight.star.group, opened)?;
+    *sight = sight.anew(world, &mut turn.meter);
+    Ok(())
+}
+
+// The SPTbit of the sight's source, likewise.
+#[tactic(auto, unfolding(crate::specs::Opened::clear_bit))]
+fn clear_bit_seen(
+    world: &mut World,
+    turn: &mut Turn,
+    opened: SourceOpening,
+    sight: &mut SourceSight,
+) -> Result<(), AllocError>
+    requires sight { IsSourceSight world.old sight.old }
+    requires source { sight.old.source ≡ opened.source }
+    ensures state { OnOk result (world.new ≡ (clear_bit sight.old.star.group.bits world.old opened).0) }
+    ensures messages { OnOk result (turn.new
+        ≡ saying turn.old (clear_bit sight.old.star.group.bits world.old opened).1) }
+    ensures sight { OnOk result (IsSourceSight world.new sight.new) }
+    ensures group { OnOk result (sight.new.star.group ≡ sight.old.star.group) }
+    ensures source { OnOk result (sight.new.source ≡ sight.old.source) }
+{
+    if !sight.spt || sight.join_desired() {
+        return Ok(());
+    }
+    clear_bit(world, turn, sight.star.group, opened)?;
+    *sight = sight.anew(world, &mut turn.meter);
+    Ok(())
+}
+
+/// The same where one source alone was opened, by its sight, which is gathered anew only where something goes: it is
+/// true of the state before, and then of the state after.
+#[tactic(auto, unfolding(crate::specs::Opened::clear_by, crate::specs::Opened::clear_asserts, crate::specs::Opened::clear_star, crate::specs::Opened::clear_bits))]
+pub fn clear_alone(
+    world: &mut World,
+    turn: &mut Turn,
+    group: &GroupOpening,
+    opened: SourceOpening,
+    sight: &mut SourceSight,
+) -> Result<(), AllocError>
+    requires whole { group.now.is_whole ≡ false }
+    requires alone { group.now.sources ≡ opened ∷ [] }
+    requires sight { IsSourceSight world.old sight.old }
+    requires group { sight.old.star.group ≡ group.now.group }
+    requires source { sight.old.source ≡ opened.source }
+    ensures state { OnOk result (world.new ≡ (clear_by (group.now ∷ []) world.old).0) }
+    ensures messages { OnOk result (turn.new ≡ saying turn.old (clear_by (group.now ∷ []) world.old).1) }
+    ensures sight { OnOk result (IsSourceSight world.new sight.new) }
+    ensures group { OnOk result (sight.new.star.group ≡ sight.old.star.group) }
+    ensures source { OnOk result (sight.new.source ≡ sight.old.source) }
+{
+    clear_source_seen(world, turn, opened, sight)?;
+    clear_bit_seen(world, turn, opened, sight)
 }

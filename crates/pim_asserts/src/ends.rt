@@ -3,11 +3,12 @@ ghost use Rattle.std.specs.Prelude.{◌≡◌, ◌<◌, ◌^◌, OnOk};
 ghost use Rattle.pim_types.specs.declared.timer.TimerKind.{TimerKind};
 ghost use Rattle.pim_model.specs.Asserts.{asserted_metric, wins_again};
 ghost use Rattle.pim_model.specs.Firing.{fired};
-ghost use Rattle.pim_macros.specs.Turns.{saying};
+ghost use Rattle.pim_world.specs.Turns.{saying};
 
-use pim_macros::{Turn, World};
+use pim_macros::{SourceSight, StarSight};
 use pim_types::Key;
 use pim_types::fact::{AssertMetric, AssertRole, AssertRow};
+use pim_world::{Turn, World};
 use std::alloc::AllocError;
 
 /// Assert_Time less Assert_Override_Interval (RFC 7761, section 4.11), in ms.
@@ -19,12 +20,12 @@ pub(crate) fn asserted_metric(world: &World, turn: &mut Turn, key: Key) -> Asser
     ensures within { result.preference < 2 ^ 31 }
     ensures silent { turn.new ≡ turn.old }
 {
-    let star = world.gather_star(key.group, &mut turn.meter);
+    let star = StarSight::of(world, key.group, &mut turn.meter);
     match key.source {
-        None => world.rpt_metric(&star, key.iface),
+        None => star.metric(world.address(key.iface)),
         Some(source) => {
-            let sight = world.gather_source(star, source, &mut turn.meter);
-            world.spt_metric(&sight, key.iface)
+            let sight = SourceSight::of(world, star, source, &mut turn.meter);
+            sight.metric(world.address(key.iface))
         }
     }
 }
@@ -43,7 +44,9 @@ pub(crate) fn win_again(
     let metric = asserted_metric(world, turn, key);
     turn.out.assert(key.iface, key.group, key.source, metric)?;
     let end = world.present() + WINNER_TIME;
-    world.change_assert(key, AssertRow { end, ..row })
+    world
+        .store_mut()
+        .change_assert(key, AssertRow { end, ..row })
 }
 
 /// What the end of an assert timer changes: a winner asserts again, and a loser forgets the assert. An error is want of
@@ -53,13 +56,13 @@ pub fn fired(world: &mut World, turn: &mut Turn, key: Key) -> Result<(), AllocEr
     ensures state { OnOk result (world.new ≡ (fired world.old TimerKind.Assert key).0) }
     ensures messages { OnOk result (turn.new ≡ saying turn.old (fired world.old TimerKind.Assert key).1) }
 {
-    let Some(row) = world.assert_at(key) else {
+    let Some(row) = world.store().assert_at(key) else {
         return Ok(());
     };
     match row.role {
         AssertRole::Winner => win_again(world, turn, key, row),
         AssertRole::Loser => {
-            world.drop_assert(key);
+            world.store_mut().drop_assert(key);
             Ok(())
         }
     }

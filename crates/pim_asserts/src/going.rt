@@ -1,6 +1,6 @@
-//! Which asserts must go (RFC 7761, sections 4.6.1 and 4.6.2), by sights of the state as it is.
+//! Which asserts must go (RFC 7761, sections 4.6.1 and 4.6.2), by sights.
 ghost use Rattle.std.specs.Prelude.{◌≡◌, ◌<◌, ℕ, Bool, None, Some, nat_lt, not, ◌&&◌, ◌||◌};
-ghost use Rattle.pim_macros.specs.Sights.{IsSourceSight, IsStarSight, is_interface_of};
+ghost use Rattle.pim_macros.specs.Sights.{IsSourceSight, IsStarSight};
 ghost use Rattle.pim_model.specs.Neighbours.{is_neighbour};
 ghost use Rattle.pim_model.specs.Sets.{is_better};
 ghost use Rattle.pim_model.specs.Tables.{same_option};
@@ -8,9 +8,10 @@ ghost use Rattle.pim_asserts.specs.Going.{first_below, first_where, goes_at, num
 
 use pim_ifset::IfSet;
 use pim_macros::asserts::is_better;
-use pim_macros::{SourceSight, StarSight, World};
+use pim_macros::{SourceSight, StarSight};
 use pim_types::fact::{AssertMetric, AssertRole};
-use pim_types::{IfaceId, Key, Path};
+use pim_types::{IfaceId, Key};
+use pim_world::World;
 
 // The first interface of the set, by number, that passes the test.
 fn first_where<F: Fn(IfaceId) -> bool>(set: IfSet, test: F) -> Option<IfaceId>
@@ -34,13 +35,6 @@ fn is_iface(first: Option<IfaceId>, iface: IfaceId) -> bool
     first.is_some_and(|first| first == iface)
 }
 
-/// Whether the route is over the interface.
-pub(crate) fn is_over(path: Option<Path>, iface: IfaceId) -> bool
-    ensures { result ≡ is_interface_of path iface.number }
-{
-    path.is_some_and(|path| path.iface == iface)
-}
-
 // How the router stands in the assert of an interface that it lost.
 #[derive(Clone, Copy)]
 struct Standing {
@@ -57,7 +51,7 @@ fn loss_goes(world: &World, iface: IfaceId, winner: AssertMetric, standing: Stan
     ensures { result ≡ (not (is_neighbour world.now iface.number winner.address.bits) || not standing.is_tracked
         || is_better standing.metric winner || standing.has_moved) }
 {
-    !world.is_neighbour(iface, winner.address)
+    !world.neighbours().contains(iface, winner.address)
         || !standing.is_tracked
         || is_better(standing.metric, winner)
         || standing.has_moved
@@ -69,19 +63,19 @@ fn goes_of_star(world: &World, star: &StarSight, was: Option<IfaceId>, iface: If
     requires { IsStarSight world.now star.now }
     ensures { result ≡ (nat_lt iface.number 120 && goes_at was star.now.group.bits None world.now iface.number) }
 {
-    let Some(row) = world.assert_at(Key::star(iface, star.group)) else {
+    let Some(row) = world.store().assert_at(Key::star(iface, star.group)) else {
         return false;
     };
     if iface.number >= IfSet::LIMIT {
         return false;
     }
     match row.role {
-        AssertRole::Winner => !world.could_assert_star(star).contains(iface),
+        AssertRole::Winner => !star.could_assert().contains(iface),
         AssertRole::Loser => {
             let standing = Standing {
-                is_tracked: world.tracking_desired_star(star).contains(iface),
-                metric: world.my_metric_star(star, iface),
-                has_moved: is_iface(was, iface) && !is_over(star.rp_path, iface),
+                is_tracked: star.tracking_desired().contains(iface),
+                metric: star.my_metric(iface, world.address(iface)),
+                has_moved: is_iface(was, iface) && !star.is_rpf_interface(iface),
             };
             loss_goes(world, iface, row.winner, standing)
         }
@@ -95,19 +89,22 @@ fn goes_of_source(world: &World, sight: &SourceSight, was: Option<IfaceId>, ifac
     ensures { result ≡ (nat_lt iface.number 120
         && goes_at was sight.now.star.group.bits (Some sight.now.source.bits) world.now iface.number) }
 {
-    let Some(row) = world.assert_at(Key::source(iface, sight.star.group, sight.source)) else {
+    let Some(row) = world
+        .store()
+        .assert_at(Key::source(iface, sight.star.group, sight.source))
+    else {
         return false;
     };
     if iface.number >= IfSet::LIMIT {
         return false;
     }
     match row.role {
-        AssertRole::Winner => !world.could_assert(sight).contains(iface),
+        AssertRole::Winner => !sight.could_assert().contains(iface),
         AssertRole::Loser => {
             let standing = Standing {
-                is_tracked: world.tracking_desired(sight).contains(iface),
-                metric: world.my_metric(sight, iface),
-                has_moved: is_iface(was, iface) && !is_over(sight.path, iface),
+                is_tracked: sight.tracking_desired().contains(iface),
+                metric: sight.my_metric(iface, world.address(iface)),
+                has_moved: is_iface(was, iface) && !sight.is_rpf_interface(iface),
             };
             loss_goes(world, iface, row.winner, standing)
         }

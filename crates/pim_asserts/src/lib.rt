@@ -12,7 +12,7 @@ pub mod naming;
 mod part;
 mod stance;
 
-pub use clearing::clear;
+pub use clearing::{clear, clear_alone};
 pub use ends::fired;
-pub use message::{data_seen, received};
+pub use message::{data_seen_of_group, data_seen_of_source, received};
 pub use naming::{is_full, named_keys};

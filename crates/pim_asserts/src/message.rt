@@ -1,25 +1,53 @@
 //! An Assert, and data that asks for one (RFC 7761, sections 4.6.1 and 4.6.2).
-ghost use Rattle.std.specs.Prelude.{◌≡◌, ◌<◌, IfOk, OnOk, false, not, ◌&&◌};
-ghost use Rattle.pim_types.specs.Keys.{source_in};
-ghost use Rattle.pim_model.specs.Asserts.{assert_at, assert_received, data_seen, loses, theirs_of};
+ghost use Rattle.std.specs.Prelude.{◌≡◌, ◌<◌, ◌^◌, IfOk, OnOk, false, not, ◌&&◌};
+ghost use Rattle.pim_types.specs.Keys.{source_in, source_key, star_key};
+ghost use Rattle.pim_model.specs.Asserts.{assert_at, assert_received, asserted_metric, data_seen, loses, theirs_of};
 ghost use Rattle.pim_model.specs.Tables.{has_row};
-ghost use Rattle.pim_macros.specs.Turns.{saying};
-ghost use Rattle.pim_asserts.specs.Receiving.{after_action, goes_on_to_star, source_asserted, wins_with};
+ghost use Rattle.pim_world.specs.Turns.{saying};
+ghost use Rattle.pim_macros.specs.Sights.{IsSourceSight, IsStarSight};
+ghost use Rattle.pim_asserts.specs.Receiving.{after_action, goes_on_to_star, source_asserted, stance_at, wins_with};
 
 use crate::action::{Action, action_of};
 use crate::ends::{WINNER_TIME, asserted_metric, win_again};
-use crate::stance::{Stance, stance_of};
-use pim_macros::{Turn, World};
+use crate::stance::{Stance, source_stance, stance_of, star_stance};
+use pim_macros::{SourceSight, StarSight};
 use pim_types::fact::{AssertMetric, AssertRole, AssertRow};
 use pim_types::{Addr, IfaceId, Key};
 use pim_wire::Assert;
+use pim_world::{Turn, World};
 use std::alloc::AllocError;
 
 // Assert_Time (RFC 7761, section 4.11), in ms.
 const LOSER_TIME: u64 = 180_000;
 
-// The router wins with this metric of its own, and asserts.
+// The router wins with this metric of its own, and asserts with the other.
 #[tactic(auto, using(crate::proofs::Receiving::plain_key), unfolding(crate::specs::Receiving::wins_with, pim_model::specs::Asserts::assert_message, pim_model::specs::Tables::set_row))]
+fn win_with(
+    world: &mut World,
+    turn: &mut Turn,
+    key: Key,
+    mine: AssertMetric,
+    asserted: AssertMetric,
+) -> Result<(), AllocError>
+    requires plain { key.rpt ≡ false }
+    requires below { key.iface.number < 120 }
+    requires asserted { asserted ≡ asserted_metric world.old key }
+    requires within { asserted.preference < 2 ^ 31 }
+    ensures state { OnOk result (world.new ≡ (wins_with world.old key mine).0) }
+    ensures messages { OnOk result (turn.new ≡ saying turn.old (wins_with world.old key mine).1) }
+{
+    turn.out.assert(key.iface, key.group, key.source, asserted)?;
+    let row = AssertRow {
+        role: AssertRole::Winner,
+        winner: mine,
+        end: world.present() + WINNER_TIME,
+    };
+    world
+        .store_mut()
+        .set_assert(key.iface, key.group, key.source, Some(row))
+}
+
+// The router wins with this metric of its own.
 fn win(world: &mut World, turn: &mut Turn, key: Key, mine: AssertMetric) -> Result<(), AllocError>
     requires plain { key.rpt ≡ false }
     requires below { key.iface.number < 120 }
@@ -27,13 +55,7 @@ fn win(world: &mut World, turn: &mut Turn, key: Key, mine: AssertMetric) -> Resu
     ensures messages { OnOk result (turn.new ≡ saying turn.old (wins_with world.old key mine).1) }
 {
     let asserted = asserted_metric(world, turn, key);
-    turn.out.assert(key.iface, key.group, key.source, asserted)?;
-    let row = AssertRow {
-        role: AssertRole::Winner,
-        winner: mine,
-        end: world.present() + WINNER_TIME,
-    };
-    world.set_assert(key.iface, key.group, key.source, Some(row))
+    win_with(world, turn, key, mine, asserted)
 }
 
 // The router lost to this metric.
@@ -48,7 +70,9 @@ fn lose(world: &mut World, key: Key, theirs: AssertMetric) -> Result<(), AllocEr
         winner: theirs,
         end: world.present() + LOSER_TIME,
     };
-    world.set_assert(key.iface, key.group, key.source, Some(row))
+    world
+        .store_mut()
+        .set_assert(key.iface, key.group, key.source, Some(row))
 }
 
 // The source of a key, or 0.0.0.0.
@@ -82,7 +106,7 @@ fn act(
             world.set_spt_bit(key.group, source_of(key))
         }
         Action::Forget => {
-            world.drop_assert(key);
+            world.store_mut().drop_assert(key);
             Ok(())
         }
     }
@@ -93,7 +117,7 @@ fn act(
 pub(crate) fn has_assert(world: &World, key: Key) -> bool
     ensures { result ≡ has_row world.now.asserts key }
 {
-    world.assert_at(key).is_some()
+    world.store().assert_at(key).is_some()
 }
 
 // An Assert with this metric, as an event of one machine.
@@ -109,7 +133,7 @@ fn take(
     ensures messages { OnOk result (turn.new ≡ saying turn.old (assert_at world.old key theirs).1) }
 {
     let stance = stance_of(world, turn, key);
-    let action = action_of(stance, world.assert_at(key), theirs);
+    let action = action_of(stance, world.store().assert_at(key), theirs);
     act(world, turn, key, theirs, action)
 }
 
@@ -179,17 +203,63 @@ fn asserts_by_data(world: &World, key: Key, stance: Stance) -> bool
     stance.could_assert && !has_assert(world, key)
 }
 
-/// Takes data on an interface on which the router forwards, as an event of the machine of a key: where it could assert
-/// and none has won or lost yet, it wins. An error is want of memory.
-pub fn data_seen(world: &mut World, turn: &mut Turn, key: Key) -> Result<(), AllocError>
+// Takes data as an event of the machine of a key, in which the router stands so, and which asserts with this metric.
+fn data_seen(
+    world: &mut World,
+    turn: &mut Turn,
+    key: Key,
+    stance: Stance,
+    asserted: AssertMetric,
+) -> Result<(), AllocError>
     requires plain { key.rpt ≡ false }
     requires below { key.iface.number < 120 }
+    requires stance { stance ≡ stance_at world.old key }
+    requires asserted { asserted ≡ asserted_metric world.old key }
+    requires within { asserted.preference < 2 ^ 31 }
     ensures state { OnOk result (world.new ≡ (data_seen world.old key).0) }
     ensures messages { OnOk result (turn.new ≡ saying turn.old (data_seen world.old key).1) }
 {
-    let stance = stance_of(world, turn, key);
     if !asserts_by_data(world, key, stance) {
         return Ok(());
     }
-    win(world, turn, key, stance.metric)
+    win_with(world, turn, key, stance.metric, asserted)
+}
+
+/// Takes data on an interface on which the router forwards the group, as an event of the machine of (*,G): where it
+/// could assert and none has won or lost yet, it wins. An error is want of memory.
+pub fn data_seen_of_group(
+    world: &mut World,
+    turn: &mut Turn,
+    star: &StarSight,
+    iface: IfaceId,
+) -> Result<(), AllocError>
+    requires sight { IsStarSight world.old star.now }
+    requires below { iface.number < 120 }
+    ensures state { OnOk result (world.new ≡ (data_seen world.old (star_key iface.number star.now.group.bits)).0) }
+    ensures messages { OnOk result (turn.new
+        ≡ saying turn.old (data_seen world.old (star_key iface.number star.now.group.bits)).1) }
+{
+    let stance = star_stance(world, star, iface);
+    let asserted = star.metric(world.address(iface));
+    data_seen(world, turn, Key::star(iface, star.group), stance, asserted)
+}
+
+/// The same of a source of a group, as an event of the machine of (S,G).
+pub fn data_seen_of_source(
+    world: &mut World,
+    turn: &mut Turn,
+    sight: &SourceSight,
+    iface: IfaceId,
+) -> Result<(), AllocError>
+    requires sight { IsSourceSight world.old sight.now }
+    requires below { iface.number < 120 }
+    ensures state { OnOk result (world.new
+        ≡ (data_seen world.old (source_key iface.number sight.now.star.group.bits sight.now.source.bits)).0) }
+    ensures messages { OnOk result (turn.new ≡ saying turn.old
+        (data_seen world.old (source_key iface.number sight.now.star.group.bits sight.now.source.bits)).1) }
+{
+    let stance = source_stance(world, sight, iface);
+    let asserted = sight.metric(world.address(iface));
+    let key = Key::source(iface, sight.star.group, sight.source);
+    data_seen(world, turn, key, stance, asserted)
 }

@@ -1,6 +1,6 @@
 //! The asserts of a group, or of a source, that must go: one after the other.
 ghost use Rattle.std.specs.Prelude.{◌≡◌, ◌<◌, ◌∷◌, [], IfOk, OnOk, false, if◌then◌else◌, is_some};
-ghost use Rattle.pim_macros.specs.Turns.{saying};
+ghost use Rattle.pim_world.specs.Turns.{saying};
 ghost use Rattle.pim_model.specs.Asserts.{assert_cancel, assert_forgotten};
 ghost use Rattle.pim_model.specs.Sets.{is_winner};
 ghost use Rattle.pim_model.specs.Tables.{row_at};
@@ -9,9 +9,10 @@ ghost use Rattle.pim_asserts.specs.Opened.{clear_part, part_to_clear};
 
 use crate::going::{first_of_source, first_of_star};
 use pim_macros::asserts::infinite;
-use pim_macros::{Turn, World};
+use pim_macros::{SourceSight, StarSight};
 use pim_types::fact::AssertRole;
 use pim_types::{Addr, IfaceId, Key};
+use pim_world::{Turn, World};
 use std::alloc::AllocError;
 
 /// The asserts of (*,G), where there is no source, or of (S,G).
@@ -29,11 +30,11 @@ fn first_to_go(world: &World, turn: &mut Turn, part: Part) -> Option<IfaceId>
         ≡ first_below (goes_at part.was part.group.bits (bits_of part.source) world.now) }
     ensures silent { turn.new ≡ turn.old }
 {
-    let star = world.gather_star(part.group, &mut turn.meter);
+    let star = StarSight::of(world, part.group, &mut turn.meter);
     match part.source {
         None => first_of_star(world, &star, part.was),
         Some(source) => {
-            let sight = world.gather_source(star, source, &mut turn.meter);
+            let sight = SourceSight::of(world, star, source, &mut turn.meter);
             first_of_source(world, &sight, part.was)
         }
     }
@@ -49,13 +50,15 @@ fn forget(world: &mut World, turn: &mut Turn, part: Part, iface: IfaceId) -> Res
         (if is_winner (row_at world.old.asserts (part_key part.group.bits (bits_of part.source) iface.number))
         then assert_cancel (part_key part.group.bits (bits_of part.source) iface.number) ∷ [] else [])) }
 {
-    let row = world.assert_at(Key {
+    let row = world.store().assert_at(Key {
         iface,
         group: part.group,
         source: part.source,
         rpt: false,
     });
-    world.set_assert(iface, part.group, part.source, None)?;
+    world
+        .store_mut()
+        .set_assert(iface, part.group, part.source, None)?;
     if row.is_some_and(|row| matches!(row.role, AssertRole::Winner)) {
         turn.out.assert(iface, part.group, part.source, infinite())?;
     }

@@ -1,13 +1,13 @@
 //! How the router stands in an assert machine (RFC 7761, sections 4.6.1 to 4.6.3).
 ghost use Rattle.std.specs.Prelude.{◌≡◌, ◌<◌, false};
 ghost use Rattle.pim_types.specs.Keys.{source_key, star_key};
-ghost use Rattle.pim_macros.specs.Sights.{IsSourceSight, IsStarSight, is_interface_of};
+ghost use Rattle.pim_macros.specs.Sights.{IsSourceSight, IsStarSight};
 ghost use Rattle.pim_asserts.specs.Receiving.{stance_at};
 
-use crate::going::is_over;
-use pim_macros::{SourceSight, StarSight, Turn, World};
+use pim_macros::{SourceSight, StarSight};
 use pim_types::fact::AssertMetric;
 use pim_types::{IfaceId, Key};
+use pim_world::{Turn, World};
 
 /// What the transitions ask of the router's state.
 #[derive(Clone, Copy)]
@@ -23,34 +23,33 @@ pub(crate) struct Stance {
     pub(crate) switches: bool,
 }
 
-// That of (*,G).
-fn star_stance(world: &World, star: &StarSight, iface: IfaceId) -> Stance
+/// That of (*,G).
+pub(crate) fn star_stance(world: &World, star: &StarSight, iface: IfaceId) -> Stance
     requires sight { IsStarSight world.now star.now }
     requires below { iface.number < 120 }
     ensures { result ≡ stance_at world.now (star_key iface.number star.now.group.bits) }
 {
     Stance {
         is_star: true,
-        could_assert: world.could_assert_star(star).contains(iface),
-        is_tracked: world.tracking_desired_star(star).contains(iface),
-        metric: world.my_metric_star(star, iface),
+        could_assert: star.could_assert().contains(iface),
+        is_tracked: star.tracking_desired().contains(iface),
+        metric: star.my_metric(iface, world.address(iface)),
         switches: false,
     }
 }
 
-// That of (S,G).
-#[tactic(auto, unfolding(pim_model::specs::Unicast::rpf_interface))]
-fn source_stance(world: &World, sight: &SourceSight, iface: IfaceId) -> Stance
+/// That of (S,G).
+pub(crate) fn source_stance(world: &World, sight: &SourceSight, iface: IfaceId) -> Stance
     requires sight { IsSourceSight world.now sight.now }
     requires below { iface.number < 120 }
     ensures { result ≡ stance_at world.now (source_key iface.number sight.now.star.group.bits sight.now.source.bits) }
 {
     Stance {
         is_star: false,
-        could_assert: world.could_assert(sight).contains(iface),
-        is_tracked: world.tracking_desired(sight).contains(iface),
-        metric: world.my_metric(sight, iface),
-        switches: is_over(sight.path, iface) && world.join_desired(sight),
+        could_assert: sight.could_assert().contains(iface),
+        is_tracked: sight.tracking_desired().contains(iface),
+        metric: sight.my_metric(iface, world.address(iface)),
+        switches: sight.is_rpf_interface(iface) && sight.join_desired(),
     }
 }
 
@@ -61,11 +60,11 @@ pub(crate) fn stance_of(world: &World, turn: &mut Turn, key: Key) -> Stance
     ensures stance { result ≡ stance_at world.now key }
     ensures silent { turn.new ≡ turn.old }
 {
-    let star = world.gather_star(key.group, &mut turn.meter);
+    let star = StarSight::of(world, key.group, &mut turn.meter);
     match key.source {
         None => star_stance(world, &star, key.iface),
         Some(source) => {
-            let sight = world.gather_source(star, source, &mut turn.meter);
+            let sight = SourceSight::of(world, star, source, &mut turn.meter);
             source_stance(world, &sight, key.iface)
         }
     }

@@ -1,12 +1,12 @@
 -- The copies on the interfaces of a list, and that there are no more than interfaces.
-use Rattle.std.proofs.Common.{◌≡◌, ℕ, ◌≤◌, ◌&&◌, Bool, true, cond, List, [], ◌∷◌, Result, Ok, Err, IfOk, length, filter, map, nat_lt, arith, refl, ap, sym, ◌∙◌}
+use Rattle.std.proofs.Common.{◌≡◌, ℕ, ◌≤◌, ◌&&◌, Bool, true, List, [], ◌∷◌, Result, Ok, Err, IfOk, length, map, nat_lt, arith, refl, ap, sym, ◌∙◌}
 use Rattle.std.specs.Prelude.{if◌then◌else◌}
 use Rattle.std.proofs.lemmas.List.{length-map}
 use Rattle.std.proofs.lemmas.List.FromFn.{length-range_with_len}
 use Rattle.std.proofs.lemmas.List.Sums.{count_by-le-length, length-filter}
 use Rattle.pim_ip.specs.Ipv4.{Packet, copy_text}
 use Rattle.pim_ifset.specs.Members.{Members, has}
-use Rattle.pim_macros.specs.Sights.{Shows}
+use Rattle.pim_world.specs.Shown.{Shows}
 use Rattle.pim_types.specs.declared.config.IfaceId.{IfaceId}
 use Rattle.pim_types.specs.declared.outcome.Emission.{Emission}
 use Rattle.pim_model.specs.Sets.{Set, members}

@@ -2,7 +2,7 @@
 ghost use Rattle.std.specs.Option.{option_map_or};
 ghost use Rattle.std.specs.Prelude.{◌≡◌, ◌≤◌, ℕ, [], Bool, IfOk, length, map};
 ghost use Rattle.pim_ip.specs.Ipv4.{copy_text};
-ghost use Rattle.pim_macros.specs.Sights.{Shows};
+ghost use Rattle.pim_world.specs.Shown.{Shows};
 ghost use Rattle.pim_model.specs.Forwarding.{Forwarded};
 ghost use Rattle.pim_model.specs.Writing.{copies_of, leaves, on_link, register_of_packet, tunnel_of};
 ghost use Rattle.pim_model.specs.Unicast.{rp_of};
@@ -11,10 +11,11 @@ ghost use Rattle.pim_types.specs.declared.config.IfaceId.{IfaceId as IfaceValue}
 
 use pim_ifset::{IfSet, Iter};
 use pim_ip::Ipv4View;
-use pim_macros::{Turn, World};
+use pim_macros::interfaces::members;
 use pim_messages::{copy_on_link, register_of_copy};
 use pim_register::registering_address;
 use pim_types::{Addr, Emission};
+use pim_world::{Turn, World};
 use std::alloc::{AllocError, Global};
 
 /// What leaves of a packet.
@@ -77,10 +78,10 @@ fn copies(
     if !leaves(packet) {
         return Ok(Vec::new(alloc));
     }
-    // These two tell how many there are.
-    let _ = world.iface_count();
+    let count = world.interfaces().count();
+    // It tells how many there are.
     let list = list.without_tunnel();
-    copies_on(alloc, world.members(list), packet)
+    copies_on(alloc, members(list, count), packet)
 }
 
 // The Register round the packet, from the router's address on RPF_interface(S) to the RP, where there is one.

@@ -1,15 +1,16 @@
-//! Which list of outgoing interfaces a packet takes (RFC 7761, section 4.2).
-ghost use Rattle.std.specs.Prelude.{◌≡◌, ◌<◌, IfOk, OnOk};
-ghost use Rattle.pim_macros.specs.Sights.{IsSourceSight};
-ghost use Rattle.pim_macros.specs.Turns.{saying};
+//! Which list of outgoing interfaces a packet takes (RFC 7761, section 4.2), by the sight of its source.
+ghost use Rattle.std.specs.Prelude.{◌≡◌, ◌<◌, IfOk, OnOk, if◌then◌else◌};
+ghost use Rattle.pim_model.specs.Sets.{inherited_olist, inherited_olist_rpt, spt_bit};
+ghost use Rattle.pim_macros.specs.Sights.{InSource, IsSourceSight};
+ghost use Rattle.pim_world.specs.Turns.{saying};
 ghost use Rattle.pim_model.specs.Forwarding.{list_chosen, stray, watched};
 ghost use Rattle.pim_register.specs.Outgoing.{LeavesOn};
 
-use crate::arrival::Arrival;
-use pim_asserts::data_seen;
+use pim_asserts::{data_seen_of_group, data_seen_of_source};
 use pim_ifset::IfSet;
-use pim_macros::{SourceSight, Turn, World};
-use pim_types::{IfaceId, Key};
+use pim_macros::SourceSight;
+use pim_types::IfaceId;
+use pim_world::{Turn, World};
 use std::alloc::AllocError;
 
 // Off the shortest path tree a source that local receivers want is watched, so that the router can move to it.
@@ -18,15 +19,28 @@ fn watch(world: &mut World, sight: &SourceSight) -> Result<(), AllocError>
     requires { IsSourceSight world.old sight.now }
     ensures { OnOk result (world.new ≡ watched world.old sight.now.star.group.bits sight.now.source.bits) }
 {
-    if !(world.has_local_receivers(sight) && world.is_spt_wanted()) {
+    if !(sight.has_local_receivers() && sight.is_spt_wanted) {
         return Ok(());
     }
     world.keep_alive(sight.star.group, sight.source)
 }
 
+// Whether the interface is on the list of the tree that the source comes by: the shortest path tree once it is reached,
+// the shared tree before.
+fn is_on_list(sight: &SourceSight, iface: IfaceId) -> bool
+    requires { iface.number < 120 }
+    ensures { InSource sight.now (λ s g src. result
+        ≡ (if spt_bit s g src then inherited_olist s g src else inherited_olist_rpt s g src) iface.number) }
+{
+    if sight.spt {
+        sight.inherited_olist().contains(iface)
+    } else {
+        sight.inherited_olist_rpt().contains(iface)
+    }
+}
+
 // A packet that came on no tree's interface leaves nowhere. Where it came on an interface of the list it asks for an
 // assert: of (S,G) once the shortest path tree is reached, of (*,G) before.
-#[tactic(auto, unfolding(pim_model::specs::Forwarding::stray))]
 fn take_stray(
     world: &mut World,
     turn: &mut Turn,
@@ -40,17 +54,13 @@ fn take_stray(
     ensures messages { OnOk result (turn.new
         ≡ saying turn.old (stray world.old sight.now.star.group.bits sight.now.source.bits iface.number).messages) }
 {
-    let group = sight.star.group;
-    let (key, list) = if sight.spt {
-        let key = Key::source(iface, group, sight.source);
-        (key, world.inherited_olist(sight))
-    } else {
-        (Key::star(iface, group), world.inherited_olist_rpt(sight))
-    };
-    if !list.contains(iface) {
+    if !is_on_list(sight, iface) {
         return Ok(());
     }
-    data_seen(world, turn, key)
+    if sight.spt {
+        return data_seen_of_source(world, turn, sight, iface);
+    }
+    data_seen_of_group(world, turn, &sight.star, iface)
 }
 
 /// The list on the shortest path tree, on the shared tree, or of neither; with what the packet changes there.
@@ -58,25 +68,26 @@ fn take_stray(
 pub(crate) fn choose_list(
     world: &mut World,
     turn: &mut Turn,
-    arrival: Arrival,
+    sight: &SourceSight,
+    iface: IfaceId,
 ) -> Result<IfSet, AllocError>
-    requires { arrival.iface.number < 120 }
+    requires sight { IsSourceSight world.old sight.now }
+    requires below { iface.number < 120 }
     ensures list { IfOk result (λ list. LeavesOn list
-        (list_chosen world.old arrival.group.bits arrival.source.bits arrival.iface.number)) }
+        (list_chosen world.old sight.now.star.group.bits sight.now.source.bits iface.number)) }
     ensures state { OnOk result (world.new
-        ≡ (list_chosen world.old arrival.group.bits arrival.source.bits arrival.iface.number).state) }
+        ≡ (list_chosen world.old sight.now.star.group.bits sight.now.source.bits iface.number).state) }
     ensures messages { OnOk result (turn.new ≡ saying turn.old
-        (list_chosen world.old arrival.group.bits arrival.source.bits arrival.iface.number).messages) }
+        (list_chosen world.old sight.now.star.group.bits sight.now.source.bits iface.number).messages) }
 {
-    let sight = arrival.sight(world, turn);
-    if world.is_rpf_interface(&sight, arrival.iface) && sight.spt {
-        return Ok(world.inherited_olist(&sight));
+    if sight.is_rpf_interface(iface) && sight.spt {
+        return Ok(sight.inherited_olist());
     }
-    if world.is_rpf_interface_rp(&sight.star, arrival.iface) && !sight.spt {
-        let list = world.inherited_olist_rpt(&sight).without_tunnel();
-        watch(world, &sight)?;
+    if sight.star.is_rpf_interface(iface) && !sight.spt {
+        let list = sight.inherited_olist_rpt().without_tunnel();
+        watch(world, sight)?;
         return Ok(list);
     }
-    take_stray(world, turn, &sight, arrival.iface)?;
+    take_stray(world, turn, sight, iface)?;
     Ok(IfSet::new())
 }

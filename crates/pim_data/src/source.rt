@@ -1,67 +1,93 @@
-//! What a packet tells of its source (RFC 7761, sections 4.2 and 4.2.2).
+//! What a packet tells of its source (RFC 7761, sections 4.2 and 4.2.2). Each step takes the sight of the source, which is
+//! true of the state before it, and then of the state after it.
 ghost use Rattle.std.specs.Prelude.{◌≡◌, ◌<◌, OnOk};
+ghost use Rattle.pim_macros.specs.Sights.{IsSourceSight};
 ghost use Rattle.pim_model.specs.Forwarding.{source_here, source_joined, spt_updated};
+ghost use Rattle.pim_model.specs.Registers.{with_keepalive};
 
-use crate::arrival::Arrival;
-use pim_macros::{Turn, World};
+use pim_macros::SourceSight;
 use pim_register::settle;
+use pim_types::IfaceId;
+use pim_world::World;
 use std::alloc::AllocError;
+
+// KAT(S,G) runs for its whole period from now on.
+fn keep_alive(world: &mut World, sight: &mut SourceSight) -> Result<(), AllocError>
+    requires { IsSourceSight world.old sight.old }
+    ensures state { OnOk result (world.new
+        ≡ with_keepalive world.old sight.old.star.group.bits sight.old.source.bits) }
+    ensures sight { OnOk result (IsSourceSight world.new sight.new) }
+    ensures group { OnOk result (sight.new.star.group ≡ sight.old.star.group) }
+    ensures source { OnOk result (sight.new.source ≡ sight.old.source) }
+{
+    world.keep_alive(sight.star.group, sight.source)?;
+    *sight = sight.kept_alive();
+    Ok(())
+}
 
 /// A source on a link of the router's own is kept alive, and registered at once where it can be.
 #[tactic(auto, unfolding(pim_model::specs::Forwarding::source_here))]
 pub(crate) fn source_here(
     world: &mut World,
-    turn: &mut Turn,
-    arrival: Arrival,
+    sight: &mut SourceSight,
+    iface: IfaceId,
 ) -> Result<(), AllocError>
+    requires { IsSourceSight world.old sight.old }
     ensures state { OnOk result (world.new
-        ≡ source_here world.old arrival.group.bits arrival.source.bits arrival.iface.number) }
-    ensures silent { turn.new ≡ turn.old }
+        ≡ source_here world.old sight.old.star.group.bits sight.old.source.bits iface.number) }
+    ensures sight { OnOk result (IsSourceSight world.new sight.new) }
+    ensures group { OnOk result (sight.new.star.group ≡ sight.old.star.group) }
+    ensures source { OnOk result (sight.new.source ≡ sight.old.source) }
 {
-    let sight = arrival.sight(world, turn);
-    if !(world.is_connected(&sight) && world.is_rpf_interface(&sight, arrival.iface)) {
+    if !(sight.is_connected() && sight.is_rpf_interface(iface)) {
         return Ok(());
     }
-    world.keep_alive(arrival.group, arrival.source)?;
-    settle(world, turn, arrival.group, arrival.source)
+    keep_alive(world, sight)?;
+    settle(world, sight)
 }
 
 /// A source that is joined, and forwarded from here, is kept alive.
 #[tactic(auto, unfolding(pim_model::specs::Forwarding::source_joined))]
 pub(crate) fn source_joined(
     world: &mut World,
-    turn: &mut Turn,
-    arrival: Arrival,
+    sight: &mut SourceSight,
+    iface: IfaceId,
 ) -> Result<(), AllocError>
+    requires { IsSourceSight world.old sight.old }
     ensures state { OnOk result (world.new
-        ≡ source_joined world.old arrival.group.bits arrival.source.bits arrival.iface.number) }
-    ensures silent { turn.new ≡ turn.old }
+        ≡ source_joined world.old sight.old.star.group.bits sight.old.source.bits iface.number) }
+    ensures sight { OnOk result (IsSourceSight world.new sight.new) }
+    ensures group { OnOk result (sight.new.star.group ≡ sight.old.star.group) }
+    ensures source { OnOk result (sight.new.source ≡ sight.old.source) }
 {
-    let sight = arrival.sight(world, turn);
-    let is_forwarded = world.is_rpf_interface(&sight, arrival.iface)
-        && world.join_desired(&sight)
-        && !world.is_inherited_empty(&sight);
+    let is_forwarded = sight.is_rpf_interface(iface)
+        && sight.join_desired()
+        && !sight.is_inherited_empty();
     if !is_forwarded {
         return Ok(());
     }
-    world.keep_alive(arrival.group, arrival.source)
+    keep_alive(world, sight)
 }
 
 /// Update_SPTbit(S,G,iif).
 #[tactic(auto, unfolding(pim_model::specs::Forwarding::spt_updated))]
 pub(crate) fn update_spt_bit(
     world: &mut World,
-    turn: &mut Turn,
-    arrival: Arrival,
+    sight: &mut SourceSight,
+    iface: IfaceId,
 ) -> Result<(), AllocError>
-    requires { arrival.iface.number < 120 }
+    requires sight { IsSourceSight world.old sight.old }
+    requires below { iface.number < 120 }
     ensures state { OnOk result (world.new
-        ≡ spt_updated world.old arrival.group.bits arrival.source.bits arrival.iface.number) }
-    ensures silent { turn.new ≡ turn.old }
+        ≡ spt_updated world.old sight.old.star.group.bits sight.old.source.bits iface.number) }
+    ensures sight { OnOk result (IsSourceSight world.new sight.new) }
+    ensures group { OnOk result (sight.new.star.group ≡ sight.old.star.group) }
+    ensures source { OnOk result (sight.new.source ≡ sight.old.source) }
 {
-    let sight = arrival.sight(world, turn);
-    if !world.is_spt_reached(&sight, arrival.iface) {
+    if !sight.is_spt_reached(iface) {
         return Ok(());
     }
-    world.set_spt_bit(arrival.group, arrival.source)
+    world.set_spt_bit(sight.star.group, sight.source)?;
+    *sight = sight.with_spt_bit();
+    Ok(())
 }

@@ -6,13 +6,13 @@ ghost use Rattle.pim_model.specs.Downstream.{entry_kind, prune_echo};
 ghost use Rattle.pim_model.specs.Firing.{fired};
 ghost use Rattle.pim_model.specs.Messages.{Message, entry};
 ghost use Rattle.pim_model.specs.State.{my_address};
-ghost use Rattle.pim_macros.specs.Turns.{saying};
+ghost use Rattle.pim_world.specs.Turns.{saying};
 ghost use Rattle.pim_downstream.specs.Ends.{is_downstream_kind};
 
-use pim_macros::{Turn, World};
 use pim_types::fact::DownstreamRow;
 use pim_types::{Addr, Hop, Key, TimerKind};
 use pim_wire::{Entry, EntryKind};
+use pim_world::{Turn, World};
 use std::alloc::AllocError;
 
 // The kind of the entry that names the key.
@@ -66,7 +66,7 @@ fn prune_pending_due(world: &mut World, turn: &mut Turn, key: Key) -> Result<(),
     ensures state { OnOk result (world.new ≡ (fired world.old TimerKind.PrunePending key).0) }
     ensures messages { OnOk result (turn.new ≡ saying turn.old (fired world.old TimerKind.PrunePending key).1) }
 {
-    let Some(row) = world.downstream_at(key) else {
+    let Some(row) = world.store().downstream(key) else {
         return Ok(());
     };
     if key.rpt {
@@ -74,10 +74,10 @@ fn prune_pending_due(world: &mut World, turn: &mut Turn, key: Key) -> Result<(),
             pending: None,
             ..row
         };
-        return world.change_downstream(key, pruned);
+        return world.store_mut().change_downstream(key, pruned);
     }
     echo(world, turn, key)?;
-    world.drop_downstream(key);
+    world.store_mut().drop_downstream(key);
     Ok(())
 }
 
@@ -86,7 +86,7 @@ fn prune_pending_due(world: &mut World, turn: &mut Turn, key: Key) -> Result<(),
 fn expired(world: &mut World, key: Key)
     ensures { world.new ≡ (fired world.old TimerKind.DownstreamExpiry key).0 }
 {
-    world.drop_downstream(key);
+    world.store_mut().drop_downstream(key);
 }
 
 /// What the end of a Prune-Pending timer, or of an expiry timer, changes: where Prune-Pending ends, (S,G,rpt) is pruned

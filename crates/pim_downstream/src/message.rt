@@ -8,9 +8,9 @@ ghost use Rattle.pim_model.specs.Downstream.{keys_taken, row_after, touched_keys
 use crate::named::Named;
 use crate::row::row_after;
 use crate::rpt::push_rpt_rows;
-use pim_macros::{Turn, World};
 use pim_types::fact::DownstreamRow;
 use pim_types::{IfaceId, Key};
+use pim_world::{Turn, World};
 use std::alloc::{AllocError, Global};
 
 // The keys whose rows the message can change.
@@ -68,7 +68,7 @@ fn set_rows(world: &mut World, iface: IfaceId, changes: &[Change]) -> Result<(),
     ensures { OnOk result (world.new ≡ rows_set world.old changes.now) }
 {
     for change in changes {
-        world.set_downstream(change.key, change.row)?;
+        world.store_mut().set_downstream(change.key, change.row)?;
     }
     Ok(())
 }
@@ -92,6 +92,6 @@ pub fn to_me(
     let keys = touched_keys(turn.alloc, world, iface, named)?;
     let changes = rows_after(turn.alloc, world, iface, holdtime, named, &keys)?;
     set_rows(world, iface, &changes)?;
-    world.end_losses(&named.joined);
+    world.store_mut().end_losses(&named.joined);
     Ok(())
 }

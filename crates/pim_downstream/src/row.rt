@@ -4,11 +4,11 @@ ghost use Rattle.pim_model.specs.Downstream.{joined_row, prune_pending_end, prun
 ghost use Rattle.pim_model.specs.Tables.{later_end};
 
 use crate::named::Named;
-use pim_macros::World;
 use pim_neighbours::holdtime_end;
 use pim_tables::is_named;
 use pim_types::fact::DownstreamRow;
 use pim_types::{IfaceId, Key};
+use pim_world::World;
 
 /// The later of two ends, in ms. `None` never ends.
 pub fn later_end(first: Option<u64>, second: Option<u64>) -> Option<u64>
@@ -89,7 +89,7 @@ pub fn row_after(
 ) -> Option<DownstreamRow>
     ensures { result ≡ row_after world.now iface.number holdtime named.now.joined.items named.now.pruned.items key }
 {
-    let row = world.downstream_at(key);
+    let row = world.store().downstream(key);
     let end = holdtime_end(world.present(), holdtime);
     let pending = world.prune_pending_end(iface);
     let is_joined = is_named(&named.joined, key);

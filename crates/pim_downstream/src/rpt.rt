@@ -5,8 +5,8 @@ ghost use Rattle.std.specs.List.Sorted.{IsStrictlySortedBy};
 ghost use Rattle.pim_model.specs.Downstream.{is_named, rpt_rows_joined};
 ghost use Rattle.pim_types.specs.Keys.{addr_cmp, group_in, same_key, star_key};
 
-use pim_macros::World;
 use pim_types::{Addr, IfaceId, Key};
+use pim_world::World;
 use std::alloc::{AllocError, Global};
 use std::collections::BTreeSet;
 
@@ -47,5 +47,5 @@ pub(crate) fn push_rpt_rows(
     ensures { OnOk result (keys.new.items ≡ keys.old.items ++ rpt_rows_joined world.now iface.number joined.now) }
 {
     let groups = joined_groups(alloc, iface, joined)?;
-    world.push_rpt_keys(iface, &groups, keys)
+    world.store().push_rpt_keys(iface, &groups, keys)
 }

@@ -1,5 +1,5 @@
 -- A neighbour that started anew.
-use Rattle.std.proofs.Common.{◌≡◌, ℕ, Bool, true, false, cond, not, ◌&&◌, List, [], ◌∷◌, ◌+◌, Some, refl, ap, sym, ◌∙◌, filter}
+use Rattle.std.proofs.Common.{◌≡◌, ℕ, true, not, ◌&&◌, List, ◌+◌, Some, refl, ap, sym, ◌∙◌, filter}
 use Rattle.std.specs.Cmp.{first_so, second_so}
 use Rattle.std.specs.List.Sorted.{IsStrictlySortedBy}
 use Rattle.pim_types.specs.declared.fact.AssertRow.{AssertRow}

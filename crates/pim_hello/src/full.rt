@@ -3,9 +3,9 @@ ghost use Rattle.std.specs.Prelude.{◌≡◌};
 ghost use Rattle.pim_model.specs.Full.{hello_is_full};
 ghost use Rattle.pim_model.specs.Hellos.{hello_holdtime_of};
 
-use pim_macros::World;
 use pim_types::{Addr, IfaceId};
 use pim_wire::{DEFAULT_HOLDTIME, Hello};
+use pim_world::World;
 
 /// The most neighbours of an interface.
 const MOST_NEIGHBOURS: usize = 64;
@@ -18,6 +18,6 @@ pub fn is_full(world: &World, iface: IfaceId, from: Addr, hello: &Hello) -> bool
 {
     let holdtime = hello.holdtime.unwrap_or(DEFAULT_HOLDTIME);
     holdtime != 0
-        && !world.is_neighbour(iface, from)
-        && (world.neighbour_count(iface) >= MOST_NEIGHBOURS || world.passes_limit(1))
+        && !world.neighbours().contains(iface, from)
+        && (world.neighbours().count_on(iface) >= MOST_NEIGHBOURS || world.passes_limit(1))
 }

@@ -4,10 +4,10 @@ ghost use Rattle.pim_model.specs.Hellos.{hello_received, hello_triggered, neighb
 ghost use Rattle.pim_model.specs.Tables.{delay_in};
 
 use crate::restarted::{asserts_lost_to, lower_timers, timers_towards};
-use pim_macros::{Turn, World};
 use pim_neighbours::delay_in;
 use pim_types::{Addr, Hop, IfaceId};
 use pim_wire::Hello;
+use pim_world::{Turn, World};
 use std::alloc::AllocError;
 
 // Triggered_Hello_Delay (RFC 7761, section 4.11), in ms.
@@ -17,7 +17,7 @@ const TRIGGERED_HELLO_DELAY: u32 = 5000;
 /// from a new neighbour, or from one that started anew, makes a Hello owed; then the neighbour stands
 /// as the Hello says. Where it started anew, the asserts lost to it end, and the Join timers towards it are
 /// lowered. With holdtime 0 the neighbour goes. Where memory is refused, the Hello may be taken in part.
-#[tactic(auto, unfolding(pim_model::specs::Hellos::hello_received))]
+#[tactic(auto, unfolding(pim_model::specs::Hellos::hello_received, pim_model::specs::Hellos::is_generation_changed))]
 pub fn received(
     world: &mut World,
     turn: &mut Turn,
@@ -28,10 +28,10 @@ pub fn received(
     ensures state { OnOk result (world.new ≡ hello_received world.old iface.number from.bits hello.now turn.old.draw) }
     ensures silent { turn.new ≡ turn.old }
 {
-    if world.is_generation_changed(iface, from, hello) {
+    if world.neighbours().is_generation_changed(iface, from, hello) {
         return restart(world, turn, iface, from, hello);
     }
-    if !world.is_neighbour(iface, from) {
+    if !world.neighbours().contains(iface, from) {
         trigger(world, iface, turn.draw)?;
     }
     world.replace_neighbour(iface, from, hello)
@@ -78,7 +78,7 @@ fn restart(
     // It tells that the keys of asserts rise, so that each stands once.
     world.are_keyed();
     let lost = asserts_lost_to(world, turn, neighbour)?;
-    world.end_losses(&lost);
+    world.store_mut().end_losses(&lost);
     let end = world.present() + world.override_delay(iface, turn.draw);
     lower_timers(world, &towards, end)?;
     Ok(())

@@ -7,9 +7,10 @@ ghost use Rattle.pim_laws.specs.Rows.{all_changed};
 ghost use Rattle.pim_store.specs.PimTables.{lowered};
 
 use pim_macros::desires::is_same_hop;
-use pim_macros::{Turn, World};
+use pim_macros::upstream_of;
 use pim_types::fact::{AssertRole, AssertRow};
 use pim_types::{Hop, Key};
+use pim_world::{Turn, World};
 use std::alloc::AllocError;
 
 /// The keys of the Join timers whose upstream neighbour it is.
@@ -23,8 +24,8 @@ pub(crate) fn timers_towards(
         ≡ keys_in (filter (λ e. is_towards world.now neighbour e.0) world.now.join_timers)) }
 {
     let mut keys = Vec::new(turn.alloc);
-    for (key, _) in world.join_timers() {
-        let upstream = world.upstream_of(*key, &mut turn.meter);
+    for (key, _) in world.store().join_timer_rows() {
+        let upstream = upstream_of(world, *key, &mut turn.meter);
         if is_same_hop(upstream, Some(neighbour)) {
             keys.push(*key)?;
         }
@@ -51,7 +52,7 @@ pub(crate) fn asserts_lost_to(
         ≡ keys_in (filter (is_lost_to neighbour.iface.number neighbour.address.bits) world.now.asserts)) }
 {
     let mut keys = Vec::new(turn.alloc);
-    for (key, row) in world.asserts() {
+    for (key, row) in world.store().assert_rows() {
         if is_lost_to(neighbour, *key, *row) {
             keys.push(*key)?;
         }
@@ -65,7 +66,7 @@ pub(crate) fn lower_timers(world: &mut World, keys: &[Key], end: u64) -> Result<
         ≡ record world.old { join_timers = all_changed (lowered end) world.old.join_timers keys.now }) }
 {
     for key in keys {
-        world.lower_join_timer(*key, end)?;
+        world.store_mut().lower_join_timer(*key, end)?;
     }
     Ok(())
 }

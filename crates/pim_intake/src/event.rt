@@ -6,10 +6,10 @@ ghost use Rattle.pim_model.specs.Judging.{advance_judged, down_judged, judged, r
 
 use crate::frame::judge_frame;
 use crate::unicast::judge_unicast;
-use pim_macros::{World, test_rps};
 use pim_model::Accepted;
 use pim_trie::Meter;
 use pim_types::{Event, EventKind, Fault, IfaceId, Ignored, Lent, Refusal, Route, RpRange, Stop};
+use pim_world::{World, test_rps};
 use std::alloc::Global;
 
 // The last moment, in ms.
@@ -34,10 +34,10 @@ fn judge_advance<'a>(world: &World, moment: u64) -> Result<Accepted<'a>, Stop>
 fn judge_up<'a>(world: &World, iface: IfaceId) -> Result<Accepted<'a>, Stop>
     ensures { result ≡ up_judged world.now iface }
 {
-    if iface.number >= world.iface_count() {
+    if iface.number >= world.interfaces().count() {
         return Err(Stop::Refuse(Refusal::NoInterface));
     }
-    if world.is_up(iface) {
+    if world.interfaces().is_up(iface) {
         return Err(Stop::Ignore(Ignored::Already));
     }
     Ok(Accepted::Up { iface })
@@ -48,10 +48,10 @@ fn judge_up<'a>(world: &World, iface: IfaceId) -> Result<Accepted<'a>, Stop>
 fn judge_down<'a>(world: &World, iface: IfaceId) -> Result<Accepted<'a>, Stop>
     ensures { result ≡ down_judged world.now iface }
 {
-    if iface.number >= world.iface_count() {
+    if iface.number >= world.interfaces().count() {
         return Err(Stop::Refuse(Refusal::NoInterface));
     }
-    if !world.is_up(iface) {
+    if !world.interfaces().is_up(iface) {
         return Err(Stop::Ignore(Ignored::Already));
     }
     Ok(Accepted::Down { iface })

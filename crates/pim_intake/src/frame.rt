@@ -5,16 +5,16 @@ ghost use Rattle.pim_model.specs.Judging.{data_judged, frame_judged, packet_judg
 use crate::igmp::judge_igmp;
 use crate::message::judge_pim;
 use pim_ip::{Addr, FRAME_LIMIT, Ipv4View, PROTOCOL_IGMP, PROTOCOL_PIM, Refusal, read_ipv4};
-use pim_macros::World;
 use pim_model::Accepted;
 use pim_types::{IfaceId, Ignored, Stop};
+use pim_world::World;
 
 // A packet of another protocol.
 #[tactic(auto, unfolding(pim_model::specs::Judging::data_judged))]
 fn judge_data<'a>(world: &World, iface: IfaceId, packet: Ipv4View<'a>) -> Result<Accepted<'a>, Stop>
     ensures { result ≡ data_judged world.now iface packet.entry }
 {
-    if world.is_own(packet.source()) {
+    if world.interfaces().is_own(packet.source()) {
         return Err(Stop::Ignore(Ignored::Own));
     }
     if !packet.destination().is_multicast() {
@@ -54,10 +54,10 @@ pub(crate) fn judge_frame<'a>(
 ) -> Result<Accepted<'a>, Stop>
     ensures { result ≡ frame_judged world.now iface bytes.now }
 {
-    if iface.number >= world.iface_count() {
+    if iface.number >= world.interfaces().count() {
         return Err(Stop::Refuse(Refusal::NoInterface));
     }
-    if !world.is_up(iface) {
+    if !world.interfaces().is_up(iface) {
         return Err(Stop::Refuse(Refusal::InterfaceDown));
     }
     if bytes.len() > FRAME_LIMIT {

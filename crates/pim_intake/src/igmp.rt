@@ -4,9 +4,9 @@ ghost use Rattle.pim_model.specs.Judging.{igmp_accepted, igmp_message_judged};
 
 use igmp_wire::{IgmpView, read_igmp};
 use pim_ip::{Addr, Ipv4View};
-use pim_macros::World;
 use pim_model::Accepted;
 use pim_types::{IfaceId, Ignored, Stop};
+use pim_world::World;
 
 // What the router acts on of a message.
 fn accepted<'a>(iface: IfaceId, from: Addr, message: IgmpView<'a>) -> Accepted<'a>
@@ -28,7 +28,7 @@ pub(crate) fn judge_igmp<'a>(
     ensures { result ≡ igmp_message_judged world.now iface packet.now }
 {
     let message = read_igmp(packet.payload())?;
-    if world.is_own(packet.source()) {
+    if world.interfaces().is_own(packet.source()) {
         return Err(Stop::Ignore(Ignored::Own));
     }
     if !packet.destination().is_multicast() {

@@ -4,10 +4,10 @@ ghost use Rattle.pim_model.specs.Judging.{assert_judged, hello_judged, join_prun
 ghost use Rattle.pim_model.specs.State.{my_address};
 
 use pim_ip::{Addr, Ipv4View};
-use pim_macros::World;
 use pim_model::Accepted;
 use pim_types::{IfaceId, Ignored, Stop};
 use pim_wire::{Assert, DEFAULT_HOLDTIME, Hello, JoinPruneView, PimView, read_pim};
+use pim_world::World;
 
 #[tactic(auto, unfolding(pim_model::specs::Judging::hello_judged))]
 fn judge_hello<'a>(
@@ -19,7 +19,7 @@ fn judge_hello<'a>(
     ensures { result ≡ hello_judged world.now iface from.bits hello }
 {
     let holdtime = hello.holdtime.unwrap_or(DEFAULT_HOLDTIME);
-    if holdtime == 0 && !world.is_neighbour(iface, from) {
+    if holdtime == 0 && !world.neighbours().contains(iface, from) {
         return Err(Stop::Ignore(Ignored::NoNeighbour));
     }
     Ok(Accepted::Hello { iface, from, hello })
@@ -41,7 +41,7 @@ fn judge_join_prune<'a>(
 ) -> Result<Accepted<'a>, Stop>
     ensures { result ≡ join_prune_judged world.now iface from.bits message.entry }
 {
-    if !world.is_neighbour(iface, from) {
+    if !world.neighbours().contains(iface, from) {
         return Err(Stop::Ignore(Ignored::NoNeighbour));
     }
     if is_mine(world, iface, message.upstream()) {
@@ -65,7 +65,7 @@ fn judge_assert<'a>(
     if assert.group.is_link_local() {
         return Err(Stop::Ignore(Ignored::LinkLocal));
     }
-    if !world.is_neighbour(iface, from) {
+    if !world.neighbours().contains(iface, from) {
         return Err(Stop::Ignore(Ignored::NoNeighbour));
     }
     Ok(Accepted::Assert {
@@ -104,7 +104,7 @@ pub(crate) fn judge_pim<'a>(
     ensures { result ≡ pim_message_judged world.now iface packet.now }
 {
     let message = read_pim(packet.payload())?;
-    if world.is_own(packet.source()) {
+    if world.interfaces().is_own(packet.source()) {
         return Err(Stop::Ignore(Ignored::Own));
     }
     judge_message(world, iface, packet.source(), message)

@@ -3,11 +3,11 @@ ghost use Rattle.std.specs.Prelude.{◌≡◌};
 ghost use Rattle.pim_model.specs.Judging.{pim_to_me_judged, register_judged, register_stop_judged, unicast_judged, unicast_packet_judged};
 
 use pim_ip::{Addr, Ipv4View, PROTOCOL_PIM, read_ipv4};
-use pim_macros::World;
 use pim_model::Accepted;
 use pim_trie::Meter;
 use pim_types::{Ignored, Stop};
 use pim_wire::{PimView, RegisterStop, RegisterView, read_pim};
+use pim_world::World;
 
 #[tactic(auto, unfolding(pim_model::specs::Judging::register_judged))]
 fn judge_register<'a>(
@@ -69,7 +69,7 @@ fn judge_packet<'a>(
         return Err(Stop::Ignore(Ignored::NotForMe));
     }
     let message = read_pim(packet.payload())?;
-    if !world.is_own(packet.destination()) {
+    if !world.interfaces().is_own(packet.destination()) {
         return Err(Stop::Ignore(Ignored::NotForMe));
     }
     judge_message(world, packet, message, meter)

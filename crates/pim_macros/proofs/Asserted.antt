@@ -9,7 +9,7 @@ use Rattle.pim_types.specs.Keys.{source_key}
 use Rattle.pim_model.specs.Sets.{Set, is_beaten, is_better, is_loser, is_winner, spt_metric}
 use Rattle.pim_model.specs.State.{State}
 use Rattle.pim_model.specs.Tables.{has_row, row_at}
-use Rattle.pim_macros.specs.Sights.{Shows}
+use Rattle.pim_world.specs.Shown.{Shows}
 
 some_row : (test : AssertRow → Bool) (o : Option AssertRow)
     → (is_some o && option_map_or test o false) ≡ option_map_or test o false
@@ -46,3 +46,15 @@ asserted_where_either lost won either row l w e i = e i ∙ (λ j. l i j || w i 
 pub shown_of_all : (all set : Members) (test : Set) → ((i : ℕ) → has all i ≡ test i)
     → ((i : ℕ) → has set i ≡ (nat_lt i 120 && has all i)) → Shows set test
 shown_of_all all set test tells limited i = limited i ∙ ap (λ b. nat_lt i 120 && b) (tells i)
+
+limited_either : (limit a b : Bool) → ((limit && a) || (limit && b)) ≡ (limit && (a || b))
+limited_either true a b = refl
+limited_either false a b = refl
+
+-- where an assert is lost or won there is one
+pub asserted_shown : (lost won either : Members) (row : ℕ → Option AssertRow) → Shows lost (λ i. is_loser (row i))
+    → Shows won (λ i. is_winner (row i)) → ((i : ℕ) → has either i ≡ (has lost i || has won i))
+    → Shows either (λ i. is_some (row i))
+asserted_shown lost won either row l w e i =
+    e i ∙ (λ j. l i j || w i j) ∙ limited_either (nat_lt i 120) (is_loser (row i)) (is_winner (row i))
+    ∙ ap (λ b. nat_lt i 120 && b) (lost_or_won (row i))

@@ -36,6 +36,17 @@ none_passing test both n within shown none i below =
     let h : nat_lt i n ≡ true = grind (arith, nat_tests) in
     grind (arith, nat_tests)
 
+pub below_limit : (i n : ℕ) → n ≤ 120 → nat_lt i n ≡ (nat_lt i 120 && nat_lt i n)
+below_limit i n within = elim (nat_lt i n) as (λ b. nat_lt i n ≡ b → b ≡ (nat_lt i 120 && b)) [
+  | false ↦ λ e. grind arith
+  | true ↦ λ e. let h : nat_lt i 120 ≡ true = grind (arith, nat_tests) in rw h refl
+] refl
+
+-- below the limit once
+pub limited_once : (limit a b : Bool) → ((limit && a) && (limit && b)) ≡ ((limit && a) && b)
+limited_once true a b = refl
+limited_once false a b = refl
+
 -- r tells that the set of both is empty
 pub is_empty_shown : (r tunnel : Bool) (test both : ℕ → Bool) (n : ℕ) → n ≤ 120 → tunnel ≡ false
     → ((i : ℕ) → both i ≡ ((nat_lt i 120 && test i) && nat_lt i n))

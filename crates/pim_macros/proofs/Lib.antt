@@ -1,16 +1,7 @@
-pub mod Accepted
 mod Asserted
 mod ConfiguredMembers
-mod Elected
 mod Emptiness
-mod FirstFound
-pub mod Gathered
-pub mod Gathering
-pub mod GatheredSources
-mod LoweredRows
-mod NextEnding
 mod NextInterface
-mod Options
-mod Ranges
+mod OtherRp
 mod Short
-pub mod Written
+mod SightsKept

@@ -1,7 +1,2 @@
-pub mod Configurations
-pub mod Groups
-pub mod Short
+pub mod Rows
 pub mod Sights
-pub mod Sources
-pub mod Touches
-pub mod Turns

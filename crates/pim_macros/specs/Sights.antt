@@ -1,28 +1,20 @@
 -- What a sight shows of a state: each of its fields by the definition.
-use Rattle.std.specs.Prelude.{List, Option, Some, nat_lt, not, option_map, ℕ, ◌&&◌, ◌||◌, ◌≡◌}
+use Rattle.std.specs.Option.{option_map_or}
+use Rattle.std.specs.Prelude.{Option, Some, false, nat_lt, not, option_map, ℕ, ◌&&◌, ◌||◌, ◌≡◌, ◌≤◌}
 use Rattle.pim_ip.specs.declared.addr.Addr.{Addr}
-use Rattle.pim_ifset.specs.Members.{Members, has}
-use Rattle.pim_types.specs.declared.config.InterfaceConfig.{InterfaceConfig}
-use Rattle.pim_types.specs.declared.fact.NeighbourRow.{NeighbourRow}
 use Rattle.pim_types.specs.declared.path.Path.{Path}
 use Rattle.pim_model.specs.Desires.{join_desired, join_desired_star, winner_hop}
-use Rattle.pim_model.specs.Neighbours.{is_dr, is_dr_among, nbr}
+use Rattle.pim_model.specs.Neighbours.{is_dr, nbr}
 use Rattle.pim_model.specs.Receivers.{is_exclude, local_receiver_exclude, local_receiver_include}
+use Rattle.pim_model.specs.Registers.{is_dr_of_path, is_spt_wanted}
 use Rattle.pim_model.specs.Sets.{Set, assert_source, assert_star, is_beaten, is_kept_alive, is_loser, is_winner, joins, joins_star, pim_exclude, pim_include_star, prunes, spt_bit, tunnel, ◌∖◌, ◌∪◌}
-use Rattle.pim_model.specs.State.{State, address_among, value_among}
-use Rattle.pim_model.specs.Tables.{Table, rows_on, same_option}
+use Rattle.pim_model.specs.State.{State, iface_count, is_own}
+use Rattle.pim_model.specs.Tables.{same_option}
 use Rattle.pim_model.specs.Unicast.{is_rpf_interface, is_rpf_interface_rp, route, rp_of, rp_route, rpf_interface, rpf_interface_rp}
+use Rattle.pim_world.specs.Shown.{Shows}
+use Rattle.pim_world.specs.Short.{IsShort}
 use Rattle.pim_macros.specs.declared.sight.SourceSight.{SourceSight}
 use Rattle.pim_macros.specs.declared.sight.StarSight.{StarSight}
-
--- of the interfaces below 120 those that pass the test are in the set, and no other is
-abbrev pub Shows : Members → Set → Type 0
-Shows set test = (i : ℕ) → has set i ≡ (nat_lt i 120 && test i)
-
--- the router is the DR of the interface
-abbrev pub is_dr_on : List InterfaceConfig → Table NeighbourRow → Set
-is_dr_on configured neighbours i =
-    is_dr_among (value_among (λ c. c.priority) configured i) (address_among configured i) (rows_on i neighbours)
 
 -- the interface of a route
 abbrev pub is_interface_of : Option Path → Set
@@ -49,6 +41,12 @@ pub record ShowsStar (s : State) (g : ℕ) (star : StarSight) : Type 0 where
   pub won : Shows star.won (λ i. is_winner (assert_star s g i))
   pub receivers : Shows star.receivers (is_exclude s g)
   pub dr : Shows star.dr (is_dr s)
+  pub configured : Shows star.configured (λ i. nat_lt i (iface_count s))
+  pub bare : star.configured.tunnel ≡ false
+  pub few : iface_count s ≤ 120
+  pub is_own_rp : star.is_own_rp ≡ option_map_or (is_own s) (rp_of s g) false
+  -- an Assert has preferences of 31 bits
+  pub short : IsShort star.rp_path
 
 -- what a sight of (S,G) is in the state
 pub record ShowsSource (s : State) (g src : ℕ) (sight : SourceSight) : Type 0 where
@@ -67,6 +65,10 @@ pub record ShowsSource (s : State) (g src : ℕ) (sight : SourceSight) : Type 0 
   pub spt : sight.spt ≡ spt_bit s g src
   pub is_kept_alive : sight.is_kept_alive ≡ is_kept_alive s g src
   pub tunnel : sight.tunnel ≡ tunnel s g src
+  pub is_own : sight.is_own ≡ is_own s src
+  pub is_dr : sight.is_dr ≡ option_map_or (is_dr_of_path s) (route s src) false
+  pub is_spt_wanted : sight.is_spt_wanted ≡ is_spt_wanted s
+  pub short : IsShort sight.path
 
 -- the sight is that of its group in the state, or of its source and group
 abbrev pub IsStarSight : State → StarSight → Type 0
@@ -74,3 +76,10 @@ IsStarSight s star = ShowsStar s star.group.bits star
 
 abbrev pub IsSourceSight : State → SourceSight → Type 0
 IsSourceSight s sight = ShowsSource s sight.star.group.bits sight.source.bits sight
+
+-- in each state of which the sight is true
+abbrev pub InStar : StarSight → (State → ℕ → Type 0) → Type 0
+InStar star P = (s : State) → IsStarSight s star → P s star.group.bits
+
+abbrev pub InSource : SourceSight → (State → ℕ → ℕ → Type 0) → Type 0
+InSource sight P = (s : State) → IsSourceSight s sight → P s sight.star.group.bits sight.source.bits

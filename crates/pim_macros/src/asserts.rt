@@ -1,15 +1,13 @@
-//! The macros of the assert machines (RFC 7761, sections 4.6.1 to 4.6.3), by sights of the state as it is.
-ghost use Rattle.std.specs.Option.{option_map_or};
-ghost use Rattle.std.specs.Prelude.{◌≡◌, ◌<◌, ◌^◌, ℕ, false};
-ghost use Rattle.pim_macros.specs.Short.{IsShort};
-ghost use Rattle.pim_macros.specs.Sights.{IsSourceSight, IsStarSight, Shows, is_tracked_upstream};
+//! The macros of the assert machines (RFC 7761, sections 4.6.1 to 4.6.3).
+ghost use Rattle.std.specs.Prelude.{◌≡◌, ◌<◌, ◌^◌, ℕ};
+ghost use Rattle.pim_world.specs.Shown.{Shows};
+ghost use Rattle.pim_macros.specs.Sights.{InSource, InStar, IsSourceSight, IsStarSight, is_tracked_upstream};
 ghost use Rattle.pim_model.specs.AssertMacros.{could_assert, could_assert_star, infinite, is_infinite, is_tracking_desired, is_tracking_desired_star, my_metric, my_metric_star};
 ghost use Rattle.pim_model.specs.Sets.{is_better, route_metric, rpt_metric, spt_metric};
-ghost use Rattle.pim_model.specs.Unicast.{route, rp_route};
+ghost use Rattle.pim_model.specs.State.{State, my_address};
 
 use crate::interfaces::interface_of;
 use crate::sight::{SourceSight, StarSight};
-use crate::world::World;
 use pim_ifset::IfSet;
 use pim_types::fact::AssertMetric;
 use pim_types::{Addr, IfaceId, Path};
@@ -83,131 +81,116 @@ pub(crate) fn route_metric(
     }
 }
 
-impl World {
-    // The preferences of all routes have 31 bits.
-    fn are_preferences_short(&self)
-        ensures source { (address : ℕ) → IsShort (route self.now address) }
-        ensures group { (group : ℕ) → IsShort (rp_route self.now group) }
-    {
-        self.mrib.are_preferences_short();
-    }
-
-    /// spt_assert_metric(S,I).
-    #[tactic(auto, using(crate::proofs::Short::metric_is_short), unfolding(pim_model::specs::Sets::spt_metric))]
-    pub fn spt_metric(&self, sight: &SourceSight, iface: IfaceId) -> AssertMetric
-        requires { IsSourceSight self.now sight.now }
-        ensures metric { result ≡ spt_metric self.now sight.now.source.bits iface.number }
-        ensures within { result.preference < 2 ^ 31 }
-    {
-        self.are_preferences_short();
-        let is_own = self.is_own(sight.source);
-        route_metric(false, self.address(iface), is_own, sight.path)
-    }
-
-    /// rpt_assert_metric(G,I).
+impl StarSight {
+    /// rpt_assert_metric(G,I), by the router's address on the interface.
     #[tactic(auto, using(crate::proofs::Short::metric_is_short), unfolding(pim_model::specs::Sets::rpt_metric))]
-    pub fn rpt_metric(&self, star: &StarSight, iface: IfaceId) -> AssertMetric
-        requires { IsStarSight self.now star.now }
-        ensures metric { result ≡ rpt_metric self.now star.now.group.bits iface.number }
-        ensures within { result.preference < 2 ^ 31 }
+    pub fn metric(&self, address: Addr) -> AssertMetric
+        ensures metric { (s : State) (i : ℕ) → IsStarSight s self.now → address.bits ≡ my_address s i
+            → result ≡ rpt_metric s self.now.group.bits i }
+        ensures within { (s : State) → IsStarSight s self.now → result.preference < 2 ^ 31 }
     {
-        self.are_preferences_short();
-        let is_own = self.is_own_rp(star);
-        route_metric(true, self.address(iface), is_own, star.rp_path)
+        route_metric(true, address, self.is_own_rp, self.rp_path)
     }
 
     /// The interfaces on which CouldAssert(*,G,I) holds.
     #[tactic(auto, unfolding(pim_model::specs::AssertMacros::could_assert_star, pim_model::specs::Unicast::rpf_interface_rp))]
-    pub fn could_assert_star(&self, star: &StarSight) -> IfSet
-        requires { IsStarSight self.now star.now }
-        ensures { Shows result (could_assert_star self.now star.now.group.bits) }
+    pub fn could_assert(&self) -> IfSet
+        ensures { InStar self.now (λ s g. Shows result (could_assert_star s g)) }
     {
-        star.joined
-            .union(self.pim_include_star(star))
-            .minus(interface_of(star.rp_path))
+        self.joined
+            .union(self.pim_include())
+            .minus(interface_of(self.rp_path))
     }
 
-    /// The interfaces on which CouldAssert(S,G,I) holds.
-    #[tactic(auto, unfolding(pim_model::specs::AssertMacros::could_assert, pim_model::specs::Unicast::rpf_interface))]
-    pub fn could_assert(&self, sight: &SourceSight) -> IfSet
-        requires { IsSourceSight self.now sight.now }
-        ensures { Shows result (could_assert self.now sight.now.star.group.bits sight.now.source.bits) }
-    {
-        if !sight.spt {
-            return IfSet::new();
-        }
-        self.forwarding_set(sight)
-            .union(self.pim_include(sight))
-            .minus(interface_of(sight.path))
-    }
-
-    /// my_assert_metric(*,G,I).
+    /// my_assert_metric(*,G,I), by the router's address on the interface.
     #[tactic(auto, unfolding(pim_model::specs::AssertMacros::my_metric_star))]
-    pub fn my_metric_star(&self, star: &StarSight, iface: IfaceId) -> AssertMetric
-        requires sight { IsStarSight self.now star.now }
-        requires iface { iface.number < 120 }
-        ensures { result ≡ my_metric_star self.now star.now.group.bits iface.number }
+    pub fn my_metric(&self, iface: IfaceId, address: Addr) -> AssertMetric
+        requires { iface.number < 120 }
+        ensures { (s : State) → IsStarSight s self.now → address.bits ≡ my_address s iface.number
+            → result ≡ my_metric_star s self.now.group.bits iface.number }
     {
-        if self.could_assert_star(star).contains(iface) {
-            self.rpt_metric(star, iface)
+        if self.could_assert().contains(iface) {
+            self.metric(address)
         } else {
             infinite()
         }
     }
 
-    /// my_assert_metric(S,G,I).
-    #[tactic(auto, unfolding(pim_model::specs::AssertMacros::my_metric))]
-    pub fn my_metric(&self, sight: &SourceSight, iface: IfaceId) -> AssertMetric
-        requires sight { IsSourceSight self.now sight.now }
-        requires iface { iface.number < 120 }
-        ensures { result ≡ my_metric self.now sight.now.star.group.bits sight.now.source.bits iface.number }
-    {
-        if self.could_assert(sight).contains(iface) {
-            self.spt_metric(sight, iface)
-        } else {
-            self.my_metric_star(&sight.star, iface)
-        }
-    }
-
     /// The interfaces on which AssertTrackingDesired(*,G,I) holds.
     #[tactic(auto, unfolding(pim_model::specs::AssertMacros::is_tracking_desired_star, pim_model::specs::Unicast::rpf_interface_rp))]
-    pub fn tracking_desired_star(&self, star: &StarSight) -> IfSet
-        requires { IsStarSight self.now star.now }
-        ensures { Shows result (is_tracking_desired_star self.now star.now.group.bits) }
+    pub fn tracking_desired(&self) -> IfSet
+        ensures { InStar self.now (λ s g. Shows result (is_tracking_desired_star s g)) }
     {
-        let served = star.receivers.intersection(star.dr.union(star.won));
-        let tracked = self.could_assert_star(star).union(served);
-        if self.join_desired_star(star) {
-            tracked.union(interface_of(star.rp_path))
+        let served = self.receivers.intersection(self.dr.union(self.won));
+        let tracked = self.could_assert().union(served);
+        if self.join_desired() {
+            tracked.union(interface_of(self.rp_path))
         } else {
             tracked
+        }
+    }
+}
+
+impl SourceSight {
+    /// spt_assert_metric(S,I), by the router's address on the interface.
+    #[tactic(auto, using(crate::proofs::Short::metric_is_short), unfolding(pim_model::specs::Sets::spt_metric))]
+    pub fn metric(&self, address: Addr) -> AssertMetric
+        ensures metric { (s : State) (i : ℕ) → IsSourceSight s self.now → address.bits ≡ my_address s i
+            → result ≡ spt_metric s self.now.source.bits i }
+        ensures within { (s : State) → IsSourceSight s self.now → result.preference < 2 ^ 31 }
+    {
+        route_metric(false, address, self.is_own, self.path)
+    }
+
+    /// The interfaces on which CouldAssert(S,G,I) holds.
+    #[tactic(auto, unfolding(pim_model::specs::AssertMacros::could_assert, pim_model::specs::Unicast::rpf_interface))]
+    pub fn could_assert(&self) -> IfSet
+        ensures { InSource self.now (λ s g src. Shows result (could_assert s g src)) }
+    {
+        if !self.spt {
+            return IfSet::new();
+        }
+        self.forwarding_set()
+            .union(self.pim_include())
+            .minus(interface_of(self.path))
+    }
+
+    /// my_assert_metric(S,G,I), by the router's address on the interface.
+    #[tactic(auto, unfolding(pim_model::specs::AssertMacros::my_metric))]
+    pub fn my_metric(&self, iface: IfaceId, address: Addr) -> AssertMetric
+        requires { iface.number < 120 }
+        ensures { (s : State) → IsSourceSight s self.now → address.bits ≡ my_address s iface.number
+            → result ≡ my_metric s self.now.star.group.bits self.now.source.bits iface.number }
+    {
+        if self.could_assert().contains(iface) {
+            self.metric(address)
+        } else {
+            self.star.my_metric(iface, address)
         }
     }
 
     /// The interfaces on which AssertTrackingDesired(S,G,I) holds.
     #[tactic(auto, unfolding(pim_model::specs::AssertMacros::is_tracking_desired, pim_model::specs::Unicast::rpf_interface, pim_model::specs::Unicast::rpf_interface_rp))]
-    pub fn tracking_desired(&self, sight: &SourceSight) -> IfSet
-        requires { IsSourceSight self.now sight.now }
-        ensures { Shows result (is_tracking_desired self.now sight.now.star.group.bits sight.now.source.bits) }
+    pub fn tracking_desired(&self) -> IfSet
+        ensures { InSource self.now (λ s g src. Shows result (is_tracking_desired s g src)) }
     {
-        let served = sight.included.intersection(sight.star.dr.union(sight.won));
-        self.forwarding_set(sight)
+        let served = self.included.intersection(self.star.dr.union(self.won));
+        self.forwarding_set()
             .union(served)
-            .union(self.upstream_interfaces(sight))
+            .union(self.upstream_interfaces())
     }
 
     // The upstream interfaces on which the assert of (S,G) is tracked.
     #[tactic(auto, unfolding(pim_model::specs::Unicast::rpf_interface, pim_model::specs::Unicast::rpf_interface_rp))]
-    fn upstream_interfaces(&self, sight: &SourceSight) -> IfSet
-        requires { IsSourceSight self.now sight.now }
-        ensures { Shows result (is_tracked_upstream self.now sight.now.star.group.bits sight.now.source.bits) }
+    fn upstream_interfaces(&self) -> IfSet
+        ensures { InSource self.now (λ s g src. Shows result (is_tracked_upstream s g src)) }
     {
         let mut tracked = IfSet::new();
-        if self.join_desired(sight) {
-            tracked = interface_of(sight.path);
+        if self.join_desired() {
+            tracked = interface_of(self.path);
         }
-        if !sight.spt && self.join_desired_star(&sight.star) {
-            tracked = tracked.union(interface_of(sight.star.rp_path));
+        if !self.spt && self.star.join_desired() {
+            tracked = tracked.union(interface_of(self.star.rp_path));
         }
         tracked
     }

@@ -1,17 +1,16 @@
 //! What the router wants of its upstream neighbours (RFC 7761, sections 4.5.4 to 4.5.7), and who they are (section
-//! 4.1.6), by sights of the state as it is.
+//! 4.1.6).
 ghost use Rattle.std.specs.Prelude.{◌≡◌, ℕ, Bool};
-ghost use Rattle.pim_macros.specs.Sights.{IsSourceSight, IsStarSight, Shows};
+ghost use Rattle.pim_world.specs.Shown.{Shows};
+ghost use Rattle.pim_macros.specs.Sights.{InSource, InStar, IsStarSight};
 ghost use Rattle.pim_model.specs.Desires.{is_immediate_empty, is_inherited_empty, join_desired, join_desired_star, prune_desired, rpf_rpt, rpf_source, rpf_star, tree_state};
-ghost use Rattle.pim_model.specs.Hellos.{upstream_of};
 ghost use Rattle.pim_model.specs.Sets.{is_empty};
+ghost use Rattle.pim_model.specs.State.{State};
 ghost use Rattle.pim_model.specs.Tables.{same_hop};
 
 use crate::sight::{SourceSight, StarSight};
-use crate::world::World;
 use pim_ifset::IfSet;
-use pim_trie::Meter;
-use pim_types::{Hop, Key, TreeState};
+use pim_types::{Hop, TreeState};
 
 /// Whether both are the same neighbour, or none.
 pub fn is_same_hop(first: Option<Hop>, second: Option<Hop>) -> bool
@@ -24,110 +23,90 @@ pub fn is_same_hop(first: Option<Hop>, second: Option<Hop>) -> bool
     }
 }
 
-impl World {
+impl StarSight {
     /// Whether no configured interface is in the set; the tunnel isn't asked for.
     pub(crate) fn is_empty(&self, set: IfSet) -> bool
-        ensures { (test : ℕ → Bool) → Shows set test → result ≡ is_empty self.now test }
+        ensures { (s : State) (test : ℕ → Bool) → IsStarSight s self.now → Shows set test → result ≡ is_empty s test }
     {
-        let configured = IfSet::below(self.iface_count());
-        set.intersection(configured).is_empty()
+        set.intersection(self.configured).is_empty()
     }
 
     /// JoinDesired(*,G).
     #[tactic(auto, unfolding(pim_model::specs::Desires::join_desired_star))]
-    pub fn join_desired_star(&self, star: &StarSight) -> bool
-        requires { IsStarSight self.now star.now }
-        ensures { result ≡ join_desired_star self.now star.now.group.bits }
+    pub fn join_desired(&self) -> bool
+        ensures { InStar self.now (λ s g. result ≡ join_desired_star s g) }
     {
-        !self.is_empty(self.immediate_olist_star(star))
-    }
-
-    /// Whether immediate_olist(S,G) is empty, the register tunnel asked for too.
-    #[tactic(auto, unfolding(pim_model::specs::Desires::is_immediate_empty))]
-    pub fn is_immediate_empty(&self, sight: &SourceSight) -> bool
-        requires { IsSourceSight self.now sight.now }
-        ensures { result ≡ is_immediate_empty self.now sight.now.star.group.bits sight.now.source.bits }
-    {
-        self.is_empty(self.immediate_olist(sight)) && !sight.tunnel
-    }
-
-    /// Whether inherited_olist(S,G) is empty, the register tunnel asked for too.
-    #[tactic(auto, unfolding(pim_model::specs::Desires::is_inherited_empty))]
-    pub fn is_inherited_empty(&self, sight: &SourceSight) -> bool
-        requires { IsSourceSight self.now sight.now }
-        ensures { result ≡ is_inherited_empty self.now sight.now.star.group.bits sight.now.source.bits }
-    {
-        self.is_empty(self.inherited_olist(sight)) && !sight.tunnel
-    }
-
-    /// JoinDesired(S,G).
-    #[tactic(auto, unfolding(pim_model::specs::Desires::join_desired))]
-    pub fn join_desired(&self, sight: &SourceSight) -> bool
-        requires { IsSourceSight self.now sight.now }
-        ensures { result ≡ join_desired self.now sight.now.star.group.bits sight.now.source.bits }
-    {
-        !self.is_immediate_empty(sight) || (sight.is_kept_alive && !self.is_inherited_empty(sight))
+        !self.is_empty(self.immediate_olist())
     }
 
     /// RPF'(*,G).
     #[tactic(auto, unfolding(pim_model::specs::Desires::rpf_star))]
-    pub fn rpf_star(&self, star: &StarSight) -> Option<Hop>
-        requires { IsStarSight self.now star.now }
-        ensures { result ≡ rpf_star self.now star.now.group.bits }
+    pub fn rpf_neighbour(&self) -> Option<Hop>
+        ensures { InStar self.now (λ s g. result ≡ rpf_star s g) }
     {
-        star.winner.or(star.next_hop)
+        self.winner.or(self.next_hop)
+    }
+}
+
+impl SourceSight {
+    /// Whether immediate_olist(S,G) is empty, the register tunnel asked for too.
+    #[tactic(auto, unfolding(pim_model::specs::Desires::is_immediate_empty))]
+    pub fn is_immediate_empty(&self) -> bool
+        ensures { InSource self.now (λ s g src. result ≡ is_immediate_empty s g src) }
+    {
+        self.star.is_empty(self.immediate_olist()) && !self.tunnel
+    }
+
+    /// Whether inherited_olist(S,G) is empty, the register tunnel asked for too.
+    #[tactic(auto, unfolding(pim_model::specs::Desires::is_inherited_empty))]
+    pub fn is_inherited_empty(&self) -> bool
+        ensures { InSource self.now (λ s g src. result ≡ is_inherited_empty s g src) }
+    {
+        self.star.is_empty(self.inherited_olist()) && !self.tunnel
+    }
+
+    /// JoinDesired(S,G).
+    #[tactic(auto, unfolding(pim_model::specs::Desires::join_desired))]
+    pub fn join_desired(&self) -> bool
+        ensures { InSource self.now (λ s g src. result ≡ join_desired s g src) }
+    {
+        !self.is_immediate_empty() || (self.is_kept_alive && !self.is_inherited_empty())
     }
 
     /// RPF'(S,G,rpt).
     #[tactic(auto, unfolding(pim_model::specs::Desires::rpf_rpt))]
-    pub fn rpf_rpt(&self, sight: &SourceSight) -> Option<Hop>
-        requires { IsSourceSight self.now sight.now }
-        ensures { result ≡ rpf_rpt self.now sight.now.star.group.bits sight.now.source.bits }
+    pub fn rpf_neighbour_rpt(&self) -> Option<Hop>
+        ensures { InSource self.now (λ s g src. result ≡ rpf_rpt s g src) }
     {
-        sight.tree_winner.or(self.rpf_star(&sight.star))
+        self.tree_winner.or(self.star.rpf_neighbour())
     }
 
     /// RPF'(S,G).
     #[tactic(auto, unfolding(pim_model::specs::Desires::rpf_source))]
-    pub fn rpf_source(&self, sight: &SourceSight) -> Option<Hop>
-        requires { IsSourceSight self.now sight.now }
-        ensures { result ≡ rpf_source self.now sight.now.star.group.bits sight.now.source.bits }
+    pub fn rpf_neighbour(&self) -> Option<Hop>
+        ensures { InSource self.now (λ s g src. result ≡ rpf_source s g src) }
     {
-        sight.winner.or(sight.next_hop)
-    }
-
-    /// The upstream neighbour of the key's Join timer: RPF'(*,G), or RPF'(S,G).
-    #[tactic(auto, unfolding(pim_model::specs::Hellos::upstream_of))]
-    pub fn upstream_of(&self, key: Key, meter: &mut Meter) -> Option<Hop>
-        ensures { result ≡ upstream_of self.now key }
-    {
-        let star = self.gather_star(key.group, meter);
-        match key.source {
-            None => self.rpf_star(&star),
-            Some(source) => self.rpf_source(&self.gather_source(star, source, meter)),
-        }
+        self.winner.or(self.next_hop)
     }
 
     /// PruneDesired(S,G,rpt).
     #[tactic(auto, unfolding(pim_model::specs::Desires::prune_desired))]
-    pub fn prune_desired(&self, sight: &SourceSight) -> bool
-        requires { IsSourceSight self.now sight.now }
-        ensures { result ≡ prune_desired self.now sight.now.star.group.bits sight.now.source.bits }
+    pub fn prune_desired(&self) -> bool
+        ensures { InSource self.now (λ s g src. result ≡ prune_desired s g src) }
     {
-        let is_elsewhere = !is_same_hop(self.rpf_star(&sight.star), self.rpf_source(sight));
-        self.join_desired_star(&sight.star)
-            && (self.is_empty(self.inherited_olist_rpt(sight)) || (sight.spt && is_elsewhere))
+        let is_elsewhere = !is_same_hop(self.star.rpf_neighbour(), self.rpf_neighbour());
+        self.star.join_desired()
+            && (self.star.is_empty(self.inherited_olist_rpt()) || (self.spt && is_elsewhere))
     }
 
     /// The upstream state of (S,G,rpt).
     #[tactic(auto, unfolding(pim_model::specs::Desires::tree_state))]
-    pub fn tree_state(&self, sight: &SourceSight) -> TreeState
-        requires { IsSourceSight self.now sight.now }
-        ensures { result ≡ tree_state self.now sight.now.star.group.bits sight.now.source.bits }
+    pub fn tree_state(&self) -> TreeState
+        ensures { InSource self.now (λ s g src. result ≡ tree_state s g src) }
     {
-        if !self.join_desired_star(&sight.star) {
+        if !self.star.join_desired() {
             TreeState::NotJoined
-        } else if self.prune_desired(sight) {
+        } else if self.prune_desired() {
             TreeState::Pruned
         } else {
             TreeState::NotPruned

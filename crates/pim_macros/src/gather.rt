@@ -1,149 +1,218 @@
 //! Sights, gathered of the state as it is.
-ghost use Rattle.std.specs.Prelude.{◌≡◌, ℕ, option_map};
+ghost use Rattle.std.specs.Option.{option_map_or};
+ghost use Rattle.std.specs.Prelude.{◌≡◌, ℕ, false, option_map};
 ghost use Rattle.pim_ifset.specs.Members.{has};
-ghost use Rattle.pim_macros.specs.Sights.{IsSourceSight, IsStarSight, Shows};
+ghost use Rattle.pim_macros.specs.Sights.{IsSourceSight, IsStarSight};
 ghost use Rattle.pim_model.specs.Desires.{winner_hop};
-ghost use Rattle.pim_model.specs.Sets.{is_beaten, is_kept_alive, spt_bit, tunnel};
+ghost use Rattle.pim_model.specs.Hellos.{upstream_of};
+ghost use Rattle.pim_model.specs.Neighbours.{nbr};
+ghost use Rattle.pim_model.specs.Receivers.{is_exclude, local_receiver_exclude, local_receiver_include};
+ghost use Rattle.pim_model.specs.Registers.{is_dr_of_path};
+ghost use Rattle.pim_model.specs.Sets.{is_beaten};
+ghost use Rattle.pim_model.specs.State.{is_own};
 ghost use Rattle.pim_model.specs.Tables.{has_row, row_at};
 ghost use Rattle.pim_model.specs.Unicast.{route};
 ghost use Rattle.pim_types.specs.Keys.{source_key};
 ghost use Rattle.pim_types.specs.declared.path.Path.{Path as PathValue};
+ghost use Rattle.pim_world.specs.Shown.{Shows};
 
 use crate::asserts::{is_better, route_metric};
 use crate::interfaces::interfaces_where;
 use crate::sight::{SourceSight, StarSight};
-use crate::world::World;
 use pim_ifset::IfSet;
 use pim_trie::Meter;
 use pim_types::fact::{AssertRole, RegisterState};
-use pim_types::{Addr, Hop, IfaceId, Key, Path};
+use pim_types::{Addr, Hop, IfaceId, Key, Path, SptSwitch};
+use pim_world::World;
 
-impl World {
-    // To whom the router lost the assert with the key's group and source on the interface of a route.
-    fn winner_along(&self, path: Option<Path>, key: Key) -> Option<Hop>
-        ensures { result ≡ winner_hop (option_map (λ (p : PathValue). p.iface.number) path)
-            (λ i. row_at self.now.asserts (record key { iface = record { number = i } })) }
-    {
-        let iface = path?.iface;
-        let row = self.store.assert_at(Key { iface, ..key })?;
-        match row.role {
-            AssertRole::Loser => Some(Hop {
-                iface,
-                address: row.winner.address,
-            }),
-            AssertRole::Winner => None,
-        }
+// To whom the router lost the assert with the key's group and source on the interface of a route.
+fn winner_along(world: &World, path: Option<Path>, key: Key) -> Option<Hop>
+    ensures { result ≡ winner_hop (option_map (λ (p : PathValue). p.iface.number) path)
+        (λ i. row_at world.now.asserts (record key { iface = record { number = i } })) }
+{
+    let iface = path?.iface;
+    let row = world.store().assert_at(Key { iface, ..key })?;
+    match row.role {
+        AssertRole::Loser => Some(Hop {
+            iface,
+            address: row.winner.address,
+        }),
+        AssertRole::Winner => None,
     }
+}
 
+// NBR(I, A) of the next hop of a route.
+#[tactic(auto, unfolding(pim_model::specs::Neighbours::nbr))]
+fn nbr(world: &World, path: Option<Path>) -> Option<Hop>
+    ensures { result ≡ nbr world.now path }
+{
+    world.neighbours().nbr(path)
+}
+
+// local_receiver_include(*,G).
+fn receivers(world: &World, group: Addr, meter: &mut Meter) -> IfSet
+    ensures { Shows result (is_exclude world.now group.bits) }
+{
+    world
+        .membership()
+        .receivers_star(group, meter)
+        .without_tunnel()
+}
+
+// local_receiver_include(S,G).
+fn included(world: &World, group: Addr, source: Addr, meter: &mut Meter) -> IfSet
+    ensures { Shows result (local_receiver_include world.now group.bits source.bits) }
+{
+    world
+        .membership()
+        .receivers_include(group, source, meter)
+        .without_tunnel()
+}
+
+// local_receiver_exclude(S,G).
+fn excluded(world: &World, group: Addr, source: Addr, meter: &mut Meter) -> IfSet
+    ensures { Shows result (local_receiver_exclude world.now group.bits source.bits) }
+{
+    world
+        .membership()
+        .receivers_exclude(group, source, meter)
+        .without_tunnel()
+}
+
+// Whether the winner of the assert of (S,G) on the interface is better than spt_assert_metric(S,I).
+#[tactic(auto, unfolding(pim_model::specs::Sets::is_beaten, pim_model::specs::Sets::spt_metric))]
+fn is_beaten(world: &World, iface: IfaceId, group: Addr, source: Addr, path: Option<Path>) -> bool
+    requires { path ≡ route world.now source.bits }
+    ensures { result ≡ is_beaten world.now group.bits source.bits iface.number }
+{
+    match world.store().assert_at(Key::source(iface, group, source)) {
+        Some(row) => {
+            let is_own = world.interfaces().is_own(source);
+            is_better(
+                row.winner,
+                route_metric(false, world.address(iface), is_own, path),
+            )
+        }
+        None => false,
+    }
+}
+
+// Where the winner of the assert of (S,G) is better than spt_assert_metric(S,I), of the interfaces with an assert.
+fn beaten(world: &World, asserted: IfSet, group: Addr, source: Addr, path: Option<Path>) -> IfSet
+    requires asserted { (i : ℕ) → has asserted i ≡ has_row world.now.asserts (source_key i group.bits source.bits) }
+    requires path { path ≡ route world.now source.bits }
+    ensures { Shows result (is_beaten world.now group.bits source.bits) }
+{
+    interfaces_where(|iface| {
+        asserted.contains(iface) && is_beaten(world, iface, group, source, path)
+    })
+}
+
+// Whether the address, which may be RP(G), is one of the router's.
+fn is_own(world: &World, rp: Option<Addr>) -> bool
+    ensures { result ≡ option_map_or (is_own world.now) (option_map (λ a. a.bits) rp) false }
+{
+    rp.is_some_and(|rp| world.interfaces().is_own(rp))
+}
+
+// Whether the router is the DR of a link that the address is on.
+fn is_dr_of_path(world: &World, path: Option<Path>) -> bool
+    ensures { result ≡ option_map_or (is_dr_of_path world.now) path false }
+{
+    path.is_some_and(|path| path.is_connected && world.is_dr(path.iface))
+}
+
+impl StarSight {
     /// What the macros of (*,G) read now. The meter rises by the nodes that the look-ups visit.
-    pub fn gather_star(&self, group: Addr, meter: &mut Meter) -> StarSight
-        ensures sight { IsStarSight self.now result }
+    pub fn of(world: &World, group: Addr, meter: &mut Meter) -> StarSight
+        ensures sight { IsStarSight world.now result }
         ensures group { result.group ≡ group }
     {
-        let rp = self.rp(group, meter);
-        let rp_path = self.route_to_rp(group, rp, meter);
-        let marks = self.store.marks(group, None, meter);
+        // It tells that preferences have 31 bits.
+        world.are_preferences_short();
+        let rp = world.rp(group, meter);
+        let rp_path = world.rp_route(group, rp, meter);
+        let marks = world.store().marks(group, None, meter);
         StarSight {
             group,
             rp,
             rp_path,
-            next_hop: self.nbr(rp_path),
-            winner: self.winner_along(rp_path, Key::group(group)),
+            next_hop: nbr(world, rp_path),
+            winner: winner_along(world, rp_path, Key::group(group)),
             joined: marks.joined.without_tunnel(),
             lost: marks.lost.without_tunnel(),
             won: marks.won.without_tunnel(),
-            receivers: self.receivers(group, meter),
-            dr: self.dr,
+            receivers: receivers(world, group, meter),
+            dr: world.dr(),
+            configured: IfSet::below(world.interfaces().count()),
+            is_own_rp: is_own(world, rp),
         }
     }
+}
 
-    // Whether the winner of the assert of (S,G) on the interface is better than spt_assert_metric(S,I).
-    #[tactic(auto, unfolding(pim_model::specs::Sets::is_beaten, pim_model::specs::Sets::spt_metric))]
-    fn is_beaten(&self, iface: IfaceId, group: Addr, source: Addr, path: Option<Path>) -> bool
-        requires { path ≡ route self.now source.bits }
-        ensures { result ≡ is_beaten self.now group.bits source.bits iface.number }
-    {
-        match self.store.assert_at(Key::source(iface, group, source)) {
-            Some(row) => {
-                let is_own = self.is_own(source);
-                is_better(
-                    row.winner,
-                    route_metric(false, self.address(iface), is_own, path),
-                )
-            }
-            None => false,
-        }
-    }
-
-    // Where the winner of the assert of (S,G) is better than spt_assert_metric(S,I), of the interfaces with an assert.
-    fn beaten(&self, asserted: IfSet, group: Addr, source: Addr, path: Option<Path>) -> IfSet
-        requires asserted { (i : ℕ) → has asserted i ≡ has_row self.now.asserts (source_key i group.bits source.bits) }
-        requires path { path ≡ route self.now source.bits }
-        ensures { Shows result (is_beaten self.now group.bits source.bits) }
-    {
-        interfaces_where(|iface| {
-            asserted.contains(iface) && self.is_beaten(iface, group, source, path)
-        })
-    }
-
-    // SPTbit(S,G).
-    #[tactic(auto, unfolding(pim_model::specs::Sets::spt_bit))]
-    pub(crate) fn spt_bit(&self, group: Addr, source: Addr) -> bool
-        ensures { result ≡ spt_bit self.now group.bits source.bits }
-    {
-        let row = self.store.source(Key::source(IfaceId::NONE, group, source));
-        row.is_some_and(|row| row.spt)
-    }
-
-    // Whether KAT(S,G) runs.
-    #[tactic(auto, unfolding(pim_model::specs::Sets::is_kept_alive))]
-    fn is_kept_alive(&self, group: Addr, source: Addr) -> bool
-        ensures { result ≡ is_kept_alive self.now group.bits source.bits }
-    {
-        let row = self.store.source(Key::source(IfaceId::NONE, group, source));
-        row.is_some_and(|row| row.keepalive.is_some())
-    }
-
-    // Whether the register tunnel is in joins(S,G).
-    #[tactic(auto, unfolding(pim_model::specs::Sets::tunnel))]
-    fn has_tunnel(&self, group: Addr, source: Addr) -> bool
-        ensures { result ≡ tunnel self.now group.bits source.bits }
-    {
-        let key = Key::source(IfaceId::NONE, group, source);
-        let row = self.store.register(key);
-        row.is_some_and(|row| matches!(row.state, RegisterState::Join))
-    }
-
+impl SourceSight {
     /// What the macros of (S,G) and of (S,G,rpt) read now, beside those of (*,G). The meter rises by the nodes that the
     /// look-ups visit.
-    pub fn gather_source(&self, star: StarSight, source: Addr, meter: &mut Meter) -> SourceSight
-        requires { IsStarSight self.now star }
-        ensures sight { IsSourceSight self.now result }
+    #[tactic(auto, unfolding(pim_model::specs::Sets::spt_bit, pim_model::specs::Sets::is_kept_alive, pim_model::specs::Sets::tunnel))]
+    pub fn of(world: &World, star: StarSight, source: Addr, meter: &mut Meter) -> SourceSight
+        requires { IsStarSight world.now star }
+        ensures sight { IsSourceSight world.now result }
         ensures star { result.star ≡ star }
         ensures source { result.source ≡ source }
     {
+        // It tells that preferences have 31 bits.
+        world.are_preferences_short();
         let group = star.group;
         let key = Key::source(IfaceId::NONE, group, source);
-        let path = self.route(source, meter);
-        let marks = self.store.marks(group, Some(source), meter);
+        let path = world.route(source, meter);
+        let marks = world.store().marks(group, Some(source), meter);
         let asserted = marks.lost.union(marks.won);
+        let row = world.store().source(key);
+        let register = world.store().register(key);
         SourceSight {
             star,
             source,
             path,
-            next_hop: self.nbr(path),
-            winner: self.winner_along(path, key),
-            tree_winner: self.winner_along(star.rp_path, key),
+            next_hop: nbr(world, path),
+            winner: winner_along(world, path, key),
+            tree_winner: winner_along(world, star.rp_path, key),
             joined: marks.joined.without_tunnel(),
             pruned: marks.pruned.without_tunnel(),
             lost: marks.lost.without_tunnel(),
             won: marks.won.without_tunnel(),
-            beaten: self.beaten(asserted, group, source, path),
-            included: self.included(group, source, meter),
-            excluded: self.excluded(group, source, meter),
-            spt: self.spt_bit(group, source),
-            is_kept_alive: self.is_kept_alive(group, source),
-            tunnel: self.has_tunnel(group, source),
+            beaten: beaten(world, asserted, group, source, path),
+            included: included(world, group, source, meter),
+            excluded: excluded(world, group, source, meter),
+            spt: row.is_some_and(|row| row.spt),
+            is_kept_alive: row.is_some_and(|row| row.keepalive.is_some()),
+            tunnel: register.is_some_and(|row| matches!(row.state, RegisterState::Join)),
+            is_own: world.interfaces().is_own(source),
+            is_dr: is_dr_of_path(world, path),
+            is_spt_wanted: matches!(world.settings().spt, SptSwitch::Always),
         }
+    }
+}
+
+impl SourceSight {
+    /// The same source's, gathered anew.
+    pub fn anew(&self, world: &World, meter: &mut Meter) -> SourceSight
+        ensures sight { IsSourceSight world.now result }
+        ensures group { result.star.group ≡ self.now.star.group }
+        ensures source { result.source ≡ self.now.source }
+    {
+        let star = StarSight::of(world, self.star.group, meter);
+        SourceSight::of(world, star, self.source, meter)
+    }
+}
+
+/// The upstream neighbour of the key's Join timer: RPF'(*,G), or RPF'(S,G).
+#[tactic(auto, unfolding(pim_model::specs::Hellos::upstream_of))]
+pub fn upstream_of(world: &World, key: Key, meter: &mut Meter) -> Option<Hop>
+    ensures { result ≡ upstream_of world.now key }
+{
+    let star = StarSight::of(world, key.group, meter);
+    match key.source {
+        None => star.rpf_neighbour(),
+        Some(source) => SourceSight::of(world, star, source, meter).rpf_neighbour(),
     }
 }

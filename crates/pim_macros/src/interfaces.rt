@@ -1,9 +1,12 @@
-//! Sets of the interfaces that pass a test.
-ghost use Rattle.std.specs.Prelude.{◌≡◌, ◌<◌, ◌==◌, ◌&&◌, if◌then◌else◌, nat_lt, ℕ, Bool};
-ghost use Rattle.pim_ifset.specs.Members.{has};
-ghost use Rattle.pim_macros.specs.Sights.{Shows, is_interface_of};
+//! Sets of interfaces: those that pass a test, and the configured ones of a set.
+ghost use Rattle.std.specs.Prelude.{◌≡◌, ◌<◌, ◌≤◌, map, ℕ, Bool};
+ghost use Rattle.pim_macros.specs.Sights.{is_interface_of};
+ghost use Rattle.pim_model.specs.Sets.{members};
+ghost use Rattle.pim_model.specs.State.{State, iface_count};
+ghost use Rattle.pim_types.specs.declared.config.IfaceId.{IfaceId as IfaceValue};
+ghost use Rattle.pim_world.specs.Shown.{Shows};
 
-use pim_ifset::IfSet;
+use pim_ifset::{IfSet, Iter};
 use pim_types::{IfaceId, Path};
 
 /// The interfaces below 120 that pass the test, each asked once.
@@ -22,19 +25,6 @@ pub(crate) fn interfaces_where<F: Fn(IfaceId) -> bool>(test: F) -> IfSet
     set
 }
 
-/// The set with the interface in it, or without it. No interface from 120 on is in a set.
-pub(crate) fn with_member(set: IfSet, iface: IfaceId, is_in: bool) -> IfSet
-    ensures { (i : ℕ) → has result i ≡ (if iface.number == i then nat_lt i 120 && is_in else has set i) }
-{
-    let mut changed = set;
-    if is_in && iface.number < IfSet::LIMIT {
-        changed.insert(iface);
-    } else {
-        changed.remove(iface);
-    }
-    changed
-}
-
 /// The interface of a route, or none.
 pub(crate) fn interface_of(path: Option<Path>) -> IfSet
     ensures { Shows result (is_interface_of path) }
@@ -46,4 +36,21 @@ pub(crate) fn interface_of(path: Option<Path>) -> IfSet
         }
     }
     set
+}
+
+/// Whether a route is over the interface.
+pub fn is_over(path: Option<Path>, iface: IfaceId) -> bool
+    ensures { result ≡ is_interface_of path iface.number }
+{
+    path.is_some_and(|path| path.iface == iface)
+}
+
+/// The configured interfaces in the set, ascending, where so many are: at most 120.
+pub fn members(set: IfSet, count: u32) -> Iter
+    requires { count ≤ 120 }
+    ensures { (s : State) (test : ℕ → Bool) → count ≡ iface_count s → Shows set test
+        → map (λ (iface : IfaceValue). iface.number) result ≡ members s test }
+{
+    let configured = IfSet::below(count);
+    set.intersection(configured).iter()
 }

@@ -23,6 +23,10 @@ pub struct StarSight {
     pub receivers: IfSet,
     /// I_am_DR.
     pub dr: IfSet,
+    /// The configured interfaces.
+    pub configured: IfSet,
+    /// RP(G) is the router itself.
+    pub is_own_rp: bool,
 }
 
 /// What the macros of (S,G) and of (S,G,rpt) read.
@@ -55,4 +59,10 @@ pub struct SourceSight {
     pub is_kept_alive: bool,
     /// The register tunnel is in joins(S,G).
     pub tunnel: bool,
+    /// S is one of the router's addresses.
+    pub is_own: bool,
+    /// The router is the DR of a link that S is on.
+    pub is_dr: bool,
+    /// SwitchToSptDesired(S,G), which is configured of the whole router.
+    pub is_spt_wanted: bool,
 }

@@ -5,9 +5,9 @@ use Rattle.pim_types.specs.declared.fact.Key.{Key}
 use Rattle.pim_model.specs.State.{State}
 use Rattle.pim_model.specs.Tables.{ascending}
 use Rattle.pim_model.specs.Upstream.{sources_of}
-use Rattle.pim_macros.specs.Groups.{gathered}
-use Rattle.pim_macros.specs.Sources.{sources_among}
-use Rattle.pim_macros.proofs.GatheredSources.{more_gathered}
+use Rattle.pim_world.specs.Groups.{gathered}
+use Rattle.pim_world.specs.Sources.{sources_among}
+use Rattle.pim_world.proofs.GatheredSources.{more_gathered}
 use Rattle.pim_opening.specs.Openings.{facts_of_whole, is_of_all}
 
 module _ (g : ℕ) where

@@ -6,7 +6,7 @@ use Rattle.pim_types.specs.declared.fact.Key.{Key}
 use Rattle.pim_model.specs.State.{State}
 use Rattle.pim_model.specs.Upstream.{fact_keys}
 use Rattle.pim_locality.specs.Locality.{AgreesBut, touching}
-use Rattle.pim_macros.specs.declared.touched.Touched.{Touched}
+use Rattle.pim_world.specs.declared.touched.Touched.{Touched}
 use Rattle.pim_opening.specs.Openings.{has_facts}
 
 -- there is a fact of the group

@@ -6,8 +6,8 @@ use Rattle.pim_types.specs.Keys.{is_of_group, names_source, source_in}
 use Rattle.pim_types.specs.declared.fact.Key.{Key}
 use Rattle.pim_model.specs.State.{State}
 use Rattle.pim_model.specs.Upstream.{fact_keys, groups_of, source_view, sources_of, star_view}
-use Rattle.pim_macros.specs.Touches.{touched_keys}
-use Rattle.pim_macros.specs.declared.touched.Touched.{Touched}
+use Rattle.pim_world.specs.Touches.{touched_keys}
+use Rattle.pim_world.specs.declared.touched.Touched.{Touched}
 use Rattle.pim_opening.specs.declared.opening.GroupOpening.{GroupOpening}
 use Rattle.pim_opening.specs.declared.opening.SourceOpening.{SourceOpening}
 

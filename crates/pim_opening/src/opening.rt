@@ -1,14 +1,15 @@
 //! What the machines compare, as it is at the opening of an event.
 ghost use Rattle.std.specs.List.{list_any};
-ghost use Rattle.std.specs.Prelude.{◌≡◌, IfOk, map};
-ghost use Rattle.pim_macros.specs.Groups.{numbers_of};
+ghost use Rattle.std.specs.Prelude.{◌≡◌, ◌∷◌, [], IfOk, IfSome, false, map};
+ghost use Rattle.pim_world.specs.Groups.{numbers_of};
 ghost use Rattle.pim_macros.specs.Sights.{IsStarSight};
 ghost use Rattle.pim_opening.specs.Openings.{group_opening, is_whole, opening_of, source_opening};
 
 use crate::sources;
 use crate::sources::touched_sources;
-use pim_macros::{StarSight, Touched, Turn, World};
+use pim_macros::{SourceSight, StarSight};
 use pim_types::{Addr, Series, SourceView, StarView};
+use pim_world::{Touched, Turn, World};
 use std::alloc::{AllocError, Global};
 use std::collections::BTreeMap;
 use std::marker::Model;
@@ -61,6 +62,20 @@ impl Opening {
         Ok(Opening { groups })
     }
 
+    /// The group whose one source is all that is touched, where it is so.
+    pub fn only_source(&self) -> Option<(&GroupOpening, SourceOpening)>
+        ensures { IfSome result (λ only. (self.now ≡ (only.0).now ∷ []) × ((only.0).now.is_whole ≡ false)
+            × ((only.0).now.sources ≡ only.1 ∷ [])) }
+    {
+        let [group] = self.groups.as_slice() else {
+            return None;
+        };
+        match group.sources.as_slice() {
+            [source] if !group.is_whole => Some((group, *source)),
+            _ => None,
+        }
+    }
+
     /// The touched groups.
     pub fn groups(&self) -> &[GroupOpening]
         ensures { result.now ≡ self.now }
@@ -97,13 +112,13 @@ fn open_group(
     ensures opened { IfOk result (λ opened. opened ≡ group_opening world.now touched.now group.bits) }
     ensures silent { turn.new ≡ turn.old }
 {
-    let star = world.gather_star(group, &mut turn.meter);
+    let star = StarSight::of(world, group, &mut turn.meter);
     let sources = touched_sources(turn.alloc, world, touched, group)?;
     let sources = open_sources(world, turn, &star, &sources)?;
     Ok(GroupOpening {
         group,
         is_whole: is_whole(touched, group),
-        star: world.star_view_of(&star),
+        star: star.view(),
         sources: Series::from_vec(sources),
     })
 }
@@ -144,10 +159,10 @@ fn open_source(world: &World, turn: &mut Turn, star: &StarSight, source: Addr) -
     ensures opened { result ≡ source_opening world.now star.now.group.bits source.bits }
     ensures silent { turn.new ≡ turn.old }
 {
-    let sight = world.gather_source(*star, source, &mut turn.meter);
+    let sight = SourceSight::of(world, *star, source, &mut turn.meter);
     SourceOpening {
         source,
         has_facts: world.has_facts(star.group, source, &mut turn.meter),
-        view: world.source_view_of(&sight),
+        view: sight.view(),
     }
 }

@@ -1,14 +1,14 @@
 //! The sources that an event touches.
 ghost use Rattle.std.specs.List.{list_any};
 ghost use Rattle.std.specs.Prelude.{◌≡◌, IfOk, OnOk};
-ghost use Rattle.pim_macros.specs.Groups.{gathered, numbers_of};
-ghost use Rattle.pim_macros.specs.Sources.{sources_among};
+ghost use Rattle.pim_world.specs.Groups.{gathered, numbers_of};
+ghost use Rattle.pim_world.specs.Sources.{sources_among};
 ghost use Rattle.pim_model.specs.Upstream.{sources_of};
 ghost use Rattle.pim_opening.specs.Openings.{facts_of_whole, is_of_all, touched_sources};
 
-use pim_macros::sources::gather_source;
-use pim_macros::{Touched, World};
 use pim_types::{Addr, Key};
+use pim_world::sources::gather_source;
+use pim_world::{Touched, World};
 use std::alloc::{AllocError, Global};
 use std::collections::BTreeMap;
 

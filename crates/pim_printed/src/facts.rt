@@ -3,10 +3,10 @@ ghost use Rattle.std.specs.Prelude.{◌≡◌, IfOk, map};
 ghost use Rattle.pim_model.specs.Printed.{active_line, register_name};
 
 use crate::line::{Printed, source_in};
-use pim_macros::World;
 use pim_types::fact::{RegisterRow, RegisterState, SourceRow};
 use pim_types::table::RegisterName;
 use pim_types::{IfaceId, Key, Row};
+use pim_world::World;
 use std::alloc::{AllocError, Global};
 use std::collections::btree_map::Iter;
 
@@ -38,7 +38,10 @@ fn active_row(world: &World, key: Key, row: &SourceRow) -> Row
     ensures { result ≡ active_line world.now (key, row.now) }
 {
     let source = source_in(key);
-    let register = match world.register_at(Key::source(IfaceId::NONE, key.group, source)) {
+    let register = match world
+        .store()
+        .register(Key::source(IfaceId::NONE, key.group, source))
+    {
         Some(register) => Some(register_name(register)),
         None => None,
     };
@@ -56,7 +59,7 @@ pub fn active(world: &World, alloc: Global) -> Result<Vec<Row>, AllocError>
     ensures { IfOk result (λ rows. rows.items ≡ map (active_line world.now) world.now.sources) }
 {
     let mut rows = Vec::new(alloc);
-    for (key, row) in world.source_facts() {
+    for (key, row) in world.store().source_rows() {
         rows.push(active_row(world, *key, row))?;
     }
     Ok(rows)

@@ -4,8 +4,8 @@ ghost use Rattle.pim_model.specs.Printed.{rows};
 
 use crate::facts::{active, lines};
 use crate::trees::trees;
-use pim_macros::World;
 use pim_types::{Row, Table};
+use pim_world::World;
 use std::alloc::{AllocError, Global};
 
 /// The rows of a table, ascending by their keys. An error is want of memory.
@@ -14,12 +14,12 @@ pub fn rows(world: &World, alloc: Global, table: Table) -> Result<Vec<Row>, Allo
     ensures { IfOk result (λ found. found.items ≡ rows world.now table) }
 {
     match table {
-        Table::Neighbours => lines(world.neighbours(), alloc),
-        Table::Groups => lines(world.group_records(), alloc),
-        Table::Sources => lines(world.source_records(), alloc),
-        Table::Downstream => lines(world.downstream(), alloc),
-        Table::Asserts => lines(world.asserts(), alloc),
-        Table::Upstream => lines(world.join_timers(), alloc),
+        Table::Neighbours => lines(world.neighbours().iter(), alloc),
+        Table::Groups => lines(world.membership().group_record_rows(), alloc),
+        Table::Sources => lines(world.membership().source_record_rows(), alloc),
+        Table::Downstream => lines(world.store().downstream_rows(), alloc),
+        Table::Asserts => lines(world.store().assert_rows(), alloc),
+        Table::Upstream => lines(world.store().join_timer_rows(), alloc),
         Table::Trees => trees(world, alloc),
         Table::Active => active(world, alloc),
     }

@@ -5,9 +5,10 @@ ghost use Rattle.pim_model.specs.Desires.{tree_state};
 ghost use Rattle.pim_model.specs.Printed.{tree_line, tree_lines};
 ghost use Rattle.pim_printed.specs.Trees.{lines_of_group};
 
-use pim_macros::{StarSight, World};
+use pim_macros::{SourceSight, StarSight};
 use pim_trie::Meter;
 use pim_types::{Addr, Row, TreeState};
+use pim_world::World;
 use std::alloc::{AllocError, Global};
 
 /// The (S,G,rpt) states of the sources with a fact, where their group is joined.
@@ -32,7 +33,7 @@ fn push_group(
 ) -> Result<(), AllocError>
     ensures { OnOk result (rows.new.items ≡ rows.old.items ++ lines_of_group world.now group.bits) }
 {
-    let star = world.gather_star(group, &mut Meter::new());
+    let star = StarSight::of(world, group, &mut Meter::new());
     for (source, ()) in world.sources(alloc, group)?.iter() {
         push_source(world, &star, *source, rows)?;
     }
@@ -50,7 +51,8 @@ fn push_source(
     ensures { OnOk result (rows.new.items ≡ rows.old.items
         ++ tree_line star.now.group.bits source.bits (tree_state world.now star.now.group.bits source.bits)) }
 {
-    let is_pruned = match world.tree_state(&world.gather_source(*star, source, &mut Meter::new())) {
+    let sight = SourceSight::of(world, *star, source, &mut Meter::new());
+    let is_pruned = match sight.tree_state() {
         TreeState::NotJoined => return Ok(()),
         TreeState::Pruned => true,
         TreeState::NotPruned => false,

@@ -2,7 +2,7 @@
 use Rattle.std.proofs.Common.{◌≡◌, Bool, true, false, List, [], ◌∷◌, refl, sym, ap, ◌∙◌}
 use Rattle.std.specs.List.{filter}
 use Rattle.std.specs.Prelude.{if◌then◌else◌}
-use Rattle.pim_macros.specs.Turns.{Taking, saying}
+use Rattle.pim_world.specs.Turns.{Taking, saying}
 use Rattle.pim_model.specs.Messages.{Message}
 use Rattle.pim_model.specs.Querier.{each_in_turn}
 use Rattle.pim_model.specs.State.{State}

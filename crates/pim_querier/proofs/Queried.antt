@@ -5,7 +5,7 @@ use Rattle.std.specs.List.{filter}
 use Rattle.std.specs.Prelude.{fold}
 use Rattle.pim_filters.specs.Asking.{asked_in_order, source_queries}
 use Rattle.pim_ip.specs.declared.addr.Addr.{Addr}
-use Rattle.pim_macros.specs.Turns.{Taking, saying}
+use Rattle.pim_world.specs.Turns.{Taking, saying}
 use Rattle.pim_types.specs.declared.fact.SendingRow.{SendingRow}
 use Rattle.pim_types.specs.declared.fact.SourceRepeatRow.{SourceRepeatRow}
 use Rattle.pim_types.specs.Keys.{source_key, star_key}

@@ -1,5 +1,6 @@
 -- A group record of a report, applied to what is known of its group.
-use Rattle.std.proofs.Common.{◌≡◌, ℕ, ◌+◌, true, false, List, [], ◌∷◌, map, refl, sym, ap, subst, ◌∙◌}
+use Rattle.std.proofs.Common.{◌≡◌, ◌<◌, ℕ, ◌+◌, ◌++◌, true, false, List, [], ◌∷◌, append-nil, arith, length, map, refl, sym, ap, subst, ◌∙◌}
+use Rattle.std.proofs.lemmas.List.{length-map}
 use Rattle.std.specs.List.Sorted.{IsStrictlySortedBy}
 use Rattle.std.specs.Ordering.{nat_cmp}
 use Rattle.igmp_wire.specs.Values.{Record}
@@ -26,6 +27,24 @@ members_rise rows ms are rise = subst IsAscending (sym are) (subst (IsStrictlySo
         ≡ map (λ e. source_in e.0) rows
     of_rows [] = refl
     of_rows (e ∷ rows) = ap (λ (ns : List ℕ). source_in e.0 ∷ ns) (of_rows rows)
+
+-- all that were read are those of the rows
+pub all_read : (rows left : Table SourceRecordRow) (ms : List Member) (whole : List Entry) → left ≡ []
+    → entries_of ms ++ members_of left ≡ whole → members_of rows ≡ whole → entries_of ms ≡ members_of rows
+unfolding members_of
+all_read rows left ms whole none so_far are =
+    sym (append-nil (entries_of ms)) ∙ ap (λ (t : Table SourceRecordRow). entries_of ms ++ members_of t) (sym none)
+    ∙ so_far ∙ sym are
+
+-- there are as many of them
+pub rows_near : (n : ℕ) (rows : Table SourceRecordRow) (ms : List Member) → entries_of ms ≡ members_of rows
+    → (0 < length rows → n < 120) → 0 < length (entries_of ms) → n < 120
+unfolding members_of
+rows_near n rows ms are near some =
+    let as_many : length (entries_of ms) ≡ length rows =
+    ap (λ (es : List Entry). length es) are
+    ∙ length-map rows (λ (e : Key × SourceRecordRow). let m : Entry = (source_in e.0, (e.1).end) in m) in
+    near (omega (arith, as_many, some))
 
 module _ (s : State) (i : ℕ) (r : Record) where
   pub record_applied : (full g : ℕ) (known : GroupRecord) (type : RecordType) (sources : List ℕ)

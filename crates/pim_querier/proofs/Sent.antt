@@ -11,7 +11,7 @@ use Rattle.pim_types.specs.Keys.{key_cmp}
 use Rattle.pim_types.specs.Keys.{star_key}
 use Rattle.pim_types.specs.declared.fact.SourceRepeatRow.{SourceRepeatRow}
 use Rattle.pim_model.specs.Querier.{exceeds, is_sending, next_sending, one_sent, query_end, source_end, source_repeat_due, sources_sent, sources_to_send, specific_queries}
-use Rattle.pim_macros.specs.Turns.{Taking, saying}
+use Rattle.pim_world.specs.Turns.{Taking, saying}
 use Rattle.pim_model.specs.Records.{GroupRecord, is_at_group, is_no_record, put_member, with_members, with_repeats_of_rows}
 use Rattle.pim_model.specs.State.{State}
 use Rattle.pim_model.specs.Tables.{Table, change_row, drop_where, has_row, keys_in, same_bool}

@@ -11,7 +11,7 @@ use Rattle.pim_model.specs.Querier.{general_query, other_querier_gone, querier_o
 use Rattle.pim_model.specs.State.{State}
 use Rattle.pim_model.specs.Tables.{Table, change_row, changed_entry, row_at}
 use Rattle.pim_laws.proofs.RowLaws.{row_put}
-use Rattle.pim_macros.specs.Turns.{Taking, saying}
+use Rattle.pim_world.specs.Turns.{Taking, saying}
 use Rattle.pim_querier.specs.Queries.{all_queries, asking, bits_of, general_header, specific_header}
 
 module _ {R : Type 0} (k : Key) (r : R) where

@@ -1,7 +1,7 @@
 //! The queries that a record of a report asks for (RFC 3376, section 6.6.3).
 ghost use Rattle.std.specs.Prelude.{◌≡◌, IfOk, OnOk, filter, option_map};
 ghost use Rattle.pim_filters.specs.Asking.{source_queries};
-ghost use Rattle.pim_macros.specs.Turns.{saying};
+ghost use Rattle.pim_world.specs.Turns.{saying};
 ghost use Rattle.pim_model.specs.Querier.{each_in_turn, exceeds, query_asked, query_group, query_sources, source_end};
 ghost use Rattle.pim_querier.specs.Changes.{sendings_put};
 ghost use Rattle.pim_querier.specs.Queries.{bits_of};
@@ -11,9 +11,9 @@ use crate::lowering::lower_sources;
 use crate::queries::specific_query;
 use crate::repeats::send_sources;
 use pim_filters::Asking;
-use pim_macros::{Turn, World};
 use pim_types::fact::{GroupRepeatRow, SendingRow};
 use pim_types::{Addr, IfaceId};
+use pim_world::{Turn, World};
 use std::alloc::{AllocError, Global};
 
 // Queries the group at once, and again [Last Member Query Count] - 1 times; lowers its timer (RFC 3376, section
@@ -34,7 +34,9 @@ fn query_group(
         left: u32::from(robustness(world, iface)).saturating_sub(1),
     };
     world.lower_group(iface, group, query_end(world, iface))?;
-    world.put_group_repeat(iface, group, repeat)?;
+    world
+        .membership_mut()
+        .set_group_repeat(iface, group, Some(repeat))?;
     turn.out.query(iface, &query, &[])
 }
 
@@ -60,7 +62,7 @@ fn running_past(
 }
 
 // Each of the sources is to be named in so many queries.
-#[tactic(auto, unfolding(crate::specs::Changes::sending_put, crate::specs::Changes::sendings_put))]
+#[tactic(auto, unfolding(crate::specs::Changes::sending_put, crate::specs::Changes::sendings_put, pim_model::specs::Tables::set_row))]
 fn put_sendings(
     world: &mut World,
     iface: IfaceId,
@@ -71,7 +73,9 @@ fn put_sendings(
     ensures { OnOk result (world.new ≡ sendings_put iface.number group.bits row world.old sources.now) }
 {
     for source in sources {
-        world.put_sending(iface, group, *source, row)?;
+        world
+            .membership_mut()
+            .set_sending(iface, group, *source, Some(row))?;
     }
     Ok(())
 }

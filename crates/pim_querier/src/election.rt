@@ -1,12 +1,12 @@
 //! Which router queries (RFC 3376, section 6.6.2).
 ghost use Rattle.std.specs.Prelude.{◌≡◌, ◌≤◌, ℕ, OnOk};
 ghost use Rattle.pim_model.specs.Querier.{given_or, is_querier, other_querier_gone, querier_elected};
-ghost use Rattle.pim_macros.specs.Turns.{saying};
+ghost use Rattle.pim_world.specs.Turns.{saying};
 
 use crate::queries::general_query;
-use pim_macros::{Turn, World};
 use pim_types::IfaceId;
 use pim_types::fact::{QuerierRole, QuerierRow};
+use pim_world::{Turn, World};
 use std::alloc::AllocError;
 
 /// Whether the router is the querier of the interface.
@@ -14,7 +14,7 @@ use std::alloc::AllocError;
 pub fn is_querier(world: &World, iface: IfaceId) -> bool
     ensures { result ≡ is_querier world.now iface.number }
 {
-    match world.querier(iface) {
+    match world.membership().querier(iface) {
         Some(row) => matches!(row.role, QuerierRole::Querier { .. }),
         None => false,
     }

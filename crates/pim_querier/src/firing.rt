@@ -1,6 +1,6 @@
 //! The ends of a querier's timers.
 ghost use Rattle.std.specs.Prelude.{◌≡◌, OnOk, true};
-ghost use Rattle.pim_macros.specs.Turns.{saying};
+ghost use Rattle.pim_world.specs.Turns.{saying};
 ghost use Rattle.pim_model.specs.Firing.{fired, startup_left};
 ghost use Rattle.pim_types.specs.declared.timer.TimerKind.{TimerKind};
 ghost use Rattle.pim_querier.specs.Kinds.{is_igmp_kind};
@@ -10,9 +10,9 @@ use crate::records::{group_record_due, source_record_due};
 use crate::repeats::{group_repeat_due, source_repeat_due};
 use crate::sendings::source_in;
 use crate::startup::general_query_due;
-use pim_macros::{Turn, World};
 use pim_types::fact::QuerierRole;
 use pim_types::{Key, TimerKind};
+use pim_world::{Turn, World};
 use std::alloc::AllocError;
 
 // How many of the startup queries are still to leave.
@@ -31,7 +31,7 @@ fn group_repeat_fired(world: &mut World, turn: &mut Turn, key: Key) -> Result<()
     ensures state { OnOk result (world.new ≡ (fired world.old TimerKind.GroupRepeat key).0) }
     ensures messages { OnOk result (turn.new ≡ saying turn.old (fired world.old TimerKind.GroupRepeat key).1) }
 {
-    match world.group_repeat_at(key) {
+    match world.membership().group_repeat_at(key) {
         Some(row) => group_repeat_due(world, turn, key.iface, key.group, row.left),
         None => Ok(()),
     }
@@ -43,7 +43,7 @@ fn general_query_fired(world: &mut World, turn: &mut Turn, key: Key) -> Result<(
     ensures state { OnOk result (world.new ≡ (fired world.old TimerKind.GeneralQuery key).0) }
     ensures messages { OnOk result (turn.new ≡ saying turn.old (fired world.old TimerKind.GeneralQuery key).1) }
 {
-    match world.querier_at(key) {
+    match world.membership().querier_at(key) {
         Some(row) => general_query_due(world, turn, key.iface, startup_left(row.role)),
         None => Ok(()),
     }

@@ -2,8 +2,8 @@
 ghost use Rattle.std.specs.Prelude.{◌≡◌, ◌≤◌, ◌<◌, ◌^◌};
 ghost use Rattle.pim_model.specs.Querier.{exceeds, group_membership_interval, last_member_query_interval, query_end, query_interval, robustness, startup_query_interval};
 
-use pim_macros::World;
 use pim_types::IfaceId;
+use pim_world::World;
 
 /// [Robustness Variable] (RFC 3376, section 8.1): that of the querier, which is adopted, or the configured one.
 #[tactic(auto, unfolding(pim_model::specs::Querier::robustness))]
@@ -12,7 +12,7 @@ pub fn robustness(world: &World, iface: IfaceId) -> u8
     ensures within { result ≤ 7 }
 {
     let settings = world.settings();
-    match world.querier(iface) {
+    match world.membership().querier(iface) {
         Some(row) => row.robustness,
         None => settings.robustness as u8,
     }
@@ -25,7 +25,7 @@ pub fn query_interval(world: &World, iface: IfaceId) -> u64
     ensures within { result < 2 ^ 26 }
 {
     let settings = world.settings();
-    match world.querier(iface) {
+    match world.membership().querier(iface) {
         Some(row) => 1000 * u64::from(row.query_interval),
         None => 1000 * u64::from(settings.query_interval),
     }

@@ -8,10 +8,10 @@ ghost use Rattle.pim_querier.specs.Changes.{records_changed, source_lowered};
 ghost use Rattle.pim_querier.specs.Queries.{bits_of};
 
 use crate::sendings::source_in;
-use pim_macros::World;
-use pim_macros::querying::lowered;
 use pim_types::fact::SourceRecordRow;
 use pim_types::{Addr, IfaceId, Key};
+use pim_world::World;
+use pim_world::querying::lowered;
 use std::alloc::{AllocError, Global};
 use std::collections::BTreeSet;
 
@@ -46,7 +46,7 @@ fn named_records(
         (filter (λ e. is_at_group iface.number group.bits e.0) world.now.source_records)) }
 {
     let mut found = Vec::new(alloc);
-    for (key, row) in world.source_records_at(iface, group) {
+    for (key, row) in world.membership().source_records_at(iface, group) {
         if is_named(source_in(*key), set) {
             found.push((*key, *row))?;
         }
@@ -67,7 +67,7 @@ fn lower_each(
         let lowered = SourceRecordRow {
             end: lowered(row.end, end),
         };
-        world.change_source_record(*key, lowered)?;
+        world.membership_mut().change_source_record(*key, lowered)?;
     }
     Ok(())
 }
@@ -87,6 +87,6 @@ pub fn lower_sources(
     let set = set_of(alloc, sources)?;
     let records = named_records(world, alloc, iface, group, &set)?;
     // It tells that each key stands once.
-    world.source_records_rise();
+    world.membership().source_records_rise();
     lower_each(world, &records, end)
 }

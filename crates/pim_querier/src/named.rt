@@ -5,8 +5,8 @@ ghost use Rattle.pim_types.specs.Keys.{source_key};
 
 use crate::report::is_skipped;
 use igmp_wire::{RecordView, ReportView};
-use pim_macros::World;
 use pim_types::{IfaceId, Key, Series};
+use pim_world::World;
 use std::alloc::{AllocError, Global};
 use std::collections::BTreeSet;
 
@@ -91,7 +91,7 @@ fn missing_groups(world: &World, alloc: Global, keys: &[Key]) -> Result<usize, A
 {
     let mut missing = BTreeSet::new(alloc);
     for key in keys {
-        if !world.has_group_record_at(*key) {
+        if !world.membership().has_group_record(*key) {
             missing.insert(*key)?;
         }
     }
@@ -105,7 +105,7 @@ fn missing_sources(world: &World, alloc: Global, keys: &[Key]) -> Result<usize, 
 {
     let mut missing = BTreeSet::new(alloc);
     for key in keys {
-        if !world.has_source_record(*key) {
+        if !world.membership().has_source_record(*key) {
             missing.insert(*key)?;
         }
     }

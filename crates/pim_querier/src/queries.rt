@@ -1,14 +1,14 @@
 //! Queries as they are put together (RFC 3376, section 4.1).
 ghost use Rattle.std.specs.Prelude.{◌≡◌, ◌<◌, ◌++◌, OnOk, false};
 ghost use Rattle.pim_model.specs.Querier.{specific_queries};
-ghost use Rattle.pim_macros.specs.Turns.{saying};
+ghost use Rattle.pim_world.specs.Turns.{saying};
 ghost use Rattle.pim_querier.specs.Queries.{all_queries, asking, bits_of, general_header, header_of, specific_header};
 
 use crate::intervals::{query_interval, robustness};
 use igmp_wire::{QueryHeader, value_code};
-use pim_macros::{Turn, World};
 use pim_messages::{MOST_SOURCES, Outbox};
 use pim_types::{Addr, IfaceId};
+use pim_world::{Turn, World};
 use std::alloc::AllocError;
 
 // A query before its sources; hosts answer within so many tenths of a second.

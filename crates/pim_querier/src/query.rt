@@ -8,8 +8,8 @@ use crate::election::querier_elected;
 use crate::intervals::query_end;
 use crate::lowering::lower_sources;
 use igmp_wire::{QueryView, code_value};
-use pim_macros::{Turn, World};
 use pim_types::{Addr, IfaceId};
+use pim_world::{Turn, World};
 use std::alloc::{AllocError, Global};
 
 // The sources that the query names, in its order.

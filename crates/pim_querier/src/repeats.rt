@@ -1,15 +1,15 @@
 //! Queries that are repeated (RFC 3376, section 6.6.3).
 ghost use Rattle.std.specs.Prelude.{◌≡◌, OnOk};
 ghost use Rattle.pim_model.specs.Querier.{group_repeat_due, next_sending, send_sources, source_repeat_due, sources_sent};
-ghost use Rattle.pim_macros.specs.Turns.{saying};
+ghost use Rattle.pim_world.specs.Turns.{saying};
 ghost use Rattle.pim_querier.specs.Changes.{one_repeat_less};
 
 use crate::intervals::{exceeds, last_member_query_interval, query_end};
 use crate::queries::{say_sources, specific_query};
 use crate::sendings::{lessen, sendings_at, sources_by_end};
-use pim_macros::{Turn, World};
 use pim_types::fact::{GroupRepeatRow, SourceRepeatRow};
 use pim_types::{Addr, IfaceId};
+use pim_world::{Turn, World};
 use std::alloc::AllocError;
 
 // What is repeated after a query of a group of which so many were still to leave.
@@ -42,7 +42,10 @@ pub fn group_repeat_due(
 {
     let suppress = exceeds(query_end(world, iface), world.group_end(iface, group));
     let query = specific_query(world, iface, group, suppress);
-    world.change_group_repeat(iface, group, one_repeat_less(world, left))?;
+    let less = one_repeat_less(world, left);
+    world
+        .membership_mut()
+        .change_group_repeat(iface, group, less)?;
     turn.out.query(iface, &query, &[])
 }
 
@@ -64,7 +67,7 @@ pub fn send(
     say_sources(world, turn, iface, group, true, &running)?;
     say_sources(world, turn, iface, group, false, &others)?;
     // It tells that each key stands once.
-    world.sendings_rise();
+    world.membership().sendings_rise();
     lessen(world, &sendings);
     Ok(())
 }
@@ -94,7 +97,7 @@ pub fn send_sources(
 {
     send(world, turn, iface, group)?;
     let next = next_sending(world, iface, group);
-    world.set_source_repeat(iface, group, next)
+    world.membership_mut().set_source_repeat(iface, group, next)
 }
 
 /// The query of the group's sources is due again.
@@ -111,5 +114,7 @@ pub fn source_repeat_due(
 {
     send(world, turn, iface, group)?;
     let next = next_sending(world, iface, group);
-    world.change_source_repeat(iface, group, next)
+    world
+        .membership_mut()
+        .change_source_repeat(iface, group, next)
 }

@@ -1,6 +1,6 @@
 //! A report of a host (RFC 3376, sections 4.2 and 6.4).
 ghost use Rattle.std.specs.Prelude.{◌≡◌, ◌<◌, IfOk, OnOk};
-ghost use Rattle.pim_macros.specs.Turns.{saying};
+ghost use Rattle.pim_world.specs.Turns.{saying};
 ghost use Rattle.pim_model.specs.Querier.{is_skipped, record_seen, report_seen};
 ghost use Rattle.pim_model.specs.Records.{with_record};
 ghost use Rattle.pim_querier.specs.Changes.{applied};
@@ -12,8 +12,8 @@ use crate::intervals::group_membership_interval;
 use crate::records::{record_of, set_record};
 use igmp_wire::{RecordType, RecordView, ReportView};
 use pim_filters::Asking;
-use pim_macros::{Turn, World};
 use pim_types::{Addr, IfaceId};
+use pim_world::{Turn, World};
 use std::alloc::{AllocError, Global};
 
 // The sources that the group record names, in its order.

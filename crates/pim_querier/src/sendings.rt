@@ -7,9 +7,9 @@ ghost use Rattle.pim_querier.specs.Changes.{one_less, sendings_changed, sources_
 ghost use Rattle.pim_querier.specs.Queries.{bits_of};
 
 use crate::intervals::exceeds;
-use pim_macros::World;
 use pim_types::fact::SendingRow;
 use pim_types::{Addr, IfaceId, Key};
+use pim_world::World;
 use std::alloc::{AllocError, Global};
 
 /// The sendings of the group's sources on the interface, by rising key.
@@ -23,7 +23,7 @@ pub fn sendings_at(
         ≡ filter (is_sending iface.number group.bits) world.now.sendings) }
 {
     let mut sendings = Vec::new(alloc);
-    for (key, row) in world.sendings_at(iface, group) {
+    for (key, row) in world.membership().sendings_at(iface, group) {
         sendings.push((*key, *row))?;
     }
     Ok(sendings)
@@ -78,6 +78,6 @@ pub fn lessen(world: &mut World, sendings: &[(Key, SendingRow)])
     ensures { world.new ≡ sendings_changed one_less world.old sendings.now }
 {
     for (key, row) in sendings {
-        world.change_sending(*key, one_less(*row));
+        world.membership_mut().change_sending(*key, one_less(*row));
     }
 }

@@ -1,12 +1,12 @@
 //! How querying starts, and goes on.
 ghost use Rattle.std.specs.Prelude.{◌≡◌, ◌<◌, ◌^◌, OnOk, if◌then◌else◌, nat_lt};
 ghost use Rattle.pim_model.specs.Querier.{general_query_due, querier_up, query_interval, startup_query_interval};
-ghost use Rattle.pim_macros.specs.Turns.{saying};
+ghost use Rattle.pim_world.specs.Turns.{saying};
 
 use crate::intervals::{query_interval, startup_query_interval};
 use crate::queries::general_query;
-use pim_macros::{Turn, World};
 use pim_types::IfaceId;
+use pim_world::{Turn, World};
 use std::alloc::AllocError;
 
 // [Startup Query Interval] is a quarter of the query interval, in ms here.

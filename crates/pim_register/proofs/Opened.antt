@@ -22,8 +22,8 @@ use Rattle.pim_locality.specs.Locality.{touched_registers, touching}
 use Rattle.pim_locality.proofs.Registers.{all_keys}
 use Rattle.pim_ready.specs.Ready.{Rises}
 use Rattle.pim_store.specs.PimTables.{AreKeyed, is_source_key, pim_tables}
-use Rattle.pim_macros.specs.Touches.{touched_keys}
-use Rattle.pim_macros.specs.declared.touched.Touched.{Touched}
+use Rattle.pim_world.specs.Touches.{touched_keys}
+use Rattle.pim_world.specs.declared.touched.Touched.{Touched}
 use Rattle.pim_opening.specs.Covers.{IsWithin, NewAreNamed}
 use Rattle.pim_opening.specs.Openings.{facts_of_whole, group_opening, has_facts, is_of_all, opened_keys, opening_of, source_opening, touched_sources}
 use Rattle.pim_opening.specs.declared.opening.GroupOpening.{GroupOpening}

@@ -33,6 +33,11 @@ star_stays s k star shows = record {
   won = shows.won;
   receivers = shows.receivers;
   dr = shows.dr;
+  configured = shows.configured;
+  bare = shows.bare;
+  few = shows.few;
+  is_own_rp = shows.is_own_rp;
+  short = shows.short;
 }
 
 -- what stands for a source that isn't there

@@ -7,11 +7,11 @@ ghost use Rattle.pim_model.specs.Firing.{fired};
 ghost use Rattle.pim_model.specs.Messages.{Message};
 ghost use Rattle.pim_model.specs.Registers.{registering_address};
 ghost use Rattle.pim_model.specs.Unicast.{rp_of};
-ghost use Rattle.pim_macros.specs.Turns.{saying};
+ghost use Rattle.pim_world.specs.Turns.{saying};
 
-use pim_macros::{Turn, World};
 use pim_types::fact::{RegisterRow, RegisterState, SourceRow};
 use pim_types::{Addr, Key};
+use pim_world::{Turn, World};
 use std::alloc::AllocError;
 
 // Register_Probe_Time (RFC 7761, section 4.11), in ms.
@@ -56,7 +56,7 @@ pub fn fired(world: &mut World, turn: &mut Turn, key: Key) -> Result<(), AllocEr
     ensures state { OnOk result (world.new ≡ (fired world.old TimerKind.Register key).0) }
     ensures messages { OnOk result (turn.new ≡ saying turn.old (fired world.old TimerKind.Register key).1) }
 {
-    let Some(row) = world.register_at(key) else {
+    let Some(row) = world.store().register(key) else {
         return Ok(());
     };
     let state = match row.state {
@@ -68,7 +68,9 @@ pub fn fired(world: &mut World, turn: &mut Turn, key: Key) -> Result<(), AllocEr
         }
         _ => RegisterState::Join,
     };
-    world.change_register(key, RegisterRow { state })
+    world
+        .store_mut()
+        .change_register(key, RegisterRow { state })
 }
 
 /// What the end of KAT(S,G) changes: the source's row goes, unless SPTbit(S,G) is set. An error is want of memory.
@@ -76,12 +78,12 @@ pub fn fired(world: &mut World, turn: &mut Turn, key: Key) -> Result<(), AllocEr
 pub fn keepalive_due(world: &mut World, key: Key) -> Result<(), AllocError>
     ensures { OnOk result (world.new ≡ (fired world.old TimerKind.Keepalive key).0) }
 {
-    let Some(row) = world.source_at(key) else {
+    let Some(row) = world.store().source(key) else {
         return Ok(());
     };
     let left = row.spt.then_some(SourceRow {
         keepalive: None,
         ..row
     });
-    world.change_source(key, left)
+    world.store_mut().change_source(key, left)
 }

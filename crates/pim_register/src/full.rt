@@ -6,9 +6,9 @@ ghost use Rattle.pim_model.specs.Unicast.{is_rp};
 ghost use Rattle.pim_types.specs.Keys.{source_key};
 
 use pim_ip::Ipv4View;
-use pim_macros::{Turn, World};
 use pim_types::{Addr, IfaceId, Key};
 use pim_wire::RegisterView;
+use pim_world::{Turn, World};
 
 // How many rows the source needs that it hasn't: one, or none.
 #[tactic(auto, using(crate::proofs::Needed::one_needed))]
@@ -16,7 +16,7 @@ fn missing(world: &World, group: Addr, source: Addr) -> usize
     ensures { result ≡ needed world.now.sources (source_key 0 group.bits source.bits ∷ []) }
 {
     let key = Key::source(IfaceId::NONE, group, source);
-    usize::from(world.source_at(key).is_none())
+    usize::from(world.store().source(key).is_none())
 }
 
 /// Whether the row that a source may get passes the limit on facts.

@@ -1,18 +1,20 @@
 //! Registers that came to one of the router's addresses (RFC 7761, section 4.4.2).
-ghost use Rattle.std.specs.Prelude.{◌≡◌, ◌&&◌, ◌||◌, IfOk, OnOk};
-ghost use Rattle.pim_macros.specs.Sights.{IsSourceSight};
-ghost use Rattle.pim_macros.specs.Turns.{saying};
+ghost use Rattle.std.specs.Prelude.{◌≡◌, ◌&&◌, ◌||◌, IfOk, OnOk, false, if◌then◌else◌};
+ghost use Rattle.pim_world.specs.Shown.{Shows};
+ghost use Rattle.pim_macros.specs.Sights.{InSource};
+ghost use Rattle.pim_world.specs.Turns.{saying};
 ghost use Rattle.pim_model.specs.Desires.{is_inherited_empty};
-ghost use Rattle.pim_model.specs.Forwarding.{register_at_rp, register_received, register_stop_to};
+ghost use Rattle.pim_model.specs.Forwarding.{no_interface, register_at_rp, register_received, register_stop_to};
 ghost use Rattle.pim_model.specs.Registers.{is_null, is_spt_wanted, registered_group, registered_source};
-ghost use Rattle.pim_model.specs.Sets.{spt_bit};
+ghost use Rattle.pim_model.specs.Sets.{inherited_olist_rpt, spt_bit};
 ghost use Rattle.pim_register.specs.Outgoing.{LeavesOn};
 
 use pim_ifset::IfSet;
 use pim_ip::Ipv4View;
-use pim_macros::{SourceSight, Turn, World};
+use pim_macros::{SourceSight, StarSight};
 use pim_types::Addr;
 use pim_wire::RegisterView;
+use pim_world::{Turn, World};
 use std::alloc::AllocError;
 
 // A Register-Stop, from the address that the Register came to back to where it came from.
@@ -29,12 +31,24 @@ fn stop_registering(
 }
 
 // Whether the RP wants no more Registers of the source.
-fn is_stopped(world: &World, sight: &SourceSight) -> bool
-    requires { IsSourceSight world.now sight.now }
-    ensures { let s = world.now in let g = sight.now.star.group.bits in let src = sight.now.source.bits in
-        result ≡ (spt_bit s g src || (is_spt_wanted s && is_inherited_empty s g src)) }
+fn is_stopped(sight: &SourceSight) -> bool
+    ensures { InSource sight.now (λ s g src. result
+        ≡ (spt_bit s g src || (is_spt_wanted s && is_inherited_empty s g src))) }
 {
-    sight.spt || world.is_spt_wanted() && world.is_inherited_empty(sight)
+    sight.spt || sight.is_spt_wanted && sight.is_inherited_empty()
+}
+
+// Where the packet of a Register goes: down the shared tree, but for one that comes down the shortest path tree too.
+fn list_at_rp(sight: &SourceSight, is_null: bool) -> IfSet
+    ensures interfaces { InSource sight.now (λ s g src. Shows result
+        (if spt_bit s g src || is_null then no_interface else inherited_olist_rpt s g src)) }
+    ensures tunnel { result.tunnel ≡ false }
+{
+    if sight.spt || is_null {
+        IfSet::new()
+    } else {
+        sight.inherited_olist_rpt().without_tunnel()
+    }
 }
 
 // At the RP: the packet goes down the shared tree, but for one that comes down the shortest path tree too.
@@ -53,15 +67,11 @@ fn register_at_rp(
         (registered_group register.now) (registered_source register.now) (is_null register.now)).messages) }
 {
     let (group, source) = (register.group(), register.source());
-    let star = world.gather_star(group, &mut turn.meter);
-    let sight = world.gather_source(star, source, &mut turn.meter);
-    let is_stopped = is_stopped(world, &sight);
-    let list = if sight.spt || register.is_null() {
-        IfSet::new()
-    } else {
-        world.inherited_olist_rpt(&sight).without_tunnel()
-    };
-    if sight.spt || world.is_spt_wanted() {
+    let star = StarSight::of(world, group, &mut turn.meter);
+    let sight = SourceSight::of(world, star, source, &mut turn.meter);
+    let is_stopped = is_stopped(&sight);
+    let list = list_at_rp(&sight, register.is_null());
+    if sight.spt || sight.is_spt_wanted {
         world.keep_alive(group, source)?;
     }
     if is_stopped {

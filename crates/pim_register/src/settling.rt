@@ -2,18 +2,46 @@
 ghost use Rattle.std.specs.Prelude.{◌≡◌, OnOk, fold, map};
 ghost use Rattle.pim_types.specs.Keys.{source_key};
 ghost use Rattle.pim_model.specs.Registers.{settle_register};
-ghost use Rattle.pim_macros.specs.Sights.{IsStarSight};
+ghost use Rattle.pim_macros.specs.Sights.{IsSourceSight, IsStarSight};
 ghost use Rattle.pim_register.specs.Settling.{registers_by};
 ghost use Rattle.pim_register.specs.Steps.{source_keys};
 
-use pim_macros::{StarSight, Turn, World};
+use pim_macros::{SourceSight, StarSight};
 use pim_opening::{GroupOpening, Opening, SourceOpening};
 use pim_types::fact::{RegisterRow, RegisterState};
 use pim_types::{Addr, IfaceId, Key};
+use pim_world::{Turn, World};
 use std::alloc::AllocError;
 
-// NoInfo becomes Join where CouldRegister(S,G) holds, any state NoInfo where it ceases.
-#[tactic(auto, unfolding(pim_model::specs::Registers::settle_register, pim_model::specs::Registers::settled_register, pim_model::specs::Tables::set_row))]
+/// Settles the register of one source: NoInfo becomes Join where CouldRegister(S,G) holds, any state NoInfo where it
+/// ceases. The sight is true of the state before, and then of the state after. An error is want of memory.
+pub fn settle(world: &mut World, sight: &mut SourceSight) -> Result<(), AllocError>
+    requires { IsSourceSight world.old sight.old }
+    ensures state { OnOk result (world.new
+        ≡ settle_register world.old (source_key 0 sight.old.star.group.bits sight.old.source.bits)) }
+    ensures sight { OnOk result (IsSourceSight world.new sight.new) }
+    ensures star { OnOk result (sight.new.star ≡ sight.old.star) }
+    ensures source { OnOk result (sight.new.source ≡ sight.old.source) }
+{
+    let (group, source) = (sight.star.group, sight.source);
+    if !sight.could_register() {
+        world.store_mut().set_register(group, source, None)?;
+        *sight = sight.with_tunnel(false);
+        return Ok(());
+    }
+    let key = Key::source(IfaceId::NONE, group, source);
+    if world.store().register(key).is_some() {
+        return Ok(());
+    }
+    let row = RegisterRow {
+        state: RegisterState::Join,
+    };
+    world.store_mut().set_register(group, source, Some(row))?;
+    *sight = sight.with_tunnel(true);
+    Ok(())
+}
+
+// The same, of a source of a group.
 fn settle_source(
     world: &mut World,
     turn: &mut Turn,
@@ -25,31 +53,8 @@ fn settle_source(
         ≡ settle_register world.old (source_key 0 star.now.group.bits source.bits)) }
     ensures silent { turn.new ≡ turn.old }
 {
-    let sight = world.gather_source(*star, source, &mut turn.meter);
-    if !world.could_register(&sight) {
-        return world.set_register(star.group, source, None);
-    }
-    if world.has_register(Key::source(IfaceId::NONE, star.group, source)) {
-        return Ok(());
-    }
-    let row = RegisterRow {
-        state: RegisterState::Join,
-    };
-    world.set_register(star.group, source, Some(row))
-}
-
-/// Settles the register of one source alone. An error is want of memory.
-pub fn settle(
-    world: &mut World,
-    turn: &mut Turn,
-    group: Addr,
-    source: Addr,
-) -> Result<(), AllocError>
-    ensures state { OnOk result (world.new ≡ settle_register world.old (source_key 0 group.bits source.bits)) }
-    ensures silent { turn.new ≡ turn.old }
-{
-    let star = world.gather_star(group, &mut turn.meter);
-    settle_source(world, turn, &star, source)
+    let mut sight = SourceSight::of(world, *star, source, &mut turn.meter);
+    settle(world, &mut sight)
 }
 
 // These sources of a group, one after the other.
@@ -76,7 +81,7 @@ fn settle_group(world: &mut World, turn: &mut Turn, opened: &GroupOpening) -> Re
         ≡ fold settle_register world.old (source_keys opened.now.group.bits opened.now.sources)) }
     ensures silent { turn.new ≡ turn.old }
 {
-    let star = world.gather_star(opened.group, &mut turn.meter);
+    let star = StarSight::of(world, opened.group, &mut turn.meter);
     settle_sources(world, turn, &star, opened.sources.as_slice())
 }
 

@@ -8,11 +8,11 @@ ghost use Rattle.pim_model.specs.Tables.{change_row, keys_in, same_option};
 ghost use Rattle.pim_register.specs.Tunnel.{is_rp_changed, joining, stopping};
 ghost use Rattle.pim_types.specs.Keys.{is_of_group};
 
-use pim_macros::{Turn, World};
 use pim_mrib::Mrib;
 use pim_neighbours::delay_in;
 use pim_types::fact::{RegisterRow, RegisterState};
 use pim_types::{Addr, IfaceId, Key, RpRange};
+use pim_world::{Turn, World};
 use std::alloc::AllocError;
 
 // 0.5 to 1.5 times Register_Suppression_Time, less Register_Probe_Time (RFC 7761, section 4.4.1), in ms.
@@ -25,7 +25,7 @@ fn keys_of(world: &World, turn: &Turn, group: Addr) -> Result<Vec<Key>, AllocErr
     ensures { IfOk result (λ keys. keys.items ≡ keys_in (filter (λ e. is_of_group group.bits e.0) world.now.registers)) }
 {
     let mut keys = Vec::new(turn.alloc);
-    for (key, _) in world.registers_of(group) {
+    for (key, _) in world.store().registers_of(group) {
         keys.push(key)?;
     }
     Ok(keys)
@@ -50,10 +50,10 @@ fn stop(world: &mut World, key: Key, end: u64) -> Result<(), AllocError>
 {
     // It tells that their keys rise, so that the key stands once.
     world.are_keyed();
-    let Some(row) = world.register_at(key) else {
+    let Some(row) = world.store().register(key) else {
         return Ok(());
     };
-    world.change_register(key, stopped(row, end))
+    world.store_mut().change_register(key, stopped(row, end))
 }
 
 // Lets these registers wait.
@@ -114,7 +114,7 @@ fn keys_with_new_rp(world: &World, turn: &mut Turn, next: &Mrib) -> Result<Vec<K
     ensures silent { turn.new ≡ turn.old }
 {
     let mut keys = Vec::new(turn.alloc);
-    for (key, _) in world.registers() {
+    for (key, _) in world.store().register_rows() {
         let before = world.rp(key.group, &mut turn.meter);
         let after = next.rp(key.group, &mut turn.meter);
         if is_other_rp(before, after) {
@@ -133,7 +133,7 @@ fn join_all(world: &mut World, keys: &[Key]) -> Result<(), AllocError>
         let row = RegisterRow {
             state: RegisterState::Join,
         };
-        world.change_register(*key, row)?;
+        world.store_mut().change_register(*key, row)?;
     }
     Ok(())
 }

@@ -19,10 +19,10 @@ use Rattle.pim_laws.proofs.FiringLaws.{InInstant, ahead_is_ready, begins, fewer_
 use Rattle.pim_laws.proofs.TimerLaws.{from_shown, next_due_is_next, shown_from}
 use Rattle.pim_locality.proofs.Rest.{instant_is_quiet, one_firing_quiets}
 use Rattle.pim_locality.specs.Locality.{IsQuiet}
-use Rattle.pim_macros.specs.Turns.{Taking, saying}
+use Rattle.pim_world.specs.Turns.{Taking, saying}
 use Rattle.pim_ready.proofs.LawfulFiring.{instant_is_lawful, one_firing_is_lawful}
 use Rattle.pim_ready.specs.Ready.{IsLawful}
-use Rattle.pim_macros.specs.declared.touched.Touched.{Touched}
+use Rattle.pim_world.specs.declared.touched.Touched.{Touched}
 use Rattle.pim_opening.specs.Openings.{opening_of}
 use Rattle.pim_opening.specs.declared.opening.GroupOpening.{GroupOpening}
 use Rattle.pim_store.specs.PimTables.{AreKeyed, pim_tables}

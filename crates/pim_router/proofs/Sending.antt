@@ -5,7 +5,7 @@ use Rattle.pim_types.specs.declared.config.IfaceId.{IfaceId}
 use Rattle.pim_types.specs.declared.outcome.Emission.{Emission}
 use Rattle.pim_wire.specs.Values.{Register}
 use Rattle.pim_data.specs.declared.leaving.Leaving.{Leaving}
-use Rattle.pim_macros.specs.Turns.{Taking, saying}
+use Rattle.pim_world.specs.Turns.{Taking, saying}
 use Rattle.pim_model.specs.declared.accepted.Accepted.{Accepted}
 use Rattle.pim_model.specs.Forwarding.{forwarded, register_received}
 use Rattle.pim_model.specs.Registers.{is_null, registered_group, registered_source}

@@ -12,7 +12,7 @@ use Rattle.pim_model.specs.Writing.{write_all}
 use Rattle.pim_locality.specs.Locality.{IsQuiet, own_settled, own_upstream, touched_clear, touched_registers, touching}
 use Rattle.pim_locality.proofs.Settling.{settling_is_own}
 use Rattle.pim_store.specs.PimTables.{AreKeyed, pim_tables}
-use Rattle.pim_macros.specs.declared.touched.Touched.{Touched}
+use Rattle.pim_world.specs.declared.touched.Touched.{Touched}
 use Rattle.pim_opening.specs.Covers.{Covers, IsWithin, NewAreNamed}
 use Rattle.pim_opening.specs.Openings.{opening_of}
 use Rattle.pim_opening.specs.declared.opening.GroupOpening.{GroupOpening}

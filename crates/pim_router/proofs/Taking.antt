@@ -11,7 +11,7 @@ use Rattle.pim_types.specs.declared.outcome.Outcome.{Outcome}
 use Rattle.pim_types.specs.declared.outcome.Stop.{Stop}
 use Rattle.pim_types.specs.declared.outcome.Verdict.{Verdict}
 use Rattle.pim_model.specs.declared.accepted.Accepted.{Accepted}
-use Rattle.pim_macros.specs.Turns.{Taking, saying}
+use Rattle.pim_world.specs.Turns.{Taking, saying}
 use Rattle.pim_intake.specs.Memory.{is_tested_in_memory}
 use Rattle.pim_model.specs.Firing.{settled}
 use Rattle.pim_model.specs.Judging.{Judged, judged, refuse_if, routes_judged, rps_judged, ◌>>◌}
@@ -21,7 +21,7 @@ use Rattle.pim_model.specs.State.{State}
 use Rattle.pim_model.specs.Full.{is_full}
 use Rattle.pim_model.specs.Step.{Answered, Change, change, concluded, done, outcome_of, advanced, step, stopped, taken, taken_unless_full}
 use Rattle.pim_model.specs.Sure.{needs_no_memory}
-use Rattle.pim_macros.specs.declared.touched.Touched.{Touched}
+use Rattle.pim_world.specs.declared.touched.Touched.{Touched}
 use Rattle.pim_opening.specs.Covers.{Covers}
 use Rattle.pim_opening.specs.Openings.{opening_of}
 use Rattle.pim_opening.specs.declared.opening.GroupOpening.{GroupOpening}

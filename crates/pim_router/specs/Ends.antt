@@ -5,7 +5,7 @@ use Rattle.pim_types.specs.declared.timer.Timer.{Timer}
 use Rattle.pim_types.specs.declared.timer.TimerKind.{TimerKind}
 use Rattle.pim_model.specs.Timers.{Ending}
 use Rattle.pim_locality.specs.Touches.{touched_by}
-use Rattle.pim_macros.specs.declared.touched.Touched.{Touched}
+use Rattle.pim_world.specs.declared.touched.Touched.{Touched}
 
 abbrev pub ending_of : ℕ × Timer → Ending
 ending_of due = record { end = due.0; timer = due.1 }

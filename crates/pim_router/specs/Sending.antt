@@ -1,7 +1,7 @@
 -- What a change leaves to be sent.
 use Rattle.std.specs.Prelude.{List, length, ◌≡◌, ◌≤◌}
 use Rattle.pim_data.specs.declared.leaving.Leaving.{Leaving}
-use Rattle.pim_macros.specs.Turns.{Taking, saying}
+use Rattle.pim_world.specs.Turns.{Taking, saying}
 use Rattle.pim_model.specs.State.{State}
 use Rattle.pim_model.specs.Step.{Change}
 

@@ -1,6 +1,6 @@
 //! The own change of what was accepted.
 ghost use Rattle.std.specs.Prelude.{◌≡◌, ◌<◌, IfOk, OnOk};
-ghost use Rattle.pim_macros.specs.Turns.{saying};
+ghost use Rattle.pim_world.specs.Turns.{saying};
 ghost use Rattle.pim_model.specs.Forwarding.{forwarded, register_received};
 ghost use Rattle.pim_model.specs.Registers.{is_null, registered_group, registered_source};
 ghost use Rattle.pim_model.specs.State.{iface_count};
@@ -12,12 +12,13 @@ use pim_data::{Leaving, arrived, leave};
 use pim_downstream::{Named, to_me};
 use pim_hello::triggered_end;
 use pim_ip::Ipv4View;
-use pim_macros::{Turn, World};
+use pim_macros::{SourceSight, StarSight};
 use pim_model::Accepted;
 use pim_register::register_seen;
 use pim_types::IfaceId;
 use pim_types::fact::InterfaceRow;
 use pim_wire::RegisterView;
+use pim_world::{Turn, World};
 use std::alloc::AllocError;
 
 // The interface announces itself, and asks who is there.
@@ -48,7 +49,9 @@ fn forward(
         (forwarded world.old packet.now.destination packet.now.source iface.number))) }
 {
     let (group, source) = (packet.destination(), packet.source());
-    let list = arrived(world, turn, iface, group, source)?;
+    let star = StarSight::of(world, group, &mut turn.meter);
+    let sight = SourceSight::of(world, star, source, &mut turn.meter);
+    let list = arrived(world, turn, iface, sight)?;
     leave(world, turn, packet, list)
 }
 
@@ -86,7 +89,7 @@ pub(crate) fn apply(
     match accepted {
         Accepted::Data { iface, packet } => {
             // It tells that the interface is below 120.
-            let _ = world.iface_count();
+            let _ = world.interfaces().count();
             forward(world, turn, *iface, packet)
         }
         Accepted::Register { packet, register } => decapsulate(world, turn, packet, register),
@@ -124,7 +127,7 @@ fn apply_without_packet(
         }
         Accepted::JoinPruneToMe { iface, message } => {
             // It tells that the interface is below 120.
-            let _ = world.iface_count();
+            let _ = world.interfaces().count();
             to_me(world, turn, *iface, message.holdtime(), named)
         }
         Accepted::JoinPruneSeen { iface, message } => {
@@ -135,7 +138,7 @@ fn apply_without_packet(
             from,
             assert,
         } => {
-            let _ = world.iface_count();
+            let _ = world.interfaces().count();
             pim_asserts::received(world, turn, *iface, *from, assert)
         }
         Accepted::Query { iface, from, query } => {
@@ -143,7 +146,7 @@ fn apply_without_packet(
         }
         Accepted::Report { iface, report } => {
             // It tells that the interface is below 120.
-            let _ = world.iface_count();
+            let _ = world.interfaces().count();
             pim_querier::report_seen(world, turn, *iface, report)
         }
         Accepted::RegisterStop { stop, .. } => {

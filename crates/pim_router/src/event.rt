@@ -16,11 +16,11 @@ use crate::touched::touched_by;
 use pim_data::Leaving;
 use pim_downstream::Named;
 use pim_intake::judge;
-use pim_macros::{Turn, World};
 use pim_model::Accepted;
 use pim_opening::Opening;
 use pim_trie::Meter;
 use pim_types::{Event, Fault, Outcome, Refusal, Series, Stop, Verdict};
+use pim_world::{Turn, World};
 use std::alloc::Global;
 use std::mem::replace;
 

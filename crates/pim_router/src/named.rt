@@ -4,9 +4,9 @@ ghost use Rattle.pim_model.specs.Full.{is_full};
 ghost use Rattle.pim_router.specs.Naming.{AreNamedBy};
 
 use pim_downstream::Named;
-use pim_macros::{Turn, World};
 use pim_model::Accepted;
 use pim_register::source_is_full;
+use pim_world::{Turn, World};
 use std::alloc::AllocError;
 
 /// The keys that a Join/Prune names.

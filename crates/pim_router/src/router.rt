@@ -14,9 +14,9 @@ ghost use Rattle.pim_model.specs.Sure.{needs_no_memory};
 ghost use Rattle.pim_locality.specs.Rest.{IsAtRest};
 
 use crate::event::take_in;
-use pim_macros::World;
 use pim_trie::Meter;
 use pim_types::{Config, Emission, Event, Fault, Outcome, Refusal, Row, Table, Verdict};
+use pim_world::World;
 use std::alloc::Global;
 use std::marker::Model;
 

@@ -3,9 +3,9 @@ ghost use Rattle.std.specs.Prelude.{◌≡◌, ◌++◌, IfOk, IsOkUnless, OnOk}
 ghost use Rattle.pim_ip.specs.declared.fault.Fault.{Fault};
 ghost use Rattle.pim_router.specs.Settling.{settled_by};
 
-use pim_macros::{Turn, World};
 use pim_opening::Opening;
 use pim_types::{Emission, Fault};
+use pim_world::{Turn, World};
 
 /// Settles a change, by comparison with the opening: the registers first, then what must go, then what is told
 /// upstream; then the packets of all messages go behind the emissions, those of the change first.

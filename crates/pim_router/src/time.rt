@@ -4,7 +4,7 @@ ghost use Rattle.pim_ip.specs.declared.fault.Fault.{Fault};
 ghost use Rattle.pim_laws.specs.Laws.{IsReady, ends_from};
 ghost use Rattle.pim_locality.specs.Locality.{IsQuiet};
 ghost use Rattle.pim_locality.specs.Rest.{IsAtRest};
-ghost use Rattle.pim_macros.specs.Turns.{saying};
+ghost use Rattle.pim_world.specs.Turns.{saying};
 ghost use Rattle.pim_model.specs.Firing.{fire_all, fire_instant, fire_once, fired};
 ghost use Rattle.pim_model.specs.Step.{advanced, outcome_of};
 ghost use Rattle.pim_model.specs.Timers.{next_due};
@@ -13,10 +13,10 @@ ghost use Rattle.pim_router.specs.Ends.{ending_of, touched_by_end};
 ghost use Rattle.pim_tables.specs.Ends.{due_of};
 
 use crate::settle::settle;
-use pim_macros::{Touched, Turn, World};
 use pim_messages::Outbox;
 use pim_opening::Opening;
 use pim_types::{Emission, Fault, Key, Outcome, Series, Timer, TimerKind, Verdict};
+use pim_world::{Touched, Turn, World};
 use std::alloc::{AllocError, Global};
 
 // The timer that ends first, with its end in ms, where that is due by the moment.

@@ -11,10 +11,11 @@ ghost use Rattle.pim_opening.specs.Covers.{Covers};
 use pim_asserts::named_keys;
 use pim_downstream::Named;
 use pim_ip::Ipv4View;
-use pim_macros::{Touched, Turn, World};
+use pim_macros::{SourceSight, StarSight};
 use pim_model::Accepted;
 use pim_types::{IfaceId, Key, Series};
 use pim_wire::RegisterView;
+use pim_world::{Touched, Turn, World};
 use std::alloc::{AllocError, Global};
 
 // Those of the keys that name a source.
@@ -58,11 +59,11 @@ fn packet_keys(
     ensures silent { turn.new ≡ turn.old }
 {
     let (group, source) = (packet.destination(), packet.source());
-    let star = world.gather_star(group, &mut turn.meter);
-    let sight = world.gather_source(star, source, &mut turn.meter);
+    let star = StarSight::of(world, group, &mut turn.meter);
+    let sight = SourceSight::of(world, star, source, &mut turn.meter);
     let mut keys = Vec::new(turn.alloc);
     keys.push(Key::source(IfaceId::NONE, group, source))?;
-    if !(world.is_rpf_interface_rp(&star, iface) || sight.spt) {
+    if !(star.is_rpf_interface(iface) || sight.spt) {
         keys.push(Key::group(group))?;
     }
     Ok(Series::from_vec(keys))
@@ -108,7 +109,7 @@ pub(crate) fn touched_by(
             Ok(Touched::Keys(only(turn.alloc, key)?))
         }
         Accepted::Hello { iface, from, hello } => {
-            if world.is_refreshed(*iface, *from, hello) {
+            if world.neighbours().is_refreshed(*iface, *from, hello) {
                 return Ok(Touched::Keys(Series::new(turn.alloc)));
             }
             Ok(Touched::All)

@@ -1,15 +1,15 @@
 //! What the end of an override timer changes (RFC 7761, section 4.5.7).
 ghost use Rattle.std.specs.Prelude.{◌≡◌, OnOk};
-ghost use Rattle.pim_types.specs.Keys.{group_in, source_in};
 ghost use Rattle.pim_types.specs.declared.timer.TimerKind.{TimerKind};
 ghost use Rattle.pim_model.specs.Desires.{rpf_rpt};
 ghost use Rattle.pim_model.specs.Firing.{fired};
-ghost use Rattle.pim_macros.specs.Turns.{saying};
+ghost use Rattle.pim_world.specs.Turns.{saying};
 
 use crate::machine::entry;
 use crate::message::say;
-use pim_macros::{Turn, World};
+use pim_macros::{SourceSight, StarSight};
 use pim_types::{Addr, Hop, Key};
+use pim_world::{Turn, World};
 use std::alloc::AllocError;
 
 // RPF'(S,G,rpt).
@@ -17,9 +17,9 @@ fn rpf_rpt(world: &World, turn: &mut Turn, group: Addr, source: Addr) -> Option<
     ensures upstream { result ≡ rpf_rpt world.now group.bits source.bits }
     ensures silent { turn.new ≡ turn.old }
 {
-    let star = world.gather_star(group, &mut turn.meter);
-    let sight = world.gather_source(star, source, &mut turn.meter);
-    world.rpf_rpt(&sight)
+    let star = StarSight::of(world, group, &mut turn.meter);
+    let sight = SourceSight::of(world, star, source, &mut turn.meter);
+    sight.rpf_neighbour_rpt()
 }
 
 /// What the end of an override timer changes: it goes, and a Join(S,G,rpt) overrides the Prune of another router. An
@@ -32,6 +32,6 @@ pub fn fired(world: &mut World, turn: &mut Turn, key: Key) -> Result<(), AllocEr
     let source = key.source.unwrap_or(Addr::NONE);
     let upstream = rpf_rpt(world, turn, key.group, source);
     say(turn, upstream, key.group, &[entry(source)], &[])?;
-    world.drop_override_timer(key);
+    world.store_mut().drop_override_timer(key);
     Ok(())
 }

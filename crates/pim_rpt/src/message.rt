@@ -1,13 +1,13 @@
 //! What the upstream machines have in common.
 ghost use Rattle.std.specs.Prelude.{◌≡◌, ◌≤◌, ◌+◌, OnOk, length};
 ghost use Rattle.pim_model.specs.Upstream.{if_neighbour, is_due_to_assert, join_prune_to, override_on};
-ghost use Rattle.pim_macros.specs.Turns.{saying};
+ghost use Rattle.pim_world.specs.Turns.{saying};
 
 use pim_macros::desires::is_same_hop;
-use pim_macros::{Turn, World};
 use pim_messages::MOST_ENTRIES;
 use pim_types::{Addr, Hop, IfaceId};
 use pim_wire::Entry;
+use pim_world::{Turn, World};
 use std::alloc::AllocError;
 
 /// Sends a Join/Prune to a neighbour, where there is one.
@@ -35,7 +35,7 @@ pub fn if_neighbour(world: &World, hop: Option<Hop>) -> Option<Hop>
 {
     match hop {
         Some(hop) => {
-            if world.is_neighbour(hop.iface, hop.address) {
+            if world.neighbours().contains(hop.iface, hop.address) {
                 Some(hop)
             } else {
                 None

@@ -1,3 +1,4 @@
+mod Alone
 mod EntryChanges
 mod HeardMessages
 pub mod Members

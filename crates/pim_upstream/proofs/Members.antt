@@ -16,7 +16,7 @@ use Rattle.pim_laws.proofs.Numbers.{RisesFrom, any_ascending, rises_ascending, r
 use Rattle.pim_laws.proofs.TableLaws.{any_in_filter, any_of_map}
 use Rattle.pim_locality.specs.Locality.{touching}
 use Rattle.pim_locality.specs.Scopes.{reads}
-use Rattle.pim_macros.specs.declared.touched.Touched.{Touched}
+use Rattle.pim_world.specs.declared.touched.Touched.{Touched}
 use Rattle.pim_opening.specs.Openings.{facts_of_whole, has_facts, is_of_all, touched_sources}
 use Rattle.pim_opening.specs.Covers.{NewAreNamed}
 

@@ -1,17 +1,11 @@
 -- Where a loop over changes stands: what was told so far, and what is left to tell.
-use Rattle.std.proofs.Common.{◌≡◌, ◌<◌, ◌≤◌, ◌+◌, ℕ, List, [], ◌∷◌, ◌++◌, refl, ap, sym, subst, ◌∙◌, append-nil, append_assoc, drop, get_or, length}
+use Rattle.std.proofs.Common.{◌≡◌, ◌<◌, ◌≤◌, ◌+◌, ℕ, List, [], ◌∷◌, refl, ap, sym, subst, ◌∙◌, drop, get_or, length}
 use Rattle.std.proofs.lemmas.List.{drop_more, drop_all}
 use Rattle.pim_model.specs.Messages.{Message}
 use Rattle.pim_model.specs.Querier.{each_in_turn}
 use Rattle.pim_model.specs.State.{State}
-use Rattle.pim_macros.specs.Turns.{Taking, saying}
-
-said_nothing : (t : Taking) → saying t [] ≡ t
-said_nothing t = ap (λ (ms : List Message). let u : Taking = record t { messages = ms } in u) (append-nil t.messages)
-
-said_both : (t : Taking) (ms ns : List Message) → saying (saying t ms) ns ≡ saying t (ms ++ ns)
-said_both t ms ns =
-    ap (λ (xs : List Message). let u : Taking = record t { messages = xs } in u) (append_assoc t.messages ms ns)
+use Rattle.pim_world.proofs.Said.{said_both, said_nothing}
+use Rattle.pim_world.specs.Turns.{Taking, saying}
 
 -- each step is told by the draw
 module _ {A : Type 0} (step : ℕ → State → A → State × List Message) (before : Taking) where

@@ -13,7 +13,7 @@ use Rattle.pim_model.specs.Tables.{is_among}
 use Rattle.pim_laws.proofs.Numbers.{any_ascending, members_tell}
 use Rattle.pim_laws.proofs.TableLaws.{any_of_map}
 use Rattle.pim_locality.proofs.OwnKeys.{own_touched, upstream_is_own}
-use Rattle.pim_macros.specs.declared.touched.Touched.{Touched}
+use Rattle.pim_world.specs.declared.touched.Touched.{Touched}
 use Rattle.pim_opening.specs.Openings.{group_opening, opening_of, source_opening, touched_sources}
 use Rattle.pim_opening.specs.Covers.{Covers, IsWithin, NewAreNamed}
 use Rattle.pim_upstream.specs.Told.{group_step, source_moved, source_step, upstream_by}

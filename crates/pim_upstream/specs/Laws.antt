@@ -4,7 +4,7 @@ use Rattle.pim_types.specs.declared.fact.Key.{Key}
 use Rattle.pim_model.specs.State.{State}
 use Rattle.pim_model.specs.Upstream.{upstream}
 use Rattle.pim_locality.specs.Locality.{own_upstream}
-use Rattle.pim_macros.specs.declared.touched.Touched.{Touched}
+use Rattle.pim_world.specs.declared.touched.Touched.{Touched}
 use Rattle.pim_opening.specs.Covers.{Covers, IsWithin, NewAreNamed}
 use Rattle.pim_opening.specs.Openings.{opening_of}
 use Rattle.pim_upstream.specs.Told.{upstream_by}

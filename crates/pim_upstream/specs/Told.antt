@@ -2,6 +2,7 @@
 use Rattle.std.specs.Prelude.{List, [], if◌then◌else◌, ℕ, ◌++◌, ◌||◌}
 use Rattle.pim_types.specs.Keys.{rpt_key, source_key, star_key}
 use Rattle.pim_types.specs.declared.upstream.SourceView.{SourceView}
+use Rattle.pim_types.specs.declared.upstream.StarView.{StarView}
 use Rattle.pim_model.specs.Messages.{Message}
 use Rattle.pim_model.specs.Querier.{each_in_turn}
 use Rattle.pim_model.specs.State.{State}
@@ -9,6 +10,10 @@ use Rattle.pim_model.specs.Upstream.{Told, rpt_told, source_told, source_view, s
 use Rattle.pim_opening.specs.Openings.{has_facts}
 use Rattle.pim_opening.specs.declared.opening.GroupOpening.{GroupOpening}
 use Rattle.pim_opening.specs.declared.opening.SourceOpening.{SourceOpening}
+
+-- (*,G)
+abbrev pub star_changed : State → ℕ → ℕ → StarView → Told
+star_changed a w g old = star_told a w g old (star_view a g)
 
 -- (S,G) and (S,G,rpt); a is the state after the change, and the timers move in s
 unfoldable pub source_moved : State → ℕ → ℕ → State → ℕ → SourceView → State × List Message
@@ -29,7 +34,7 @@ source_step a w g s before =
 unfoldable pub group_step : State → ℕ → State → GroupOpening → State × List Message
 group_step a w s before =
     let g : ℕ = before.group.bits in
-    let star : Told = star_told a w g before.star (star_view a g) in
+    let star : Told = star_changed a w g before.star in
     let first : State = with_join_timer s (star_key 0 g) star.timer in
     let later : State × List Message = each_in_turn (source_step a w g) first before.sources in
     (later.0, star.messages ++ later.1)

@@ -3,9 +3,10 @@ ghost use Rattle.std.specs.Prelude.{◌≡◌, ◌≤◌, IfOk, length};
 ghost use Rattle.pim_macros.specs.Sights.{IsStarSight};
 ghost use Rattle.pim_model.specs.Upstream.{is_pruned_with_star, pruned_with_star};
 
-use pim_macros::{StarSight, Turn, World};
+use pim_macros::{SourceSight, StarSight};
 use pim_types::Addr;
 use pim_wire::{Entry, EntryKind};
+use pim_world::{Turn, World};
 use std::alloc::AllocError;
 
 // The most sources that one Join prunes.
@@ -17,8 +18,8 @@ fn is_pruned(world: &World, turn: &mut Turn, star: &StarSight, source: Addr) -> 
     ensures pruned { result ≡ is_pruned_with_star world.now star.now.group.bits source.bits }
     ensures silent { turn.new ≡ turn.old }
 {
-    let sight = world.gather_source(*star, source, &mut turn.meter);
-    world.is_pruned_with_star(&sight)
+    let sight = SourceSight::of(world, *star, source, &mut turn.meter);
+    sight.is_pruned_with_star()
 }
 
 /// The entries of the sources that a Join(*,G) prunes: the lowest 160 of them, ascending.

@@ -2,12 +2,13 @@
 ghost use Rattle.std.specs.Prelude.{◌≡◌, OnOk};
 ghost use Rattle.pim_types.specs.declared.timer.TimerKind.{TimerKind};
 ghost use Rattle.pim_model.specs.Firing.{fired};
-ghost use Rattle.pim_macros.specs.Turns.{saying};
+ghost use Rattle.pim_world.specs.Turns.{saying};
 
 use crate::{source, star};
-use pim_macros::{Turn, World};
+use pim_macros::{SourceSight, StarSight};
 use pim_types::Key;
 use pim_types::fact::JoinTimerRow;
+use pim_world::{Turn, World};
 use std::alloc::AllocError;
 
 // Join(*,G) with its prunes, or Join(S,G), to the upstream neighbour.
@@ -15,12 +16,12 @@ use std::alloc::AllocError;
 fn join_again(world: &World, turn: &mut Turn, key: Key) -> Result<(), AllocError>
     ensures { OnOk result (turn.new ≡ saying turn.old (fired world.now TimerKind.Join key).1) }
 {
-    let star = world.gather_star(key.group, &mut turn.meter);
+    let star = StarSight::of(world, key.group, &mut turn.meter);
     match key.source {
-        None => star::join(world, turn, &star, star.rp, world.rpf_star(&star)),
+        None => star::join(world, turn, &star, star.rp, star.rpf_neighbour()),
         Some(source) => {
-            let sight = world.gather_source(star, source, &mut turn.meter);
-            source::join(turn, world.rpf_source(&sight), key.group, source)
+            let sight = SourceSight::of(world, star, source, &mut turn.meter);
+            source::join(turn, sight.rpf_neighbour(), key.group, source)
         }
     }
 }
@@ -33,5 +34,7 @@ pub fn fired(world: &mut World, turn: &mut Turn, key: Key) -> Result<(), AllocEr
 {
     join_again(world, turn, key)?;
     let end = world.periodic_end();
-    world.change_join_timer(key, JoinTimerRow { end })
+    world
+        .store_mut()
+        .change_join_timer(key, JoinTimerRow { end })
 }

@@ -7,9 +7,9 @@ ghost use Rattle.pim_types.specs.declared.fact.OverrideTimerRow.{OverrideTimerRo
 ghost use Rattle.pim_model.specs.Seen.{lowered_row, raised_row};
 ghost use Rattle.pim_upstream.specs.Hearing.{after_all_heard, after_heard, heard_if};
 
-use pim_macros::World;
 use pim_types::fact::{JoinTimerRow, OverrideTimerRow};
 use pim_types::{Addr, IfaceId, Key};
+use pim_world::World;
 use std::alloc::AllocError;
 
 /// What becomes of the Join timer of (*,G), without a source, or of (S,G), or of the override timer of (S,G,rpt); ends
@@ -75,7 +75,7 @@ fn overriding(row: Option<OverrideTimerRow>, end: u64) -> OverrideTimerRow
 fn join_timer(world: &World, group: Addr, source: Option<Addr>) -> Option<JoinTimerRow>
     ensures { result ≡ row_at world.now.join_timers (join_key group source) }
 {
-    world.join_timer(Key {
+    world.store().join_timer(Key {
         iface: IfaceId::NONE,
         group,
         source,
@@ -91,17 +91,21 @@ fn take(world: &mut World, change: Heard) -> Result<(), AllocError>
     match change {
         Heard::Raise(group, source, end) => {
             let row = raised(join_timer(world, group, source), end);
-            world.set_join_timer(group, source, row)
+            world.store_mut().set_join_timer(group, source, row)
         }
         Heard::Lower(group, source, end) => {
             let row = lowered(join_timer(world, group, source), end);
-            world.set_join_timer(group, source, row)
+            world.store_mut().set_join_timer(group, source, row)
         }
         Heard::Override(group, source, end) => {
-            let row = world.override_timer(Key::source_rpt(IfaceId::NONE, group, source));
-            world.set_override_timer(group, source, Some(overriding(row, end)))
+            let row = world
+                .store()
+                .override_timer(Key::source_rpt(IfaceId::NONE, group, source));
+            world
+                .store_mut()
+                .set_override_timer(group, source, Some(overriding(row, end)))
         }
-        Heard::Cancel(group, source) => world.set_override_timer(group, source, None),
+        Heard::Cancel(group, source) => world.store_mut().set_override_timer(group, source, None),
     }
 }
 

@@ -11,9 +11,10 @@ ghost use Rattle.pim_upstream.specs.Hearing.{heard_in_joins, heard_in_prunes, he
 use crate::heard::{Heard, note_if, take_all};
 use pim_downstream::Named;
 use pim_macros::desires::is_same_hop;
-use pim_macros::{SourceSight, Turn, World};
+use pim_macros::{SourceSight, StarSight};
 use pim_types::{Addr, Hop, IfaceId, Key, TreeState};
 use pim_wire::JoinPruneView;
+use pim_world::{Turn, World};
 use std::alloc::AllocError;
 
 // Whether RPF'(*,G) is the neighbour.
@@ -21,8 +22,8 @@ fn is_star_towards(world: &World, turn: &mut Turn, hop: Hop, group: Addr) -> boo
     ensures towards { result ≡ is_star_towards world.now hop group.bits }
     ensures silent { turn.new ≡ turn.old }
 {
-    let star = world.gather_star(group, &mut turn.meter);
-    is_same_hop(world.rpf_star(&star), Some(hop))
+    let star = StarSight::of(world, group, &mut turn.meter);
+    is_same_hop(star.rpf_neighbour(), Some(hop))
 }
 
 // What the macros of (S,G) read.
@@ -32,8 +33,8 @@ fn sight_of(world: &World, turn: &mut Turn, group: Addr, source: Addr) -> Source
     ensures source { result.source ≡ source }
     ensures silent { turn.new ≡ turn.old }
 {
-    let star = world.gather_star(group, &mut turn.meter);
-    world.gather_source(star, source, &mut turn.meter)
+    let star = StarSight::of(world, group, &mut turn.meter);
+    SourceSight::of(world, star, source, &mut turn.meter)
 }
 
 // Whether RPF'(S,G) is the neighbour.
@@ -41,7 +42,7 @@ fn is_source_towards(world: &World, sight: &SourceSight, hop: Hop) -> bool
     requires { IsSourceSight world.now sight.now }
     ensures { result ≡ is_source_towards world.now hop sight.now.star.group.bits sight.now.source.bits }
 {
-    is_same_hop(world.rpf_source(sight), Some(hop))
+    is_same_hop(sight.rpf_neighbour(), Some(hop))
 }
 
 // Whether (S,G,rpt) is in NotPruned and RPF'(S,G,rpt) is the neighbour.
@@ -50,8 +51,8 @@ fn is_unpruned_towards(world: &World, sight: &SourceSight, hop: Hop) -> bool
     requires { IsSourceSight world.now sight.now }
     ensures { result ≡ is_unpruned_towards world.now hop sight.now.star.group.bits sight.now.source.bits }
 {
-    match world.tree_state(sight) {
-        TreeState::NotPruned => is_same_hop(world.rpf_rpt(sight), Some(hop)),
+    match sight.tree_state() {
+        TreeState::NotPruned => is_same_hop(sight.rpf_neighbour_rpt(), Some(hop)),
         _ => false,
     }
 }
@@ -168,7 +169,7 @@ fn hear_timers(
         ≡ changes.old.items ++ heard_of_timers world.now hop end group (timers_of world.now group.bits)) }
     ensures silent { turn.new ≡ turn.old }
 {
-    for (key, _) in world.join_timers_of(group) {
+    for (key, _) in world.store().join_timers_of(group) {
         hear_timer(world, turn, hop, end, group, key, changes)?;
     }
     Ok(())
@@ -226,11 +227,11 @@ fn hear_prunes(
 }
 
 // Up to when a Join with this holdtime, in seconds, suppresses the router's own, in ms.
-#[tactic(auto, unfolding(pim_model::specs::Seen::suppressed_end))]
+#[tactic(auto, unfolding(pim_model::specs::Seen::suppressed_end, pim_model::specs::Neighbours::t_suppressed))]
 fn suppressed_end(world: &World, iface: IfaceId, draw: u32, holdtime: u16) -> u64
     ensures { result ≡ suppressed_end world.now iface.number draw holdtime }
 {
-    let delay = world.suppressed_delay(iface, draw);
+    let delay = world.neighbours().suppressed_delay(iface, draw);
     world.present() + delay.min(1000 * u64::from(holdtime)).max(1)
 }
 

@@ -6,10 +6,10 @@ ghost use Rattle.pim_model.specs.Upstream.{LowerTo, changed_end, with_join_timer
 ghost use Rattle.pim_upstream.specs.Timers.{after_move, after_moves, join_key};
 ghost use Rattle.pim_rpt.specs.Changes.{change_of};
 
-use pim_macros::World;
 use pim_rpt::Change;
 use pim_types::fact::{JoinTimerRow, OverrideTimerRow};
 use pim_types::{Addr, IfaceId, Key};
+use pim_world::World;
 use std::alloc::AllocError;
 
 /// What becomes of the Join timer of (*,G), without a source, or of (S,G), or of the override timer of (S,G,rpt).
@@ -42,8 +42,10 @@ fn move_join_timer(
 {
     match change {
         Change::Keep => Ok(()),
-        Change::Cancel => world.set_join_timer(group, source, None),
-        Change::SetTo(end) => world.set_join_timer(group, source, Some(JoinTimerRow { end })),
+        Change::Cancel => world.store_mut().set_join_timer(group, source, None),
+        Change::SetTo(end) => world
+            .store_mut()
+            .set_join_timer(group, source, Some(JoinTimerRow { end })),
         Change::LowerTo(end) => {
             let key = Key {
                 iface: IfaceId::NONE,
@@ -51,8 +53,10 @@ fn move_join_timer(
                 source,
                 rpt: false,
             };
-            let end = lowered(world.join_timer(key).map(|row| row.end), end);
-            world.set_join_timer(group, source, Some(JoinTimerRow { end }))
+            let end = lowered(world.store().join_timer(key).map(|row| row.end), end);
+            world
+                .store_mut()
+                .set_join_timer(group, source, Some(JoinTimerRow { end }))
         }
     }
 }
@@ -70,14 +74,18 @@ fn move_override_timer(
 {
     match change {
         Change::Keep => Ok(()),
-        Change::Cancel => world.set_override_timer(group, source, None),
+        Change::Cancel => world.store_mut().set_override_timer(group, source, None),
         Change::SetTo(end) => {
-            world.set_override_timer(group, source, Some(OverrideTimerRow { end }))
+            world
+                .store_mut()
+                .set_override_timer(group, source, Some(OverrideTimerRow { end }))
         }
         Change::LowerTo(end) => {
             let key = Key::source_rpt(IfaceId::NONE, group, source);
-            let end = lowered(world.override_timer(key).map(|row| row.end), end);
-            world.set_override_timer(group, source, Some(OverrideTimerRow { end }))
+            let end = lowered(world.store().override_timer(key).map(|row| row.end), end);
+            world
+                .store_mut()
+                .set_override_timer(group, source, Some(OverrideTimerRow { end }))
         }
     }
 }

@@ -1,46 +1,79 @@
 //! What is told upstream after an event's own change.
-ghost use Rattle.std.specs.Prelude.{◌≡◌, OnOk};
+ghost use Rattle.std.specs.Prelude.{◌≡◌, ◌∷◌, [], ◌||◌, OnOk};
+ghost use Rattle.pim_types.specs.Keys.{star_key};
+ghost use Rattle.pim_model.specs.Upstream.{with_join_timer};
+ghost use Rattle.pim_opening.specs.Openings.{has_facts};
 ghost use Rattle.pim_model.specs.Querier.{each_in_turn};
 ghost use Rattle.pim_model.specs.State.{State};
-ghost use Rattle.pim_macros.specs.Sights.{IsStarSight};
-ghost use Rattle.pim_macros.specs.Turns.{saying};
-ghost use Rattle.pim_upstream.specs.Told.{group_step, source_moved, source_step, upstream_by};
+ghost use Rattle.pim_macros.specs.Sights.{IsSourceSight, IsStarSight};
+ghost use Rattle.pim_world.specs.Turns.{saying};
+ghost use Rattle.pim_upstream.specs.Told.{group_step, source_moved, source_step, star_changed, upstream_by};
 ghost use Rattle.pim_upstream.specs.Timers.{after_moves};
 
 use crate::timer::{Move, move_timers, note_join, note_override};
 use crate::{source, star};
-use pim_macros::{StarSight, Turn, World};
+use pim_macros::{SourceSight, StarSight};
 use pim_opening::{GroupOpening, Opening, SourceOpening};
-use pim_types::{Addr, SourceView};
+use pim_types::{Addr, SourceView, StarView};
+use pim_world::{Turn, World};
 use std::alloc::AllocError;
 
-// Sends what is told of a source, and notes what becomes of its timers.
+// Sends what is told of a source by its sight, and notes what becomes of its timers.
 #[tactic(auto, unfolding(crate::specs::Told::source_moved))]
 fn tell_views(
     world: &World,
     turn: &mut Turn,
-    star: &StarSight,
-    source: Addr,
+    sight: &SourceSight,
     old: SourceView,
     moves: &mut Vec<Move>,
 ) -> Result<(), AllocError>
-    requires { IsStarSight world.now star.now }
+    requires { IsSourceSight world.now sight.now }
     ensures timers { OnOk result ((s : State) → after_moves s moves.new.items
-        ≡ (source_moved world.now turn.old.draw star.now.group.bits
-        (after_moves s moves.old.items) source.bits old).0) }
+        ≡ (source_moved world.now turn.old.draw sight.now.star.group.bits
+        (after_moves s moves.old.items) sight.now.source.bits old).0) }
     ensures messages { OnOk result ((s : State) → turn.new ≡ saying turn.old
-        (source_moved world.now turn.old.draw star.now.group.bits
-        (after_moves s moves.old.items) source.bits old).1) }
+        (source_moved world.now turn.old.draw sight.now.star.group.bits
+        (after_moves s moves.old.items) sight.now.source.bits old).1) }
 {
-    let sight = world.gather_source(*star, source, &mut turn.meter);
-    let new = world.source_view_of(&sight);
-    let joins = source::tell(world, turn, star.group, source, old, new)?;
-    let prunes = pim_rpt::changed(world, turn, star, source, old, new)?;
-    note_join(moves, star.group, Some(source), joins)?;
-    note_override(moves, star.group, source, prunes)
+    let (group, source) = (sight.star.group, sight.source);
+    let new = sight.view();
+    let joins = source::tell(world, turn, group, source, old, new)?;
+    let prunes = pim_rpt::changed(world, turn, &sight.star, source, old, new)?;
+    note_join(moves, group, Some(source), joins)?;
+    note_override(moves, group, source, prunes)
 }
 
-// Sends what is told of a source that has facts, before or after the change.
+// Whether something may be told of the source of a group: it has a fact, before or after the change.
+fn is_told(world: &World, turn: &mut Turn, group: Addr, before: SourceOpening) -> bool
+    ensures told { result ≡ (before.has_facts || has_facts world.now group.bits before.source.bits) }
+    ensures silent { turn.new ≡ turn.old }
+{
+    before.has_facts || world.has_facts(group, before.source, &mut turn.meter)
+}
+
+// Sends what is told of a source that has facts, before or after the change; its sight shows it after the change.
+#[tactic(auto, unfolding(crate::specs::Told::source_step))]
+fn tell_seen(
+    world: &World,
+    turn: &mut Turn,
+    sight: &SourceSight,
+    before: SourceOpening,
+    moves: &mut Vec<Move>,
+) -> Result<(), AllocError>
+    requires sight { IsSourceSight world.now sight.now }
+    requires source { sight.now.source ≡ before.source }
+    ensures timers { OnOk result ((s : State) → after_moves s moves.new.items
+        ≡ (source_step world.now turn.old.draw sight.now.star.group.bits (after_moves s moves.old.items) before).0) }
+    ensures messages { OnOk result ((s : State) → turn.new ≡ saying turn.old
+        (source_step world.now turn.old.draw sight.now.star.group.bits (after_moves s moves.old.items) before).1) }
+{
+    if is_told(world, turn, sight.star.group, before) {
+        return tell_views(world, turn, sight, before.view, moves);
+    }
+    Ok(())
+}
+
+// The same, where the sight is yet to be gathered.
 #[tactic(auto, unfolding(crate::specs::Told::source_step))]
 fn tell_source(
     world: &World,
@@ -55,8 +88,9 @@ fn tell_source(
     ensures messages { OnOk result ((s : State) → turn.new ≡ saying turn.old
         (source_step world.now turn.old.draw star.now.group.bits (after_moves s moves.old.items) before).1) }
 {
-    if before.has_facts || world.has_facts(star.group, before.source, &mut turn.meter) {
-        return tell_views(world, turn, star, before.source, before.view, moves);
+    if is_told(world, turn, star.group, before) {
+        let sight = SourceSight::of(world, *star, before.source, &mut turn.meter);
+        return tell_views(world, turn, &sight, before.view, moves);
     }
     Ok(())
 }
@@ -83,6 +117,26 @@ fn tell_sources(
     Ok(())
 }
 
+// Sends what is told of (*,G) by its sight, and notes what becomes of its Join timer.
+fn tell_star(
+    world: &World,
+    turn: &mut Turn,
+    star: &StarSight,
+    old: StarView,
+    moves: &mut Vec<Move>,
+) -> Result<(), AllocError>
+    requires { IsStarSight world.now star.now }
+    ensures timers { OnOk result ((s : State) → after_moves s moves.new.items
+        ≡ with_join_timer (after_moves s moves.old.items) (star_key 0 star.now.group.bits)
+        (star_changed world.now turn.old.draw star.now.group.bits old).timer) }
+    ensures messages { OnOk result (turn.new ≡ saying turn.old
+        (star_changed world.now turn.old.draw star.now.group.bits old).messages) }
+{
+    let new = star.view();
+    let change = star::tell(world, turn, star, old, new)?;
+    note_join(moves, star.group, None, change)
+}
+
 // Sends what is told of a group and of its sources, and notes what becomes of their timers.
 #[tactic(auto, unfolding(crate::specs::Told::group_step))]
 fn tell_group(
@@ -96,10 +150,8 @@ fn tell_group(
     ensures messages { OnOk result ((s : State) → turn.new ≡ saying turn.old
         (group_step world.now turn.old.draw (after_moves s moves.old.items) before.now).1) }
 {
-    let star = world.gather_star(before.group, &mut turn.meter);
-    let new = world.star_view_of(&star);
-    let change = star::tell(world, turn, &star, before.star, new)?;
-    note_join(moves, before.group, None, change)?;
+    let star = StarSight::of(world, before.group, &mut turn.meter);
+    tell_star(world, turn, &star, before.star, moves)?;
     tell_sources(world, turn, &star, before.sources.as_slice(), moves)
 }
 
@@ -130,5 +182,28 @@ pub fn changed(world: &mut World, turn: &mut Turn, opening: &Opening) -> Result<
 {
     let mut moves = Vec::new(turn.alloc);
     tell_groups(world, turn, opening.groups(), &mut moves)?;
+    move_timers(world, moves.as_slice())
+}
+
+/// The same where one source alone was opened, by its sight of the state as the change left it.
+#[tactic(auto, unfolding(crate::specs::Timers::after_moves))]
+pub fn changed_alone(
+    world: &mut World,
+    turn: &mut Turn,
+    group: &GroupOpening,
+    opened: SourceOpening,
+    sight: &SourceSight,
+) -> Result<(), AllocError>
+    requires alone { group.now.sources ≡ opened ∷ [] }
+    requires sight { IsSourceSight world.old sight.now }
+    requires group { sight.now.star.group ≡ group.now.group }
+    requires source { sight.now.source ≡ opened.source }
+    ensures state { OnOk result (world.new ≡ (upstream_by (group.now ∷ []) world.old turn.old.draw).0) }
+    ensures messages { OnOk result (turn.new
+        ≡ saying turn.old (upstream_by (group.now ∷ []) world.old turn.old.draw).1) }
+{
+    let mut moves = Vec::new(turn.alloc);
+    tell_star(world, turn, &sight.star, group.star, &mut moves)?;
+    tell_seen(world, turn, sight, opened, &mut moves)?;
     move_timers(world, moves.as_slice())
 }

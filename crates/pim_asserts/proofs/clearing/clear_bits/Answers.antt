@@ -1,6 +1,6 @@
 use Rattle.std.proofs.Common.{List, ap, drop, get_or, ◌+◌, ◌∙◌}
 use Rattle.std.proofs.lemmas.List.{drop_more}
-use Rattle.pim_macros.specs.Turns.{saying}
+use Rattle.pim_world.specs.Turns.{saying}
 use Rattle.pim_opening.specs.declared.opening.SourceOpening.{SourceOpening}
 use Rattle.pim_model.specs.Querier.{each_in_turn}
 use Rattle.pim_asserts.specs.Opened.{clear_bit, clear_bits}

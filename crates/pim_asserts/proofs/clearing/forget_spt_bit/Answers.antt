@@ -5,6 +5,8 @@ use Rattle.pim_types.specs.declared.fact.SourceRow.{SourceRow}
 use Rattle.pim_model.specs.Asserts.{without_spt_bit}
 use Rattle.pim_model.specs.State.{State}
 use Rattle.pim_model.specs.Tables.{Table, set_row}
+use Rattle.pim_store.specs.PimTables.{PimTables}
+use Rattle.pim_world.proofs.Lent.{stored_on_ok}
 use Rattle.pim_asserts.proofs.SptBit.{bit_forgotten}
 use Rattle.pim_asserts.proofs.clearing.forget_spt_bit.Goals as goal
 
@@ -17,4 +19,6 @@ returns c =
     (λ e. e ∙ ap (λ (t : Table SourceRow). let u : State = record s { sources = t } in u)
     (ap (set_row s.sources key) c.then_some-left.ensures
     ∙ bit_forgotten key s.sources c.args.row c.is_some.result c.are_keyed.ensures.sources_rise c.requires c.is_some.ensures))
-    c.set_source.ensures
+    (stored_on_ok s c.set_source.result _ _ (λ (f : PimTables). record f {
+      sources = set_row f.sources key c.then_some-left.result;
+    }) c.store_mut.ensures.value c.set_source.ensures)

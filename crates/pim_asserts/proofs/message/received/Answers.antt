@@ -3,12 +3,12 @@ use Rattle.std.proofs.lemmas.Result.{on_ok_weaker}
 use Rattle.pim_types.specs.declared.fact.AssertMetric.{AssertMetric}
 use Rattle.pim_types.specs.declared.fact.Key.{Key}
 use Rattle.pim_types.specs.Keys.{star_key}
-use Rattle.pim_macros.specs.Turns.{Taking, saying}
+use Rattle.pim_world.specs.Turns.{Taking, saying}
 use Rattle.pim_model.specs.Asserts.{assert_at, theirs_of}
 use Rattle.pim_model.specs.Messages.{Message}
 use Rattle.pim_model.specs.State.{State}
 use Rattle.pim_asserts.specs.Receiving.{source_asserted}
-use Rattle.pim_asserts.proofs.Progress.{said_both}
+use Rattle.pim_world.proofs.Said.{said_both}
 use Rattle.pim_asserts.proofs.Receiving.{goes_further, stops_there}
 use Rattle.pim_asserts.proofs.message.received.Goals as goal
 

@@ -1,10 +1,10 @@
 use Rattle.std.proofs.Common.{[], Option, ap, is_some, sym, ◌∙◌}
 use Rattle.std.specs.Option.{option_map_or}
 use Rattle.pim_model.specs.Clearing.{Cleared, cleared}
-use Rattle.pim_macros.specs.Turns.{saying}
+use Rattle.pim_world.specs.Turns.{saying}
 use Rattle.pim_asserts.specs.Going.{bits_of, clear_once}
 use Rattle.pim_asserts.proofs.PartToClear.{forgets, nothing_next}
-use Rattle.pim_asserts.proofs.Progress.{said_nothing}
+use Rattle.pim_world.proofs.Said.{said_nothing}
 use Rattle.pim_asserts.proofs.part.clear_next.Goals as goal
 
 pub returns-in_default-clause-more : goal.returns-in_default-clause-more

@@ -2,11 +2,12 @@ use Rattle.std.proofs.Common.{List, ap, subst, sym, ◌<◌, ◌∙◌}
 use Rattle.pim_model.specs.Clearing.{clearable_count}
 use Rattle.pim_model.specs.Messages.{Message}
 use Rattle.pim_model.specs.State.{State}
-use Rattle.pim_macros.specs.Turns.{saying}
+use Rattle.pim_world.specs.Turns.{saying}
 use Rattle.pim_asserts.specs.Going.{bits_of, clear_once}
 use Rattle.pim_asserts.specs.Opened.{clear_part}
 use Rattle.pim_asserts.proofs.Fuel.{cleared_by_turn, in_turn, no_turn, nothing_once, turn_is_fewer}
-use Rattle.pim_asserts.proofs.Progress.{said_nothing, stands_last, stands_next}
+use Rattle.pim_world.proofs.Said.{said_nothing}
+use Rattle.pim_asserts.proofs.Progress.{stands_last, stands_next}
 use Rattle.pim_asserts.proofs.part.clear_part.Goals as goal
 
 pub loop-smaller : goal.loop-smaller

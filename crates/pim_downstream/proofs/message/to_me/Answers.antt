@@ -1,20 +1,28 @@
-use Rattle.std.proofs.Common.{List, ap, ◌∙◌}
+use Rattle.std.proofs.Common.{List, Some, ap, filter, not, ◌&&◌, ◌∙◌}
 use Rattle.pim_types.specs.declared.fact.Key.{Key}
-use Rattle.pim_model.specs.Downstream.{asserts_after_joins, row_after}
+use Rattle.pim_model.specs.Downstream.{asserts_after_joins, is_named, row_after}
+use Rattle.pim_model.specs.Sets.{is_loser}
 use Rattle.pim_model.specs.State.{State}
+use Rattle.pim_store.specs.PimTables.{PimTables}
+use Rattle.pim_world.proofs.Lent.{stored}
 use Rattle.pim_downstream.proofs.OnInterface.{changes_on, touched_on}
 use Rattle.pim_downstream.proofs.Rows.{taken}
 use Rattle.pim_downstream.proofs.message.to_me.Goals as goal
 
 pub returns-clause-state : goal.returns-clause-state
+unfolding asserts_after_joins
 returns-clause-state c =
     let named = c.args.named.now in
     let later = c.set_rows.new.world in
     let losses_ended : List Key → State = λ ks. record later { asserts = asserts_after_joins later ks } in
     taken c.args.world.now c.args.iface.number c.args.holdtime named.joined.items named.pruned.items
-    c.deref.result.now c.deref-2.result.now later c.end_losses.new.self
+    c.deref.result.now c.deref-2.result.now later _
     (c.deref.ensures.value ∙ c.in_ok-keys.ensures) (c.deref-2.ensures.value ∙ c.in_ok-changes.ensures)
-    c.in_ok-set_rows.ensures (c.end_losses.ensures ∙ ap losses_ended c.deref-3.ensures.value)
+    c.in_ok-set_rows.ensures
+    (stored later _ _ (λ (f : PimTables). record f {
+      asserts = filter (λ e. not (is_loser (Some e.1) && is_named c.deref-3.result.now e.0)) f.asserts;
+    }) c.store_mut.ensures.value c.end_losses.ensures
+    ∙ ap losses_ended c.deref-3.ensures.value)
 
 pub set_rows-requires-clause-on : goal.set_rows-requires-clause-on
 set_rows-requires-clause-on c =

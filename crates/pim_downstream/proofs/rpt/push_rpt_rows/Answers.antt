@@ -10,4 +10,4 @@ unfolding rpt_rows_joined
 returns c =
     subst (λ ks. OnOk c.push_rpt_keys.result (c.push_rpt_keys.new.keys.items ≡ c.args.keys.now.items ++ ks))
     (rpt_keys_are c.args.iface.number c.args.joined.now (keys_in c.args.world.now.downstream)
-    c.in_ok-groups.groups.keys c.in_ok-groups.ensures.joined) c.push_rpt_keys.ensures
+    c.in_ok-groups.groups.keys c.in_ok-groups.ensures.joined) (rw c.store.ensures at c.push_rpt_keys.ensures)

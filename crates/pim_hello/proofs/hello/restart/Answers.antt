@@ -1,11 +1,16 @@
-use Rattle.std.proofs.Common.{◌≡◌, ℕ, ◌+◌, ap, ◌∙◌}
+use Rattle.std.proofs.Common.{◌≡◌, ℕ, ◌+◌, Some, ap, filter, not, ◌&&◌, ◌∙◌}
+use Rattle.pim_model.specs.Downstream.{asserts_after_joins, is_named}
 use Rattle.pim_model.specs.Hellos.{neighbour_replaced, neighbour_restarted}
+use Rattle.pim_model.specs.Sets.{is_loser}
 use Rattle.pim_model.specs.State.{State}
-use Rattle.pim_macros.specs.Turns.{Taking}
+use Rattle.pim_store.specs.PimTables.{PimTables}
+use Rattle.pim_world.proofs.Lent.{stored}
+use Rattle.pim_world.specs.Turns.{Taking}
 use Rattle.pim_hello.proofs.StartedAnew.{replaced, restarted}
 use Rattle.pim_hello.proofs.hello.restart.Goals as goal
 
 pub returns-clause-state : goal.returns-clause-state
+unfolding asserts_after_joins
 returns-clause-state c =
     let s = c.args.world.now in
     let w = c.turn.inside.draw in
@@ -15,10 +20,13 @@ returns-clause-state c =
     c.in_ok-trigger.ensures in
     c.in_ok-lower_timers.ensures
     ∙ restarted s c.args.iface.number c.args.from.bits w c.args.hello.now c.replace_neighbour.new.self
-    c.end_losses.new.self (c.present.result + c.override_delay.result) c.deref-2.result.now c.deref.result.now is
-    c.are_keyed.ensures.asserts_rise (c.deref.ensures.value ∙ c.in_ok-lost.ensures) c.end_losses.ensures
+    _ (c.present.result + c.override_delay.result) c.deref-2.result.now c.deref.result.now is
+    c.are_keyed.ensures.asserts_rise (c.deref.ensures.value ∙ c.in_ok-lost.ensures)
+    (stored c.replace_neighbour.new.self _ _ (λ (f : PimTables). record f {
+      asserts = filter (λ e. not (is_loser (Some e.1) && is_named c.deref.result.now e.0)) f.asserts;
+    }) c.store_mut.ensures.value c.end_losses.ensures)
     (ap (λ n. n + c.override_delay.result) c.present.ensures.present
-    ∙ ap (λ n. c.end_losses.new.self.present + n) c.override_delay.ensures.delay)
+    ∙ ap (λ (n : ℕ). c.replace_neighbour.new.self.present + n) c.override_delay.ensures.delay)
     (c.deref-2.ensures.value ∙ c.in_ok-towards.ensures.keys)
     ∙ ap (λ (d : ℕ). neighbour_restarted s c.args.iface.number c.args.from.bits d
     (replaced s c.args.iface.number c.args.from.bits d c.args.hello.now))

@@ -6,6 +6,7 @@ use Rattle.pim_types.specs.Keys.{star_key}
 use Rattle.pim_laws.specs.Rows.{all_changed}
 use Rattle.pim_laws.proofs.ChosenRows.{none_left_changed, one_more_changed}
 use Rattle.pim_store.specs.PimTables.{lowered}
+use Rattle.pim_world.specs.Lending.{with_store}
 use Rattle.pim_hello.proofs.Lowering.{kept}
 use Rattle.pim_hello.proofs.restarted.lower_timers.Goals as goal
 
@@ -14,12 +15,13 @@ loop-key-preserved c =
     let end = c.args.end in
     let keys = c.args.keys.now in
     let i = c.loop-key.key-index in
-    let timers = ap (λ (s : State). s.join_timers) c.in_ok-lower_join_timer.ensures in (
+    let lowered_in =
+    ap (with_store c.loop-key.world) (rw c.store_mut.ensures.value at c.in_ok-lower_join_timer.ensures) in
+    let timers = ap (λ (s : State). s.join_timers) lowered_in in (
       ap (λ (t : Table JoinTimerRow). all_changed (lowered end) t (drop (i + 1) keys)) timers
           ∙ one_more_changed (lowered end) keys i (star_key 0 0) c.loop-key.world.join_timers c.loop-key-test.true
           ∙ c.loop-key.invariant.0,
-      kept c.args.world.now c.loop-key.world c.lower_join_timer.new.self _ c.loop-key.invariant.1
-          c.in_ok-lower_join_timer.ensures,
+      kept c.args.world.now c.loop-key.world _ _ c.loop-key.invariant.1 lowered_in,
     )
 
 pub returns : goal.returns

@@ -1,5 +1,5 @@
 use Rattle.std.proofs.Common.{[], ap, append_assoc, map, sym, ◌++◌, ◌∙◌, ◌∷◌}
-use Rattle.pim_macros.specs.Groups.{numbers_of}
+use Rattle.pim_world.specs.Groups.{numbers_of}
 use Rattle.pim_opening.specs.Openings.{group_opening}
 use Rattle.pim_opening.specs.declared.opening.GroupOpening.{GroupOpening}
 use Rattle.pim_opening.proofs.opening.open_groups.Goals as goal

@@ -1,5 +1,5 @@
 use Rattle.std.proofs.Common.{[], ap, append_assoc, map, sym, ◌++◌, ◌∙◌, ◌∷◌}
-use Rattle.pim_macros.specs.Groups.{numbers_of}
+use Rattle.pim_world.specs.Groups.{numbers_of}
 use Rattle.pim_opening.specs.Openings.{source_opening}
 use Rattle.pim_opening.specs.declared.opening.SourceOpening.{SourceOpening}
 use Rattle.pim_opening.proofs.opening.open_sources.Goals as goal

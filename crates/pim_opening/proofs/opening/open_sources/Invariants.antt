@@ -1,5 +1,5 @@
 use Rattle.std.proofs.Common.{◌≡◌, ◌++◌, map}
-use Rattle.pim_macros.specs.Groups.{numbers_of}
+use Rattle.pim_world.specs.Groups.{numbers_of}
 use Rattle.pim_opening.specs.Openings.{source_opening}
 use Rattle.pim_opening.proofs.opening.open_sources.Given as goal
 

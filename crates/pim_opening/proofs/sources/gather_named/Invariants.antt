@@ -1,6 +1,6 @@
 use Rattle.std.proofs.Common.{◌≡◌, drop}
-use Rattle.pim_macros.specs.Groups.{gathered, numbers_of}
-use Rattle.pim_macros.specs.Sources.{sources_among}
+use Rattle.pim_world.specs.Groups.{gathered, numbers_of}
+use Rattle.pim_world.specs.Sources.{sources_among}
 use Rattle.pim_opening.proofs.sources.gather_named.Given as goal
 
 abbrev pub invariant-loop-key : goal.invariant-loop-key

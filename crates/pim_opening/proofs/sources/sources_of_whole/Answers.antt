@@ -1,5 +1,5 @@
 use Rattle.std.proofs.Common.{ap, sym, ◌∙◌}
-use Rattle.pim_macros.specs.Groups.{numbers_of}
+use Rattle.pim_world.specs.Groups.{numbers_of}
 use Rattle.pim_opening.proofs.Named.{none_of_part}
 use Rattle.pim_opening.proofs.sources.sources_of_whole.Goals as goal
 

@@ -1,9 +1,9 @@
 use Rattle.std.proofs.Common.{List, ap, sym, ◌∙◌}
 use Rattle.pim_types.specs.declared.fact.Key.{Key}
 use Rattle.pim_model.specs.Upstream.{sources_of}
-use Rattle.pim_macros.specs.Groups.{gathered, numbers_of}
-use Rattle.pim_macros.specs.Sources.{sources_among}
-use Rattle.pim_macros.specs.declared.touched.Touched.{Touched}
+use Rattle.pim_world.specs.Groups.{gathered, numbers_of}
+use Rattle.pim_world.specs.Sources.{sources_among}
+use Rattle.pim_world.specs.declared.touched.Touched.{Touched}
 use Rattle.pim_opening.specs.Openings.{facts_of_whole, touched_sources}
 use Rattle.pim_opening.proofs.Named.{both_named}
 use Rattle.pim_opening.proofs.sources.touched_sources.Goals as goal

@@ -1,5 +1,5 @@
 use Rattle.std.proofs.Common.{◌≡◌, ◌++◌, flat_map}
-use Rattle.pim_macros.specs.Groups.{numbers_of}
+use Rattle.pim_world.specs.Groups.{numbers_of}
 use Rattle.pim_macros.specs.Sights.{IsStarSight}
 use Rattle.pim_model.specs.Desires.{tree_state}
 use Rattle.pim_model.specs.Printed.{tree_line}

@@ -1,17 +1,20 @@
 use Rattle.std.proofs.Common.{[], ap, false, ◌+◌, ◌-◌, ◌∙◌}
+use Rattle.pim_world.specs.Lending.{with_membership}
 use Rattle.pim_model.specs.Querier.{query_group}
+use Rattle.pim_model.specs.Tables.{set_row}
 use Rattle.pim_querier.proofs.Queried.{group_queried}
 use Rattle.pim_querier.proofs.Starting.{on_ok, said_one, specific_by}
 use Rattle.pim_querier.proofs.asked.query_group.Goals as goal
 
 pub returns-clause-state : goal.returns-clause-state
+unfolding set_row
 returns-clause-state c =
     on_ok c.query.result
     (group_queried c.args.iface.number c.args.group.bits c.args.world.now c.lower_group.new.self
-    c.put_group_repeat.new.self c.query_end.result _ _ c.query_end.ensures
+    _ c.query_end.result _ _ c.query_end.ensures
     (λ j. c.present.ensures.present j + c.last_member_query_interval.ensures.value j)
     (c.saturating_sub.ensures ∙ ap (λ n. n - 1) (c.from.ensures ∙ c.robustness.ensures.value))
-    c.in_ok-lower_group.ensures c.in_ok-put_group_repeat.ensures)
+    c.in_ok-lower_group.ensures (ap (with_membership c.lower_group.new.self) (rw c.membership_mut.ensures.value at c.in_ok-set_group_repeat.ensures)))
 
 pub returns-clause-messages : goal.returns-clause-messages
 unfolding query_group

@@ -1,6 +1,6 @@
 use Rattle.std.proofs.Common.{List, ap, arith, sym, ◌==◌, ◌∙◌}
 use Rattle.pim_ip.specs.declared.addr.Addr.{Addr}
-use Rattle.pim_macros.specs.Turns.{saying}
+use Rattle.pim_world.specs.Turns.{saying}
 use Rattle.pim_model.specs.Querier.{lower_sources}
 use Rattle.pim_querier.specs.Changes.{sendings_put}
 use Rattle.pim_querier.specs.Queries.{bits_of}

@@ -5,16 +5,16 @@ use Rattle.pim_querier.proofs.firing.group_repeat_fired.Goals as goal
 
 pub returns-in-Some-clause-state : goal.returns-in-Some-clause-state
 unfolding fired fire_row
-returns-in-Some-clause-state c = rw (sym c.in-Some.ensures) c.group_repeat_due.ensures.state
+returns-in-Some-clause-state c = rw (sym (rw c.membership.ensures at c.in-Some.ensures)) c.group_repeat_due.ensures.state
 
 pub returns-in-Some-clause-messages : goal.returns-in-Some-clause-messages
 unfolding fired fire_row
-returns-in-Some-clause-messages c = rw (sym c.in-Some.ensures) c.group_repeat_due.ensures.messages
+returns-in-Some-clause-messages c = rw (sym (rw c.membership.ensures at c.in-Some.ensures)) c.group_repeat_due.ensures.messages
 
 pub returns-in-None-clause-state : goal.returns-in-None-clause-state
 unfolding fired fire_row
-returns-in-None-clause-state c = rw (sym c.in-None.ensures)
+returns-in-None-clause-state c = rw (sym (rw c.membership.ensures at c.in-None.ensures))
 
 pub returns-in-None-clause-messages : goal.returns-in-None-clause-messages
 unfolding fired fire_row
-returns-in-None-clause-messages c = rw (sym c.in-None.ensures) (sym (nothing_said c.args.turn.now))
+returns-in-None-clause-messages c = rw (sym (rw c.membership.ensures at c.in-None.ensures)) (sym (nothing_said c.args.turn.now))

@@ -5,7 +5,7 @@ use Rattle.pim_model.specs.Downstream.{is_named}
 use Rattle.pim_model.specs.Full.{distinct, once_more}
 use Rattle.pim_querier.proofs.Missing.{Counts, all_counted, next_once, passed, put_once}
 use Rattle.pim_querier.proofs.named.missing_groups.Goals as goal
-use Rattle.pim_querier.proofs.named.missing_groups.Goals.{then-not-has_group_record_at+in_ok-insert, else-not-has_group_record_at}
+use Rattle.pim_querier.proofs.named.missing_groups.Goals.{then-not-has_group_record+in_ok-insert, else-not-has_group_record}
 
 pub loop-key-preserved : goal.loop-key-preserved
 unfolding key_cmp addr_cmp is_named
@@ -13,18 +13,18 @@ loop-key-preserved c =
     let rows = c.args.world.now.group_records in
     let keys = c.args.keys.now in
     let n = c.loop-key.key-index in
-    elim c.if-not-has_group_record_at.branch [
-      | then-not-has_group_record_at+in_ok-insert w ↦
+    elim c.if-not-has_group_record.branch [
+      | then-not-has_group_record+in_ok-insert w ↦
           subst (λ set. Counts rows (fold once_more [] (take (n + 1) keys)) set.keys) (sym w.missing-is)
           (subst (λ found. Counts rows found w.insert.new.self.keys) (next_once rows keys n _ _ c.loop-key-test.true refl)
           (put_once rows (fold once_more [] (take n keys)) c.loop-key.missing.keys c.loop-key.invariant _
-          w.insert.new.self.keys _ (sym w.if-not-has_group_record_at.ensures) w.in_ok-insert.ensures.added
+          w.insert.new.self.keys _ (sym (rw c.membership.ensures at w.if-not-has_group_record.ensures)) w.in_ok-insert.ensures.added
           w.in_ok-insert.ensures.updates.0 w.in_ok-insert.ensures.len))
-      | else-not-has_group_record_at w ↦
+      | else-not-has_group_record w ↦
           subst (λ set. Counts rows (fold once_more [] (take (n + 1) keys)) set.keys) (sym w.missing-is)
           (subst (λ found. Counts rows found c.loop-key.missing.keys) (next_once rows keys n _ _ c.loop-key-test.true refl)
           (passed rows (fold once_more [] (take n keys)) c.loop-key.missing.keys c.loop-key.invariant _
-          (sym w.if-not-has_group_record_at.ensures)))
+          (sym (rw c.membership.ensures at w.if-not-has_group_record.ensures))))
     ]
 
 pub returns-clause-missing : goal.returns-clause-missing

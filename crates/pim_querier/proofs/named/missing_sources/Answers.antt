@@ -18,13 +18,13 @@ loop-key-preserved c =
           subst (λ set. Counts rows (fold once_more [] (take (n + 1) keys)) set.keys) (sym w.missing-is)
           (subst (λ found. Counts rows found w.insert.new.self.keys) (next_once rows keys n _ _ c.loop-key-test.true refl)
           (put_once rows (fold once_more [] (take n keys)) c.loop-key.missing.keys c.loop-key.invariant _
-          w.insert.new.self.keys _ (sym w.if-not-has_source_record.ensures) w.in_ok-insert.ensures.added
+          w.insert.new.self.keys _ (sym (rw c.membership.ensures at w.if-not-has_source_record.ensures)) w.in_ok-insert.ensures.added
           w.in_ok-insert.ensures.updates.0 w.in_ok-insert.ensures.len))
       | else-not-has_source_record w ↦
           subst (λ set. Counts rows (fold once_more [] (take (n + 1) keys)) set.keys) (sym w.missing-is)
           (subst (λ found. Counts rows found c.loop-key.missing.keys) (next_once rows keys n _ _ c.loop-key-test.true refl)
           (passed rows (fold once_more [] (take n keys)) c.loop-key.missing.keys c.loop-key.invariant _
-          (sym w.if-not-has_source_record.ensures)))
+          (sym (rw c.membership.ensures at w.if-not-has_source_record.ensures))))
     ]
 
 pub returns-clause-missing : goal.returns-clause-missing

@@ -1,15 +1,7 @@
-use Rattle.std.proofs.Common.{List, ap, ◌∙◌}
-use Rattle.pim_filters.specs.Members.{entries_of}
-use Rattle.pim_filters.specs.declared.member.Member.{Member}
-use Rattle.pim_querier.proofs.Expired.{group_ended}
-use Rattle.pim_querier.proofs.Starting.{then_ok}
+use Rattle.pim_querier.proofs.Expired.{group_near}
 use Rattle.pim_querier.proofs.records.group_record_due.Goals as goal
 
-pub returns : goal.returns
-returns c =
-    then_ok c.set_members.result
-    (group_ended c.args.world.now c.args.iface.number c.args.group.bits c.present.result c.change_group_record.new.self
-    c.set_members.new.world c.deref.result.now c.deref-2.result.now c.present.ensures.present
-    (ap (λ (ms : List Member). entries_of ms) c.deref.ensures.value ∙ c.in_ok-members.ensures.members)
-    (c.deref-2.ensures.value ∙ c.in_ok-running.ensures) c.in_ok-change_group_record.ensures)
-    c.set_members.ensures
+pub set_members-requires : goal.set_members-requires
+set_members-requires c =
+    group_near c.args.iface.number c.present.result c.in_ok-known.known c.group_expired.new.self c.group_expired.ensures
+    c.in_ok-known.ensures.near

@@ -1,14 +1,20 @@
-use Rattle.std.proofs.Common.{ap, append-nil, sym, ◌++◌, ◌∙◌}
-use Rattle.pim_filters.specs.Members.{entries_of}
+use Rattle.std.proofs.Common.{ap}
 use Rattle.pim_model.specs.Records.{members_of, record_of}
-use Rattle.pim_querier.proofs.Reported.{members_rise}
+use Rattle.pim_querier.proofs.Reported.{all_read, members_rise, rows_near}
 use Rattle.pim_querier.proofs.records.members_at.Goals as goal
 
+pub returns-clause-near : goal.returns-clause-near
+unfolding record_of
+returns-clause-near c =
+    rows_near c.args.iface.number c.source_records_at-key-items.result c.loop-key.members.items
+    (all_read c.source_records_at-key-items.result _ c.loop-key.members.items _ c.in-None.ensures.steps.0
+    c.loop-key.invariant (ap members_of (rw c.membership.ensures at c.source_records_at-key-items.ensures.rows)))
+    c.source_records_at-key-items.ensures.near
+
 pub returns-clause-ascending : goal.returns-clause-ascending
-unfolding record_of members_of
+unfolding record_of
 returns-clause-ascending c =
     members_rise c.source_records_at-key-items.result c.loop-key.members.items
-    (sym (append-nil (entries_of c.loop-key.members.items))
-    ∙ ap (λ t. entries_of c.loop-key.members.items ++ members_of t) (sym c.in-None.ensures.steps.0)
-    ∙ c.loop-key.invariant ∙ ap members_of (sym c.source_records_at-key-items.ensures.rows))
+    (all_read c.source_records_at-key-items.result _ c.loop-key.members.items _ c.in-None.ensures.steps.0
+    c.loop-key.invariant (ap members_of (rw c.membership.ensures at c.source_records_at-key-items.ensures.rows)))
     c.source_records_at-key-items.ensures.rising

@@ -1,3 +1,5 @@
+use Rattle.std.proofs.Common.{ap}
+use Rattle.pim_world.specs.Lending.{with_membership}
 use Rattle.pim_querier.proofs.Sent.{repeated}
 use Rattle.pim_querier.proofs.Starting.{then_ok}
 use Rattle.pim_querier.proofs.repeats.source_repeat_due.Goals as goal
@@ -5,6 +7,7 @@ use Rattle.pim_querier.proofs.repeats.source_repeat_due.Goals as goal
 pub returns-clause-state : goal.returns-clause-state
 returns-clause-state c =
     then_ok c.change_source_repeat.result
-    (repeated c.args.iface.number c.args.group.bits c.args.world.now c.send.new.world c.change_source_repeat.new.self
-    c.next_sending-next.result c.in_ok-send.ensures.state c.next_sending-next.ensures)
+    (λ e. repeated c.args.iface.number c.args.group.bits c.args.world.now c.send.new.world _
+    c.next_sending-next.result c.in_ok-send.ensures.state c.next_sending-next.ensures
+    (ap (with_membership c.send.new.world) (rw c.membership_mut.ensures.value at e)))
     c.change_source_repeat.ensures

@@ -1,5 +1,5 @@
 use Rattle.std.proofs.Common.{ap, sym, ◌∙◌}
-use Rattle.pim_macros.specs.Turns.{saying}
+use Rattle.pim_world.specs.Turns.{saying}
 use Rattle.pim_querier.proofs.Reported.{seen_by_other, seen_by_querier}
 use Rattle.pim_querier.proofs.Starting.{nothing_said, then_ok}
 use Rattle.pim_querier.proofs.report.record_seen.Goals as goal

@@ -1,24 +1,32 @@
-use Rattle.std.proofs.Common.{◌+◌, ap, drop, sym, ◌∙◌}
+use Rattle.std.proofs.Common.{◌+◌, Some, ap, drop, get_or, sym, ◌∙◌}
 use Rattle.pim_types.specs.declared.fact.RegisterRow.{RegisterRow}
+use Rattle.pim_types.specs.declared.fact.RegisterState.{RegisterState}
 use Rattle.pim_model.specs.State.{State}
-use Rattle.pim_model.specs.Tables.{Table}
+use Rattle.pim_model.specs.Tables.{Table, change_row}
 use Rattle.pim_types.specs.Keys.{star_key}
 use Rattle.pim_laws.specs.Rows.{all_changed}
 use Rattle.pim_laws.proofs.ChosenRows.{none_left_changed, one_more_changed}
 use Rattle.pim_register.specs.Tunnel.{joining}
+use Rattle.pim_store.specs.PimTables.{PimTables}
+use Rattle.pim_world.proofs.Lent.{stored}
 use Rattle.pim_register.proofs.Tunnelled.{kept}
 use Rattle.pim_register.proofs.tunnel.join_all.Goals as goal
+
+abbrev joined_row : RegisterRow
+joined_row = record { state = RegisterState.Join }
 
 pub loop-key-preserved : goal.loop-key-preserved
 loop-key-preserved c =
     let keys = c.args.keys.now in
     let i = c.loop-key.key-index in
-    let registers = ap (λ (s : State). s.registers) c.in_ok-change_register.ensures in (
+    let changed = stored c.loop-key.world _ _ (λ (f : PimTables). record f {
+      registers = change_row (λ before. Some joined_row) (get_or keys i (star_key 0 0)) f.registers;
+    }) c.store_mut.ensures.value c.in_ok-change_register.ensures in
+    let registers = ap (λ (s : State). s.registers) changed in (
       ap (λ (t : Table RegisterRow). all_changed joining t (drop (i + 1) keys)) registers
           ∙ one_more_changed joining keys i (star_key 0 0) c.loop-key.world.registers c.loop-key-test.true
           ∙ c.loop-key.invariant.0,
-      kept c.args.world.now c.loop-key.world c.change_register.new.self _ c.loop-key.invariant.1
-          c.in_ok-change_register.ensures,
+      kept c.args.world.now c.loop-key.world _ _ c.loop-key.invariant.1 changed,
     )
 
 pub returns : goal.returns

@@ -1,6 +1,6 @@
 use Rattle.std.proofs.Common.{◌≡◌, filter}
 use Rattle.pim_model.specs.Tables.{keys_in}
-use Rattle.pim_macros.specs.contracts.turn.Turn.{the_view}
+use Rattle.pim_world.specs.contracts.turn.Turn.{the_view}
 use Rattle.pim_laws.proofs.FoundRows.{Keeps}
 use Rattle.pim_register.specs.Tunnel.{is_rp_changed}
 use Rattle.pim_register.proofs.tunnel.keys_with_new_rp.Given as goal

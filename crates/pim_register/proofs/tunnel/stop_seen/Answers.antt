@@ -2,7 +2,7 @@ use Rattle.std.proofs.Common.{◌+◌, List, ap, sym, ◌∙◌}
 use Rattle.pim_types.specs.declared.fact.Key.{Key}
 use Rattle.pim_model.specs.State.{State}
 use Rattle.pim_model.specs.Tables.{change_row}
-use Rattle.pim_macros.specs.Turns.{Taking}
+use Rattle.pim_world.specs.Turns.{Taking}
 use Rattle.pim_laws.specs.Rows.{all_changed}
 use Rattle.pim_register.specs.Tunnel.{stopping}
 use Rattle.pim_register.proofs.Tunnelled.{ending, group_is_stopped, same_on_ok, source_is_stopped}

@@ -1,6 +1,6 @@
 use Rattle.std.proofs.Common.{◌≡◌, subst, sym}
 use Rattle.pim_types.specs.declared.timer.TimerKind.{TimerKind}
-use Rattle.pim_macros.specs.Turns.{saying}
+use Rattle.pim_world.specs.Turns.{saying}
 use Rattle.pim_model.specs.Firing.{fired}
 use Rattle.pim_router.proofs.Instants.{on_ok, says_nothing}
 use Rattle.pim_router.proofs.time.fired.Goals as goal

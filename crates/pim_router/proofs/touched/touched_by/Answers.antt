@@ -1,5 +1,8 @@
 use Rattle.std.proofs.Common.{List, [], ◌∷◌, ap, filter, not, ◌∙◌}
+use Rattle.pim_model.specs.Tables.{Table}
+use Rattle.pim_neighbours.specs.Refreshed.{is_refreshed}
 use Rattle.pim_types.specs.declared.fact.Key.{Key}
+use Rattle.pim_types.specs.declared.fact.NeighbourRow.{NeighbourRow}
 use Rattle.pim_types.specs.Keys.{is_star, star_key}
 use Rattle.pim_router.proofs.Touching.{assert_covered, facts_covered, hello_makes_none, named_covered, packet_covered, refreshed_covered, register_covered, seen_covered, queried_covered, reported_covered, stop_covered}
 use Rattle.pim_router.proofs.touched.touched_by.Goals as goal
@@ -8,7 +11,10 @@ pub returns-then-is_refreshed-clause-covers : goal.returns-then-is_refreshed-cla
 returns-then-is_refreshed-clause-covers c =
     refreshed_covered c.args.world.now c.args.accepted.now c.in-Hello.iface c.in-Hello.from c.in-Hello.hello
     c.new.result c.is_refreshed.result c.in-Hello.is c.requires.rest.settled.ordered.neighbours
-    c.is_refreshed.ensures c.if-is_refreshed.true c.new.ensures
+    (c.is_refreshed.ensures
+    ∙ ap (λ (t : Table NeighbourRow). is_refreshed t c.in-Hello.iface.number c.in-Hello.from.bits c.in-Hello.hello)
+    c.neighbours.ensures)
+    c.if-is_refreshed.true c.new.ensures
 
 pub returns-in_ok-keys-in-JoinPruneToMe-clause-covers : goal.returns-in_ok-keys-in-JoinPruneToMe-clause-covers
 returns-in_ok-keys-in-JoinPruneToMe-clause-covers c =

@@ -1,6 +1,6 @@
 use Rattle.std.proofs.Common.{arith, ap, length, rules, suc, sym, ℕ, List, ◌++◌, ◌+◌, ◌-◌, ◌≡◌, ◌∙◌}
 use Rattle.std.proofs.lemmas.List.{length_push}
-use Rattle.pim_macros.specs.Groups.{numbers_of}
+use Rattle.pim_world.specs.Groups.{numbers_of}
 use Rattle.pim_model.specs.Messages.{entry}
 use Rattle.pim_model.specs.Upstream.{fact_keys, is_pruned_with_star, pruned_with_star, sources_of}
 use Rattle.pim_wire.specs.declared.join_prune.Entry.{Entry}

@@ -1,5 +1,5 @@
 use Rattle.std.proofs.Common.{◌≡◌, ◌+◌, ◌++◌, length}
-use Rattle.pim_macros.specs.Groups.{numbers_of}
+use Rattle.pim_world.specs.Groups.{numbers_of}
 use Rattle.pim_model.specs.Messages.{entry}
 use Rattle.pim_model.specs.Upstream.{is_pruned_with_star, pruned_with_star}
 use Rattle.pim_wire.specs.declared.join_prune.EntryKind.{EntryKind}

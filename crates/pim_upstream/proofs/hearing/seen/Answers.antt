@@ -2,7 +2,7 @@ use Rattle.std.proofs.Common.{ap, subst, ◌≡◌, ◌∙◌}
 use Rattle.std.specs.Prelude.{OnOk}
 use Rattle.pim_model.specs.State.{State}
 use Rattle.pim_model.specs.Tables.{hop_at}
-use Rattle.pim_macros.specs.Turns.{Taking}
+use Rattle.pim_world.specs.Turns.{Taking}
 use Rattle.pim_upstream.proofs.HeardMessages.{gathered}
 use Rattle.pim_upstream.proofs.hearing.seen.Goals as goal
 

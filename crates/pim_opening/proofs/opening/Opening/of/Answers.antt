@@ -2,8 +2,8 @@ use Rattle.std.proofs.Common.{ap, map, ◌∙◌}
 use Rattle.pim_types.specs.Keys.{group_in}
 use Rattle.pim_model.specs.Tables.{ascending}
 use Rattle.pim_model.specs.Upstream.{groups_of}
-use Rattle.pim_macros.specs.Groups.{gathered, numbers_of}
-use Rattle.pim_macros.specs.Touches.{touched_keys}
+use Rattle.pim_world.specs.Groups.{gathered, numbers_of}
+use Rattle.pim_world.specs.Touches.{touched_keys}
 use Rattle.pim_opening.specs.Openings.{group_opening, opening_of}
 use Rattle.pim_opening.proofs.opening.Opening.of.Goals as goal
 

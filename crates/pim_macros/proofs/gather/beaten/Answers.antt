@@ -1,0 +1,13 @@
+use Rattle.std.proofs.Common.{arith}
+use Rattle.std.proofs.lemmas.Grind.{common_steps}
+use Rattle.pim_model.specs.Sets.{is_beaten}
+use Rattle.pim_macros.proofs.Asserted.{beaten_where_asserted}
+use Rattle.pim_macros.proofs.gather.beaten.Goals as goal
+
+pub returns : goal.returns
+returns c =
+    let s = c.args.world.now in
+    let g = c.args.group.bits in
+    let src = c.args.source.bits in
+    c.interfaces_where.ensures (is_beaten s g src)
+    (λ i b below k. let e = beaten_where_asserted s g src i _ (c.requires.asserted i) in grind (arith, common_steps))

@@ -1,0 +1,14 @@
+use Rattle.std.proofs.Common.{ap, ◌∙◌}
+use Rattle.pim_model.specs.Receivers.{local_receiver_exclude, local_receiver_exclude_among}
+use Rattle.pim_membership.specs.MembershipTables.{MembershipTables}
+use Rattle.pim_macros.proofs.Asserted.{shown_of_all}
+use Rattle.pim_macros.proofs.gather.excluded.Goals as goal
+
+pub returns : goal.returns
+unfolding local_receiver_exclude
+returns c =
+    let s = c.args.world.now in
+    let g = c.args.group.bits in
+    shown_of_all _ _ (local_receiver_exclude s g c.args.source.bits) (λ i. c.receivers_exclude.ensures.interfaces i
+    ∙ ap (λ (w : MembershipTables). local_receiver_exclude_among w.group_records w.source_records g c.args.source.bits i) c.membership.ensures)
+    c.without_tunnel.ensures.limit

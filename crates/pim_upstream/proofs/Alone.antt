@@ -1,0 +1,29 @@
+-- What is told upstream where one source alone was opened.
+use Rattle.std.proofs.Common.{◌≡◌, ℕ, List, [], ◌∷◌, ◌++◌, ap, append-nil}
+use Rattle.pim_types.specs.Keys.{star_key}
+use Rattle.pim_types.specs.declared.upstream.StarView.{StarView}
+use Rattle.pim_model.specs.Messages.{Message}
+use Rattle.pim_model.specs.Querier.{each_in_turn}
+use Rattle.pim_model.specs.State.{State}
+use Rattle.pim_model.specs.Upstream.{Told, with_join_timer}
+use Rattle.pim_opening.specs.declared.opening.GroupOpening.{GroupOpening}
+use Rattle.pim_opening.specs.declared.opening.SourceOpening.{SourceOpening}
+use Rattle.pim_upstream.specs.Told.{group_step, source_step, star_changed, upstream_by}
+
+-- first the group, then the source; the timers move in s
+abbrev pub both : State → ℕ → ℕ → StarView → SourceOpening → State → State × List Message
+both a w g old x s =
+    let star : Told = star_changed a w g old in
+    let later : State × List Message = source_step a w g (with_join_timer s (star_key 0 g) star.timer) x in
+    (later.0, star.messages ++ later.1)
+
+pub told_alone : (a : State) (w : ℕ) (x : GroupOpening) (o : SourceOpening) → x.sources ≡ o ∷ []
+    → upstream_by (x ∷ []) a w ≡ both a w x.group.bits x.star o a
+unfolding upstream_by group_step each_in_turn
+told_alone a w x o alone =
+    let star : Told = star_changed a w x.group.bits x.star in
+    let step : State × List Message =
+    source_step a w x.group.bits (with_join_timer a (star_key 0 x.group.bits) star.timer) o in
+    rw alone
+    (ap (λ (ms : List Message). let p : State × List Message = (step.0, ms) in p)
+    (λ j. append-nil (star.messages ++ append-nil step.1 j) j))

@@ -1,0 +1,13 @@
+pub mod Accepted
+mod Elected
+mod FirstFound
+pub mod Gathered
+pub mod Gathering
+pub mod GatheredSources
+pub mod Lent
+mod LoweredRows
+mod NextEnding
+mod Options
+mod Short
+pub mod Said
+pub mod Written

@@ -1,0 +1,11 @@
+-- Which keys a change may concern.
+use Rattle.std.specs.Prelude.{List}
+use Rattle.pim_types.specs.declared.fact.Key.{Key}
+use Rattle.pim_model.specs.State.{State}
+use Rattle.pim_model.specs.Upstream.{fact_keys}
+use Rattle.pim_world.specs.declared.touched.Touched.{Touched}
+
+-- all are those of the facts that there are
+abbrev pub touched_keys : State → Touched → List Key
+touched_keys s Touched.All = fact_keys s
+touched_keys s (Touched.Keys keys) = keys

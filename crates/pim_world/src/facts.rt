@@ -1,0 +1,68 @@
+//! What the machines change of sources: the keepalive timer, and the SPTbit.
+ghost use Rattle.std.specs.Prelude.{◌≡◌, OnOk, option_and_then};
+ghost use Rattle.pim_model.specs.Asserts.{with_spt_bit};
+ghost use Rattle.pim_model.specs.Registers.{with_keepalive};
+ghost use Rattle.pim_model.specs.Sets.{spt_bit};
+ghost use Rattle.pim_model.specs.Tables.{row_at};
+ghost use Rattle.pim_store.specs.PimTables.{AreKeyed, pim_tables};
+ghost use Rattle.pim_types.specs.Keys.{source_key};
+ghost use Rattle.pim_types.specs.declared.fact.SourceRow.{SourceRow as Row};
+
+use crate::world::World;
+use pim_types::fact::SourceRow;
+use pim_types::{Addr, IfaceId, Key};
+use std::alloc::AllocError;
+
+// Keepalive_Period (RFC 7761, section 4.11), also at the RP, in ms.
+const KEEPALIVE_PERIOD: u64 = 210_000;
+
+impl World {
+    /// Asserts, sources and registers are under keys of their kind, which rise.
+    pub fn are_keyed(&self)
+        ensures { AreKeyed (pim_tables self.now) }
+    {
+        self.store.are_keyed();
+    }
+
+    // SPTbit(S,G).
+    #[tactic(auto, unfolding(pim_model::specs::Sets::spt_bit))]
+    fn spt_bit(&self, group: Addr, source: Addr) -> bool
+        ensures { result ≡ spt_bit self.now group.bits source.bits }
+    {
+        let row = self.store.source(Key::source(IfaceId::NONE, group, source));
+        row.is_some_and(|row| row.spt)
+    }
+
+    /// KAT(S,G) runs for its whole period from now on.
+    #[tactic(auto, unfolding(pim_model::specs::Registers::with_keepalive, pim_model::specs::Tables::set_row))]
+    pub fn keep_alive(&mut self, group: Addr, source: Addr) -> Result<(), AllocError>
+        ensures { OnOk result (self.new ≡ with_keepalive self.old group.bits source.bits) }
+    {
+        let row = SourceRow {
+            keepalive: Some(self.present() + KEEPALIVE_PERIOD),
+            spt: self.spt_bit(group, source),
+        };
+        self.store.set_source(group, source, Some(row))
+    }
+
+    // When KAT(S,G) ends, if it runs, in ms.
+    fn keepalive_end(&self, group: Addr, source: Addr) -> Option<u64>
+        ensures { result ≡ option_and_then (λ (r : Row). r.keepalive)
+            (row_at self.now.sources (source_key 0 group.bits source.bits)) }
+    {
+        let key = Key::source(IfaceId::NONE, group, source);
+        self.store.source(key)?.keepalive
+    }
+
+    /// Sets SPTbit(S,G).
+    #[tactic(auto, unfolding(pim_model::specs::Asserts::with_spt_bit, pim_model::specs::Tables::set_row))]
+    pub fn set_spt_bit(&mut self, group: Addr, source: Addr) -> Result<(), AllocError>
+        ensures { OnOk result (self.new ≡ with_spt_bit self.old group.bits source.bits) }
+    {
+        let row = SourceRow {
+            keepalive: self.keepalive_end(group, source),
+            spt: true,
+        };
+        self.store.set_source(group, source, Some(row))
+    }
+}

@@ -1,0 +1,81 @@
+//! The groups that have any fact, and those that a change touches.
+ghost use Rattle.std.specs.Prelude.{◌≡◌, IfOk, OnOk, map};
+ghost use Rattle.pim_model.specs.Upstream.{fact_keys, groups_of};
+ghost use Rattle.pim_model.specs.Tables.{keys_in};
+ghost use Rattle.pim_types.specs.Keys.{group_in};
+ghost use Rattle.pim_world.specs.Groups.{numbers_of, gathered};
+ghost use Rattle.pim_world.specs.Touches.{touched_keys};
+
+use crate::touched::Touched;
+use crate::world::World;
+use pim_types::{Addr, Key};
+use std::alloc::{AllocError, Global};
+use std::collections::BTreeMap;
+use std::collections::btree_map::Iter;
+
+impl World {
+    /// The groups that have any fact, ascending.
+    #[tactic(auto, unfolding(pim_model::specs::Upstream::groups_of, pim_model::specs::Tables::ascending, crate::specs::Groups::gathered))]
+    pub fn groups(&self, alloc: Global) -> Result<BTreeMap<Addr, (), Global>, AllocError>
+        ensures { IfOk result (λ found. numbers_of found.entries ≡ groups_of (fact_keys self.now)) }
+    {
+        let mut found = BTreeMap::new(alloc);
+        self.gather_touched(&Touched::All, &mut found)?;
+        Ok(found)
+    }
+
+    /// Puts the groups that are touched into a set of groups.
+    pub fn gather_touched(
+        &self,
+        touched: &Touched,
+        found: &mut BTreeMap<Addr, (), Global>,
+    ) -> Result<(), AllocError>
+        ensures { OnOk result (numbers_of found.new.entries
+            ≡ gathered (map group_in (touched_keys self.now touched.now)) (numbers_of found.old.entries)) }
+    {
+        match touched {
+            Touched::All => self.gather_groups(found),
+            Touched::Keys(keys) => gather_named(keys.as_slice(), found),
+        }
+    }
+
+    // Puts the groups that have any fact into a set of groups.
+    fn gather_groups(&self, found: &mut BTreeMap<Addr, (), Global>) -> Result<(), AllocError>
+        ensures { OnOk result (numbers_of found.new.entries ≡ gathered (map group_in (fact_keys self.now)) (numbers_of found.old.entries)) }
+    {
+        gather(self.membership.group_record_rows(), found)?;
+        gather(self.membership.source_record_rows(), found)?;
+        gather(self.membership.group_repeat_rows(), found)?;
+        gather(self.membership.source_repeat_rows(), found)?;
+        gather(self.membership.sending_rows(), found)?;
+        gather(self.store.downstream_rows(), found)?;
+        gather(self.store.assert_rows(), found)?;
+        gather(self.store.join_timer_rows(), found)?;
+        gather(self.store.override_timer_rows(), found)?;
+        gather(self.store.source_rows(), found)?;
+        gather(self.store.register_rows(), found)
+    }
+}
+
+// Puts the groups of facts into a set of groups.
+fn gather<R>(
+    facts: Iter<'_, Key, R>,
+    found: &mut BTreeMap<Addr, (), Global>,
+) -> Result<(), AllocError>
+    ensures { OnOk result (numbers_of found.new.entries ≡ gathered (map group_in (keys_in facts.entry)) (numbers_of found.old.entries)) }
+{
+    for (key, _) in facts {
+        found.insert(key.group, ())?;
+    }
+    Ok(())
+}
+
+// Puts the groups of keys into a set of groups.
+fn gather_named(keys: &[Key], found: &mut BTreeMap<Addr, (), Global>) -> Result<(), AllocError>
+    ensures { OnOk result (numbers_of found.new.entries ≡ gathered (map group_in keys.now) (numbers_of found.old.entries)) }
+{
+    for key in keys {
+        found.insert(key.group, ())?;
+    }
+    Ok(())
+}

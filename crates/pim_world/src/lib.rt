@@ -1,0 +1,23 @@
+//! All components of the router together: the whole state, the tables that it lends, and the changes that the machines
+//! make in it.
+#![tactic(auto)]
+
+pub mod facts;
+pub mod groups;
+pub mod hellos;
+mod members;
+pub mod querying;
+pub mod routes;
+pub mod sending;
+pub mod settings;
+pub mod sources;
+pub mod time;
+pub mod touched;
+pub mod turn;
+pub mod unicast;
+pub mod world;
+
+pub use routes::test_rps;
+pub use touched::Touched;
+pub use turn::Turn;
+pub use world::World;

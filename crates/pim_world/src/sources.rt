@@ -1,0 +1,79 @@
+//! The sources of a group that have any fact.
+ghost use Rattle.std.specs.List.{list_any};
+ghost use Rattle.std.specs.Prelude.{◌≡◌, [], ◌∷◌, IfOk, OnOk};
+ghost use Rattle.pim_types.specs.Keys.{is_of_group, names_source};
+ghost use Rattle.pim_model.specs.Upstream.{fact_keys, sources_of};
+ghost use Rattle.pim_world.specs.Groups.{gathered, numbers_of};
+ghost use Rattle.pim_world.specs.Sources.{sources_among};
+
+use crate::world::World;
+use pim_store::Sources;
+use pim_trie::Meter;
+use pim_types::{Addr, Key};
+use std::alloc::{AllocError, Global};
+use std::collections::BTreeMap;
+
+impl World {
+    /// The sources of the group that have any fact, ascending.
+    pub fn sources(
+        &self,
+        alloc: Global,
+        group: Addr,
+    ) -> Result<BTreeMap<Addr, (), Global>, AllocError>
+        ensures { IfOk result (λ found. numbers_of found.entries ≡ sources_of group.bits (fact_keys self.now)) }
+    {
+        let mut found = self.membership.sources_of(alloc, group)?;
+        gather_all(self.store.sources_of(group), &mut found)?;
+        Ok(found)
+    }
+
+    /// Whether there is a fact of the source of the group.
+    #[tactic(auto, using(crate::proofs::GatheredSources::any_fact), unfolding(pim_membership::specs::MembershipTables::membership_keys, pim_store::specs::PimTables::stored_keys))]
+    pub fn has_facts(&self, group: Addr, source: Addr, meter: &mut Meter) -> bool
+        ensures { result ≡ list_any (names_source group.bits source.bits) (fact_keys self.now) }
+    {
+        self.membership.has_facts(group, source, meter)
+            || self.store.has_facts(group, source, meter)
+    }
+}
+
+// Puts the sources into a set of sources.
+fn gather_all(
+    sources: Sources<'_>,
+    found: &mut BTreeMap<Addr, (), Global>,
+) -> Result<(), AllocError>
+    ensures { OnOk result (numbers_of found.new.entries ≡ gathered sources.entry (numbers_of found.old.entries)) }
+{
+    for source in sources {
+        found.insert(source, ())?;
+    }
+    Ok(())
+}
+
+/// Puts the source of the key into a set of sources, where it is one of the group.
+pub fn gather_source(
+    key: Key,
+    group: Addr,
+    found: &mut BTreeMap<Addr, (), Global>,
+) -> Result<(), AllocError>
+    ensures { OnOk result (numbers_of found.new.entries
+        ≡ gathered (sources_among group.bits (key ∷ [])) (numbers_of found.old.entries)) }
+{
+    if !is_of_group(key, group) {
+        return Ok(());
+    }
+    match key.source {
+        Some(source) => {
+            found.insert(source, ())?;
+            Ok(())
+        }
+        None => Ok(()),
+    }
+}
+
+// Whether the key is of the group.
+fn is_of_group(key: Key, group: Addr) -> bool
+    ensures { result ≡ is_of_group group.bits key }
+{
+    key.group == group
+}

@@ -1,0 +1,90 @@
+//! What ends first and when a Join is sent again; what goes with time: neighbours, Hello timers, and interfaces that go
+//! down.
+ghost use Rattle.std.specs.Prelude.{◌≡◌, ◌≤◌, ◌^◌, IfOk, OnOk, option_map};
+ghost use Rattle.pim_model.specs.Firing.{fire_row};
+ghost use Rattle.pim_model.specs.Hellos.{hello_due, neighbour_due};
+ghost use Rattle.pim_model.specs.Step.{iface_down};
+ghost use Rattle.pim_model.specs.Tables.{has_row};
+ghost use Rattle.pim_model.specs.Timers.{next_ending};
+ghost use Rattle.pim_model.specs.Upstream.{periodic_end};
+ghost use Rattle.pim_tables.specs.Ends.{due_of};
+
+use crate::members::with_member;
+use crate::world::World;
+use pim_tables::earlier;
+use pim_types::fact::InterfaceRow;
+use pim_types::{IfaceId, Key, Timer};
+use std::alloc::AllocError;
+
+// Hello_Period (RFC 7761, section 4.11), in ms.
+const HELLO_PERIOD: u64 = 30_000;
+
+// t_periodic (RFC 7761, section 4.11), in ms.
+const JOIN_PERIOD: u64 = 60_000;
+
+impl World {
+    /// Which timer ends first, and when, in ms: the least end by its moment, its kind and its key. `None` where none
+    /// ever ends.
+    pub fn next(&self) -> Option<(u64, Timer)>
+        ensures { result ≡ option_map due_of (next_ending self.now) }
+    {
+        let pim = earlier(self.neighbours.next(), self.store.next());
+        earlier(earlier(pim, self.membership.next()), self.interfaces.next())
+    }
+
+    /// Lets the moment, in ms, be the present.
+    pub fn set_present(&mut self, moment: u64)
+        requires { moment ≤ 2 ^ 62 }
+        ensures { self.new ≡ record self.old { present = moment } }
+    {
+        self.present = moment;
+    }
+
+    /// When a Join that is sent now is sent again: in t_periodic.
+    pub fn periodic_end(&self) -> u64
+        ensures { result ≡ periodic_end self.now }
+    {
+        self.present + JOIN_PERIOD
+    }
+
+    /// Makes the interface down: all that is known on it goes. Without neighbours there the router is the DR.
+    #[tactic(auto, unfolding(pim_model::specs::Step::iface_down))]
+    pub fn set_down(&mut self, iface: IfaceId)
+        ensures { self.new ≡ iface_down self.old iface.number }
+    {
+        self.interfaces.set_down(iface);
+        self.neighbours.drop_on(iface);
+        self.membership.drop_on(iface);
+        self.store.drop_on(iface);
+        self.dr = with_member(self.dr, iface, true);
+    }
+
+    /// Takes the neighbour under the key away, whose holdtime is over (RFC 7761, section 4.3.2).
+    #[tactic(auto, unfolding(pim_model::specs::Hellos::neighbour_due))]
+    pub fn remove_neighbour(&mut self, key: Key)
+        ensures { self.new ≡ neighbour_due self.old key }
+    {
+        let own = self.own(key.iface);
+        self.neighbours.remove_at(key);
+        let is_dr = self.neighbours.is_dr(key.iface, &own);
+        self.dr = with_member(self.dr, key.iface, is_dr);
+    }
+
+    /// Starts the Hello timer under the key anew, if there is one (RFC 7761, section 4.3.1), and tells whether there is.
+    /// An error is want of memory.
+    #[tactic(auto, unfolding(pim_model::specs::Firing::fire_row, pim_model::specs::Hellos::hello_due, pim_model::specs::Tables::has_row))]
+    pub fn restart_hello(&mut self, key: Key) -> Result<bool, AllocError>
+        ensures told { IfOk result (λ is_there. is_there ≡ has_row self.old.interfaces key) }
+        ensures state { OnOk result (self.new ≡ (fire_row (λ s. s.interfaces) hello_due self.old key).0) }
+    {
+        let Some(row) = self.interfaces.row_at(key) else {
+            return Ok(false);
+        };
+        let restarted = InterfaceRow {
+            hello_end: self.present + HELLO_PERIOD,
+            ..row
+        };
+        self.interfaces.change(key, restarted)?;
+        Ok(true)
+    }
+}
