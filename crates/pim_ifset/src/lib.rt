@@ -1,4 +1,4 @@
-//! Sets of interfaces, with the register tunnel: the outgoing lists of RFC 7761, section 4.1.6, and
+//! Sets of interfaces, with the register tunnel: the outgoing lists of RFC 7761, section 4.1.5, and
 //! the sets that they are made of.
 #![tactic(auto)]
 

@@ -1,5 +1,5 @@
 //! What the router wants of its upstream neighbours (RFC 7761, sections 4.5.4 to 4.5.7), and who they are (section
-//! 4.1.6).
+//! 4.1.5).
 ghost use Rattle.std.specs.Prelude.{◌≡◌, ℕ, Bool};
 ghost use Rattle.pim_world.specs.Shown.{Shows};
 ghost use Rattle.pim_macros.specs.Sights.{InSource, InStar, IsStarSight};

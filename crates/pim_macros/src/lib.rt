@@ -1,4 +1,4 @@
-//! What the macros of RFC 7761, section 4.1.6, read of a group and of a source, gathered once of the whole state as a
+//! What the macros of RFC 7761, section 4.1.5, read of a group and of a source, gathered once of the whole state as a
 //! sight; and the sets and macros, each a method of the sight.
 #![tactic(auto)]
 

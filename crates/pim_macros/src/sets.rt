@@ -1,4 +1,4 @@
-//! The sets of interfaces of RFC 7761, section 4.1.6.
+//! The sets of interfaces of RFC 7761, section 4.1.5.
 ghost use Rattle.std.specs.Prelude.{◌≡◌};
 ghost use Rattle.pim_world.specs.Shown.{Shows};
 ghost use Rattle.pim_macros.specs.Sights.{InSource, InStar, wanted_by_group};

@@ -1,5 +1,5 @@
 -- What the router wants of its upstream neighbours (RFC 7761, sections 4.5.4 to 4.5.7), and who they
--- are (section 4.1.6). No upstream state is stored: it follows from the facts.
+-- are (section 4.1.5). No upstream state is stored: it follows from the facts.
 use Rattle.std.specs.Option.{option_or}
 use Rattle.std.specs.Prelude.{Bool, None, Option, Some, if◌then◌else◌, not, option_and_then, ℕ, ◌&&◌, ◌||◌}
 use Rattle.pim_types.specs.declared.fact.AssertRow.{AssertRow}

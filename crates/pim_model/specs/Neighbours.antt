@@ -20,7 +20,7 @@ neighbours_on s i = rows_on i s.neighbours
 abbrev pub neighbour_count : State → ℕ → ℕ
 neighbour_count s i = length (neighbours_on s i)
 
--- NBR(I, A) (RFC 7761, section 4.1.6), for the next hop of a route
+-- NBR(I, A) (RFC 7761, section 4.1.5), for the next hop of a route
 unfoldable pub nbr_among : Table NeighbourRow → Option Path → Option Hop
 nbr_among rows None = None
 nbr_among rows (Some p) =

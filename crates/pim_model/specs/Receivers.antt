@@ -1,4 +1,4 @@
--- IGMP membership as PIM sees it (RFC 7761, section 4.1.6; RFC 3376, section 6).
+-- IGMP membership as PIM sees it (RFC 7761, section 4.1.5; RFC 3376, section 6).
 use Rattle.std.specs.Option.{option_map_or}
 use Rattle.std.specs.Prelude.{Bool, Option, false, is_none, is_some, not, ℕ, ◌&&◌}
 use Rattle.pim_types.specs.declared.fact.GroupRecordRow.{GroupRecordRow}

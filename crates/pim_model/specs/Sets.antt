@@ -1,4 +1,4 @@
--- The state summarization macros (RFC 7761, section 4.1.6). A set of interfaces is its test. The register tunnel stands
+-- The state summarization macros (RFC 7761, section 4.1.5). A set of interfaces is its test. The register tunnel stands
 -- beside a set, so whether a list of (S,G) is empty is asked by `is_immediate_empty` and `is_inherited_empty`. The line
 -- `reads:` of a macro names the rows that it depends on: no other row can change what it says.
 use Rattle.std.specs.List.{list_any}

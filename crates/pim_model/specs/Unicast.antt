@@ -86,7 +86,7 @@ is_rp s g address = same_option (rp_of s g) (Some address)
 unfoldable pub rp_route : State → ℕ → Option Path
 rp_route s g = option_and_then (route s) (rp_of s g)
 
--- RPF_interface(S) and RPF_interface(RP(G)) (RFC 7761, section 4.1.6)
+-- RPF_interface(S) and RPF_interface(RP(G)) (RFC 7761, section 4.1.5)
 -- reads: the route to the address
 unfoldable pub rpf_interface : State → ℕ → Option ℕ
 rpf_interface s address = option_map (λ (p : Path). p.iface.number) (route s address)

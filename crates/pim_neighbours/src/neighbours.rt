@@ -156,7 +156,7 @@ impl Neighbours {
         self.rows.contains(Key::neighbour(iface, address))
     }
 
-    /// The neighbour that is the next hop of a route: `NBR` of RFC 7761, section 4.1.6. `None`
+    /// The neighbour that is the next hop of a route: `NBR` of RFC 7761, section 4.1.5. `None`
     /// where there is no route, and where the next hop is no neighbour.
     #[tactic(auto, unfolding(pim_model::specs::Neighbours::nbr_among))]
     pub fn nbr(&self, path: Option<Path>) -> Option<Hop>

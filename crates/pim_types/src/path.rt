@@ -14,7 +14,7 @@ pub struct Path {
     pub is_connected: bool,
 }
 
-/// A PIM router on a link: `RPF'` and `NBR` of RFC 7761, section 4.1.6.
+/// A PIM router on a link: `RPF'` and `NBR` of RFC 7761, section 4.1.5.
 #[derive(Clone, Copy, PartialEq, Eq)]
 pub struct Hop {
     pub iface: IfaceId,

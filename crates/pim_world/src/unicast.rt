@@ -1,4 +1,4 @@
-//! Unicast routes and RPs, by the state as it is (RFC 7761, section 4.1.6).
+//! Unicast routes and RPs, by the state as it is (RFC 7761, section 4.1.5).
 ghost use Rattle.std.specs.Prelude.{◌≡◌, ℕ, option_map};
 ghost use Rattle.pim_model.specs.Unicast.{is_rp, route, rp_of, rp_route};
 ghost use Rattle.pim_mrib.specs.Routes.{route_nodes, rp_nodes};
