@@ -1,5 +1,5 @@
 -- Where a loop over changes stands: what was cleared so far, and what is left.
-use Rattle.std.proofs.Common.{◌≡◌, None, false, ◌<◌, ◌≤◌, ◌+◌, ℕ, List, [], ◌∷◌, ◌++◌, refl, ap, sym, ◌∙◌, drop, get_or, length}
+use Rattle.std.proofs.Common.{◌≡◌, None, false, ◌<◌, ◌≤◌, ◌+◌, ℕ, List, [], ◌∷◌, ◌++◌, ap, sym, ◌∙◌, drop, get_or, length}
 use Rattle.std.proofs.lemmas.List.{drop_more, drop_all}
 use Rattle.pim_ip.specs.Addr.{addr}
 use Rattle.pim_types.specs.declared.upstream.TreeState.{TreeState}
@@ -14,9 +14,6 @@ use Rattle.pim_world.specs.Turns.{Taking, saying}
 pub record Stands (left whole : State × List Message) (t before : Taking) : Type 0 where
   pub state : left.0 ≡ whole.0
   pub taking : saying t left.1 ≡ saying before whole.1
-
-pub stands_first : (whole : State × List Message) (t : Taking) → Stands whole whole t t
-stands_first whole t = record { state = refl; taking = refl }
 
 -- one change, and then the rest
 pub stands_next : (once : State × List Message) (rest left whole : State × List Message) (t v before : Taking)

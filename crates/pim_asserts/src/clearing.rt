@@ -111,7 +111,7 @@ fn forget_spt_bit(
     ensures { OnOk result (world.new ≡ without_spt_bit world.old (source_key 0 group.bits source.bits)) }
 {
     // It tells that a key stands once.
-    world.are_keyed();
+    world.recall_keyed();
     let left = row
         .keepalive
         .is_some()
@@ -210,7 +210,7 @@ fn clear_source_seen(
     ensures source { OnOk result (sight.new.source ≡ sight.old.source) }
 {
     // It tells that asserts are under keys of their kind, each of which stands once.
-    world.are_keyed();
+    world.recall_keyed();
     let Some(_) = first_of_source(world, sight, opened.view.iface) else {
         return Ok(());
     };

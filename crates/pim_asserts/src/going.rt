@@ -35,9 +35,9 @@ fn is_iface(first: Option<IfaceId>, iface: IfaceId) -> bool
     first.is_some_and(|first| first == iface)
 }
 
-// How the router stands in the assert of an interface that it lost.
+// What decides whether an assert that the router lost on an interface must go.
 #[derive(Clone, Copy)]
-struct Standing {
+struct Loss {
     // AssertTrackingDesired.
     is_tracked: bool,
     // my_assert_metric.
@@ -47,14 +47,14 @@ struct Standing {
 }
 
 // Whether an assert lost to this winner must go.
-fn loss_goes(world: &World, iface: IfaceId, winner: AssertMetric, standing: Standing) -> bool
-    ensures { result ≡ (not (is_neighbour world.now iface.number winner.address.bits) || not standing.is_tracked
-        || is_better standing.metric winner || standing.has_moved) }
+fn loss_goes(world: &World, iface: IfaceId, winner: AssertMetric, loss: Loss) -> bool
+    ensures { result ≡ (not (is_neighbour world.now iface.number winner.address.bits) || not loss.is_tracked
+        || is_better loss.metric winner || loss.has_moved) }
 {
     !world.neighbours().contains(iface, winner.address)
-        || !standing.is_tracked
-        || is_better(standing.metric, winner)
-        || standing.has_moved
+        || !loss.is_tracked
+        || is_better(loss.metric, winner)
+        || loss.has_moved
 }
 
 // Whether there is an assert of (*,G) on the interface that must go.
@@ -72,12 +72,12 @@ fn goes_of_star(world: &World, star: &StarSight, was: Option<IfaceId>, iface: If
     match row.role {
         AssertRole::Winner => !star.could_assert().contains(iface),
         AssertRole::Loser => {
-            let standing = Standing {
+            let loss = Loss {
                 is_tracked: star.tracking_desired().contains(iface),
                 metric: star.my_metric(iface, world.address(iface)),
                 has_moved: is_iface(was, iface) && !star.is_rpf_interface(iface),
             };
-            loss_goes(world, iface, row.winner, standing)
+            loss_goes(world, iface, row.winner, loss)
         }
     }
 }
@@ -101,12 +101,12 @@ fn goes_of_source(world: &World, sight: &SourceSight, was: Option<IfaceId>, ifac
     match row.role {
         AssertRole::Winner => !sight.could_assert().contains(iface),
         AssertRole::Loser => {
-            let standing = Standing {
+            let loss = Loss {
                 is_tracked: sight.tracking_desired().contains(iface),
                 metric: sight.my_metric(iface, world.address(iface)),
                 has_moved: is_iface(was, iface) && !sight.is_rpf_interface(iface),
             };
-            loss_goes(world, iface, row.winner, standing)
+            loss_goes(world, iface, row.winner, loss)
         }
     }
 }

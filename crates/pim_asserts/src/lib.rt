@@ -3,8 +3,8 @@
 #![tactic(auto)]
 
 mod action;
+pub mod assert_timer;
 pub mod clearing;
-pub mod ends;
 mod going;
 pub mod law;
 pub mod message;
@@ -12,7 +12,7 @@ pub mod naming;
 mod part;
 mod stance;
 
+pub use assert_timer::fired;
 pub use clearing::{clear, clear_alone};
-pub use ends::fired;
 pub use message::{data_seen_of_group, data_seen_of_source, received};
 pub use naming::{is_full, named_keys};

@@ -8,7 +8,7 @@ ghost use Rattle.pim_macros.specs.Sights.{IsSourceSight, IsStarSight};
 ghost use Rattle.pim_asserts.specs.Receiving.{after_action, goes_on_to_star, source_asserted, stance_at, wins_with};
 
 use crate::action::{Action, action_of};
-use crate::ends::{WINNER_TIME, asserted_metric, win_again};
+use crate::assert_timer::{WINNER_TIME, asserted_metric, win_again};
 use crate::stance::{Stance, source_stance, stance_of, star_stance};
 use pim_macros::{SourceSight, StarSight};
 use pim_types::fact::{AssertMetric, AssertRole, AssertRow};

@@ -76,7 +76,7 @@ fn clear_next(world: &mut World, turn: &mut Turn, part: Part) -> Result<bool, Al
         (clear_once part.was part.group.bits (bits_of part.source) world.old).1) }
 {
     // It tells that asserts are under keys of their kind, each of which stands once.
-    world.are_keyed();
+    world.recall_keyed();
     let Some(iface) = first_to_go(world, turn, part) else {
         return Ok(false);
     };

@@ -63,9 +63,10 @@ fn copies_on(
     Ok(copies)
 }
 
-// The copies on the interfaces of the list.
+/// The packet's copies on the links of the list, by ascending interface: none where its TTL has run out. An error is want
+/// of memory.
 #[tactic(auto, unfolding(pim_model::specs::Writing::copies_of))]
-fn copies(
+pub fn copies(
     world: &World,
     alloc: Global,
     packet: &Ipv4View<'_>,

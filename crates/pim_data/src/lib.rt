@@ -7,4 +7,4 @@ mod list;
 mod source;
 
 pub use arrival::arrived;
-pub use leaving::{Leaving, leave};
+pub use leaving::{Leaving, copies, leave};

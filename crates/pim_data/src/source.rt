@@ -6,7 +6,7 @@ ghost use Rattle.pim_model.specs.Forwarding.{source_here, source_joined, spt_upd
 ghost use Rattle.pim_model.specs.Registers.{with_keepalive};
 
 use pim_macros::SourceSight;
-use pim_register::settle;
+use pim_register::settle_register;
 use pim_types::IfaceId;
 use pim_world::World;
 use std::alloc::AllocError;
@@ -43,7 +43,7 @@ pub(crate) fn source_here(
         return Ok(());
     }
     keep_alive(world, sight)?;
-    settle(world, sight)
+    settle_register(world, sight)
 }
 
 /// A source that is joined, and forwarded from here, is kept alive.

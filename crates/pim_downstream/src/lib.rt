@@ -3,7 +3,7 @@
 //! the ends of their timers change.
 #![tactic(auto)]
 
-pub mod ends;
+pub mod downstream_timers;
 pub mod entry;
 pub mod full;
 pub mod message;
@@ -11,7 +11,7 @@ pub mod named;
 pub mod row;
 mod rpt;
 
-pub use ends::fired;
+pub use downstream_timers::fired;
 pub use entry::{is_accepted, is_used};
 pub use full::is_full;
 pub use message::to_me;

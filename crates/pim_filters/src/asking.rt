@@ -10,7 +10,7 @@ pub struct Asking {
     group: bool,
 }
 
-// Called at each exit of an owner, where a derived drop would be spelled out and proved anew.
+// Written out, so that it is proved once (docs/PROOF_NOTES.md, Drops).
 impl Drop for Asking {
     fn drop(self) {
         let Asking {

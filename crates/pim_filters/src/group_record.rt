@@ -20,7 +20,7 @@ pub struct GroupRecord {
     members: Members,
 }
 
-// Called at each exit of an owner, where a derived drop would be spelled out and proved anew.
+// Written out, so that it is proved once (docs/PROOF_NOTES.md, Drops).
 impl Drop for GroupRecord {
     fn drop(self) {
         let GroupRecord {

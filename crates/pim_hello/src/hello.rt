@@ -76,7 +76,7 @@ fn restart(
     trigger(world, iface, turn.draw)?;
     world.replace_neighbour(iface, from, hello)?;
     // It tells that the keys of asserts rise, so that each stands once.
-    world.are_keyed();
+    world.recall_keyed();
     let lost = asserts_lost_to(world, turn, neighbour)?;
     world.store_mut().end_losses(&lost);
     let end = world.present() + world.override_delay(iface, turn.draw);

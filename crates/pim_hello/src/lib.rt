@@ -2,11 +2,11 @@
 //! what ends with time.
 #![tactic(auto)]
 
-pub mod ended;
 pub mod full;
 pub mod hello;
+pub mod hello_timers;
 mod restarted;
 
-pub use ended::fired;
 pub use full::is_full;
 pub use hello::{received, triggered_end};
+pub use hello_timers::fired;

@@ -1,3 +1,4 @@
 pub mod Apart
+mod Links
 pub mod Rows
-pub mod Subnets
+mod Tested

@@ -1,2 +1,1 @@
 pub mod Interfaces
-pub mod Subnets

@@ -8,12 +8,12 @@ ghost use Rattle.pim_tables.specs.Ends.{due_of};
 ghost use Rattle.pim_types.specs.declared.timer.TimerKind.{TimerKind as Kind};
 ghost use Rattle.pim_model.specs.Tables.{change_row, drop_where, has_row, put, row_at};
 ghost use Rattle.pim_types.specs.Keys.{iface_key, is_on};
-ghost use Rattle.pim_model.specs.Unicast.{link_among};
+ghost use Rattle.pim_model.specs.Unicast.{is_on_link_among, link_among};
 ghost use Rattle.pim_ifaces.specs.Interfaces.{interfaces_test};
 ghost use Rattle.pim_model.specs.Writing.{hellos_paid};
 
-use crate::configured::Configured;
-use crate::limits::MOST_INTERFACES;
+use crate::limits::{MOST_INTERFACES, subnet};
+use arrayvec::ArrayVec;
 use pim_tables::{Timed, Wheel};
 use pim_types::fact::InterfaceRow;
 use pim_types::{Addr, IfaceId, InterfaceConfig, Key, Timer};
@@ -22,11 +22,11 @@ use std::marker::Model;
 
 /// The configured interfaces, and the rows of those that are up.
 pub struct Interfaces {
-    configured: Configured,
+    configured: ArrayVec<InterfaceConfig, MOST_INTERFACES>,
     rows: Timed<InterfaceRow, Wheel>,
 }
 
-// Called at each exit of an owner, where a derived drop would be spelled out and proved anew.
+// Written out, so that it is proved once (docs/PROOF_NOTES.md, Drops).
 impl Drop for Interfaces {
     fn drop(self) {
         let Interfaces {
@@ -42,9 +42,9 @@ impl Model for Interfaces {
 
     ghost Value = { InterfaceTable };
 
-    ghost view = { λ a. record { configured = a.configured; rows = a.rows } };
+    ghost view = { λ a. record { configured = a.configured.items; rows = a.rows } };
 
-    ghost invariant = { λ a. IsHeld a.configured a.rows };
+    ghost invariant = { λ a. IsHeld a.configured.items a.rows };
 }
 
 impl Interfaces {
@@ -54,7 +54,7 @@ impl Interfaces {
         ensures { IfOk result (λ made. made ≡ record { configured = configured.now; rows = [] }) }
     {
         Ok(Interfaces {
-            configured: Configured::new(alloc, configured)?,
+            configured: held(configured),
             rows: Timed::new(alloc, Wheel::new(alloc)?),
         })
     }
@@ -64,7 +64,14 @@ impl Interfaces {
         ensures count { result ≡ length self.now.configured }
         ensures within { result ≤ MOST_INTERFACES }
     {
-        self.configured.as_slice().len() as u32
+        self.configured.len() as u32
+    }
+
+    /// At most 120 interfaces are configured, so an interface that is has a number below 120. It does nothing.
+    pub fn recall_few(&self)
+        ensures { length self.now.configured ≤ MOST_INTERFACES }
+    {
+        let _ = self.configured.as_slice().len();
     }
 
     /// The configured interfaces, by their numbers.
@@ -104,29 +111,42 @@ impl Interfaces {
     }
 
     /// Whether the address is one of the router's, its interface being up or not.
+    #[tactic(auto, unfolding(pim_model::specs::State::is_own_among))]
     pub fn is_own(&self, address: Addr) -> bool
         ensures { result ≡ is_own_among self.now.configured address.bits }
     {
-        // An own address lies in the subnet of its interface.
-        let Some(iface) = self.configured.subnet_of(address) else {
-            return false;
-        };
-        match self.config(iface) {
-            Some(interface) => interface.address == address,
-            None => false,
+        for interface in self.configured() {
+            if interface.address == address {
+                return true;
+            }
         }
+        false
     }
 
     /// The first interface that is up and whose subnet the address lies in.
+    #[tactic(auto, unfolding(pim_model::specs::Unicast::link_among))]
     pub fn link_to(&self, address: Addr) -> Option<IfaceId>
         ensures first { option_map (λ i. i.number) result ≡ link_among self.now.configured self.now.rows address.bits }
         ensures configured { IfSome result (λ i. i.number < length self.now.configured) }
     {
-        let iface = self.configured.subnet_of(address)?;
-        if !self.is_up(iface) {
-            return None;
+        for number in 0..self.count() {
+            let iface = IfaceId { number };
+            if self.is_on_link(iface, address) {
+                return Some(iface);
+            }
         }
-        Some(iface)
+        None
+    }
+
+    // Whether the interface is up and the address lies in its subnet.
+    #[tactic(auto, unfolding(pim_model::specs::Unicast::is_on_link_among))]
+    fn is_on_link(&self, iface: IfaceId, address: Addr) -> bool
+        ensures { result ≡ is_on_link_among self.now.configured self.now.rows address.bits iface.number }
+    {
+        match self.config(iface) {
+            Some(interface) => subnet(interface).contains(address) && self.is_up(iface),
+            None => false,
+        }
     }
 
     /// On which interface the Hello timer ends first, and when, in ms: the least end by its moment and its key.
@@ -198,4 +218,16 @@ impl Interfaces {
         };
         self.rows.change(key, paid)
     }
+}
+
+// The same, held in place.
+fn held(configured: &[InterfaceConfig]) -> ArrayVec<InterfaceConfig, MOST_INTERFACES>
+    requires { length configured.now ≤ MOST_INTERFACES }
+    ensures { result.items ≡ configured.now }
+{
+    let mut held = ArrayVec::new();
+    for interface in configured {
+        held.push(*interface);
+    }
+    held
 }

@@ -7,3 +7,8 @@ abbrev pub is_tested_in_memory : EventKind → Bool
 is_tested_in_memory (EventKind.Routes routes) = true
 is_tested_in_memory (EventKind.Rps rps) = true
 is_tested_in_memory kind = false
+
+-- a packet that came on a link
+abbrev pub is_frame : EventKind → Bool
+is_frame (EventKind.Frame i bytes) = true
+is_frame kind = false

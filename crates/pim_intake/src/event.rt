@@ -1,7 +1,7 @@
 //! Events of each kind.
-ghost use Rattle.std.specs.Prelude.{◌≡◌, IfErr, IfOk, IsOk, false};
+ghost use Rattle.std.specs.Prelude.{◌≡◌, IfErr, IfOk, IsOk, false, true};
 ghost use Rattle.pim_ip.specs.declared.fault.Fault.{Fault};
-ghost use Rattle.pim_intake.specs.Memory.{is_tested_in_memory};
+ghost use Rattle.pim_intake.specs.Memory.{is_frame, is_tested_in_memory};
 ghost use Rattle.pim_model.specs.Judging.{advance_judged, down_judged, judged, routes_judged, rps_judged, up_judged};
 
 use crate::frame::judge_frame;
@@ -90,7 +90,7 @@ fn judge_rps<'a>(alloc: Global, ranges: &'a [RpRange]) -> Result<Result<Accepted
 }
 
 /// Judges an event: what the router is to act on, or the first test that fails. Only routes and RP ranges are
-/// tested in memory. Look-ups of RPs raise the meter.
+/// tested in memory. Look-ups of RPs raise the meter; for a packet that came on a link nothing is looked up.
 #[tactic(auto, unfolding(pim_model::specs::Judging::judged))]
 pub fn judge<'a>(
     alloc: Global,
@@ -101,6 +101,7 @@ pub fn judge<'a>(
     ensures value { IfOk result (λ judgement. judgement ≡ judged world.now event.now.kind) }
     ensures memory { IfErr result (λ fault. fault ≡ Fault.Memory) }
     ensures sure { is_tested_in_memory event.now.kind ≡ false → IsOk result }
+    ensures uncounted { is_frame event.now.kind ≡ true → meter.new ≡ meter.old }
 {
     match &event.kind {
         EventKind::Advance { moment } => Ok(judge_advance(world, *moment)),

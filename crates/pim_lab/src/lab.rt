@@ -4,14 +4,14 @@ ghost use Rattle.pim_net.specs.Showing.{node_of};
 ghost use Rattle.pim_lab.specs.Statuses.{IsFault, IsTroubleOf, router_node, routers_test};
 
 use crate::frames::Frames;
+use crate::lines::Lines;
 use crate::station::Station;
 use crate::table::RowLine;
 use crate::trouble::Trouble;
-use pim_net::{Move as Step, Net, Node, Router, Wire};
-use pim_scenario::{Move, RouterText};
+use pim_net::{Move, Net, Node, Router, Wire};
+use pim_scenario::{RouterText, ScenarioMove};
 use pim_types::{Emission, Fault, Outcome, Series, Table};
 use std::alloc::{AllocError, Global};
-use std::io::Write;
 
 /// How many deliveries one settle makes at most.
 const SETTLE_LIMIT: usize = 10_000;
@@ -54,71 +54,71 @@ impl<W: Wire> Lab<W> {
     }
 
     /// Does a move, and prints what comes of it.
-    pub(crate) fn make<O: Write>(
+    pub(crate) fn make(
         &mut self,
         number: usize,
-        step: Move,
-        out: &mut O,
+        step: ScenarioMove,
+        lines: &mut Lines,
     ) -> Result<(), Trouble>
         ensures { IfErr result (λ t. IsFault t) }
     {
         match step {
-            Move::Event { router, event } => {
-                self.step(number, router, Step::Event { router, event }, out)
+            ScenarioMove::Event { router, event } => {
+                self.step(number, router, Move::Event { router, event }, lines)
             }
-            Move::Deliver {
+            ScenarioMove::Deliver {
                 router,
                 iface,
                 frame,
                 draw,
             } => {
-                let step = Step::Deliver {
+                let step = Move::Deliver {
                     router,
                     iface,
                     frame,
                     draw,
                 };
-                self.step(number, router, step, out)
+                self.step(number, router, step, lines)
             }
-            Move::Carry {
+            ScenarioMove::Carry {
                 router,
                 frame,
                 draw,
             } => {
-                let step = Step::DeliverUnicast {
+                let step = Move::DeliverUnicast {
                     router,
                     frame,
                     draw,
                 };
-                self.step(number, router, step, out)
+                self.step(number, router, step, lines)
             }
-            Move::Settle { draw } => self.settle(number, draw, out),
+            ScenarioMove::Settle { draw } => self.settle(number, draw, lines),
         }
     }
 
     // One move of the network, which concerns this router.
-    fn step<O: Write>(
+    fn step(
         &mut self,
         number: usize,
         router: usize,
-        step: Step,
-        out: &mut O,
+        step: Move,
+        lines: &mut Lines,
     ) -> Result<(), Trouble>
         ensures { IfErr result (λ t. IsFault t) }
     {
         for outcome in self.net.run(&[step])? {
-            self.print(number, router, outcome, out)?;
+            self.print(number, router, outcome, lines)?;
         }
         Ok(())
     }
 
     // What became of a move, and the packets that left.
-    fn print<O: Write>(
+    fn print(
         &mut self,
         number: usize,
         router: usize,
         outcome: Outcome,
-        out: &mut O,
+        lines: &mut Lines,
     ) -> Result<(), Trouble>
         ensures { IfErr result (λ t. IsFault t) }
     {
@@ -126,60 +126,60 @@ impl<W: Wire> Lab<W> {
         let Some(station) = self.stations.get(router) else {
             return Err(Trouble::Fault(Fault::Failed));
         };
-        out.writeln(station.move_line(number, outcome.answer))?;
+        lines.push(station.move_line(number, outcome.answer))?;
         let emissions = outcome.emissions.as_slice();
         let first = first_copy(emissions, outcome.copies);
         for (place, emission) in emissions.iter().enumerate() {
             let frame = self.frames.send(router, emission)?;
-            out.writeln(station.packet_line(frame, emission, place >= first))?;
+            lines.push(station.packet_line(frame, emission, place >= first))?;
         }
         Ok(())
     }
 
     // Delivers the frames that no settle has taken, and those that are sent meanwhile. What is left of a frame
     // when the deliveries come to their limit isn't delivered.
-    fn settle<O: Write>(&mut self, number: usize, draw: u32, out: &mut O) -> Result<(), Trouble>
+    fn settle(&mut self, number: usize, draw: u32, lines: &mut Lines) -> Result<(), Trouble>
         ensures { IfErr result (λ t. IsFault t) }
     {
         for _ in 0..SETTLE_LIMIT {
             let Some(delivery) = self.frames.next(self.alloc, &self.stations)? else {
                 break;
             };
-            self.step(number, delivery.router, delivery.with_draw(draw), out)?;
+            self.step(number, delivery.router, delivery.with_draw(draw), lines)?;
         }
         self.frames.end_settle();
         Ok(())
     }
 
     /// Prints the tables of all routers.
-    pub(crate) fn print_tables<O: Write>(&self, out: &mut O) -> Result<(), Trouble>
+    pub(crate) fn print_tables(&self, lines: &mut Lines) -> Result<(), Trouble>
         ensures { IfErr result (λ t. IsFault t) }
     {
         for (place, station) in self.stations.iter().enumerate() {
             let name = station.name();
-            out.writeln(format_args!("router {name}"))?;
+            lines.push(format_args!("router {name}"))?;
             if let Some(router) = self.net.router(place) {
-                print_router(router, out)?;
+                print_router(router, lines)?;
             }
         }
         Ok(())
     }
 }
 
-fn print_router<O: Write>(router: &Router, out: &mut O) -> Result<(), Trouble>
+fn print_router(router: &Router, lines: &mut Lines) -> Result<(), Trouble>
     ensures { IfErr result (λ t. IsFault t) }
 {
     for table in TABLES {
-        print_table(router, table, out)?;
+        print_table(router, table, lines)?;
     }
     Ok(())
 }
 
-fn print_table<O: Write>(router: &Router, table: Table, out: &mut O) -> Result<(), Trouble>
+fn print_table(router: &Router, table: Table, lines: &mut Lines) -> Result<(), Trouble>
     ensures { IfErr result (λ t. IsFault t) }
 {
     for row in router.rows(table)? {
-        out.writeln(RowLine { row })?;
+        lines.push(RowLine { row })?;
     }
     Ok(())
 }

@@ -4,6 +4,7 @@
 mod frames;
 mod lab;
 mod line;
+mod lines;
 pub mod playing;
 mod station;
 mod table;

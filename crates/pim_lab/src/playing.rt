@@ -9,9 +9,10 @@ ghost use Rattle.pim_scenario.specs.Scenario.{IsReadFrom};
 ghost use Rattle.pim_scenario.specs.declared.complaint.Complaint.{Complaint};
 
 use crate::lab::Lab;
+use crate::lines::Lines;
 use crate::trouble::Trouble;
 use pim_net::{MemoryWire, Wire};
-use pim_scenario::{Move, Scenario, fault, read_scenario};
+use pim_scenario::{Scenario, ScenarioMove, fault, read_scenario};
 use pim_types::{Fault, Series};
 use std::alloc::Global;
 use std::io::{self, Write};
@@ -40,7 +41,7 @@ pub fn play<W: Wire, O: Write, E: Write>(
         Ok(opened) => opened,
         Err(trouble) => return trouble.tell(err),
     };
-    match run(lab, moves, tables, out) {
+    match run(alloc, lab, moves, tables, out) {
         Ok(()) => 0,
         Err(trouble) => trouble.tell(err),
     }
@@ -87,7 +88,7 @@ fn check(alloc: Global, text: &str) -> Result<(), Trouble>
 #[derive(Drop)]
 struct Opened<W> {
     lab: Lab<W>,
-    moves: Series<Move>,
+    moves: Series<ScenarioMove>,
 }
 
 fn open_scenario<W: Wire>(alloc: Global, text: &str, wire: W) -> Result<Opened<W>, Trouble>
@@ -108,43 +109,60 @@ fn read(alloc: Global, text: &str) -> Result<Scenario, Trouble>
 
 // The moves, one after the other, and the tables. What can fail has the lab lent, so it is dropped in one place.
 fn run<W: Wire, O: Write>(
+    alloc: Global,
     lab: Lab<W>,
-    moves: Series<Move>,
+    moves: Series<ScenarioMove>,
     tables: bool,
     out: &mut O,
 ) -> Result<(), Trouble>
     ensures { IfErr result (λ t. IsFault t) }
 {
     let mut lab = lab;
-    make_moves(&mut lab, moves, tables, out)
+    let mut lines = Lines::new(alloc);
+    make_moves(&mut lab, moves, &mut lines, out)?;
+    if tables {
+        print_tables(&lab, &mut lines, out)?;
+    }
+    Ok(())
 }
 
 fn make_moves<W: Wire, O: Write>(
     lab: &mut Lab<W>,
-    moves: Series<Move>,
-    tables: bool,
+    moves: Series<ScenarioMove>,
+    lines: &mut Lines,
     out: &mut O,
 ) -> Result<(), Trouble>
     ensures { IfErr result (λ t. IsFault t) }
 {
     for (place, step) in moves.into_vec().into_iter().enumerate() {
-        make_move(lab, place.saturating_add(1), step, out)?;
+        make_move(lab, place.saturating_add(1), step, lines, out)?;
     }
-    if tables {
-        lab.print_tables(out)?;
-    }
-    Ok(out.flush()?)
+    Ok(())
 }
 
-// The lines of a move are out before the next one begins.
+// The lines of a move are out before the next one begins, and before what ended it early is told.
 fn make_move<W: Wire, O: Write>(
     lab: &mut Lab<W>,
     number: usize,
-    step: Move,
+    step: ScenarioMove,
+    lines: &mut Lines,
     out: &mut O,
 ) -> Result<(), Trouble>
     ensures { IfErr result (λ t. IsFault t) }
 {
-    lab.make(number, step, out)?;
-    Ok(out.flush()?)
+    let made = lab.make(number, step, lines);
+    lines.write_to(out)?;
+    made
+}
+
+fn print_tables<W: Wire, O: Write>(
+    lab: &Lab<W>,
+    lines: &mut Lines,
+    out: &mut O,
+) -> Result<(), Trouble>
+    ensures { IfErr result (λ t. IsFault t) }
+{
+    let printed = lab.print_tables(lines);
+    lines.write_to(out)?;
+    printed
 }

@@ -1,5 +1,6 @@
 mod Asserted
 mod ConfiguredMembers
+mod Counted
 mod Emptiness
 mod NextInterface
 mod OtherRp

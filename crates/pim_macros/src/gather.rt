@@ -1,6 +1,6 @@
 //! Sights, gathered of the state as it is.
 ghost use Rattle.std.specs.Option.{option_map_or};
-ghost use Rattle.std.specs.Prelude.{◌≡◌, ℕ, false, option_map};
+ghost use Rattle.std.specs.Prelude.{◌≡◌, ◌≤◌, ◌+◌, ℕ, false, option_map};
 ghost use Rattle.pim_ifset.specs.Members.{has};
 ghost use Rattle.pim_macros.specs.Sights.{IsSourceSight, IsStarSight};
 ghost use Rattle.pim_model.specs.Desires.{winner_hop};
@@ -14,7 +14,9 @@ ghost use Rattle.pim_model.specs.Tables.{has_row, row_at};
 ghost use Rattle.pim_model.specs.Unicast.{route};
 ghost use Rattle.pim_types.specs.Keys.{source_key};
 ghost use Rattle.pim_types.specs.declared.path.Path.{Path as PathValue};
+ghost use Rattle.pim_trie.specs.Meter.{raised};
 ghost use Rattle.pim_world.specs.Shown.{Shows};
+ghost use Rattle.pim_world.specs.Visits.{group_record_nodes, source_nodes, source_record_nodes, star_nodes};
 
 use crate::asserts::{is_better, route_metric};
 use crate::interfaces::interfaces_where;
@@ -51,7 +53,8 @@ fn nbr(world: &World, path: Option<Path>) -> Option<Hop>
 
 // local_receiver_include(*,G).
 fn receivers(world: &World, group: Addr, meter: &mut Meter) -> IfSet
-    ensures { Shows result (is_exclude world.now group.bits) }
+    ensures shows { Shows result (is_exclude world.now group.bits) }
+    ensures at_least { raised meter.old (group_record_nodes world.now group) ≤ meter.new }
 {
     world
         .membership()
@@ -61,7 +64,9 @@ fn receivers(world: &World, group: Addr, meter: &mut Meter) -> IfSet
 
 // local_receiver_include(S,G).
 fn included(world: &World, group: Addr, source: Addr, meter: &mut Meter) -> IfSet
-    ensures { Shows result (local_receiver_include world.now group.bits source.bits) }
+    ensures shows { Shows result (local_receiver_include world.now group.bits source.bits) }
+    ensures at_least { raised meter.old
+        (group_record_nodes world.now group + source_record_nodes world.now group source) ≤ meter.new }
 {
     world
         .membership()
@@ -71,7 +76,9 @@ fn included(world: &World, group: Addr, source: Addr, meter: &mut Meter) -> IfSe
 
 // local_receiver_exclude(S,G).
 fn excluded(world: &World, group: Addr, source: Addr, meter: &mut Meter) -> IfSet
-    ensures { Shows result (local_receiver_exclude world.now group.bits source.bits) }
+    ensures shows { Shows result (local_receiver_exclude world.now group.bits source.bits) }
+    ensures at_least { raised meter.old
+        (group_record_nodes world.now group + source_record_nodes world.now group source) ≤ meter.new }
 {
     world
         .membership()
@@ -123,13 +130,15 @@ fn is_dr_of_path(world: &World, path: Option<Path>) -> bool
 }
 
 impl StarSight {
-    /// What the macros of (*,G) read now. The meter rises by the nodes that the look-ups visit.
+    /// What the macros of (*,G) read now. The meter rises by the nodes that the look-ups visit, at least those that lead
+    /// to the RP, to its route and to the facts of the group.
     pub fn of(world: &World, group: Addr, meter: &mut Meter) -> StarSight
         ensures sight { IsStarSight world.now result }
         ensures group { result.group ≡ group }
+        ensures at_least { raised meter.old (star_nodes world.now group) ≤ meter.new }
     {
         // It tells that preferences have 31 bits.
-        world.are_preferences_short();
+        world.recall_short_preferences();
         let rp = world.rp(group, meter);
         let rp_path = world.rp_route(group, rp, meter);
         let marks = world.store().marks(group, None, meter);
@@ -152,16 +161,17 @@ impl StarSight {
 
 impl SourceSight {
     /// What the macros of (S,G) and of (S,G,rpt) read now, beside those of (*,G). The meter rises by the nodes that the
-    /// look-ups visit.
+    /// look-ups visit, at least those that lead to the route and to the facts of the source.
     #[tactic(auto, unfolding(pim_model::specs::Sets::spt_bit, pim_model::specs::Sets::is_kept_alive, pim_model::specs::Sets::tunnel))]
     pub fn of(world: &World, star: StarSight, source: Addr, meter: &mut Meter) -> SourceSight
         requires { IsStarSight world.now star }
         ensures sight { IsSourceSight world.now result }
         ensures star { result.star ≡ star }
         ensures source { result.source ≡ source }
+        ensures at_least { raised meter.old (source_nodes world.now star.group source) ≤ meter.new }
     {
         // It tells that preferences have 31 bits.
-        world.are_preferences_short();
+        world.recall_short_preferences();
         let group = star.group;
         let key = Key::source(IfaceId::NONE, group, source);
         let path = world.route(source, meter);
@@ -199,6 +209,8 @@ impl SourceSight {
         ensures sight { IsSourceSight world.now result }
         ensures group { result.star.group ≡ self.now.star.group }
         ensures source { result.source ≡ self.now.source }
+        ensures at_least { raised meter.old (star_nodes world.now self.now.star.group
+            + source_nodes world.now self.now.star.group self.now.source) ≤ meter.new }
     {
         let star = StarSight::of(world, self.star.group, meter);
         SourceSight::of(world, star, self.source, meter)

@@ -1,7 +1,7 @@
 //! Rows of the forwarding cache: all that is asked of a source of a group when its data comes (RFC 7761, section 4.2),
 //! evaluated of one sight.
 ghost use Rattle.std.specs.Option.{option_map_or};
-ghost use Rattle.std.specs.Prelude.{◌≡◌, ◌&&◌, Some, false, nat_lt, not, true, ℕ};
+ghost use Rattle.std.specs.Prelude.{◌≡◌, ◌≤◌, ◌+◌, ◌&&◌, Some, false, nat_lt, not, true, ℕ};
 ghost use Rattle.pim_macros.specs.Rows.{ShowsAnswers, number_of};
 ghost use Rattle.pim_macros.specs.Sights.{InSource, InStar, IsSourceSight};
 ghost use Rattle.pim_model.specs.AssertMacros.{could_assert, could_assert_star};
@@ -14,6 +14,7 @@ ghost use Rattle.pim_model.specs.Tables.{has_row};
 ghost use Rattle.pim_model.specs.Unicast.{rpf_interface, rpf_interface_rp};
 ghost use Rattle.pim_trie.specs.Meter.{raised};
 ghost use Rattle.pim_world.specs.Shown.{Shows};
+ghost use Rattle.pim_world.specs.Visits.{source_nodes, star_nodes};
 ghost use Rattle.pim_types.specs.Keys.{source_key, star_key};
 
 use crate::sight::{SourceSight, StarSight};
@@ -234,6 +235,7 @@ pub fn row(world: &World, group: Addr, source: Addr, meter: &mut Meter, evaluate
     ensures source { result.source ≡ source }
     ensures answers { ShowsAnswers result.answers (answers world.now group.bits source.bits) }
     ensures counted { evaluated.new ≡ raised evaluated.old 1 }
+    ensures at_least { raised meter.old (star_nodes world.now group + source_nodes world.now group source) ≤ meter.new }
 {
     *evaluated = evaluated.saturating_add(1);
     let star = StarSight::of(world, group, meter);

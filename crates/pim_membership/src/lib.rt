@@ -2,8 +2,8 @@
 //! receivers there.
 #![tactic(auto)]
 
+mod index;
 mod listed;
-mod listing;
 pub mod membership;
 mod records;
 mod repeats;

@@ -44,7 +44,7 @@ pub struct Membership {
     sendings: Sendings,
 }
 
-// Called at each exit of an owner, where a derived drop would be spelled out and proved anew.
+// Written out, so that it is proved once (docs/PROOF_NOTES.md, Drops).
 impl Drop for Membership {
     fn drop(self) {
         let Membership {
@@ -107,13 +107,6 @@ impl Membership {
         ensures { result ≡ row_at self.now.queriers key }
     {
         self.queriers.get(key)
-    }
-
-    /// The queriers, by rising key.
-    pub fn querier_rows(&self) -> Iter<'_, Key, QuerierRow>
-        ensures { result ≡ self.now.queriers }
-    {
-        self.queriers.iter()
     }
 
     /// Gives the interface this querier; its robustness variable has 3 bits. An error is want of memory.
@@ -240,8 +233,8 @@ impl Membership {
         ensures rising { IsStrictlySortedBy nat_cmp (map (λ e. source_in e.0) result) }
     {
         // They tell how the keys are made, and that they rise.
-        self.source_records.are_of_kind();
-        self.source_records.are_rising();
+        self.source_records.recall_kind();
+        self.source_records.recall_rising();
         self.source_records.rows_at(iface, group)
     }
 
@@ -272,10 +265,10 @@ impl Membership {
     }
 
     /// Source records are under keys that rise.
-    pub fn source_records_rise(&self)
+    pub fn recall_rising_source_records(&self)
         ensures { IsStrictlySortedBy key_cmp (keys_in self.now.source_records) }
     {
-        self.source_records.are_rising();
+        self.source_records.recall_rising();
     }
 
     /// Takes the source records of the group on the interface away.
@@ -285,13 +278,6 @@ impl Membership {
         } }
     {
         self.source_records.drop_group(iface, group);
-    }
-
-    /// The repeats of the group's query on the interface that are still to leave.
-    pub fn group_repeat(&self, iface: IfaceId, group: Addr) -> Option<GroupRepeatRow>
-        ensures { result ≡ row_at self.now.group_repeats (star_key iface.number group.bits) }
-    {
-        self.group_repeats.get(Key::star(iface, group))
     }
 
     /// The repeats of a group's query that are still to leave, under the key.
@@ -346,13 +332,6 @@ impl Membership {
         self.group_repeats.change(iface, group, row)
     }
 
-    /// When the group's sources on the interface are queried again.
-    pub fn source_repeat(&self, iface: IfaceId, group: Addr) -> Option<SourceRepeatRow>
-        ensures { result ≡ row_at self.now.source_repeats (star_key iface.number group.bits) }
-    {
-        self.source_repeats.get(Key::star(iface, group))
-    }
-
     /// The repeats of queries of sources, by rising key.
     pub fn source_repeat_rows(&self) -> Iter<'_, Key, SourceRepeatRow>
         ensures { result ≡ self.now.source_repeats }
@@ -398,13 +377,6 @@ impl Membership {
         self.source_repeats.change(iface, group, row)
     }
 
-    /// How often the source of the group is still to be named in a query on the interface.
-    pub fn sending(&self, iface: IfaceId, group: Addr, source: Addr) -> Option<SendingRow>
-        ensures { result ≡ row_at self.now.sendings (source_key iface.number group.bits source.bits) }
-    {
-        self.sendings.get(Key::source(iface, group, source))
-    }
-
     /// The sendings, by rising key.
     pub fn sending_rows(&self) -> Iter<'_, Key, SendingRow>
         ensures { result ≡ self.now.sendings }
@@ -442,10 +414,10 @@ impl Membership {
     }
 
     /// Sendings are under keys that rise.
-    pub fn sendings_rise(&self)
+    pub fn recall_rising_sendings(&self)
         ensures { IsStrictlySortedBy key_cmp (keys_in self.now.sendings) }
     {
-        self.sendings.are_rising();
+        self.sendings.recall_rising();
     }
 
     /// Takes all facts of the interface away.
@@ -488,7 +460,7 @@ impl Membership {
         ensures { IfOk result (λ found. map (λ e. (e.0).bits) found.entries ≡ sources_of group.bits (membership_keys self.now)) }
     {
         // It tells that no other fact is of a source.
-        self.are_keyed();
+        self.recall_keyed();
         let mut found = BTreeMap::new(alloc);
         self.source_records.gather_sources(group, &mut found)?;
         self.sendings.gather_sources(group, &mut found)?;
@@ -498,14 +470,14 @@ impl Membership {
     }
 
     // No fact but source records and sendings is of a source.
-    fn are_keyed(&self)
+    fn recall_keyed(&self)
         ensures records { NameNone self.now.group_records }
         ensures group_repeats { NameNone self.now.group_repeats }
         ensures source_repeats { NameNone self.now.source_repeats }
     {
-        self.group_records.are_of_kind();
-        self.group_repeats.name_none();
-        self.source_repeats.name_none();
+        self.group_records.recall_kind();
+        self.group_repeats.recall_no_source();
+        self.source_repeats.recall_no_source();
     }
 
     /// Whether there is any fact of the source of the group. The meter rises by the nodes that are
@@ -516,7 +488,7 @@ impl Membership {
         ensures at_most { meter.new ≤ meter.old + 66 }
     {
         // It tells that no other fact is of a source.
-        self.are_keyed();
+        self.recall_keyed();
         self.source_records.has_source(group, source, meter)
             || self.sendings.has_source(group, source)
     }

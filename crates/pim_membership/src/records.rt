@@ -15,8 +15,8 @@ ghost use Rattle.pim_source_trie.specs.Entries.{nodes_visited, raised};
 ghost use Rattle.pim_membership.specs.Sources.{Gathers};
 ghost use Rattle.pim_membership.specs.Listing.{IsListed, Lists, is_record_key, record_key};
 
+use crate::index::Index;
 use crate::listed::Listed;
-use crate::listing::Listing;
 use pim_ip::Addr;
 use pim_source_trie::Meter;
 use pim_tables::{Ends, RowsOf, Timed, Wheel};
@@ -63,16 +63,13 @@ impl Record for SourceRecordRow {
 // The records of one kind.
 pub(crate) struct Records<R: Record> {
     rows: Timed<R, Wheel>,
-    listing: Listing,
+    index: Index,
 }
 
-// Called at each exit of an owner, where a derived drop would be spelled out and proved anew.
+// Written out, so that it is proved once (docs/PROOF_NOTES.md, Drops).
 impl<R: Record> Drop for Records<R> {
     fn drop(self) {
-        let Records {
-            rows: _,
-            listing: _,
-        } = self;
+        let Records { rows: _, index: _ } = self;
     }
 }
 
@@ -86,7 +83,7 @@ impl<R: Record> Model for Records<R> {
 
     ghost view = { λ a. a.rows };
 
-    ghost invariant = { λ a. IsListed R.runs R.of_sources a.listing a.rows };
+    ghost invariant = { λ a. IsListed R.runs R.of_sources a.index a.rows };
 }
 
 impl<R: Record> Records<R> {
@@ -96,7 +93,7 @@ impl<R: Record> Records<R> {
     {
         Ok(Records {
             rows: Timed::new(alloc, Wheel::new(alloc)?),
-            listing: Listing::new(alloc),
+            index: Index::new(alloc),
         })
     }
 
@@ -108,18 +105,18 @@ impl<R: Record> Records<R> {
     }
 
     // They are under keys that rise.
-    pub(crate) fn are_rising(&self)
+    pub(crate) fn recall_rising(&self)
         ensures { IsStrictlySortedBy key_cmp (keys_in self.now) }
     {
-        let _ = self.rows.len();
+        self.rows.recall_rising();
     }
 
     // Each is under a key of its kind, and of no (S,G,rpt).
-    pub(crate) fn are_of_kind(&self)
+    pub(crate) fn recall_kind(&self)
         ensures fit { AllByRecursion (λ e. is_record_key e.0 ≡ true) self.now }
         ensures kind { AllByRecursion (λ e. is_some (e.0).source ≡ R.of_sources) self.now }
     {
-        let _ = self.rows.len();
+        self.rows.recall_rising();
     }
 
     // The records, by rising key; each is of an interface below 120.
@@ -161,7 +158,7 @@ impl<R: Record> Records<R> {
         ensures at_most { meter.new ≤ meter.old + 66 }
         ensures star_at_most { source ≡ None → meter.new ≤ meter.old + 33 }
     {
-        self.listing.get(group, source, meter)
+        self.index.get(group, source, meter)
     }
 
     // Whether the source of the group has a record, on any interface.
@@ -171,8 +168,8 @@ impl<R: Record> Records<R> {
         ensures at_most { meter.new ≤ meter.old + 66 }
     {
         // These tell that the keys rise, and of which form they are.
-        self.are_rising();
-        self.are_of_kind();
+        self.recall_rising();
+        self.recall_kind();
         let listed = self.listed(group, Some(source), meter);
         !listed.there.without_tunnel().is_empty()
     }
@@ -187,10 +184,10 @@ impl<R: Record> Records<R> {
         ensures { OnOk result (Gathers found.old.entries found.new.entries group.bits self.now) }
     {
         // These tell that the keys rise, and of which form they are.
-        self.are_rising();
-        self.are_of_kind();
+        self.recall_rising();
+        self.recall_kind();
         let mut uncounted = Meter::new();
-        for (key, _) in self.listing.walk(group) {
+        for (key, _) in self.index.walk(group) {
             let Some(source) = key.source else {
                 continue;
             };
@@ -236,11 +233,11 @@ impl<R: Record> Records<R> {
         ensures { OnOk result (self.new ≡ put self.old (record_key iface.number group source) row) }
     {
         let key = record_key(iface, group, source);
-        relist(&self.rows, &mut self.listing, key, row)?;
+        relist(&self.rows, &mut self.index, key, row)?;
         if let Err(refused) = self.rows.put(key, row) {
             // The record that was there may be listed otherwise now: it goes.
             self.rows.remove(key);
-            self.listing.unlist(iface, group, source);
+            self.index.unlist(iface, group, source);
             return Err(refused);
         }
         Ok(())
@@ -251,7 +248,7 @@ impl<R: Record> Records<R> {
         ensures { self.new ≡ drop_at self.old (record_key iface.number group source) }
     {
         self.rows.remove(record_key(iface, group, source));
-        self.listing.unlist(iface, group, source);
+        self.index.unlist(iface, group, source);
     }
 
     // Changes the record, where there is one, to this one. An error is want of memory.
@@ -268,8 +265,8 @@ impl<R: Record> Records<R> {
             → IfSome (row_at self.old (record_key iface.number group source)) (λ before. change before ≡ Some row)
             → self.new ≡ change_row change (record_key iface.number group source) self.old) }
     {
-        // It tells that the keys rise: what is put under a key that is there stands in its place.
-        let _ = self.rows.len();
+        // What is put under a key that is there stands in its place.
+        self.rows.recall_rising();
         if self.rows.contains(record_key(iface, group, source)) {
             self.put(iface, group, source, row)?;
         }
@@ -280,8 +277,8 @@ impl<R: Record> Records<R> {
     pub(crate) fn change_at(&mut self, key: Key, row: R) -> Result<(), AllocError>
         ensures { OnOk result (self.new ≡ change_row (λ _. Some row) key self.old) }
     {
-        // It tells that the keys rise: what is put under a key that is there stands in its place.
-        let _ = self.rows.len();
+        // What is put under a key that is there stands in its place.
+        self.rows.recall_rising();
         if self.rows.contains(key) {
             self.put(key.iface, key.group, key.source, row)?;
         }
@@ -341,14 +338,14 @@ fn record_key(iface: IfaceId, group: Addr, source: Option<Addr>) -> Key
 // memory, and then nothing has changed.
 fn relist<R: Record>(
     rows: &Timed<R, Wheel>,
-    listing: &mut Listing,
+    index: &mut Index,
     key: Key,
     row: R,
 ) -> Result<(), AllocError>
     requires near { IsTrue (is_record_key key) }
-    requires listed { IsListed R.runs R.of_sources listing.old rows.now }
-    ensures ok { OnOk result (Lists listing.old listing.new key (Some (R.runs row))) }
-    ensures err { OnErr result (listing.new ≡ listing.old) }
+    requires listed { IsListed R.runs R.of_sources index.old rows.now }
+    ensures ok { OnOk result (Lists index.old index.new key (Some (R.runs row))) }
+    ensures err { OnErr result (index.new ≡ index.old) }
 {
     let is_running = row.is_running();
     if let Some(before) = rows.get(key) {
@@ -356,5 +353,5 @@ fn relist<R: Record>(
             return Ok(());
         }
     }
-    listing.list(key.iface, key.group, key.source, is_running)
+    index.list(key.iface, key.group, key.source, is_running)
 }

@@ -19,7 +19,7 @@ pub(crate) struct Repeats<R: Ends> {
     rows: Timed<R, Wheel>,
 }
 
-// Called at each exit of an owner, where a derived drop would be spelled out and proved anew.
+// Written out, so that it is proved once (docs/PROOF_NOTES.md, Drops).
 impl<R: Ends> Drop for Repeats<R> {
     fn drop(self) {
         let Repeats { rows: _ } = self;
@@ -48,7 +48,7 @@ impl<R: Ends> Repeats<R> {
     }
 
     // They name no source.
-    pub(crate) fn name_none(&self)
+    pub(crate) fn recall_no_source(&self)
         ensures { NameNone self.now }
     {
         let _ = &self.rows;

@@ -3,7 +3,7 @@ ghost use Rattle.std.specs.List.{list_any};
 ghost use Rattle.std.specs.List.Sorted.{IsStrictlySortedBy};
 ghost use Rattle.std.specs.Prelude.{◌≡◌, [], OnOk, filter};
 ghost use Rattle.pim_model.specs.Records.{is_at_group};
-ghost use Rattle.pim_model.specs.Tables.{change_row, drop_where, keys_in, row_at, set_row};
+ghost use Rattle.pim_model.specs.Tables.{change_row, drop_where, keys_in, set_row};
 ghost use Rattle.pim_types.specs.Keys.{is_on, key_cmp, names_source, source_key};
 ghost use Rattle.pim_membership.specs.Sources.{Gathers};
 
@@ -22,7 +22,7 @@ pub(crate) struct Sendings {
     rows: Facts<SendingRow>,
 }
 
-// Called at each exit of an owner, where a derived drop would be spelled out and proved anew.
+// Written out, so that it is proved once (docs/PROOF_NOTES.md, Drops).
 impl Drop for Sendings {
     fn drop(self) {
         let Sendings { rows: _ } = self;
@@ -52,17 +52,10 @@ impl Sendings {
     }
 
     // They are under keys that rise.
-    pub(crate) fn are_rising(&self)
+    pub(crate) fn recall_rising(&self)
         ensures { IsStrictlySortedBy key_cmp (keys_in self.now) }
     {
-        let _ = self.rows.len();
-    }
-
-    // The sending under the key.
-    pub(crate) fn get(&self, key: Key) -> Option<SendingRow>
-        ensures { result ≡ row_at self.now key }
-    {
-        self.rows.get(key)
+        self.rows.recall_rising();
     }
 
     // The sendings, by rising key.
@@ -84,7 +77,7 @@ impl Sendings {
         ensures { result ≡ list_any (names_source group.bits source.bits) (keys_in self.now) }
     {
         // It tells that the keys rise.
-        self.are_rising();
+        self.recall_rising();
         for number in 0..above_interfaces(self.rows.iter()) {
             let iface = IfaceId {
                 number: number as u32,
@@ -106,7 +99,7 @@ impl Sendings {
         ensures { OnOk result (Gathers found.old.entries found.new.entries group.bits self.now) }
     {
         // It tells that the keys rise.
-        self.are_rising();
+        self.recall_rising();
         for number in 0..above_interfaces(self.rows.iter()) {
             let iface = IfaceId {
                 number: number as u32,

@@ -22,7 +22,7 @@ pub struct Mfc {
     changes: u64,
 }
 
-// Called at each exit of an owner, where a derived drop would be spelled out and proved anew.
+// Written out, so that it is proved once (docs/PROOF_NOTES.md, Drops).
 impl Drop for Mfc {
     fn drop(self) {
         let Mfc {

@@ -40,7 +40,7 @@ pub struct Mrib {
     ranges: PrefixList<RpRange>,
 }
 
-// Called at each exit of an owner, where a derived drop would be spelled out and proved anew.
+// Written out, so that it is proved once (docs/PROOF_NOTES.md, Drops).
 impl Drop for Mrib {
     fn drop(self) {
         let Mrib {
@@ -160,7 +160,7 @@ impl Mrib {
     }
 
     /// The preference of every route has 31 bits, whichever interfaces are up.
-    pub fn are_preferences_short(&self)
+    pub fn recall_short_preferences(&self)
         ensures { (configured : List InterfaceConfig) (up : Table InterfaceRow) (address : ℕ)
             → IfSome (route_among configured up self.now.routes address) (λ path. path.preference < 2 ^ 31) }
     {

@@ -29,7 +29,7 @@ pub(crate) struct PrefixList<T: Prefixed> {
     index: Trie<T>,
 }
 
-// Called at each exit of an owner, where a derived drop would be spelled out and proved anew.
+// Written out, so that it is proved once (docs/PROOF_NOTES.md, Drops).
 impl<T: Prefixed + Drop> Drop for PrefixList<T> {
     fn drop(self) {
         let PrefixList {

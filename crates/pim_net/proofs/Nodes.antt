@@ -29,11 +29,6 @@ pub record Opens (all : List Node) (made : List (Option Station)) (ports : List 
   pub ports_are : ports ++ ports_from port rest ≡ first_ports all
   pub port_is : port ≤ 121 * length made
 
-pub opens_none : (all : List Node) → list_all is_node (map node_of all) ≡ true → length all ≤ most_routers
-    → Opens all [] [] all 0
-opens_none all links few =
-    record { links = links; few = omega (arith, few); tests = refl; made_is = refl; ports_are = refl; port_is = omega arith }
-
 both_true : (a b : Bool) → (a && b) ≡ true → (a ≡ true) × (b ≡ true)
 both_true true b e = (refl, e)
 both_true false b e = cc e
@@ -45,9 +40,6 @@ module _ (all rest : List Node) (made : List (Option Station)) (ports : List ℕ
 
   pub port_stays : config_test n.config ≡ Ok tt → port + (length n.links + 1) ≤ 121 * (length made + 1)
   port_stays ok = omega (arith, few_interfaces n.config ok, first_linked, opens.port_is)
-
-  pub port_fits : config_test n.config ≡ Ok tt → port + (length n.links + 1) < 65536
-  port_fits ok = omega (arith, port_stays ok, opens.few)
 
   pub opens_next : (more : List (Option Station)) (with_port : List ℕ) (next : ℕ) → config_test n.config ≡ Ok tt
       → more ≡ made ++ opened n ∷ [] → with_port ≡ ports ++ port ∷ [] → next ≡ port + (length n.links + 1)
@@ -108,12 +100,6 @@ unlawful nodes is = lawful_is nodes ∙ ap (λ b. expect b Refusal.BadScenario >
 pub then_configs : (nodes : List Node) → lawful nodes ≡ true
     → nodes_test (map node_of nodes) ≡ configs_test (configs_of nodes)
 then_configs nodes is = lawful_is nodes ∙ ap (λ b. expect b Refusal.BadScenario >> configs_test (configs_of nodes)) is
-
-pub lawful_few : (nodes : List Node) → lawful nodes ≡ true → length nodes ≤ most_routers
-lawful_few nodes is = grind (arith, nat_tests, (both_true (nat_le (length nodes) most_routers) _ is).0)
-
-pub lawful_links : (nodes : List Node) → lawful nodes ≡ true → list_all is_node (map node_of nodes) ≡ true
-lawful_links nodes is = (both_true (nat_le (length nodes) most_routers) _ is).1
 
 -- the stations of the nodes, and no frames, show their network
 pub network_shown : (nodes : List Node) (stations : List (Option Station)) (frames : List Sent)

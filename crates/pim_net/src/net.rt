@@ -116,8 +116,8 @@ impl<W: Wire> Net<W> {
 
     /// Router `n`, counted from 0. None for an unknown one, and once memory was refused to a run. No memory is taken.
     pub fn router(&self, n: usize) -> Option<&Router>
-        ensures some { IfSome result (λ router. (option_map (λ r. r.state) router.now ≡ state_of self.now.network n)
-            × IsSome router.now) }
+        ensures some { IfSome result (λ router. (option_map (λ r. r.state) router.now.standing ≡ state_of self.now.network n)
+            × IsSome router.now.standing) }
         ensures none { IfNone result (state_of self.now.network n ≡ None) }
     {
         if self.failed {

@@ -87,7 +87,7 @@ impl Network {
     /// A router, to be read.
     pub(crate) fn router(&self, n: usize) -> Option<&Router>
         ensures some { IfSome self.now (λ net. IfSome result (λ router.
-            (option_map (λ r. r.state) router.now ≡ state_of (Some net) n) × IsSome router.now)) }
+            (option_map (λ r. r.state) router.now.standing ≡ state_of (Some net) n) × IsSome router.now.standing)) }
         ensures none { IfSome self.now (λ net. IfNone result (state_of (Some net) n ≡ None)) }
     {
         match self.station(n) {

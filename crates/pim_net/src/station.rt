@@ -43,7 +43,7 @@ impl Model for Station {
 
     ghost Value = { Option StationValue };
 
-    ghost view = { λ s. option_map (λ (r : Standing). record { links = s.links; state = r.state }) s.router };
+    ghost view = { λ s. option_map (λ (r : Standing). record { links = s.links; state = r.state }) s.router.standing };
 
     ghost invariant = { λ s. length s.links ≤ most_ifaces };
 }
@@ -85,7 +85,7 @@ impl Station {
 
     /// The router, to be read.
     pub(crate) fn router(&self) -> &Router
-        ensures { option_map (λ r. r.state) result.now ≡ option_map (λ s. s.state) self.now }
+        ensures { option_map (λ r. r.state) result.now.standing ≡ option_map (λ s. s.state) self.now }
     {
         &self.router
     }

@@ -24,21 +24,39 @@ struct Bound {
 }
 
 impl Bound {
-    // A socket of the loopback interface, at a number that the system picks.
+    // A socket of the loopback interface, at a number that the system picks. It is connected to itself: what others send
+    // it from then on is dropped by the system.
     fn open<R: Net>(net: &R, port: u32) -> io::Result<Bound> {
         let socket = UdpSocket::bind(net, "127.0.0.1:0")?;
         socket.set_read_timeout(Some(Duration::from_secs(READ_TIMEOUT)))?;
         let address = socket.local_addr()?;
+        socket.connect(address)?;
         Ok(Bound {
             port,
             socket,
             address,
         })
     }
+
+    // Takes a packet that the socket sent. What others sent before it was connected is passed over: that is there
+    // already, so it costs no wait.
+    fn recv(&self, buffer: &mut [u8]) -> Result<usize, Fault>
+        ensures within { IfOk result (λ n. n ≤ length buffer.new) }
+        ensures wire { IfErr result (λ fault. fault ≡ Fault.Wire) }
+    {
+        for _ in 0..usize::MAX {
+            match self.socket.recv_from(buffer) {
+                Ok((taken, sender)) if sender == self.address => return Ok(taken),
+                Ok(_) => {}
+                Err(_) => return Err(Fault::Wire),
+            }
+        }
+        Err(Fault::Wire)
+    }
 }
 
-/// A wire of UDP sockets on the loopback interface, one a port, each bound when its port is first used. A packet is
-/// waited for one second.
+/// A wire of UDP sockets on the loopback interface, one a port, each bound when its port is first used. It takes what its
+/// own sockets sent and drops what others send them. A packet is waited for one second.
 #[derive(Drop)]
 pub struct UdpWire<R> {
     net: R,
@@ -65,6 +83,20 @@ impl<R: Net + Drop> UdpWire<R> {
             sockets: Vec::new(alloc),
             failures: 0,
         }
+    }
+
+    /// Where the socket of a port is, which is bound where it wasn't yet. A fault is `Memory`, or `Wire` where it can't be
+    /// bound.
+    pub fn address(&mut self, port: u32) -> Result<SocketAddr, Fault>
+        ensures { self.new ≡ self.old }
+    {
+        bind(&self.net, &mut self.sockets, port)?;
+        for bound in &self.sockets {
+            if bound.port == port {
+                return Ok(bound.address);
+            }
+        }
+        Err(Fault::Wire)
     }
 }
 
@@ -100,7 +132,7 @@ fn send_to(sockets: &[Bound], port: u32, bytes: &[u8]) -> Result<(), Fault>
 {
     for bound in sockets {
         if bound.port == port {
-            return match bound.socket.send_to(bytes, bound.address) {
+            return match bound.socket.send(bytes) {
                 Ok(sent) if sent == bytes.len() => Ok(()),
                 _ => Err(Fault::Wire),
             };
@@ -116,10 +148,7 @@ fn recv_from(sockets: &[Bound], port: u32, buffer: &mut [u8]) -> Result<usize, F
 {
     for bound in sockets {
         if bound.port == port {
-            return match bound.socket.recv_from(buffer) {
-                Ok(taken) => Ok(taken.0),
-                Err(_) => Err(Fault::Wire),
-            };
+            return bound.recv(buffer);
         }
     }
     Err(Fault::Wire)

@@ -1,14 +1,17 @@
 //! Plays stored scenarios: `pim_played NAME ..` plays NAME.toml, with tables where NAME.out has some, and says that it printed what
 //! NAME.out has, or what else it printed. Where a scenario ends in a complaint, NAME.err has the status on a line of its own and the
 //! complaint. After the word `--failing` names are played over wires that fail from one of their calls on, each in its turn; after
-//! `--udp` over sockets; after `--full` where no line can be written; after `--check` they are checked and not played. `--unread`
-//! and `--help` print what `pimlab` says of a file that can't be read to its end, and of a request for help.
+//! `--udp` over sockets; after `--crowded` over sockets to which a stranger sends too; after `--full` where no line can be written;
+//! after `--check` they are checked and not played. `--unread` and `--help` print what `pimlab` says of a file that can't be read to
+//! its end, and of a request for help.
 #![tactic(auto)]
 
+mod crowded;
 mod failing;
 mod faults;
 mod stored;
 
+use crowded::CrowdedWire;
 use failing::FailingWire;
 use faults::{Cut, Full};
 use pim_lab::{Answer, check_text, load, play, read_words};
@@ -27,6 +30,7 @@ enum Way {
     Memory,
     Failing,
     Sockets,
+    Crowded,
     Full,
     Check,
 }
@@ -53,6 +57,7 @@ fn obey(rt: &HostRuntime, word: &str, way: &mut Way) -> io::Result<bool> {
     match word {
         "--failing" => *way = Way::Failing,
         "--udp" => *way = Way::Sockets,
+        "--crowded" => *way = Way::Crowded,
         "--full" => *way = Way::Full,
         "--check" => *way = Way::Check,
         "--unread" => print_unread(rt)?,
@@ -70,6 +75,7 @@ fn agrees(rt: &HostRuntime, name: &str, way: Way, stored: &Stored) -> io::Result
             let wire = UdpWire::new(rt.alloc(), rt.clone()?);
             agrees_over(rt, name, ", over sockets", stored, wire)
         }
+        Way::Crowded => agrees_among_strangers(rt, name, stored),
         Way::Failing => agrees_where_the_wire_fails(rt, name, stored),
         Way::Full => agrees_where_it_is_full(rt, name, stored),
         Way::Check => agrees_when_checked(rt, name, stored),
@@ -86,6 +92,13 @@ fn agrees_over<W: Wire>(
 ) -> io::Result<bool> {
     let printed = play_over(rt, stored, wire)?;
     say(rt, name, how, stored.is(&printed), &printed)
+}
+
+// Plays a scenario over sockets to which a stranger sends too.
+fn agrees_among_strangers(rt: &HostRuntime, name: &str, stored: &Stored) -> io::Result<bool> {
+    let wire = CrowdedWire::new(UdpWire::new(rt.alloc(), rt.clone()?), rt)?;
+    let how = ", over sockets to which a stranger sends too";
+    agrees_over(rt, name, how, stored, wire)
 }
 
 // Plays a scenario where no line can be written.

@@ -1,5 +1,5 @@
 -- The values and the end of a querier that is elected.
-use Rattle.std.proofs.Common.{◌≡◌, ℕ, zero, suc, ◌+◌, ◌*◌, ◌/◌, refl, sym, ap, ◌∙◌, arith}
+use Rattle.std.proofs.Common.{◌≡◌, ℕ, ◌+◌, ◌*◌, ◌/◌, sym, ap, ◌∙◌, arith}
 use Rattle.pim_types.specs.declared.fact.QuerierRole.{QuerierRole}
 use Rattle.pim_types.specs.declared.fact.QuerierRow.{QuerierRow}
 use Rattle.pim_types.specs.Keys.{iface_key, is_on}
@@ -7,14 +7,6 @@ use Rattle.pim_model.specs.Querier.{given_or, other_querier_interval, querier_el
 use Rattle.pim_model.specs.State.{State}
 use Rattle.pim_model.specs.Tables.{drop_where, put}
 use Rattle.pim_laws.proofs.RowLaws.{row_put}
-
-pub zero_given : (given configured : ℕ) → given ≡ 0 → configured ≡ given_or given configured
-zero_given zero configured e = refl
-zero_given (suc n) configured e = absurd (omega (arith, e))
-
-pub some_given : (given configured : ℕ) → (given ≡ 0 → ⊥) → given ≡ given_or given configured
-some_given zero configured e = absurd (e refl)
-some_given (suc n) configured e = refl
 
 module _ (s : State) (i rv qi : ℕ) where
   abbrev row : ℕ → QuerierRow

@@ -14,9 +14,6 @@ module _ {A : Type 0} (change : State → A → State × List Message) where
     pub state : (each_in_turn change w left).0 ≡ (each_in_turn change s whole).0
     pub said : saying u (each_in_turn change w left).1 ≡ saying t (each_in_turn change s whole).1
 
-  pub all_comes : (s : State) (t : Taking) (whole : List A) → Comes s t whole s t whole
-  all_comes s t whole = record { state = refl; said = refl }
-
   module _ (s : State) (t : Taking) (whole : List A) (w : State) (u : Taking) where
     one_done : (a : A) (later : List A) (w' : State) (u' : Taking) → w' ≡ (change w a).0 → u' ≡ saying u (change w a).1
         → Comes s t whole w u (a ∷ later) → Comes s t whole w' u' later

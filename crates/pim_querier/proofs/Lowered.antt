@@ -1,5 +1,5 @@
 -- Source records that are lowered one after the other, and all at once.
-use Rattle.std.proofs.Common.{◌≡◌, ◌<◌, ◌+◌, ℕ, Bool, true, false, cond, ◌||◌, ◌==◌, List, [], ◌∷◌, ◌++◌, add-one, drop, drop-cons, get_or, length, map, take, Option, Some, refl, sym, ap, ◌∙◌, append_assoc, arith}
+use Rattle.std.proofs.Common.{◌≡◌, ◌<◌, ◌+◌, ℕ, Bool, true, false, cond, ◌||◌, ◌==◌, List, [], ◌∷◌, ◌++◌, add-one, drop, drop-cons, get_or, length, map, take, Option, Some, refl, sym, ap, ◌∙◌, arith}
 use Rattle.std.specs.List.{cons_option, filter, filter_map, list_any}
 use Rattle.std.specs.List.Sorted.{IsStrictlySortedBy}
 use Rattle.std.specs.Ordering.{is_eq, nat_cmp}
@@ -22,16 +22,6 @@ use Rattle.pim_querier.proofs.EachOnce.{both, each_is_changed_once, filter_both}
 -- ---- one of a walk that passes a test
 
 module _ {X : Type 0} (test : X → Bool) where
-  pub one_kept : (kept more whole : List X) (x : X) (left rest : List X) → left ≡ x ∷ rest → test x ≡ true
-      → more ≡ kept ++ x ∷ [] → kept ++ filter test left ≡ whole → more ++ filter test rest ≡ whole
-  one_kept kept more whole x left rest is hit pushed so_far =
-      ap (λ (xs : List X). xs ++ filter test rest) pushed ∙ append_assoc kept (x ∷ []) (filter test rest)
-      ∙ ap (λ (xs : List X). kept ++ xs) (sym (here (test x) hit) ∙ ap (filter test) (sym is)) ∙ so_far
-    where
-      here : (b : Bool) → b ≡ true → (if b then x ∷ filter test rest else filter test rest) ≡ x ∷ filter test rest
-      here true e = refl
-      here false e = cc
-
   pub one_passed : (kept whole : List X) (x : X) (left rest : List X) → left ≡ x ∷ rest → test x ≡ false
       → kept ++ filter test left ≡ whole → kept ++ filter test rest ≡ whole
   one_passed kept whole x left rest is miss so_far =

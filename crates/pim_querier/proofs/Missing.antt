@@ -116,13 +116,6 @@ module _ {R : Type 0} (t : Table R) where
 
   -- ---- as a loop over keys
 
-  pub none_counted : (set : List Key) → set ≡ [] → Counts [] set
-  unfolding is_named
-  none_counted set none = record {
-    same = λ q lacking. ap (λ (ks : List Key). is_named ks q) none;
-    count = ap (λ (ks : List Key). length ks) none;
-  }
-
   pub next_once : (keys : List Key) (n : ℕ) (d k : Key) → n < length keys → k ≡ get_or keys n d
       → once_more (fold once_more [] (take n keys)) k ≡ fold once_more [] (take (n + 1) keys)
   next_once keys n d k inside is =

@@ -107,12 +107,6 @@ module _ (i g : ℕ) where
   abbrev asks : State → List Asked → State × List Message
   asks s asked = each_in_turn (query_asked i g) s asked
 
-  pub sources_alone : (s : State) (t : Taking) (sources : List ℕ)
-      → saying t (query_sources s i g sources).1 ≡ saying t (asks s (source_queries (Some sources))).1
-  unfolding each_in_turn query_asked
-  sources_alone s t sources =
-      ap (λ (ms : List Message). saying t ms) (sym (append-nil (query_sources s i g sources).1))
-
   module _ (s : State) (t : Taking) (w : State) (u : Taking) (asked : List Asked) (named : Option (List ℕ)) where
     abbrev Named : Type 0
     Named = (w ≡ (asks s (source_queries named)).0) × (u ≡ saying t (asks s (source_queries named)).1)

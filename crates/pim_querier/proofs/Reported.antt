@@ -4,14 +4,13 @@ use Rattle.std.proofs.lemmas.List.{length-map}
 use Rattle.std.specs.List.Sorted.{IsStrictlySortedBy}
 use Rattle.std.specs.Ordering.{nat_cmp}
 use Rattle.igmp_wire.specs.Values.{Record}
-use Rattle.igmp_wire.specs.declared.report.RecordType.{RecordType}
 use Rattle.pim_filters.specs.Members.{IsAscending, entries_of}
 use Rattle.pim_filters.specs.declared.member.Member.{Member}
 use Rattle.pim_types.specs.declared.fact.Key.{Key}
 use Rattle.pim_types.specs.declared.fact.SourceRecordRow.{SourceRecordRow}
 use Rattle.pim_types.specs.Keys.{source_in}
-use Rattle.pim_model.specs.Querier.{each_in_turn, group_membership_interval, is_querier, query_asked, record_seen}
-use Rattle.pim_model.specs.Records.{Asked, GroupRecord, Member as Entry, apply_record, members_of, record_of, with_record}
+use Rattle.pim_model.specs.Querier.{each_in_turn, is_querier, query_asked, record_seen}
+use Rattle.pim_model.specs.Records.{Asked, Member as Entry, members_of, with_record}
 use Rattle.pim_model.specs.State.{State}
 use Rattle.pim_model.specs.Tables.{Table}
 use Rattle.pim_querier.specs.Changes.{applied}
@@ -47,13 +46,6 @@ rows_near n rows ms are near some =
     near (omega (arith, as_many, some))
 
 module _ (s : State) (i : ℕ) (r : Record) where
-  pub record_applied : (full g : ℕ) (known : GroupRecord) (type : RecordType) (sources : List ℕ)
-      → full ≡ s.present + group_membership_interval s i → g ≡ r.group → known ≡ record_of s i g → type ≡ r.type
-      → sources ≡ r.sources → apply_record full known type sources ≡ applied s i r
-  record_applied full g known type sources ends here was kind are =
-      let before : known ≡ record_of s i r.group = was ∙ ap (record_of s i) here in
-      λ j. apply_record (ends j) (before j) (kind j) (are j)
-
   abbrev written : State
   written = with_record s i r.group (applied s i r).0
 

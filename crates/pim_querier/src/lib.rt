@@ -7,8 +7,8 @@ pub mod firing;
 pub mod intervals;
 pub mod lowering;
 pub mod named;
+pub mod overheard;
 pub mod queries;
-pub mod query;
 pub mod records;
 pub mod repeats;
 pub mod report;
@@ -17,6 +17,6 @@ pub mod startup;
 
 pub use firing::fired;
 pub use named::{is_full, named_keys};
-pub use query::query_seen;
+pub use overheard::query_seen;
 pub use report::{is_skipped, report_seen};
 pub use startup::up;

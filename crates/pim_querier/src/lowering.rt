@@ -87,6 +87,6 @@ pub fn lower_sources(
     let set = set_of(alloc, sources)?;
     let records = named_records(world, alloc, iface, group, &set)?;
     // It tells that each key stands once.
-    world.membership().source_records_rise();
+    world.membership().recall_rising_source_records();
     lower_each(world, &records, end)
 }

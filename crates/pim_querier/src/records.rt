@@ -127,7 +127,7 @@ fn drop_repeats(
     let sendings = sendings_at(world, alloc, iface, group)?;
     let orphans = without_record(world, alloc, &sendings)?;
     // It tells that each key stands once.
-    world.membership().sendings_rise();
+    world.membership().recall_rising_sendings();
     end_sendings(world, &orphans);
     drop_source_repeat(world, iface, group);
     drop_group_repeat(world, iface, group);

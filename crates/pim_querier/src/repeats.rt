@@ -67,7 +67,7 @@ pub fn send(
     say_sources(world, turn, iface, group, true, &running)?;
     say_sources(world, turn, iface, group, false, &others)?;
     // It tells that each key stands once.
-    world.membership().sendings_rise();
+    world.membership().recall_rising_sendings();
     lessen(world, &sendings);
     Ok(())
 }

@@ -2,15 +2,15 @@
 //! Register-Stops, new RP ranges and the ends of their timers change, and what an RP does with Registers.
 #![tactic(auto)]
 
-pub mod ends;
 pub mod full;
 pub mod law;
 pub mod rendezvous;
 pub mod settling;
+pub mod source_timers;
 pub mod tunnel;
 
-pub use ends::{fired, keepalive_due, registering_address};
 pub use full::{is_full, source_is_full};
 pub use rendezvous::register_seen;
-pub use settling::{changed, settle};
+pub use settling::{changed, settle_register};
+pub use source_timers::{fired, keepalive_due, registering_address};
 pub use tunnel::{rps_replaced, stop_seen};

@@ -15,7 +15,7 @@ use std::alloc::AllocError;
 
 /// Settles the register of one source: NoInfo becomes Join where CouldRegister(S,G) holds, any state NoInfo where it
 /// ceases. The sight is true of the state before, and then of the state after. An error is want of memory.
-pub fn settle(world: &mut World, sight: &mut SourceSight) -> Result<(), AllocError>
+pub fn settle_register(world: &mut World, sight: &mut SourceSight) -> Result<(), AllocError>
     requires { IsSourceSight world.old sight.old }
     ensures state { OnOk result (world.new
         ≡ settle_register world.old (source_key 0 sight.old.star.group.bits sight.old.source.bits)) }
@@ -54,7 +54,7 @@ fn settle_source(
     ensures silent { turn.new ≡ turn.old }
 {
     let mut sight = SourceSight::of(world, *star, source, &mut turn.meter);
-    settle(world, &mut sight)
+    settle_register(world, &mut sight)
 }
 
 // These sources of a group, one after the other.

@@ -49,7 +49,7 @@ fn stop(world: &mut World, key: Key, end: u64) -> Result<(), AllocError>
         ≡ record world.old { registers = change_row (stopping end) key world.old.registers }) }
 {
     // It tells that their keys rise, so that the key stands once.
-    world.are_keyed();
+    world.recall_keyed();
     let Some(row) = world.store().register(key) else {
         return Ok(());
     };
@@ -87,7 +87,7 @@ pub fn stop_seen(
     ensures silent { turn.new ≡ turn.old }
 {
     // It tells that each register is under the key of its source.
-    world.are_keyed();
+    world.recall_keyed();
     let end = world.present() + delay_in(LEAST_SUPPRESSION, MOST_SUPPRESSION, turn.draw);
     if is_any(source) {
         let keys = keys_of(world, turn, group)?;

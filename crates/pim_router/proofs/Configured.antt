@@ -1,6 +1,6 @@
 -- Where what is accepted is about an interface, that is one of the router's; where it is about a moment, that is one
 -- that an event may have.
-use Rattle.std.proofs.Common.{◌≡◌, ◌<◌, ◌≤◌, ℕ, Bool, true, false, not, nat_le, nat_lt, Result, Ok, Err, List, length, arith, refl, subst, sym, ◌∙◌, ◌==◌, ◌&&◌}
+use Rattle.std.proofs.Common.{◌≡◌, ◌<◌, ◌≤◌, ℕ, Bool, true, false, not, nat_le, nat_lt, Ok, Err, List, length, arith, refl, ap, subst, sym, ◌∙◌, ◌==◌, ◌&&◌}
 use Rattle.std.proofs.lemmas.Bool.Decides.{nat_tests}
 use Rattle.std.specs.Prelude.{if◌then◌else◌}
 use Rattle.pim_ip.specs.Addr.{addr}
@@ -21,43 +21,14 @@ use Rattle.pim_model.specs.Judging.{Judged, advance_judged, assert_judged, data_
 use Rattle.pim_model.specs.Limits.{are_routes, are_rps}
 use Rattle.pim_model.specs.Neighbours.{is_neighbour}
 use Rattle.pim_model.specs.Registers.{registered_group}
-use Rattle.pim_model.specs.State.{State, iface_count, is_own, is_up, my_address}
+use Rattle.pim_model.specs.State.{InterfaceTable, State, iface_count, interfaces_of, is_own, is_up, my_address}
 use Rattle.pim_model.specs.Unicast.{is_rp}
 use Rattle.pim_router.specs.Naming.{IsConfigured}
+use Rattle.pim_router.proofs.Judgements.{FitsTo, Says, choosing, ignoring, reading, refusing, three, two}
 
 module _ (s : State) where
-  abbrev Says : Judged → Type 0
-  Says (Ok a) = IsConfigured s a
-  Says (Err stop) = Unit {0}
-
-  record Fits (j : Judged) : Type 0 where
-    says : Says j
-
-  ignoring : (b : Bool) (reason : Ignored) (next : Judged) → Fits next → Fits (ignore_if b reason >> next)
-  ignoring true reason next f = record { says = tt }
-  ignoring false reason next f = f
-
-  -- what the test showed holds of what comes next
-  refusing : (b : Bool) (refusal : Refusal) (next : Judged) → (b ≡ false → Fits next) → Fits (refuse_if b refusal >> next)
-  refusing true refusal next f = record { says = tt }
-  refusing false refusal next f = f refl
-
-  reading : {A : Type 0} (r : Result A Refusal) (next : A → Judged) → ((a : A) → Fits (next a)) → Fits (of_read r next)
-  reading (Ok a) next f = f a
-  reading (Err refusal) next f = record { says = tt }
-
-  choosing : (b : Bool) (x y : Judged) → Fits x → Fits y → Fits (if b then x else y)
-  choosing true x y f g = f
-  choosing false x y f g = g
-
-  two : (a b : Bool) (first second : Ignored) (next : Judged) → Fits next
-      → Fits (ignore_if a first >> ignore_if b second >> next)
-  two a b first second next f = ignoring a first (ignore_if b second >> next) (ignoring b second next f)
-
-  three : (a b c : Bool) (first second third : Ignored) (next : Judged) → Fits next
-      → Fits (ignore_if a first >> ignore_if b second >> ignore_if c third >> next)
-  three a b c first second third next f =
-      ignoring a first (ignore_if b second >> ignore_if c third >> next) (two b c second third next f)
+  abbrev Fits : Judged → Type 0
+  Fits = FitsTo (IsConfigured s)
 
   -- ---- a frame on an interface of the router
 
@@ -176,4 +147,11 @@ module _ (s : State) where
       (λ e. record { says = so (are_rps ranges) e })
 
   pub configured : (kind : EventKind) (j : Judged) (a : Accepted) → j ≡ judged s kind → j ≡ Ok a → IsConfigured s a
-  configured kind j a e f = subst (λ (x : Judged). Says x) (sym e ∙ f) (any kind).says
+  configured kind j a e f = subst (λ (x : Judged). Says (IsConfigured s) x) (sym e ∙ f) (any kind).says
+
+  pub data_below : (kind : EventKind) (i : IfaceId) (p : Packet) → judged s kind ≡ Ok (Accepted.Data i p)
+      → (lent : InterfaceTable) → lent ≡ interfaces_of s → length lent.configured ≤ 120 → i.number < 120
+  data_below kind i p heard lent lends few =
+      let below : i.number < iface_count s = configured kind (judged s kind) (Accepted.Data i p) refl heard in
+      let within : length s.configured ≤ 120 = subst (λ (x : InterfaceTable). length x.configured ≤ 120) lends few in
+      omega (arith, below, within)

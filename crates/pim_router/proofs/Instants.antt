@@ -10,6 +10,7 @@ use Rattle.pim_types.specs.declared.timer.Timer.{Timer}
 use Rattle.pim_types.specs.declared.timer.TimerKind.{TimerKind}
 use Rattle.pim_model.specs.Firing.{fire_all, fire_instant, fire_once, fire_row, fired, keepalive_due, silent}
 use Rattle.pim_model.specs.Messages.{Message}
+use Rattle.pim_model.specs.Reach.{own_firing}
 use Rattle.pim_model.specs.Repeat.{and_then}
 use Rattle.pim_model.specs.State.{State}
 use Rattle.pim_model.specs.Tables.{row_at}
@@ -23,10 +24,11 @@ use Rattle.pim_world.specs.Turns.{Taking, saying}
 use Rattle.pim_ready.proofs.LawfulFiring.{instant_is_lawful, one_firing_is_lawful}
 use Rattle.pim_ready.specs.Ready.{IsLawful}
 use Rattle.pim_world.specs.declared.touched.Touched.{Touched}
+use Rattle.pim_opening.specs.Covers.{Covers}
 use Rattle.pim_opening.specs.Openings.{opening_of}
 use Rattle.pim_opening.specs.declared.opening.GroupOpening.{GroupOpening}
 use Rattle.pim_store.specs.PimTables.{AreKeyed, pim_tables}
-use Rattle.pim_router.specs.Standing.{Standing}
+use Rattle.pim_router.specs.Standing.{Shown, Standing, nothing_shown}
 use Rattle.pim_router.proofs.Settling.{settled_as_opened}
 use Rattle.pim_router.proofs.Touching.{end_covered}
 use Rattle.pim_router.specs.Ends.{ending_of, touched_by_end}
@@ -112,13 +114,14 @@ pub moment_told : (o : Option Ending) (due : ℕ × Timer) → Some due ≡ opti
 moment_told None due e = cc
 moment_told (Some d) due e = cc
 
-pub shown_moment : (shown : Option Standing) (failed : Bool) (r : Standing) → (if failed then None else Some r) ≡ shown
+pub shown_moment : (shown : Shown) (failed : Bool) (r : Standing) (probes touched : ℕ)
+    → (if failed then nothing_shown else record { standing = Some r; probes = probes; touched = touched }) ≡ shown
     → failed ≡ false → (m : Option ℕ) → m ≡ option_map (λ (e : Ending). e.end) (next_ending r.state)
-    → m ≡ option_and_then (λ (x : Standing). next_moment x.state) shown
+    → m ≡ option_and_then (λ (x : Standing). next_moment x.state) shown.standing
 unfolding next_moment
-shown_moment shown failed r shows works m is =
-    let some : Some r ≡ shown = rw works at shows in
-    is ∙ ap (option_and_then (λ (x : Standing). next_moment x.state)) some
+shown_moment shown failed r probes touched shows works m is =
+    let some = rw works at shows in
+    is ∙ ap (λ (x : Shown). option_and_then (λ (y : Standing). next_moment y.state) x.standing) some
 
 pub no_moment : (o : Option Ending) → None ≡ option_map due_of o → None ≡ option_map (λ (e : Ending). e.end) o
 no_moment None e = refl
@@ -174,6 +177,17 @@ module _ (s : State) (due : ℕ × Timer) where
       ∙ ap (λ (w : ℕ). settled_by (opening_of s those) after_end.0 after_end.1 w) drawn
       ∙ sym (settled_as_opened s after_end.0 quiet (subst (λ (x : State). AreKeyed (pim_tables x)) state keyed)
       after_end.1 first.draw those (end_covered s lawful (ending_of due)))
+
+  pub end_touched : (touched : Touched) → IsLawful s → touched ≡ touched_by_end due.1.kind due.1.key
+      → Covers touched s (own_firing s (ending_of due))
+  unfolding own_firing
+  end_touched touched lawful touches =
+      subst (λ (t : Touched). Covers t s after_end.0) (sym touches) (end_covered s lawful (ending_of due))
+
+  pub end_fired : (moved t : State) → moved ≡ at_end → t ≡ (fired moved due.1.kind due.1.key).0
+      → t ≡ own_firing s (ending_of due)
+  unfolding own_firing
+  end_fired moved t moves is = is ∙ ap (λ (x : State). (fired x due.1.kind due.1.key).0) moves
 
 -- ---- within an instant
 

@@ -1,8 +1,7 @@
 -- A packet of data, or a Register, makes facts of no source but the one that it names.
-use Rattle.std.proofs.Common.{◌≡◌, ℕ, Bool, true, false, not, cond, List, [], ◌∷◌, ◌&&◌, ◌||◌, Option, Some, None, refl}
+use Rattle.std.proofs.Common.{◌≡◌, ℕ, Bool, true, false, not, cond, List, [], ◌∷◌, ◌&&◌, ◌||◌, Some, None}
 use Rattle.std.proofs.lemmas.Bool.{or_left, or_right}
 use Rattle.std.specs.List.{list_any}
-use Rattle.std.specs.Prelude.{if◌then◌else◌}
 use Rattle.pim_ip.specs.Ipv4.{Packet}
 use Rattle.pim_laws.proofs.ListLaws.{by_cond, either}
 use Rattle.pim_types.specs.declared.fact.AssertRow.{AssertRow}

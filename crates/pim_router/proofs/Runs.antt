@@ -1,5 +1,5 @@
 -- Runs, event after event.
-use Rattle.std.proofs.Common.{◌≡◌, ℕ, Bool, false, Option, Some, None, Ok, suc, ◌+◌, ◌<◌, ◌≤◌, List, [], ◌∷◌, ◌++◌, length, drop, get_or, ap, sym, subst, ◌∙◌, append_assoc, append-nil, add-one}
+use Rattle.std.proofs.Common.{◌≡◌, ℕ, Bool, false, Some, Ok, suc, ◌+◌, ◌<◌, ◌≤◌, List, [], ◌∷◌, ◌++◌, length, drop, get_or, refl, ap, sym, subst, ◌∙◌, append_assoc, append-nil, add-one}
 use Rattle.std.proofs.Math.ListN.{drop_of_length-le}
 use Rattle.std.proofs.Math.Seq.{drop-cons}
 use Rattle.pim_types.specs.declared.event.Event.{Event}
@@ -8,11 +8,14 @@ use Rattle.pim_locality.specs.Rest.{IsAtRest}
 use Rattle.std.specs.Prelude.{if◌then◌else◌}
 use Rattle.pim_types.specs.declared.config.Config.{Config}
 use Rattle.pim_asked.proofs.Steps.{run_is_asked}
+use Rattle.pim_words.proofs.Bounded.{run_stays_within}
+use Rattle.pim_words.proofs.Few.{counted_stay_bounded}
+use Rattle.pim_words.specs.Bounded.{IsBounded}
 use Rattle.pim_model.specs.Cause.{OutcomesAreAsked}
 use Rattle.pim_model.specs.Limits.{config_test}
 use Rattle.pim_model.specs.State.{State, opening}
 use Rattle.pim_model.specs.Step.{outcome_of, ran, run, state_after, step}
-use Rattle.pim_router.specs.Standing.{Standing, beginning}
+use Rattle.pim_router.specs.Standing.{Shown, Standing, beginning, nothing_shown}
 
 -- what was told with what is left is all of it, and the router is at rest
 pub record Runs (first : State) (events : List Event) (s : State) (told : List Outcome)
@@ -46,6 +49,13 @@ module _ (first : State) (events : List Event) where
       next s n told more e (drop (i + 1) events) rest state pushed
       (subst (λ (es : List Event). Runs first events s told es) here runs)
 
+  pub runs_begin : (told : List Outcome) → told ≡ [] → IsAtRest first → Runs first events first told events
+  runs_begin told none rest = record {
+    told_is = ap (λ (os : List Outcome). os ++ run first events) none;
+    rest_is = refl;
+    rest = rest;
+  }
+
   ended : (s : State) (told : List Outcome) → Runs first events s told []
       → (told ≡ run first events) × (s ≡ state_after first events)
   unfolding run state_after ran
@@ -57,15 +67,37 @@ module _ (first : State) (events : List Event) where
   runs_end i s told le runs =
       ended s told (subst (λ (es : List Event). Runs first events s told es) (drop_of_length-le events le) runs)
 
+-- a router that shows this and works stands as the configuration opens, where that is what is shown
+is_opening : (shown : Shown) (failed : Bool) (r : Standing) (probes touched : ℕ)
+    → (if failed then nothing_shown else record { standing = Some r; probes = probes; touched = touched }) ≡ shown
+    → failed ≡ false → (s : State) → shown.standing ≡ Some (beginning s) → r.state ≡ s
+is_opening shown failed r probes touched shows works s opens =
+    let some = rw works at shows in
+    let new : Some r ≡ Some (beginning s) = ap (λ (x : Shown). x.standing) some ∙ opens in
+    let alike : r ≡ beginning s = cc new in
+    ap (λ (x : Standing). x.state) alike
+
 -- the outcomes of a new router's run are asked for
-pub is_asked : (shown : Option Standing) (failed : Bool) (r : Standing) (events : List Event) (outcomes : List Outcome)
-    → (if failed then None else Some r) ≡ shown → failed ≡ false → outcomes ≡ run r.state events
-    → (c : Config) → config_test c ≡ Ok tt → shown ≡ Some (beginning (opening c))
+pub is_asked : (shown : Shown) (failed : Bool) (r : Standing) (probes touched : ℕ) (events : List Event)
+    (outcomes : List Outcome)
+    → (if failed then nothing_shown else record { standing = Some r; probes = probes; touched = touched }) ≡ shown
+    → failed ≡ false → outcomes ≡ run r.state events
+    → (c : Config) → config_test c ≡ Ok tt → shown.standing ≡ Some (beginning (opening c))
     → OutcomesAreAsked [] (opening c) events outcomes
-is_asked shown failed r events outcomes shows works are c accepted opens =
-    let some : Some r ≡ shown = rw works at shows in
-    let new : Some r ≡ Some (beginning (opening c)) = some ∙ opens in
-    let alike : r ≡ beginning (opening c) = cc new in
-    let same : r.state ≡ opening c = ap (λ (x : Standing). x.state) alike in
+is_asked shown failed r probes touched events outcomes shows works are c accepted opens =
+    let same : r.state ≡ opening c = is_opening shown failed r probes touched shows works (opening c) opens in
     subst (λ (os : List Outcome). OutcomesAreAsked [] (opening c) events os)
     (sym (are ∙ ap (λ (s : State). run s events) same)) (run_is_asked c events accepted)
+
+-- after a new router's run the limit bounds its facts
+pub is_bounded : (shown : Shown) (failed : Bool) (r : Standing) (probes touched : ℕ) (events : List Event) (after : State)
+    → (if failed then nothing_shown else record { standing = Some r; probes = probes; touched = touched }) ≡ shown
+    → failed ≡ false → after ≡ state_after r.state events
+    → (c : Config) → config_test c ≡ Ok tt → shown.standing ≡ Some (beginning (opening c)) → IsBounded c after
+is_bounded shown failed r probes touched events after shows works are c accepted opens =
+    let same : r.state ≡ opening c = is_opening shown failed r probes touched shows works (opening c) opens in
+    subst (λ (s : State). IsBounded c s) (sym (are ∙ ap (λ (s : State). state_after s events) same))
+    (record {
+      beside_asserts = run_stays_within c events accepted;
+      counted_facts = counted_stay_bounded c events accepted;
+    })

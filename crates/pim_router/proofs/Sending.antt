@@ -1,8 +1,7 @@
 -- What a change leaves to be sent.
-use Rattle.std.proofs.Common.{◌≡◌, ◌≤◌, ℕ, List, [], Result, IfOk, length, refl, arith, ap, sym, subst, ◌∙◌}
+use Rattle.std.proofs.Common.{◌≡◌, ℕ, [], Result, IfOk, length, refl, arith, ap, sym, subst, ◌∙◌}
 use Rattle.pim_ip.specs.Ipv4.{Packet}
 use Rattle.pim_types.specs.declared.config.IfaceId.{IfaceId}
-use Rattle.pim_types.specs.declared.outcome.Emission.{Emission}
 use Rattle.pim_wire.specs.Values.{Register}
 use Rattle.pim_data.specs.declared.leaving.Leaving.{Leaving}
 use Rattle.pim_world.specs.Turns.{Taking, saying}

@@ -1,5 +1,5 @@
 -- What follows of a change follows of what was opened.
-use Rattle.std.proofs.Common.{◌≡◌, ◌++◌, ℕ, List, ap, ◌∙◌}
+use Rattle.std.proofs.Common.{◌≡◌, ◌++◌, ℕ, List, ap, append_assoc, ◌∙◌}
 use Rattle.pim_types.specs.declared.fact.Key.{Key}
 use Rattle.pim_types.specs.declared.outcome.Emission.{Emission}
 use Rattle.pim_model.specs.Clearing.{clear, clear_all}
@@ -10,7 +10,10 @@ use Rattle.pim_model.specs.State.{State}
 use Rattle.pim_model.specs.Upstream.{upstream}
 use Rattle.pim_model.specs.Writing.{write_all}
 use Rattle.pim_locality.specs.Locality.{IsQuiet, own_settled, own_upstream, touched_clear, touched_registers, touching}
+use Rattle.pim_locality.proofs.Registers.{registers_agree, registers_of_touched}
 use Rattle.pim_locality.proofs.Settling.{settling_is_own}
+use Rattle.pim_locality.proofs.TouchedClearing.{clear_of_touched}
+use Rattle.pim_locality.proofs.Touches.{touching_is_closed}
 use Rattle.pim_store.specs.PimTables.{AreKeyed, pim_tables}
 use Rattle.pim_world.specs.declared.touched.Touched.{Touched}
 use Rattle.pim_opening.specs.Covers.{Covers, IsWithin, NewAreNamed}
@@ -25,7 +28,7 @@ use Rattle.pim_asserts.proofs.Facts.{clearing_is_within}
 use Rattle.pim_asserts.specs.Opened.{clear_by}
 use Rattle.pim_upstream.specs.Told.{upstream_by}
 use Rattle.pim_upstream.proofs.UpstreamLaws.{upstream_of_all, upstream_of_keys}
-use Rattle.pim_router.specs.Settling.{settled_by}
+use Rattle.pim_router.specs.Settling.{cleared_by, followed_by, settled_by}
 
 -- ---- facts that only become fewer
 
@@ -51,11 +54,13 @@ module _ (a : State) (opening : List GroupOpening) (messages : List Message) (w 
       → settles a ≡ registered → clears registered ≡ clear_by opening registered
       → tells (clear_by opening registered).0 ≡ upstream_by opening (clear_by opening registered).0 w
       → written (clears (settles a)) (tells (clears (settles a)).0) ≡ settled_by opening a messages w
-  unfolding settled_by
+  unfolding settled_by followed_by cleared_by
   settled_so clears settles tells first second third =
       ap (λ (s : State). written (clears s) (tells (clears s).0)) first
       ∙ ap (λ (after : State × List Message). written after (tells after.0)) second
       ∙ ap (λ (told : State × List Message). written (clear_by opening registered) told) third
+      ∙ ap (λ (ms : List Message). write_all (upstream_by opening (clear_by opening registered).0 w).0 ms)
+      (append_assoc messages (clear_by opening registered).1 (upstream_by opening (clear_by opening registered).0 w).1)
 
 module _ (o a : State) (quiet : IsQuiet o) (keyed : AreKeyed (pim_tables a)) (messages : List Message) (w : ℕ) where
   pub settled_as_opened : (touched : Touched) → Covers touched o a
@@ -83,3 +88,31 @@ module _ (o a : State) (quiet : IsQuiet o) (keyed : AreKeyed (pim_tables a)) (me
       (touched_go_by_opened keys o s here left left.asserts_rise left.sources_rise)
       (upstream_of_keys keys o (clear_by opening s).0 w
       (named_within keys o s (clear_by opening s).0 here (clearing_is_within opening s)))
+
+-- ---- what clearing leaves, by what was opened
+
+module _ (o a : State) (quiet : IsQuiet o) (keyed : AreKeyed (pim_tables a)) where
+  pub cleared_as_opened : (touched : Touched) → Covers touched o a
+      → (clear o a).0 ≡ (cleared_by (opening_of o touched) a).0
+  unfolding clear cleared_by
+  cleared_as_opened Touched.All within =
+      let opening : List GroupOpening = opening_of o Touched.All in
+      let s : State = registers_by opening a in
+      let here : IsWithin o s = within_both o a s within (registers_are_within opening a) in
+      let left : AreKeyed (pim_tables s) = registers_are_keyed opening a keyed in
+      ap (λ (t : State). (clear_all o t).0) (registers_of_all o a within keyed keyed.registers_rise)
+      ∙ ap (λ (p : State × List Message). p.0) (all_go_by_opened o s here left left.asserts_rise left.sources_rise)
+  cleared_as_opened (Touched.Keys keys) concerns =
+      let opening : List GroupOpening = opening_of o (Touched.Keys keys) in
+      let s : State = registers_by opening a in
+      let here : NewAreNamed keys o s = named_within keys o a s concerns.named (registers_are_within opening a) in
+      let left : AreKeyed (pim_tables s) = registers_are_keyed opening a keyed in
+      ap (λ (t : State). (clear_all o t).0)
+      (registers_of_touched (touching keys) (touching_is_closed keys) o quiet a concerns.agrees)
+      ∙ ap (λ (p : State × List Message). p.0)
+      (clear_of_touched (touching keys) o (touching_is_closed keys) quiet (touched_registers (touching keys) a)
+      (registers_agree (touching keys) (touching_is_closed keys) o a concerns.agrees))
+      ∙ ap (λ (t : State). (touched_clear (touching keys) o t).0)
+      (registers_of_keys keys o a concerns.named keyed keyed.registers_rise)
+      ∙ ap (λ (p : State × List Message). p.0)
+      (touched_go_by_opened keys o s here left left.asserts_rise left.sources_rise)

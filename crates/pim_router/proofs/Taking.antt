@@ -1,6 +1,6 @@
 -- What was accepted, where there is room for it.
 use Rattle.std.specs.Prelude.{if◌then◌else◌}
-use Rattle.std.proofs.Common.{◌≡◌, ◌≤◌, ◌<◌, ◌+◌, ℕ, Bool, true, false, not, Option, Some, None, IfSome, length, arith, Result, Ok, Err, IsOk, IsTrue, List, [], ◌++◌, OnOk, refl, ap, subst, sym, ◌∙◌, append-nil}
+use Rattle.std.proofs.Common.{◌≡◌, ◌≤◌, ◌<◌, ◌+◌, ℕ, Bool, true, false, not, Some, IfSome, length, arith, Result, Ok, Err, IsOk, IsTrue, List, [], ◌++◌, OnOk, refl, ap, subst, sym, ◌∙◌}
 use Rattle.pim_ip.specs.declared.refusal.Refusal.{Refusal}
 use Rattle.pim_types.specs.declared.outcome.Emission.{Emission}
 use Rattle.pim_types.specs.declared.config.Route.{Route}
@@ -11,9 +11,8 @@ use Rattle.pim_types.specs.declared.outcome.Outcome.{Outcome}
 use Rattle.pim_types.specs.declared.outcome.Stop.{Stop}
 use Rattle.pim_types.specs.declared.outcome.Verdict.{Verdict}
 use Rattle.pim_model.specs.declared.accepted.Accepted.{Accepted}
-use Rattle.pim_world.specs.Turns.{Taking, saying}
+use Rattle.pim_world.specs.Turns.{Taking}
 use Rattle.pim_intake.specs.Memory.{is_tested_in_memory}
-use Rattle.pim_model.specs.Firing.{settled}
 use Rattle.pim_model.specs.Judging.{Judged, judged, refuse_if, routes_judged, rps_judged, ◌>>◌}
 use Rattle.pim_model.specs.Limits.{are_routes, are_rps}
 use Rattle.pim_model.specs.Messages.{Message}
@@ -32,8 +31,7 @@ use Rattle.pim_locality.proofs.Rest.{step_is_at_rest}
 use Rattle.pim_data.specs.declared.leaving.Leaving.{Leaving}
 use Rattle.pim_router.specs.Sending.{Sends}
 use Rattle.pim_router.specs.Settling.{settled_by}
-use Rattle.pim_router.specs.Standing.{Standing}
-use Rattle.pim_router.specs.Stops.{stop_outcome}
+use Rattle.pim_router.specs.Standing.{Shown, Standing, nothing_shown}
 use Rattle.pim_router.proofs.Settling.{settled_as_opened}
 
 module _ (s : State) (w : ℕ) where
@@ -102,6 +100,12 @@ taken_in_turn s t a touched opening leaving first opened changing rests keyed ti
     (sends.state_is ∙ ap (λ (w : ℕ). (change s w a).state) drawn) sent
     (sends.copies ∙ ap (λ (w : ℕ). (change s w a).copies) drawn)
     (sends.registered ∙ ap (λ (w : ℕ). (change s w a).registered) drawn)
+
+-- the state after the change alone
+pub changed_in_turn : (s t : State) (a : Accepted) (leaving : Leaving) (first opened changing : Taking) → opened ≡ first
+    → Sends leaving t opened changing (change s opened.draw a) → t ≡ (change s first.draw a).state
+changed_in_turn s t a leaving first opened changing silent sends =
+    sends.state_is ∙ ap (λ (x : Taking). (change s x.draw a).state) silent
 
 -- what is told: the packets of what follows, then the copies, then the Register
 pub outcome_told : (sent : State × List Emission) (copies registered emissions both all shown : List Emission) (count : ℕ)
@@ -201,24 +205,20 @@ concluded_silently s w (Ok a) = full_silently s w a (is_full s a)
 concluded_silently s w (Err stop) = stopped_silently s stop
 
 -- so there is room for what it sends
-pub finds_room : {A E : Type 0} (shown : Option Standing) (failed : Bool) (r : Standing) (event : Event)
+pub finds_room : {A E : Type 0} (shown : Shown) (failed : Bool) (r : Standing) (probes touched : ℕ) (event : Event)
     (outcome : Outcome) (sent : List Emission) (taken_up room : ℕ) (q : Result A E)
-    → (if failed then None else Some r) ≡ shown → failed ≡ false → outcome ≡ outcome_of (step r.state event)
+    → (if failed then nothing_shown else record { standing = Some r; probes = probes; touched = touched }) ≡ shown
+    → failed ≡ false → outcome ≡ outcome_of (step r.state event)
     → sent ≡ outcome.emissions → taken_up ≤ room → room < taken_up + length sent
-    → IfSome shown (λ x. IsTrue (needs_no_memory (step x.state event).answer) → IsOk q)
+    → IfSome shown.standing (λ x. IsTrue (needs_no_memory (step x.state event).answer) → IsOk q)
 unfolding step
-finds_room shown failed r event outcome sent taken_up room q shows works is are fits full =
-    let some : Some r ≡ shown = rw works at shows in
+finds_room shown failed r probes touched event outcome sent taken_up room q shows works is are fits full =
+    let some = ap (λ (x : Shown). x.standing) (rw works at shows) in
     rw (← some) (λ sure.
     let none : length sent ≡ 0 =
     ap (λ (es : List Emission). length es) (are ∙ ap (λ (o : Outcome). o.emissions) is
     ∙ concluded_silently r.state event.draw (judged r.state event.kind) sure) in
     absurd (omega (arith, none, fits, full)))
-
--- the outcome of an event that changes nothing
-pub stop_told : (s : State) (stop : Stop) → stop_outcome stop ≡ outcome_of (stopped s stop)
-stop_told s (Stop.Refuse refusal) = refl
-stop_told s (Stop.Ignore reason) = refl
 
 -- an event leaves the router at rest
 pub rests_after : {A E : Type 0} (s t : State) (event : Event) (r : Result A E) → IsAtRest s

@@ -46,7 +46,6 @@ use Rattle.pim_opening.specs.Openings.{has_facts}
 use Rattle.pim_neighbours.specs.Refreshed.{is_refreshed}
 use Rattle.pim_ready.specs.Ready.{IsLawful, Rises}
 use Rattle.pim_router.specs.Ends.{touched_by_end}
-use Rattle.pim_router.specs.Naming.{AreNamedBy}
 use Rattle.pim_model.specs.Full.{reported_groups, reported_sources}
 use Rattle.pim_laws.proofs.ListLaws.{each_of_list}
 use Rattle.pim_laws.specs.Laws.{is_under_source}
@@ -202,172 +201,145 @@ received_named s packet (Null source group) = register_named s packet group sour
 
 -- ---- what was accepted
 
-module _ (s : State) (a : Accepted) where
-  pub named_covered : (i : IfaceId) (m : JoinPrune) (joined pruned keys : List Key) → a ≡ Accepted.JoinPruneToMe i m
-      → AreNamedBy s a joined pruned → keys ≡ joined ++ pruned
-      → (w : ℕ) → Concerns keys s (change s w a).state
+module _ (s : State) where
+  pub named_covered : (i : IfaceId) (m : JoinPrune) (joined pruned keys : List Key)
+      → joined ≡ joined_keys s i.number m → pruned ≡ pruned_keys i.number m → keys ≡ joined ++ pruned
+      → (w : ℕ) → Concerns keys s (change s w (Accepted.JoinPruneToMe i m)).state
   unfolding touched_by_event change
-  named_covered i m joined pruned keys is named all w =
-      let both = subst (λ x. AreNamedBy s x joined pruned) is named in
+  named_covered i m joined pruned keys joins prunes all w =
       let those : keys ≡ joined_keys s i.number m ++ pruned_keys i.number m =
-      all ∙ ap (λ ks. ks ++ pruned) both.0 ∙ ap (λ ks. joined_keys s i.number m ++ ks) both.1 in
-      subst (λ x. Concerns keys s (change s w x).state) (sym is)
-      (subst (λ ks. Concerns ks s (change s w (Accepted.JoinPruneToMe i m)).state) (sym those)
+      all ∙ ap (λ ks. ks ++ pruned) joins ∙ ap (λ ks. joined_keys s i.number m ++ ks) prunes in
+      subst (λ ks. Concerns ks s (change s w (Accepted.JoinPruneToMe i m)).state) (sym those)
       (record {
         agrees = change_touches s w (Accepted.JoinPruneToMe i m)
             (joined_keys s i.number m ++ pruned_keys i.number m) refl;
         named = taken_named s i.number m;
-      }))
+      })
 
-  pub refreshed_covered : (i : IfaceId) (from : Addr) (h : HelloValue) (none : List Key) (refreshed : Bool)
-      → a ≡ Accepted.Hello i from h → Rises s.neighbours → refreshed ≡ is_refreshed s.neighbours i.number from.bits h
-      → refreshed ≡ true → none ≡ [] → (w : ℕ) → Concerns none s (change s w a).state
+  pub refreshed_covered : (i : IfaceId) (from : Addr) (h : HelloValue) (none : List Key) (refreshed : Bool) → Rises s.neighbours → refreshed ≡ is_refreshed s.neighbours i.number from.bits h
+      → refreshed ≡ true → none ≡ [] → (w : ℕ) → Concerns none s (change s w (Accepted.Hello i from h)).state
   unfolding change
-  refreshed_covered i from h none refreshed is rises tested e empty w =
+  refreshed_covered i from h none refreshed rises tested e empty w =
       let s' : State = hello_received s i.number from.bits h w in
-      subst (λ x. Concerns none s (change s w x).state) (sym is)
-      (subst (λ ks. Concerns ks s s') (sym empty)
+      subst (λ ks. Concerns ks s s') (sym empty)
       (record {
         agrees = refreshed_touches_none s i.number from.bits h w rises (sym tested ∙ e);
         named = λ g src there. or_left (has_facts s g src) false
             ((hello_leaves_facts s i.number from.bits w h).passed (names_source g src) there);
-      }))
+      })
 
-  pub seen_covered : (i : IfaceId) (m : JoinPrune) (joined pruned keys : List Key) → a ≡ Accepted.JoinPruneSeen i m
-      → AreNamedBy s a joined pruned → keys ≡ filter (λ k. not (is_star k)) pruned
-      → (w : ℕ) → Concerns keys s (change s w a).state
+  pub seen_covered : (i : IfaceId) (m : JoinPrune) (pruned keys : List Key) → pruned ≡ pruned_keys i.number m
+      → keys ≡ filter (λ k. not (is_star k)) pruned
+      → (w : ℕ) → Concerns keys s (change s w (Accepted.JoinPruneSeen i m)).state
   unfolding change
-  seen_covered i m joined pruned keys is named those w =
-      let both = subst (λ x. AreNamedBy s x joined pruned) is named in
+  seen_covered i m pruned keys prunes those w =
       let sources : List Key = filter (λ k. not (is_star k)) (pruned_keys i.number m) in
-      let are : keys ≡ sources = those ∙ ap (λ ks. filter (λ k. not (is_star k)) ks) both.1 in
-      subst (λ x. Concerns keys s (change s w x).state) (sym is)
-      (subst (λ ks. Concerns ks s (seen s w i.number m)) (sym are)
+      let are : keys ≡ sources = those ∙ ap (λ ks. filter (λ k. not (is_star k)) ks) prunes in
+      subst (λ ks. Concerns ks s (seen s w i.number m)) (sym are)
       (record {
         agrees = widened [] sources s (seen s w i.number m) refl (seen_touches_none s w i.number m);
         named = seen_named s w i.number m;
-      }))
+      })
 
-  pub assert_covered : (i : IfaceId) (from : Addr) (x : AssertMessage) (keys : List Key)
-      → a ≡ Accepted.Assert i from x → keys ≡ asserted_keys i.number x
-      → (w : ℕ) → Concerns keys s (change s w a).state
+  pub assert_covered : (i : IfaceId) (from : Addr) (x : AssertMessage) (keys : List Key) → keys ≡ asserted_keys i.number x
+      → (w : ℕ) → Concerns keys s (change s w (Accepted.Assert i from x)).state
   unfolding touched_by_event change
-  assert_covered i from x keys is those w =
-      subst (λ b. Concerns keys s (change s w b).state) (sym is)
-      (subst (λ ks. Concerns ks s (change s w (Accepted.Assert i from x)).state) (sym those)
+  assert_covered i from x keys those w =
+      subst (λ ks. Concerns ks s (change s w (Accepted.Assert i from x)).state) (sym those)
       (record {
         agrees = change_touches s w (Accepted.Assert i from x) (asserted_keys i.number x) refl;
         named = asserted_named s i.number from.bits x;
-      }))
+      })
 
-  pub stop_covered : (from : Addr) (r : RegisterStopValue) (keys : List Key) → a ≡ Accepted.RegisterStop from r
-      → keys ≡ source_key 0 r.group.bits r.source.bits ∷ [] → (w : ℕ) → Concerns keys s (change s w a).state
+  pub stop_covered : (from : Addr) (r : RegisterStopValue) (keys : List Key)
+      → keys ≡ source_key 0 r.group.bits r.source.bits ∷ [] → (w : ℕ) → Concerns keys s (change s w (Accepted.RegisterStop from r)).state
   unfolding touched_by_event change
-  stop_covered from r keys is those w =
+  stop_covered from r keys those w =
       let key : Key = source_key 0 r.group.bits r.source.bits in
       let s' : State = register_stop_seen s w r.group.bits r.source.bits in
-      subst (λ b. Concerns keys s (change s w b).state) (sym is)
-      (subst (λ ks. Concerns ks s s') (sym those)
+      subst (λ ks. Concerns ks s s') (sym those)
       (record {
         agrees = change_touches s w (Accepted.RegisterStop from r) (key ∷ []) refl;
         named = λ g src there. or_left (has_facts s g src) (list_any (names_source g src) (key ∷ []))
             ((stop_leaves_facts s w r.group.bits r.source.bits).passed (names_source g src) there);
-      }))
+      })
 
-  pub queried_covered : (i : IfaceId) (from : Addr) (q : QueryValue) (k : Key) (keys : List Key)
-      → a ≡ Accepted.Query i from q → k ≡ star_key 0 q.group → keys ≡ k ∷ []
-      → (w : ℕ) → Concerns keys s (change s w a).state
+  pub queried_covered : (i : IfaceId) (from : Addr) (q : QueryValue) (k : Key) (keys : List Key) → k ≡ star_key 0 q.group → keys ≡ k ∷ []
+      → (w : ℕ) → Concerns keys s (change s w (Accepted.Query i from q)).state
   unfolding touched_by_event change
-  queried_covered i from q k keys is own all w =
+  queried_covered i from q k keys own all w =
       let those : keys ≡ star_key 0 q.group ∷ [] = all ∙ ap (λ (x : Key). x ∷ []) own in
-      subst (λ x. Concerns keys s (change s w x).state) (sym is)
-      (subst (λ ks. Concerns ks s (change s w (Accepted.Query i from q)).state) (sym those)
+      subst (λ ks. Concerns ks s (change s w (Accepted.Query i from q)).state) (sym those)
       (record {
         agrees = change_touches s w (Accepted.Query i from q) (star_key 0 q.group ∷ []) refl;
         named = λ g src there. or_left (has_facts s g src) (list_any (names_source g src) (star_key 0 q.group ∷ []))
             ((query_leaves_facts i.number s from.bits q).passed (names_source g src) there);
-      }))
+      })
 
-  pub reported_covered : (i : IfaceId) (records : List Record) (keys : List Key) → a ≡ Accepted.Report i records
+  pub reported_covered : (i : IfaceId) (records : List Record) (keys : List Key)
       → IsSettled s → keys ≡ reported_groups i.number records ++ reported_sources i.number records
-      → (w : ℕ) → Concerns keys s (change s w a).state
+      → (w : ℕ) → Concerns keys s (change s w (Accepted.Report i records)).state
   unfolding touched_by_event change
-  reported_covered i records keys is settled all w =
+  reported_covered i records keys settled all w =
       let groups : List Key = reported_groups i.number records in
       let sources : List Key = reported_sources i.number records in
-      subst (λ x. Concerns keys s (change s w x).state) (sym is)
-      (subst (λ ks. Concerns ks s (change s w (Accepted.Report i records)).state) (sym all)
+      subst (λ ks. Concerns ks s (change s w (Accepted.Report i records)).state) (sym all)
       (record {
         agrees = touching_more groups sources s _ (change_touches s w (Accepted.Report i records) groups refl);
         named = report_names_facts s i.number records
             (each_of_list is_under_source s.source_records settled.ahead.firable.source_records);
-      }))
+      })
 
-  pub packet_covered : (i : IfaceId) (packet : Packet) (keys : List Key) → a ≡ Accepted.Data i packet
+  pub packet_covered : (i : IfaceId) (packet : Packet) (keys : List Key)
       → keys ≡ packet_keys s packet.destination packet.source i.number
-      → (w : ℕ) → Concerns keys s (change s w a).state
+      → (w : ℕ) → Concerns keys s (change s w (Accepted.Data i packet)).state
   unfolding touched_by_event change
-  packet_covered i packet keys is those w =
+  packet_covered i packet keys those w =
       let named : List Key = packet_keys s packet.destination packet.source i.number in
-      subst (λ b. Concerns keys s (change s w b).state) (sym is)
-      (subst (λ ks. Concerns ks s (change s w (Accepted.Data i packet)).state) (sym those)
+      subst (λ ks. Concerns ks s (change s w (Accepted.Data i packet)).state) (sym those)
       (record {
         agrees = change_touches s w (Accepted.Data i packet) named refl;
         named = packet_named s packet.destination packet.source i.number;
-      }))
+      })
 
-  pub register_covered : (packet : Packet) (r : Register) (keys : List Key) → a ≡ Accepted.Register packet r
+  pub register_covered : (packet : Packet) (r : Register) (keys : List Key)
       → keys ≡ source_key 0 (registered_group r) (registered_source r) ∷ []
-      → (w : ℕ) → Concerns keys s (change s w a).state
+      → (w : ℕ) → Concerns keys s (change s w (Accepted.Register packet r)).state
   unfolding touched_by_event change
-  register_covered packet r keys is those w =
+  register_covered packet r keys those w =
       let named : List Key = source_key 0 (registered_group r) (registered_source r) ∷ [] in
-      subst (λ b. Concerns keys s (change s w b).state) (sym is)
-      (subst (λ ks. Concerns ks s (change s w (Accepted.Register packet r)).state) (sym those)
+      subst (λ ks. Concerns ks s (change s w (Accepted.Register packet r)).state) (sym those)
       (record {
         agrees = change_touches s w (Accepted.Register packet r) named refl;
         named = received_named s packet r;
-      }))
+      })
 
--- none of those that may make facts: a Join/Prune, an Assert, a report, a packet, a Register
-pub record MakesNone (a : Accepted) : Type 0 where
-  pub to_me : (i : IfaceId) (m : JoinPrune) → ¬ (a ≡ Accepted.JoinPruneToMe i m)
-  pub seen : (i : IfaceId) (m : JoinPrune) → ¬ (a ≡ Accepted.JoinPruneSeen i m)
-  pub assert : (i : IfaceId) (from : Addr) (x : AssertMessage) → ¬ (a ≡ Accepted.Assert i from x)
-  pub report : (i : IfaceId) (records : List Record) → ¬ (a ≡ Accepted.Report i records)
-  pub packet : (i : IfaceId) (packet : Packet) → ¬ (a ≡ Accepted.Data i packet)
-  pub register : (packet : Packet) (r : Register) → ¬ (a ≡ Accepted.Register packet r)
+-- all may be touched by it, and it makes no facts
+abbrev pub MakesNone : Accepted → Type 0
+MakesNone (Accepted.Advance moment) = Unit {0}
+MakesNone (Accepted.Up i) = Unit {0}
+MakesNone (Accepted.Down i) = Unit {0}
+MakesNone (Accepted.Hello i from h) = Unit {0}
+MakesNone (Accepted.Routes routes) = Unit {0}
+MakesNone (Accepted.Rps ranges) = Unit {0}
+MakesNone _ = ⊥
 
--- all else makes no facts
 pub facts_covered : (s : State) (w : ℕ) (a : Accepted) → MakesNone a → IsWithin s (change s w a).state
 unfolding change
-facts_covered s w (Accepted.Advance moment) isnt = within_so s s (no_other s s refl)
-facts_covered s w (Accepted.Up i) isnt = within_so s _ (up_leaves_facts s w i.number)
-facts_covered s w (Accepted.Down i) isnt = within_so s _ (down_fewer s i.number)
-facts_covered s w (Accepted.Hello i from h) isnt = within_so s _ (hello_leaves_facts s i.number from.bits w h)
-facts_covered s w (Accepted.JoinPruneToMe i m) isnt = absurd (isnt.to_me i m refl)
-facts_covered s w (Accepted.Routes routes) isnt = within_so s _ (routes_leave_facts s routes)
-facts_covered s w (Accepted.Rps ranges) isnt = within_so s _ (rps_leave_facts s ranges)
-facts_covered s w (Accepted.JoinPruneSeen i m) isnt = absurd (isnt.seen i m refl)
-facts_covered s w (Accepted.Assert i from x) isnt = absurd (isnt.assert i from x refl)
-facts_covered s w (Accepted.Query i from q) isnt = within_so s _ (query_leaves_facts i.number s from.bits q)
-facts_covered s w (Accepted.Report i records) isnt = absurd (isnt.report i records refl)
-facts_covered s w (Accepted.Data i packet) isnt = absurd (isnt.packet i packet refl)
-facts_covered s w (Accepted.Register packet r) isnt = absurd (isnt.register packet r refl)
-facts_covered s w (Accepted.RegisterStop from r) isnt =
-    within_so s _ (stop_leaves_facts s w r.group.bits r.source.bits)
-
-pub hello_makes_none : (a : Accepted) (i : IfaceId) (from : Addr) (h : HelloValue) → a ≡ Accepted.Hello i from h
-    → MakesNone a
-hello_makes_none a i from h is =
-    record {
-      to_me = λ j m same. cc;
-      seen = λ j m same. cc;
-      assert = λ j other x same. cc;
-      report = λ j records same. cc;
-      packet = λ j packet same. cc;
-      register = λ packet r same. cc;
-    }
+facts_covered s w (Accepted.Advance moment) none = within_so s s (no_other s s refl)
+facts_covered s w (Accepted.Up i) none = within_so s _ (up_leaves_facts s w i.number)
+facts_covered s w (Accepted.Down i) none = within_so s _ (down_fewer s i.number)
+facts_covered s w (Accepted.Hello i from h) none = within_so s _ (hello_leaves_facts s i.number from.bits w h)
+facts_covered s w (Accepted.Routes routes) none = within_so s _ (routes_leave_facts s routes)
+facts_covered s w (Accepted.Rps ranges) none = within_so s _ (rps_leave_facts s ranges)
+facts_covered s w (Accepted.JoinPruneToMe i m) none = absurd none
+facts_covered s w (Accepted.JoinPruneSeen i m) none = absurd none
+facts_covered s w (Accepted.Assert i from x) none = absurd none
+facts_covered s w (Accepted.Query i from q) none = absurd none
+facts_covered s w (Accepted.Report i records) none = absurd none
+facts_covered s w (Accepted.Data i packet) none = absurd none
+facts_covered s w (Accepted.Register packet r) none = absurd none
+facts_covered s w (Accepted.RegisterStop from r) none = absurd none
 
 -- ---- the end of a timer
 

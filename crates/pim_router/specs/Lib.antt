@@ -1,5 +1,8 @@
+pub mod Costs
 pub mod Ends
 pub mod Naming
+pub mod Plainly
+pub mod Planning
 pub mod Sending
 pub mod Settling
 pub mod Standing

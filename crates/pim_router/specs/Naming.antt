@@ -1,20 +1,12 @@
--- The keys that what was accepted names.
-use Rattle.std.specs.Prelude.{List, true, ◌<◌, ◌≤◌, ◌≡◌}
+-- What is known of what was accepted: its tests passed.
+use Rattle.std.specs.Prelude.{true, ◌<◌, ◌≤◌, ◌≡◌}
 use Rattle.pim_ip.specs.Ipv4.{Packet}
 use Rattle.pim_types.specs.declared.config.IfaceId.{IfaceId}
 use Rattle.pim_wire.specs.Values.{Register}
-use Rattle.pim_types.specs.declared.fact.Key.{Key}
 use Rattle.pim_model.specs.declared.accepted.Accepted.{Accepted}
-use Rattle.pim_model.specs.Downstream.{joined_keys, pruned_keys}
 use Rattle.pim_model.specs.Judging.{last_moment}
 use Rattle.pim_model.specs.Limits.{are_routes, are_rps}
 use Rattle.pim_model.specs.State.{State, iface_count}
-
--- those that a Join/Prune joins and prunes; those of other events aren't listed beside them
-abbrev pub AreNamedBy : State → Accepted → List Key → List Key → Type 0
-AreNamedBy s (Accepted.JoinPruneToMe i m) joined pruned = (joined ≡ joined_keys s i.number m) × (pruned ≡ pruned_keys i.number m)
-AreNamedBy s (Accepted.JoinPruneSeen i m) joined pruned = (joined ≡ joined_keys s i.number m) × (pruned ≡ pruned_keys i.number m)
-AreNamedBy s _ joined pruned = Unit {0}
 
 -- the interface of an event is one of the router's, its moment one that an event may have; routes and ranges pass their
 -- test

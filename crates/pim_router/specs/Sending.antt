@@ -1,5 +1,5 @@
 -- What a change leaves to be sent.
-use Rattle.std.specs.Prelude.{List, length, ◌≡◌, ◌≤◌}
+use Rattle.std.specs.Prelude.{length, ◌≡◌, ◌≤◌}
 use Rattle.pim_data.specs.declared.leaving.Leaving.{Leaving}
 use Rattle.pim_world.specs.Turns.{Taking, saying}
 use Rattle.pim_model.specs.State.{State}

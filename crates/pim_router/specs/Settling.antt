@@ -1,17 +1,45 @@
 -- What follows of a change, by what was opened: the touched groups and sources as they were.
-use Rattle.std.specs.Prelude.{List, ℕ, ◌++◌}
+use Rattle.std.specs.Prelude.{List, ℕ, ◌++◌, ◌≡◌}
+use Rattle.pim_types.specs.declared.fact.Key.{Key}
 use Rattle.pim_types.specs.declared.outcome.Emission.{Emission}
 use Rattle.pim_model.specs.Messages.{Message}
 use Rattle.pim_model.specs.State.{State}
 use Rattle.pim_model.specs.Writing.{write_all}
+use Rattle.pim_world.specs.declared.touched.Touched.{Touched}
 use Rattle.pim_opening.specs.declared.opening.GroupOpening.{GroupOpening}
 use Rattle.pim_register.specs.Settling.{registers_by}
 use Rattle.pim_asserts.specs.Opened.{clear_by}
 use Rattle.pim_upstream.specs.Told.{upstream_by}
+use Rattle.pim_opening.specs.Covers.{Covers}
+use Rattle.pim_fanout.specs.Before.{IsBefore}
+use Rattle.pim_fanout.specs.Laws.{names_of}
+use Rattle.pim_fanout.specs.Named.{named_among}
+use Rattle.pim_fanout.specs.declared.before.SourceBefore.{SourceBefore}
 
--- registers are settled, what must go is cleared, then what follows is told upstream
+-- registers are settled, then what must go is cleared
+unfoldable pub cleared_by : List GroupOpening → State → State × List Message
+cleared_by opening a = clear_by opening (registers_by opening a)
+
+-- then what follows is told upstream
+unfoldable pub followed_by : List GroupOpening → State → ℕ → State × List Message
+followed_by opening a w =
+    let after : State × List Message = cleared_by opening a in
+    let told : State × List Message = upstream_by opening after.0 w in
+    (told.0, after.1 ++ told.1)
+
+-- the packets of the change's messages, and then of those
 unfoldable pub settled_by : List GroupOpening → State → List Message → ℕ → State × List Emission
 settled_by opening a messages w =
-    let after_clearing : State × List Message = clear_by opening (registers_by opening a) in
-    let told : State × List Message = upstream_by opening after_clearing.0 w in
-    write_all told.0 (messages ++ after_clearing.1 ++ told.1)
+    let followed : State × List Message = followed_by opening a w in
+    write_all followed.0 (messages ++ followed.1)
+
+-- the keys are those that are named of what the sources were before, where all is cleared
+abbrev pub AreNamed : List SourceBefore → State → List Key → Type 0
+AreNamed before cleared names = (o : State) (touched : Touched) → IsBefore o touched before
+    → names ≡ named_among o cleared touched
+
+-- they are those that are named of the sources which a change touches, where what it touches covers it
+pub record AreNames (o changed : State) (names : List Key) : Type 0 where
+  pub touched : Touched
+  pub covers : Covers touched o changed
+  pub are : names ≡ names_of o changed touched

@@ -5,14 +5,17 @@ ghost use Rattle.pim_model.specs.Forwarding.{forwarded, register_received};
 ghost use Rattle.pim_model.specs.Registers.{is_null, registered_group, registered_source};
 ghost use Rattle.pim_model.specs.State.{iface_count};
 ghost use Rattle.pim_model.specs.Step.{Change, change, decapsulated, iface_up, packet_forwarded};
-ghost use Rattle.pim_router.specs.Naming.{AreNamedBy, HasNoPacket, IsConfigured};
+ghost use Rattle.pim_router.specs.Naming.{HasNoPacket, IsConfigured};
+ghost use Rattle.pim_router.specs.Planning.{HasSomeKeys, HasSomeSight, IsSightOf, Supplies};
 ghost use Rattle.pim_router.specs.Sending.{Sends};
+ghost use Rattle.pim_router.specs.declared.plan.Means.{Means as MeansValue};
 
+use crate::plan::Means;
 use pim_data::{Leaving, arrived, leave};
 use pim_downstream::{Named, to_me};
 use pim_hello::triggered_end;
 use pim_ip::Ipv4View;
-use pim_macros::{SourceSight, StarSight};
+use pim_macros::SourceSight;
 use pim_model::Accepted;
 use pim_register::register_seen;
 use pim_types::IfaceId;
@@ -43,14 +46,13 @@ fn forward(
     turn: &mut Turn,
     iface: IfaceId,
     packet: &Ipv4View<'_>,
+    sight: SourceSight,
 ) -> Result<Leaving, AllocError>
-    requires { iface.number < 120 }
+    requires below { iface.number < 120 }
+    requires sight { IsSightOf world.old packet.now.destination packet.now.source sight }
     ensures { IfOk result (λ leaving. Sends leaving world.new turn.old turn.new (packet_forwarded packet.now
         (forwarded world.old packet.now.destination packet.now.source iface.number))) }
 {
-    let (group, source) = (packet.destination(), packet.source());
-    let star = StarSight::of(world, group, &mut turn.meter);
-    let sight = SourceSight::of(world, star, source, &mut turn.meter);
     let list = arrived(world, turn, iface, sight)?;
     leave(world, turn, packet, list)
 }
@@ -73,28 +75,63 @@ fn decapsulate(
     }
 }
 
-/// Changes the state by what was accepted, and tells what leaves of its packet, if it has one. Where memory is refused,
-/// the state may be changed in part.
+impl Means {
+    // The keys of a Join/Prune.
+    fn keys(&self) -> &Named
+        requires { HasSomeKeys self.now }
+        ensures { self.now ≡ MeansValue.Keys result.now }
+    {
+        match self {
+            Means::Keys(named) => named,
+            Means::Nothing | Means::Sight(_) => unreachable!(),
+        }
+    }
+
+    // The sight of a packet's source.
+    fn sight(&self) -> SourceSight
+        requires { HasSomeSight self.now }
+        ensures { self.now ≡ MeansValue.Sight result }
+    {
+        match self {
+            Means::Sight(sight) => *sight,
+            Means::Nothing | Means::Keys(_) => unreachable!(),
+        }
+    }
+}
+
+/// Changes the state by what was accepted, with the means that were planned for it, and tells what leaves of its packet,
+/// if it has one. Where memory is refused, the state may be changed in part.
 pub(crate) fn apply(
     world: &mut World,
     turn: &mut Turn,
     accepted: &Accepted<'_>,
-    named: &Named,
+    means: &Means,
 ) -> Result<Leaving, AllocError>
     requires configured { IsConfigured world.old accepted.now }
-    requires named { AreNamedBy world.old accepted.now named.now.joined.items named.now.pruned.items }
+    requires means { Supplies world.old accepted.now means.now }
     ensures { IfOk result (λ leaving. Sends leaving world.new turn.old turn.new
         (change world.old turn.old.draw accepted.now)) }
 {
     match accepted {
         Accepted::Data { iface, packet } => {
             // It tells that the interface is below 120.
-            let _ = world.interfaces().count();
-            forward(world, turn, *iface, packet)
+            world.interfaces().recall_few();
+            forward(world, turn, *iface, packet, means.sight())
         }
         Accepted::Register { packet, register } => decapsulate(world, turn, packet, register),
-        _ => {
-            apply_without_packet(world, turn, accepted, named)?;
+        Accepted::Advance { .. }
+        | Accepted::Up { .. }
+        | Accepted::Down { .. }
+        | Accepted::Routes { .. }
+        | Accepted::Rps { .. }
+        | Accepted::Hello { .. }
+        | Accepted::JoinPruneToMe { .. }
+        | Accepted::JoinPruneSeen { .. }
+        | Accepted::Assert { .. }
+        | Accepted::Query { .. }
+        | Accepted::Report { .. }
+        | Accepted::RegisterStop { .. } => {
+            apply_without_packet(world, turn, accepted, means)?;
             Ok(Leaving::nothing(turn.alloc))
         }
     }
@@ -106,11 +143,11 @@ fn apply_without_packet(
     world: &mut World,
     turn: &mut Turn,
     accepted: &Accepted<'_>,
-    named: &Named,
+    means: &Means,
 ) -> Result<(), AllocError>
     requires packetless { HasNoPacket accepted.now }
     requires configured { IsConfigured world.old accepted.now }
-    requires named { AreNamedBy world.old accepted.now named.now.joined.items named.now.pruned.items }
+    requires means { Supplies world.old accepted.now means.now }
     ensures state { OnOk result (world.new ≡ (change world.old turn.old.draw accepted.now).state) }
     ensures messages { OnOk result (turn.new ≡ saying turn.old (change world.old turn.old.draw accepted.now).messages) }
 {
@@ -127,18 +164,18 @@ fn apply_without_packet(
         }
         Accepted::JoinPruneToMe { iface, message } => {
             // It tells that the interface is below 120.
-            let _ = world.interfaces().count();
-            to_me(world, turn, *iface, message.holdtime(), named)
+            world.interfaces().recall_few();
+            to_me(world, turn, *iface, message.holdtime(), means.keys())
         }
         Accepted::JoinPruneSeen { iface, message } => {
-            pim_upstream::seen(world, turn, *iface, message, named)
+            pim_upstream::seen(world, turn, *iface, message, means.keys())
         }
         Accepted::Assert {
             iface,
             from,
             assert,
         } => {
-            let _ = world.interfaces().count();
+            world.interfaces().recall_few();
             pim_asserts::received(world, turn, *iface, *from, assert)
         }
         Accepted::Query { iface, from, query } => {
@@ -146,12 +183,14 @@ fn apply_without_packet(
         }
         Accepted::Report { iface, report } => {
             // It tells that the interface is below 120.
-            let _ = world.interfaces().count();
+            world.interfaces().recall_few();
             pim_querier::report_seen(world, turn, *iface, report)
         }
         Accepted::RegisterStop { stop, .. } => {
             pim_register::stop_seen(world, turn, stop.group, stop.source)
         }
-        _ => Ok(()),
+        // Time passes by itself, in `advance`.
+        Accepted::Advance { .. } => Ok(()),
+        Accepted::Data { .. } | Accepted::Register { .. } => unreachable!(),
     }
 }

@@ -1,25 +1,43 @@
 //! One event: it is judged; what is accepted changes the state, where there is room for its facts.
-ghost use Rattle.std.specs.Prelude.{◌≡◌, [], IfOk, IsOk, IsOkUnless, IsTrue, OnOk, ℕ};
+ghost use Rattle.std.specs.Prelude.{◌≡◌, ◌≤◌, ◌<◌, ◌+◌, ◌*◌, [], IfOk, IsOk, IsOkUnless, IsTrue, Ok, OnOk, length, true, ℕ};
+ghost use Rattle.pim_fanout.specs.Refreshing.{touches};
+ghost use Rattle.pim_fanout.specs.Named.{keys_of};
 ghost use Rattle.pim_ip.specs.declared.fault.Fault.{Fault};
 ghost use Rattle.pim_locality.specs.Rest.{IsAtRest};
+ghost use Rattle.pim_mfc.specs.Laws.{ShowsRows};
+ghost use Rattle.pim_model.specs.Cache.{cached};
 ghost use Rattle.pim_model.specs.declared.accepted.Accepted.{Accepted};
-ghost use Rattle.pim_model.specs.Step.{outcome_of, step, taken, taken_unless_full};
+ghost use Rattle.pim_model.specs.Reach.{where_accepted};
+ghost use Rattle.pim_model.specs.Step.{change, outcome_of, step, taken, taken_unless_full};
 ghost use Rattle.pim_model.specs.Sure.{needs_no_memory};
-ghost use Rattle.pim_router.specs.Naming.{AreNamedBy, IsConfigured};
+ghost use Rattle.pim_reach.specs.Named.{event_named, named_of};
+ghost use Rattle.pim_mfc.specs.Kept.{ForwardsAs, decided};
+ghost use Rattle.pim_model.specs.Plain.{fact_key};
+ghost use Rattle.pim_model.specs.Tables.{has_row};
+ghost use Rattle.pim_router.specs.Costs.{IsCheap, IsWithinPath};
+ghost use Rattle.pim_intake.specs.Memory.{is_frame};
+ghost use Rattle.pim_ip.specs.Ipv4.{Packet};
+ghost use Rattle.pim_model.specs.Judging.{judged};
+ghost use Rattle.pim_types.specs.declared.config.IfaceId.{IfaceId as IfaceValue};
+ghost use Rattle.pim_router.specs.Naming.{IsConfigured};
+ghost use Rattle.pim_router.specs.Planning.{Fits};
+ghost use Rattle.pim_router.specs.Settling.{AreNames};
 ghost use Rattle.pim_router.specs.Stops.{stop_outcome};
 
 use crate::change::apply;
-use crate::named::{is_full, named_by};
-use crate::settle::settle_change;
+use crate::plain::take_plain;
+use crate::plan::{Plan, planned};
+use crate::settle::settle;
 use crate::time::advance;
-use crate::touched::touched_by;
 use pim_data::Leaving;
-use pim_downstream::Named;
+use pim_fanout::{Before, Cache, SourceName};
 use pim_intake::judge;
+use pim_ip::Ipv4View;
+use pim_mfc::Forward;
 use pim_model::Accepted;
 use pim_opening::Opening;
 use pim_trie::Meter;
-use pim_types::{Event, Fault, Outcome, Refusal, Series, Stop, Verdict};
+use pim_types::{Event, Fault, IfaceId, Outcome, Refusal, Series, Stop, Verdict};
 use pim_world::{Turn, World};
 use std::alloc::Global;
 use std::mem::replace;
@@ -39,116 +57,259 @@ fn stopped(alloc: Global, stop: Stop) -> Outcome
     }
 }
 
+// What became of an event, and the sources whose rows of the forwarding cache are to be made anew.
+#[derive(Drop)]
+struct Changed {
+    outcome: Outcome,
+    names: Series<SourceName>,
+}
+
 // What there is room for, but for time that passes: its own change, what follows of it, and last the packets that go on.
-fn take_change(
+fn change_world(
     world: &mut World,
     turn: &mut Turn,
     accepted: &Accepted<'_>,
-    named: &Named,
-) -> Result<Outcome, Fault>
+    plan: &Plan,
+) -> Result<Changed, Fault>
     requires timeless { (moment : ℕ) → ¬ (accepted.now ≡ Accepted.Advance moment) }
     requires rest { IsAtRest world.old }
     requires begun { turn.old.messages ≡ [] }
     requires configured { IsConfigured world.old accepted.now }
-    requires named { AreNamedBy world.old accepted.now named.now.joined.items named.now.pruned.items }
-    ensures outcome { IfOk result (λ outcome. outcome ≡ outcome_of (taken world.old turn.old.draw accepted.now)) }
+    requires plan { Fits world.old accepted.now plan.now }
+    ensures outcome { IfOk result (λ changed. changed.outcome ≡ outcome_of (taken world.old turn.old.draw accepted.now)) }
     ensures state { OnOk result (world.new ≡ (taken world.old turn.old.draw accepted.now).state) }
+    ensures names { IfOk result (λ changed. AreNames world.old (change world.old turn.old.draw accepted.now).state
+        (keys_of changed.names)) }
     ensures fault { IsOkUnless result Fault.Memory }
 {
-    let touched = touched_by(world, turn, accepted, named)?;
-    let opening = Opening::of(world, turn, &touched)?;
+    let opening = Opening::of(world, turn, &plan.touched)?;
+    let before = Before::of(world, turn, &plan.touched)?;
     let Leaving {
         mut copies,
         mut registered,
-    } = apply(world, turn, accepted, named)?;
+    } = apply(world, turn, accepted, &plan.means)?;
     // It tells that asserts, sources and registers are under keys of their kind.
-    world.are_keyed();
+    world.recall_keyed();
     let count = copies.len() as u32;
-    let mut emissions = settle_change(world, turn, &opening)?;
+    let mut emissions = Vec::new(turn.alloc);
+    let names = settle(world, turn, &opening, &before, &mut emissions)?;
     emissions.append(&mut copies)?;
     emissions.append(&mut registered)?;
-    Ok(Outcome {
+    let outcome = Outcome {
         answer: Ok(Verdict::Done),
         emissions: Series::from_vec(emissions),
         copies: count,
-    })
+    };
+    Ok(Changed { outcome, names })
 }
 
-// What there is room for.
-#[tactic(auto, unfolding(pim_model::specs::Step::taken))]
-fn take(
+// The same, and then the rows of the named sources.
+fn take_change(
     world: &mut World,
+    cache: &mut Cache,
     turn: &mut Turn,
     accepted: &Accepted<'_>,
-    named: &Named,
+    plan: &Plan,
 ) -> Result<Outcome, Fault>
+    requires timeless { (moment : ℕ) → ¬ (accepted.now ≡ Accepted.Advance moment) }
     requires rest { IsAtRest world.old }
+    requires shown { ShowsRows cache.old.mfc.rows (cached world.old) }
     requires begun { turn.old.messages ≡ [] }
     requires configured { IsConfigured world.old accepted.now }
-    requires named { AreNamedBy world.old accepted.now named.now.joined.items named.now.pruned.items }
+    requires plan { Fits world.old accepted.now plan.now }
     ensures outcome { IfOk result (λ outcome. outcome ≡ outcome_of (taken world.old turn.old.draw accepted.now)) }
     ensures state { OnOk result (world.new ≡ (taken world.old turn.old.draw accepted.now).state) }
+    ensures shown { OnOk result (ShowsRows cache.new.mfc.rows (cached world.new)) }
+    ensures few { OnOk result (touches cache.new
+        ≤ touches cache.old + 2 * length (named_of world.old turn.old.draw accepted.now)) }
     ensures fault { IsOkUnless result Fault.Memory }
 {
-    match accepted {
-        Accepted::Advance { moment } => advance(world, turn, *moment),
-        _ => take_change(world, turn, accepted, named),
-    }
+    // It tells that there are at most 120 interfaces.
+    world.interfaces().recall_few();
+    let Changed { outcome, names } = change_world(world, turn, accepted, plan)?;
+    cache.refresh(world, &mut turn.meter, names.as_slice())?;
+    Ok(outcome)
 }
 
-// What was accepted: it is refused where there is no room.
-#[tactic(auto, unfolding(pim_model::specs::Step::taken_unless_full))]
+// What was accepted. Time needs no plan, since each timer's end has its own; any other event is refused where there is
+// no room for what it names.
 fn take_unless_full(
     world: &mut World,
+    cache: &mut Cache,
     turn: &mut Turn,
     accepted: &Accepted<'_>,
 ) -> Result<Outcome, Fault>
     requires rest { IsAtRest world.old }
+    requires shown { ShowsRows cache.old.mfc.rows (cached world.old) }
     requires begun { turn.old.messages ≡ [] }
     requires configured { IsConfigured world.old accepted.now }
     ensures outcome { IfOk result (λ outcome. outcome ≡ outcome_of (taken_unless_full world.old turn.old.draw accepted.now)) }
     ensures state { OnOk result (world.new ≡ (taken_unless_full world.old turn.old.draw accepted.now).state) }
+    ensures shown { OnOk result (ShowsRows cache.new.mfc.rows (cached world.new)) }
+    ensures few { OnOk result (touches cache.new ≤ touches cache.old
+        + 2 * length (where_accepted world.old (named_of world.old turn.old.draw) (Ok accepted.now))) }
     ensures fault { IsOkUnless result Fault.Memory }
 {
-    let named = named_by(world, turn, accepted)?;
-    if is_full(world, turn, accepted, &named)? {
-        return Ok(stopped(turn.alloc, Stop::Refuse(Refusal::Full)));
+    if let Accepted::Advance { moment } = accepted {
+        return advance(world, cache, turn, *moment);
     }
-    take(world, turn, accepted, &named)
+    match planned(world, turn, accepted)? {
+        Some(plan) => take_change(world, cache, turn, accepted, &plan),
+        None => Ok(stopped(turn.alloc, Stop::Refuse(Refusal::Full))),
+    }
 }
 
-// An event in its turn.
+// What was accepted, in a turn of its own.
 #[tactic(auto, unfolding(pim_model::specs::Step::step))]
-fn take_turn(world: &mut World, turn: &mut Turn, event: &Event) -> Result<Outcome, Fault>
+fn take_turn(
+    alloc: Global,
+    world: &mut World,
+    cache: &mut Cache,
+    event: &Event,
+    accepted: &Accepted<'_>,
+    meter: &mut Meter,
+) -> Result<Outcome, Fault>
     requires rest { IsAtRest world.old }
-    requires begun { turn.old ≡ record { draw = event.now.draw; messages = [] } }
+    requires shown { ShowsRows cache.old.mfc.rows (cached world.old) }
+    requires heard { judged world.old event.now.kind ≡ Ok accepted.now }
     ensures outcome { IfOk result (λ outcome. outcome ≡ outcome_of (step world.old event.now)) }
     ensures state { OnOk result (world.new ≡ (step world.old event.now).state) }
+    ensures shown { OnOk result (ShowsRows cache.new.mfc.rows (cached world.new)) }
+    ensures few { OnOk result (touches cache.new ≤ touches cache.old + 2 * length (event_named world.old event.now)) }
     ensures fault { IsOkUnless result Fault.Memory }
-    ensures sure { IsTrue (needs_no_memory (step world.old event.now).answer) → IsOk result }
 {
-    match judge(turn.alloc, world, event, &mut turn.meter)? {
-        Ok(accepted) => take_unless_full(world, turn, &accepted),
-        Err(stop) => Ok(stopped(turn.alloc, stop)),
+    let mut turn = Turn::new(alloc, event.draw, replace(meter, Meter::new()));
+    let outcome = take_unless_full(world, cache, &mut turn, accepted);
+    *meter = turn.meter;
+    outcome
+}
+
+// What the row of its source decides of a packet of data.
+fn by_row(
+    cache: &Cache,
+    iface: IfaceId,
+    packet: &Ipv4View<'_>,
+    meter: &mut Meter,
+) -> Option<Forward>
+    ensures decided { ForwardsAs result (decided cache.now.mfc packet.now.destination packet.now.source iface.number
+        packet.now.time_to_live) }
+    ensures visited { meter.old ≡ 0 → has_row cache.now.mfc.rows (fact_key packet.now) ≡ true → IsWithinPath meter.new }
+{
+    cache.mfc().forward(
+        packet.destination(),
+        packet.source(),
+        iface,
+        packet.time_to_live(),
+        meter,
+    )
+}
+
+// A packet of data: it goes by the row of its source, where that alone decides it.
+fn take_data(
+    alloc: Global,
+    world: &mut World,
+    cache: &mut Cache,
+    event: &Event,
+    accepted: &Accepted<'_>,
+    iface: IfaceId,
+    packet: &Ipv4View<'_>,
+    meter: &mut Meter,
+) -> Result<Outcome, Fault>
+    requires rest { IsAtRest world.old }
+    requires shown { ShowsRows cache.old.mfc.rows (cached world.old) }
+    requires heard { judged world.old event.now.kind ≡ Ok accepted.now }
+    requires data { accepted.now ≡ Accepted.Data iface packet.now }
+    requires below { iface.number < 120 }
+    requires uncounted { touches cache.old ≡ 0 }
+    requires unvisited { meter.old ≡ 0 }
+    ensures outcome { IfOk result (λ outcome. outcome ≡ outcome_of (step world.old event.now)) }
+    ensures state { OnOk result (world.new ≡ (step world.old event.now).state) }
+    ensures shown { OnOk result (ShowsRows cache.new.mfc.rows (cached world.new)) }
+    ensures cheap { OnOk result (IsCheap world.old event.now meter.new (touches cache.new)) }
+    ensures fault { IsOkUnless result Fault.Memory }
+{
+    match by_row(cache, iface, packet, meter) {
+        Some(forward) => take_plain(alloc, world, packet, forward),
+        None => take_turn(alloc, world, cache, event, accepted, meter),
     }
 }
 
-/// Takes an event. Look-ups raise the meter.
+// What was accepted that is no packet of data.
+fn take_other(
+    alloc: Global,
+    world: &mut World,
+    cache: &mut Cache,
+    event: &Event,
+    accepted: &Accepted<'_>,
+    meter: &mut Meter,
+) -> Result<Outcome, Fault>
+    requires rest { IsAtRest world.old }
+    requires shown { ShowsRows cache.old.mfc.rows (cached world.old) }
+    requires heard { judged world.old event.now.kind ≡ Ok accepted.now }
+    requires other { (i : IfaceValue) (p : Packet) → ¬ (accepted.now ≡ Accepted.Data i p) }
+    requires uncounted { touches cache.old ≡ 0 }
+    ensures outcome { IfOk result (λ outcome. outcome ≡ outcome_of (step world.old event.now)) }
+    ensures state { OnOk result (world.new ≡ (step world.old event.now).state) }
+    ensures shown { OnOk result (ShowsRows cache.new.mfc.rows (cached world.new)) }
+    ensures cheap { OnOk result (IsCheap world.old event.now meter.new (touches cache.new)) }
+    ensures fault { IsOkUnless result Fault.Memory }
+{
+    take_turn(alloc, world, cache, event, accepted, meter)
+}
+
+// What was accepted.
+fn take_accepted(
+    alloc: Global,
+    world: &mut World,
+    cache: &mut Cache,
+    event: &Event,
+    accepted: &Accepted<'_>,
+    meter: &mut Meter,
+) -> Result<Outcome, Fault>
+    requires rest { IsAtRest world.old }
+    requires shown { ShowsRows cache.old.mfc.rows (cached world.old) }
+    requires heard { judged world.old event.now.kind ≡ Ok accepted.now }
+    requires uncounted { touches cache.old ≡ 0 }
+    requires unvisited { is_frame event.now.kind ≡ true → meter.old ≡ 0 }
+    ensures outcome { IfOk result (λ outcome. outcome ≡ outcome_of (step world.old event.now)) }
+    ensures state { OnOk result (world.new ≡ (step world.old event.now).state) }
+    ensures shown { OnOk result (ShowsRows cache.new.mfc.rows (cached world.new)) }
+    ensures cheap { OnOk result (IsCheap world.old event.now meter.new (touches cache.new)) }
+    ensures fault { IsOkUnless result Fault.Memory }
+{
+    match accepted {
+        Accepted::Data { iface, packet } => {
+            // It tells that the interface is below 120.
+            world.interfaces().recall_few();
+            take_data(alloc, world, cache, event, accepted, *iface, packet, meter)
+        }
+        _ => take_other(alloc, world, cache, event, accepted, meter),
+    }
+}
+
+/// Takes an event. Both counts begin anew: the meter's, of the nodes that its look-ups visit, and the cache's.
+#[tactic(auto, unfolding(pim_model::specs::Step::step))]
 pub(crate) fn take_in(
     alloc: Global,
     world: &mut World,
+    cache: &mut Cache,
     event: &Event,
     meter: &mut Meter,
 ) -> Result<Outcome, Fault>
-    requires { IsAtRest world.old }
+    requires rest { IsAtRest world.old }
+    requires shown { ShowsRows cache.old.mfc.rows (cached world.old) }
     ensures outcome { IfOk result (λ outcome. outcome ≡ outcome_of (step world.old event.now)) }
     ensures state { OnOk result (world.new ≡ (step world.old event.now).state) }
     ensures rest { OnOk result (IsAtRest world.new) }
+    ensures shown { OnOk result (ShowsRows cache.new.mfc.rows (cached world.new)) }
+    ensures cheap { OnOk result (IsCheap world.old event.now meter.new (touches cache.new)) }
     ensures fault { IsOkUnless result Fault.Memory }
     ensures sure { IsTrue (needs_no_memory (step world.old event.now).answer) → IsOk result }
 {
-    let mut turn = Turn::new(alloc, event.draw, replace(meter, Meter::new()));
-    let outcome = take_turn(world, &mut turn, event);
-    *meter = turn.meter;
-    outcome
+    meter.reset();
+    cache.reset();
+    match judge(alloc, world, event, meter)? {
+        Ok(accepted) => take_accepted(alloc, world, cache, event, &accepted, meter),
+        Err(stop) => Ok(stopped(alloc, stop)),
+    }
 }

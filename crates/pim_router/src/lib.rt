@@ -3,10 +3,10 @@
 
 pub mod change;
 pub mod event;
-pub mod named;
+mod plain;
+pub mod plan;
 pub mod router;
 pub mod settle;
 pub mod time;
-pub mod touched;
 
 pub use router::Router;

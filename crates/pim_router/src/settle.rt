@@ -1,44 +1,106 @@
 //! What follows of an event's own change.
-ghost use Rattle.std.specs.Prelude.{◌≡◌, ◌++◌, IfOk, IsOkUnless, OnOk};
+ghost use Rattle.std.specs.Prelude.{◌≡◌, ◌++◌, ◌∷◌, [], IfOk, IsOkUnless, OnOk, false};
+ghost use Rattle.pim_fanout.specs.Named.{keys_of};
 ghost use Rattle.pim_ip.specs.declared.fault.Fault.{Fault};
-ghost use Rattle.pim_router.specs.Settling.{settled_by};
+ghost use Rattle.pim_router.specs.Settling.{AreNamed, cleared_by, followed_by, settled_by};
+ghost use Rattle.pim_world.specs.Turns.{saying};
 
-use pim_opening::Opening;
-use pim_types::{Emission, Fault};
+use pim_fanout::{Before, SourceName, named};
+use pim_macros::{SourceSight, StarSight};
+use pim_opening::{GroupOpening, Opening, SourceOpening};
+use pim_types::{Emission, Fault, Series};
 use pim_world::{Turn, World};
+use std::alloc::AllocError;
 
-/// Settles a change, by comparison with the opening: the registers first, then what must go, then what is told
-/// upstream; then the packets of all messages go behind the emissions, those of the change first.
+// The registers are settled, then goes what must.
+#[tactic(auto, unfolding(crate::specs::Settling::cleared_by))]
+fn clear(world: &mut World, turn: &mut Turn, opening: &Opening) -> Result<(), AllocError>
+    ensures state { OnOk result (world.new ≡ (cleared_by opening.now world.old).0) }
+    ensures messages { OnOk result (turn.new ≡ saying turn.old (cleared_by opening.now world.old).1) }
+{
+    pim_register::changed(world, turn, opening)?;
+    pim_asserts::clear(world, turn, opening)
+}
+
+// What follows, group after group of the opening. It tells the sources whose rows of the forwarding cache are to be made
+// anew, which are asked between clearing and telling.
+#[tactic(auto, unfolding(crate::specs::Settling::followed_by))]
+fn follow_all(
+    world: &mut World,
+    turn: &mut Turn,
+    opening: &Opening,
+    before: &Before,
+) -> Result<Series<SourceName>, AllocError>
+    ensures state { OnOk result (world.new ≡ (followed_by opening.now world.old turn.old.draw).0) }
+    ensures messages { OnOk result (turn.new ≡ saying turn.old (followed_by opening.now world.old turn.old.draw).1) }
+    ensures named { IfOk result (λ names. AreNamed before.now (cleared_by opening.now world.old).0 (keys_of names)) }
+{
+    clear(world, turn, opening)?;
+    let names = named(world, turn, before)?;
+    pim_upstream::changed(world, turn, opening)?;
+    Ok(names)
+}
+
+// What follows where one source alone was opened: its sight is gathered once, and kept up to date by what goes.
+#[tactic(auto, unfolding(crate::specs::Settling::followed_by))]
+fn follow_source(
+    world: &mut World,
+    turn: &mut Turn,
+    group: &GroupOpening,
+    opened: SourceOpening,
+    before: &Before,
+) -> Result<Series<SourceName>, AllocError>
+    requires whole { group.now.is_whole ≡ false }
+    requires alone { group.now.sources ≡ opened ∷ [] }
+    ensures state { OnOk result (world.new ≡ (followed_by (group.now ∷ []) world.old turn.old.draw).0) }
+    ensures messages { OnOk result (turn.new
+        ≡ saying turn.old (followed_by (group.now ∷ []) world.old turn.old.draw).1) }
+    ensures named { IfOk result (λ names. AreNamed before.now (cleared_by (group.now ∷ []) world.old).0 (keys_of names)) }
+{
+    let star = StarSight::of(world, group.group, &mut turn.meter);
+    let mut sight = SourceSight::of(world, star, opened.source, &mut turn.meter);
+    pim_register::settle_register(world, &mut sight)?;
+    pim_asserts::clear_alone(world, turn, group, opened, &mut sight)?;
+    let names = named(world, turn, before)?;
+    pim_upstream::changed_alone(world, turn, group, opened, &sight)?;
+    Ok(names)
+}
+
+// What follows, by comparison with the opening: the registers first, then what must go, then what is told upstream.
+fn follow(
+    world: &mut World,
+    turn: &mut Turn,
+    opening: &Opening,
+    before: &Before,
+) -> Result<Series<SourceName>, AllocError>
+    ensures state { OnOk result (world.new ≡ (followed_by opening.now world.old turn.old.draw).0) }
+    ensures messages { OnOk result (turn.new ≡ saying turn.old (followed_by opening.now world.old turn.old.draw).1) }
+    ensures named { IfOk result (λ names. AreNamed before.now (cleared_by opening.now world.old).0 (keys_of names)) }
+{
+    match opening.only_source() {
+        Some((group, opened)) => follow_source(world, turn, group, opened, before),
+        None => follow_all(world, turn, opening, before),
+    }
+}
+
+/// Settles a change: what follows of it, and then the packets of all messages, which go behind the emissions, those of
+/// the change first. It tells the sources whose rows of the forwarding cache are to be made anew.
 #[tactic(auto, unfolding(crate::specs::Settling::settled_by))]
 pub(crate) fn settle(
     world: &mut World,
     turn: &mut Turn,
     opening: &Opening,
+    before: &Before,
     emissions: &mut Vec<Emission>,
-) -> Result<(), Fault>
+) -> Result<Series<SourceName>, Fault>
     ensures state { OnOk result (world.new ≡ (settled_by opening.now world.old turn.old.messages turn.old.draw).0) }
     ensures sent { OnOk result (emissions.new.items ≡ emissions.old.items
         ++ (settled_by opening.now world.old turn.old.messages turn.old.draw).1) }
+    ensures named { IfOk result (λ names. AreNamed before.now (cleared_by opening.now world.old).0 (keys_of names)) }
     ensures draw { OnOk result (turn.new.draw ≡ turn.old.draw) }
     ensures fault { IsOkUnless result Fault.Memory }
 {
-    pim_register::changed(world, turn, opening)?;
-    pim_asserts::clear(world, turn, opening)?;
-    pim_upstream::changed(world, turn, opening)?;
-    world.write(&turn.out, emissions)
-}
-
-/// The same, with the packets of this change alone.
-pub(crate) fn settle_change(
-    world: &mut World,
-    turn: &mut Turn,
-    opening: &Opening,
-) -> Result<Vec<Emission>, Fault>
-    ensures state { OnOk result (world.new ≡ (settled_by opening.now world.old turn.old.messages turn.old.draw).0) }
-    ensures sent { IfOk result (λ sent. sent.items ≡ (settled_by opening.now world.old turn.old.messages turn.old.draw).1) }
-    ensures fault { IsOkUnless result Fault.Memory }
-{
-    let mut emissions = Vec::new(turn.alloc);
-    settle(world, turn, opening, &mut emissions)?;
-    Ok(emissions)
+    let names = follow(world, turn, opening, before)?;
+    world.write(&turn.out, emissions)?;
+    Ok(names)
 }

@@ -1,7 +1,14 @@
 //! Time that passes: timers end one after the other, and what follows of each end is settled before the next one.
-ghost use Rattle.std.specs.Prelude.{◌≡◌, ◌≤◌, ◌^◌, ◌++◌, [], IfOk, IsOkUnless, OnOk, option_map, true};
+ghost use Rattle.std.specs.Prelude.{◌≡◌, ◌≤◌, ◌+◌, ◌*◌, ◌^◌, ◌++◌, [], IfOk, IsOkUnless, OnOk, length, option_map, true};
+ghost use Rattle.pim_fanout.specs.Refreshing.{touches};
+ghost use Rattle.pim_fanout.specs.Named.{keys_of};
 ghost use Rattle.pim_ip.specs.declared.fault.Fault.{Fault};
 ghost use Rattle.pim_laws.specs.Laws.{IsReady, ends_from};
+ghost use Rattle.pim_mfc.specs.Laws.{ShowsRows};
+ghost use Rattle.pim_model.specs.Cache.{cached};
+ghost use Rattle.pim_model.specs.Reach.{own_firing, told_all, told_instant};
+ghost use Rattle.pim_reach.specs.Named.{named_by};
+ghost use Rattle.pim_router.specs.Settling.{AreNames};
 ghost use Rattle.pim_locality.specs.Locality.{IsQuiet};
 ghost use Rattle.pim_locality.specs.Rest.{IsAtRest};
 ghost use Rattle.pim_world.specs.Turns.{saying};
@@ -13,6 +20,7 @@ ghost use Rattle.pim_router.specs.Ends.{ending_of, touched_by_end};
 ghost use Rattle.pim_tables.specs.Ends.{due_of};
 
 use crate::settle::settle;
+use pim_fanout::{Before, Cache, SourceName};
 use pim_messages::Outbox;
 use pim_opening::Opening;
 use pim_types::{Emission, Fault, Key, Outcome, Series, Timer, TimerKind, Verdict};
@@ -39,7 +47,13 @@ fn touched_by_end(alloc: Global, timer: Timer) -> Result<Touched, AllocError>
         | TimerKind::Keepalive
         | TimerKind::Register => timer.key,
         TimerKind::GroupRecord | TimerKind::SourceRecord => Key::group(timer.key.group),
-        _ => return Ok(Touched::Keys(Series::new(alloc))),
+        TimerKind::Hello
+        | TimerKind::Override
+        | TimerKind::Join
+        | TimerKind::OtherQuerier
+        | TimerKind::GroupRepeat
+        | TimerKind::SourceRepeat
+        | TimerKind::GeneralQuery => return Ok(Touched::Keys(Series::new(alloc))),
     };
     let mut keys = Vec::new(alloc);
     keys.push(key)?;
@@ -71,13 +85,14 @@ fn fired(world: &mut World, turn: &mut Turn, timer: Timer) -> Result<(), AllocEr
     }
 }
 
-// The end of a timer at its moment, with what follows of it.
-fn fire_in_turn(
+// The end of a timer at its moment, with what follows of it. It tells the sources whose rows of the forwarding cache are to
+// be made anew.
+fn fire_world(
     world: &mut World,
     turn: &mut Turn,
     due: (u64, Timer),
     emissions: &mut Vec<Emission>,
-) -> Result<(), Fault>
+) -> Result<Series<SourceName>, Fault>
     requires lawful { IsLawful world.old }
     requires quiet { IsQuiet world.old }
     requires begun { turn.old.messages ≡ [] }
@@ -85,57 +100,73 @@ fn fire_in_turn(
     ensures state { OnOk result (world.new ≡ (fire_once turn.old.draw world.old (ending_of due)).0) }
     ensures sent { OnOk result (emissions.new.items
         ≡ emissions.old.items ++ (fire_once turn.old.draw world.old (ending_of due)).1) }
+    ensures names { IfOk result (λ names. AreNames world.old (own_firing world.old (ending_of due)) (keys_of names)) }
     ensures draw { OnOk result (turn.new.draw ≡ turn.old.draw) }
     ensures fault { IsOkUnless result Fault.Memory }
 {
     let touched = touched_by_end(turn.alloc, due.1)?;
     let opening = Opening::of(world, turn, &touched)?;
+    let before = Before::of(world, turn, &touched)?;
     world.set_present(due.0);
     fired(world, turn, due.1)?;
     // It tells that asserts, sources and registers are under keys of their kind.
-    world.are_keyed();
-    settle(world, turn, &opening, emissions)
+    world.recall_keyed();
+    settle(world, turn, &opening, &before, emissions)
 }
 
-// The same, whatever was sent in the turn before.
+// The same, and then the rows of the named sources; whatever was sent in the turn before.
 fn fire_once(
     world: &mut World,
+    cache: &mut Cache,
     turn: &mut Turn,
     due: (u64, Timer),
     emissions: &mut Vec<Emission>,
 ) -> Result<(), Fault>
     requires lawful { IsLawful world.old }
     requires quiet { IsQuiet world.old }
+    requires shown { ShowsRows cache.old.mfc.rows (cached world.old) }
     requires within { due.0 ≤ 2 ^ 62 }
     ensures state { OnOk result (world.new ≡ (fire_once turn.old.draw world.old (ending_of due)).0) }
     ensures sent { OnOk result (emissions.new.items
         ≡ emissions.old.items ++ (fire_once turn.old.draw world.old (ending_of due)).1) }
+    ensures shown { OnOk result (ShowsRows cache.new.mfc.rows (cached world.new)) }
+    ensures few { OnOk result (touches cache.new
+        ≤ touches cache.old + 2 * length (named_by world.old (own_firing world.old (ending_of due)))) }
     ensures draw { OnOk result (turn.new.draw ≡ turn.old.draw) }
     ensures fault { IsOkUnless result Fault.Memory }
 {
+    // It tells that there are at most 120 interfaces.
+    world.interfaces().recall_few();
     turn.out = Outbox::new(turn.alloc);
-    fire_in_turn(world, turn, due, emissions)
+    let names = fire_world(world, turn, due, emissions)?;
+    cache.refresh(world, &mut turn.meter, names.as_slice())?;
+    Ok(())
 }
 
 // All that is due at the moment of a timer's end.
 fn fire_instant(
     world: &mut World,
+    cache: &mut Cache,
     turn: &mut Turn,
     first: (u64, Timer),
     emissions: &mut Vec<Emission>,
 ) -> Result<(), Fault>
     requires lawful { IsLawful world.old }
     requires quiet { IsQuiet world.old }
+    requires shown { ShowsRows cache.old.mfc.rows (cached world.old) }
     requires from { ends_from first.0 world.old ≡ true }
     requires within { first.0 ≤ 2 ^ 62 }
     ensures state { OnOk result (world.new ≡ (fire_instant turn.old.draw world.old (ending_of first)).0) }
     ensures sent { OnOk result (emissions.new.items
         ≡ emissions.old.items ++ (fire_instant turn.old.draw world.old (ending_of first)).1) }
+    ensures shown { OnOk result (ShowsRows cache.new.mfc.rows (cached world.new)) }
+    ensures few { OnOk result (touches cache.new
+        ≤ touches cache.old + 2 * length (told_instant named_by turn.old.draw world.old (ending_of first)).1) }
     ensures draw { OnOk result (turn.new.draw ≡ turn.old.draw) }
     ensures fault { IsOkUnless result Fault.Memory }
 {
     'firings: while let Some(due) = next_due(world, first.0) {
-        fire_once(world, turn, due, emissions)?;
+        fire_once(world, cache, turn, due, emissions)?;
     }
     Ok(())
 }
@@ -143,36 +174,52 @@ fn fire_instant(
 // Instant after instant, all that is due by the moment.
 fn fire_all(
     world: &mut World,
+    cache: &mut Cache,
     turn: &mut Turn,
     moment: u64,
     emissions: &mut Vec<Emission>,
 ) -> Result<(), Fault>
     requires lawful { IsLawful world.old }
     requires quiet { IsQuiet world.old }
+    requires shown { ShowsRows cache.old.mfc.rows (cached world.old) }
     requires ready { IsReady world.old.present world.old }
     requires within { moment ≤ 2 ^ 62 }
     ensures state { OnOk result (world.new ≡ (fire_all turn.old.draw moment world.old).0) }
     ensures sent { OnOk result (emissions.new.items
         ≡ emissions.old.items ++ (fire_all turn.old.draw moment world.old).1) }
+    ensures shown { OnOk result (ShowsRows cache.new.mfc.rows (cached world.new)) }
+    ensures few { OnOk result (touches cache.new
+        ≤ touches cache.old + 2 * length (told_all named_by turn.old.draw moment world.old).1) }
     ensures fault { IsOkUnless result Fault.Memory }
 {
     'instants: while let Some(first) = next_due(world, moment) {
-        fire_instant(world, turn, first, emissions)?;
+        fire_instant(world, cache, turn, first, emissions)?;
     }
     Ok(())
 }
 
 /// Time passes until the moment (ms): all that is due by then ends in its order.
-#[tactic(auto, unfolding(pim_model::specs::Step::advanced))]
-pub(crate) fn advance(world: &mut World, turn: &mut Turn, moment: u64) -> Result<Outcome, Fault>
+#[tactic(auto, unfolding(pim_model::specs::Step::advanced, pim_reach::specs::Named::named_of))]
+pub(crate) fn advance(
+    world: &mut World,
+    cache: &mut Cache,
+    turn: &mut Turn,
+    moment: u64,
+) -> Result<Outcome, Fault>
     requires rest { IsAtRest world.old }
+    requires shown { ShowsRows cache.old.mfc.rows (cached world.old) }
     requires within { moment ≤ 2 ^ 62 }
     ensures outcome { IfOk result (λ outcome. outcome ≡ outcome_of (advanced world.old turn.old.draw moment)) }
     ensures state { OnOk result (world.new ≡ (advanced world.old turn.old.draw moment).state) }
+    ensures shown { OnOk result (ShowsRows cache.new.mfc.rows (cached world.new)) }
+    ensures few { OnOk result (touches cache.new
+        ≤ touches cache.old + 2 * length (told_all named_by turn.old.draw moment world.old).1) }
     ensures fault { IsOkUnless result Fault.Memory }
 {
     let mut emissions = Vec::new(turn.alloc);
-    fire_all(world, turn, moment, &mut emissions)?;
+    fire_all(world, cache, turn, moment, &mut emissions)?;
+    // It tells that there are at most 120 interfaces.
+    world.interfaces().recall_few();
     world.set_present(moment);
     Ok(Outcome {
         answer: Ok(Verdict::Done),

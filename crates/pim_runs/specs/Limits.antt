@@ -13,7 +13,7 @@ use Rattle.pim_model.specs.State.{State}
 use Rattle.pim_model.specs.Step.{run, state_after}
 use Rattle.pim_types.specs.Keys.{source_key}
 use Rattle.pim_runs.specs.Base.{base, group, opened_with, source}
-use Rattle.pim_runs.specs.Packets.{assert_source_equal, assert_source_on_1, copy_on_1, hello_on_0, hello_on_1, hello_on_2, join_source, join_source_6, join_star, join_star_of_group_3_up, packet, packet_6, prune_source_up, to_exclude_group_2, to_exclude_group_3, to_exclude_groups_3_and_4}
+use Rattle.pim_runs.specs.Packets.{assert_source_equal, assert_source_infinite, assert_source_on_1, copy_on_1, hello_on_0, hello_on_1, hello_on_2, join_source, join_source_6, join_star, join_star_of_group_3_up, packet, packet_6, prune_source_up, to_exclude_group_2, to_exclude_group_3, to_exclude_groups_3_and_4}
 use Rattle.pim_runs.specs.Words.{address, advance, done, done_with_copies, frame, refused}
 
 -- the base after its opening, under a limit on facts
@@ -70,3 +70,14 @@ AssertOfDataPassesTheLimit =
     × (counted (state_after (limited_to 4) looped) ≡ 5)
     × (rows (state_after (limited_to 4) (looped ++ frame 1 assert_source_equal ∷ [])) Table.Asserts
     ≡ Row.Assert (source_key 1 group source) AssertRole.Loser (addr (address 10 0 1 2)) 180000 ∷ [])
+
+-- From NoInfo an Assert with R set makes the router the winner where it forwards the source (RFC 7761, section 4.6.1). An
+-- infinite one has R set and is made without room, so it makes an assert beyond the limit. Another Join is refused.
+abbrev pub InfiniteAssertPassesTheLimit : Type 0
+InfiniteAssertPassesTheLimit =
+    (run (state_after (limited_to 4) joined_and_sent)
+    (frame 1 assert_source_infinite ∷ frame 1 join_source_6 ∷ frame 1 assert_source_equal ∷ [])
+    ≡ done (hello_on_1 ∷ assert_source_on_1 ∷ []) ∷ refused Refusal.Full ∷ done (prune_source_up ∷ []) ∷ [])
+    × (counted (state_after (limited_to 4) (joined_and_sent ++ frame 1 assert_source_infinite ∷ [])) ≡ 5)
+    × (rows (state_after (limited_to 4) (joined_and_sent ++ frame 1 assert_source_infinite ∷ [])) Table.Asserts
+    ≡ Row.Assert (source_key 1 group source) AssertRole.Winner (addr (address 10 0 1 1)) 177000 ∷ [])

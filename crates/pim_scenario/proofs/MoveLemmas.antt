@@ -1,14 +1,14 @@
 -- Moves go by the names of the routers alone.
 use Rattle.std.proofs.Common.{inl, inr, ◌≡◌, ℕ, Bool, List, [], ◌∷◌, map, codes, Option, Some, None, sym, ap, refl, ◌∙◌}
-use Rattle.std.specs.List.{AllZip, list_any, position}
+use Rattle.std.specs.List.{AllZip, position}
 use Rattle.std.specs.Prelude.{string_bytes, option_and_then}
 use Rattle.std.specs.Str.{bytes_eq}
 use Rattle.toml.specs.Data.{Data, Members, as_table}
 use Rattle.pim_types.specs.declared.config.Route.{Route}
 use Rattle.pim_types.specs.declared.config.RpRange.{RpRange}
 use Rattle.pim_types.specs.declared.event.EventKind.{EventKind}
-use Rattle.pim_scenario.specs.declared.scenario.Move.{Move}
-use Rattle.pim_scenario.specs.declared.scenario.Move.TheVariants.{Event, Deliver, Carry}
+use Rattle.pim_scenario.specs.declared.scenario.ScenarioMove.{ScenarioMove}
+use Rattle.pim_scenario.specs.declared.scenario.ScenarioMove.TheVariants.{Event, Deliver, Carry}
 use Rattle.pim_scenario.specs.declared.scenario.RouterText.{RouterText}
 use Rattle.pim_scenario.specs.declared.scenario.Scenario.{Scenario}
 use Rattle.pim_scenario.specs.Fields.{text_at, list_at, list_or_empty}
@@ -16,15 +16,9 @@ use Rattle.pim_scenario.specs.Scenario.{AreRouteWords, AreRouters, AreRpWords, I
 use Rattle.pim_scenario.proofs.LinkLemmas.{position-map}
 use Rattle.pim_scenario.proofs.ReadLemmas.{the_same, zip_weaker}
 
-pub kind_of : (routers : List RouterText) (ms : Members) (m : Move) → IsEvent routers ms m → (k : EventKind) × IsKind ms k
+pub kind_of : (routers : List RouterText) (ms : Members) (m : ScenarioMove) → IsEvent routers ms m → (k : EventKind) × IsKind ms k
 kind_of routers ms (Event router e) is = (e.kind, is.2)
 kind_of routers ms m is = absurd is
-
--- the names of what happens to a router
-is_event_name : List ℕ → Bool
-is_event_name name =
-    list_any (λ k. bytes_eq k name)
-    (codes "advance" ∷ codes "up" ∷ codes "down" ∷ codes "routes" ∷ codes "rps" ∷ codes "frame" ∷ codes "unicast" ∷ [])
 
 -- the list of a move that replaces routes, or RP ranges
 pub routes_of : (ms : Members) (ds : List Data) → Some ds ≡ list_at (codes "list") ms → (kind : EventKind)
@@ -73,35 +67,35 @@ placed rs ss same None = refl
 placed rs ss same (Some name) = same name
 
 moved_event : (rs ss : List RouterText) → ((name : List ℕ) → place_of rs name ≡ place_of ss name)
-    → (ms : Members) (m : Move) → IsEvent ss ms m → IsEvent rs ms m
+    → (ms : Members) (m : ScenarioMove) → IsEvent ss ms m → IsEvent rs ms m
 moved_event rs ss same ms (Event router e) is = (placed rs ss same (text_at (codes "router") ms) ∙ is.0, is.1, is.2)
 moved_event rs ss same ms m is = absurd is
 
 moved_deliver : (rs ss : List RouterText) → ((name : List ℕ) → place_of rs name ≡ place_of ss name)
-    → (ms : Members) (m : Move) → IsDeliver ss ms m → IsDeliver rs ms m
+    → (ms : Members) (m : ScenarioMove) → IsDeliver ss ms m → IsDeliver rs ms m
 moved_deliver rs ss same ms (Deliver router iface frame draw) is =
     (is.0, placed rs ss same (text_at (codes "router") ms) ∙ is.1, is.2, is.3, is.4)
 moved_deliver rs ss same ms m is = absurd is
 
 moved_carry : (rs ss : List RouterText) → ((name : List ℕ) → place_of rs name ≡ place_of ss name)
-    → (ms : Members) (m : Move) → IsCarry ss ms m → IsCarry rs ms m
+    → (ms : Members) (m : ScenarioMove) → IsCarry ss ms m → IsCarry rs ms m
 moved_carry rs ss same ms (Carry router frame draw) is =
     (is.0, placed rs ss same (text_at (codes "router") ms) ∙ is.1, is.2, is.3)
 moved_carry rs ss same ms m is = absurd is
 
 moved : (rs ss : List RouterText) → ((name : List ℕ) → place_of rs name ≡ place_of ss name)
-    → (ms : Members) (m : Move) → IsMove ss ms m → IsMove rs ms m
+    → (ms : Members) (m : ScenarioMove) → IsMove ss ms m → IsMove rs ms m
 moved rs ss same ms m (inl is) = inl (is.0, moved_deliver rs ss same ms m is.1)
 moved rs ss same ms m (inr (inl is)) = inr (inl (is.0, moved_carry rs ss same ms m is.1))
 moved rs ss same ms m (inr (inr (inl is))) = inr (inr (inl is))
 moved rs ss same ms m (inr (inr (inr is))) = inr (inr (inr (moved_event rs ss same ms m is)))
 
 moved_table : (rs ss : List RouterText) → ((name : List ℕ) → place_of rs name ≡ place_of ss name)
-    → (d : Data) (m : Move) → IsTable (IsMove ss) d m → IsTable (IsMove rs) d m
+    → (d : Data) (m : ScenarioMove) → IsTable (IsMove ss) d m → IsTable (IsMove rs) d m
 moved_table rs ss same d m is = (is.0, is.1, moved rs ss same is.0 m is.2)
 
 -- the moves of routers that the same tables describe
-pub moves_for : (ds es : List Data) (rs ss : List RouterText) (ms : List Move)
+pub moves_for : (ds es : List Data) (rs ss : List RouterText) (ms : List ScenarioMove)
     → AllZip (IsTable IsRouter) ds rs → AllZip (IsTable IsRouter) ds ss
     → AllZip (IsTable (IsMove ss)) es ms → AllZip (IsTable (IsMove rs)) es ms
 moves_for ds es rs ss ms a b all =
@@ -110,7 +104,7 @@ moves_for ds es rs ss ms a b all =
 
 pub moves_of : (ms : Members) (ds es : List Data) (rs : List RouterText)
     → Some ds ≡ list_or_empty (codes "router") ms → Some es ≡ list_or_empty (codes "move") ms → AreRouters ds rs
-    → (s : Scenario) → IsScenario ms s → (moves : List Move) × AllZip (IsTable (IsMove rs)) es moves
+    → (s : Scenario) → IsScenario ms s → (moves : List ScenarioMove) × AllZip (IsTable (IsMove rs)) es moves
 moves_of ms ds es rs at_router at_move read s is =
     let routers : AreRouters ds s.routers =
     rw (the_same (list_or_empty (codes "router") ms) ds is.routers.0 at_router is.routers.1) is.routers.2 in

@@ -15,8 +15,8 @@ use Rattle.pim_types.specs.declared.event.EventKind.{EventKind}
 use Rattle.pim_types.specs.declared.event.EventKind.TheVariants as event
 use Rattle.pim_scenario.specs.declared.scenario.Link.{Link}
 use Rattle.pim_scenario.specs.declared.scenario.RouterText.{RouterText}
-use Rattle.pim_scenario.specs.declared.scenario.Move.{Move}
-use Rattle.pim_scenario.specs.declared.scenario.Move.TheVariants.{Event, Deliver, Carry, Settle}
+use Rattle.pim_scenario.specs.declared.scenario.ScenarioMove.{ScenarioMove}
+use Rattle.pim_scenario.specs.declared.scenario.ScenarioMove.TheVariants.{Event, Deliver, Carry, Settle}
 use Rattle.pim_scenario.specs.declared.scenario.Scenario.{Scenario}
 use Rattle.pim_scenario.specs.Fields.{has_only, text_at, optional_text, number_at, number_or, moment_at, list_at, list_or_empty}
 use Rattle.pim_scenario.specs.Texts.{IsNumberText, IsAddressText, IsPrefixText, hex_of}
@@ -235,30 +235,30 @@ router_at routers ms = option_and_then (place_of routers) (text_at (codes "route
 abbrev pub draw_at : Members → Option ℕ
 draw_at ms = number_or 0 (codes "draw") ms
 
-abbrev pub IsEvent : List RouterText → Members → Move → Type 0
+abbrev pub IsEvent : List RouterText → Members → ScenarioMove → Type 0
 IsEvent routers ms (Event router e) =
     (router_at routers ms ≡ Some router) × (draw_at ms ≡ Some e.draw) × IsKind ms e.kind
 IsEvent routers ms _ = ⊥
 
-abbrev pub IsDeliver : List RouterText → Members → Move → Type 0
+abbrev pub IsDeliver : List RouterText → Members → ScenarioMove → Type 0
 IsDeliver routers ms (Deliver router iface frame draw) =
     (has_only deliver_keys ms ≡ true) × (router_at routers ms ≡ Some router)
     × (number_at (codes "iface") ms ≡ Some iface.number) × (number_at (codes "frame") ms ≡ Some frame)
     × (draw_at ms ≡ Some draw)
 IsDeliver routers ms _ = ⊥
 
-abbrev pub IsCarry : List RouterText → Members → Move → Type 0
+abbrev pub IsCarry : List RouterText → Members → ScenarioMove → Type 0
 IsCarry routers ms (Carry router frame draw) =
     (has_only carry_keys ms ≡ true) × (router_at routers ms ≡ Some router)
     × (number_at (codes "frame") ms ≡ Some frame) × (draw_at ms ≡ Some draw)
 IsCarry routers ms _ = ⊥
 
-abbrev pub IsSettle : Members → Move → Type 0
+abbrev pub IsSettle : Members → ScenarioMove → Type 0
 IsSettle ms (Settle draw) = (has_only settle_keys ms ≡ true) × (draw_at ms ≡ Some draw)
 IsSettle ms _ = ⊥
 
 -- what the scenario asks for, by the name at `do`
-abbrev pub IsMove : List RouterText → Members → Move → Type 0
+abbrev pub IsMove : List RouterText → Members → ScenarioMove → Type 0
 IsMove routers ms m =
     IsNamed (codes "deliver") (IsDeliver routers) ms m
     ⊎ (IsNamed (codes "carry") (IsCarry routers) ms m

@@ -40,7 +40,7 @@ pub struct RouterText {
 /// What a scenario asks for. A router goes by its place among the routers, from 0, and a frame by its number among
 /// all that were ever sent, from 1.
 #[derive(Drop)]
-pub enum Move {
+pub enum ScenarioMove {
     /// Something happens to a router.
     Event {
         router: usize,
@@ -70,7 +70,7 @@ pub enum Move {
 pub struct Scenario {
     /// At most 64, each with a name of its own.
     pub routers: Series<RouterText>,
-    pub moves: Series<Move>,
+    pub moves: Series<ScenarioMove>,
 }
 
 impl Scenario {

@@ -23,7 +23,7 @@ pub struct SourceTrie<V> {
     groups: Trie<Box<Group<V>>>,
 }
 
-// Called at each exit of an owner, where a derived drop would be spelled out and proved anew.
+// Written out, so that it is proved once (docs/PROOF_NOTES.md, Drops).
 impl<V: Drop> Drop for SourceTrie<V> {
     fn drop(self) {
         let SourceTrie {

@@ -20,7 +20,7 @@ pub struct Entries<'a, V> {
     sources: Option<Under<'a, Box<V>>>,
 }
 
-// Called at each exit of an owner, where a derived drop would be spelled out and proved anew.
+// Written out, so that it is proved once (docs/PROOF_NOTES.md, Drops).
 impl<'a, V> Drop for Entries<'a, V> {
     fn drop(self) {
         let Entries {
@@ -91,7 +91,7 @@ pub struct Groups<'a, V> {
     left: Under<'a, Box<Group<V>>>,
 }
 
-// Called at each exit of an owner, where a derived drop would be spelled out and proved anew.
+// Written out, so that it is proved once (docs/PROOF_NOTES.md, Drops).
 impl<'a, V> Drop for Groups<'a, V> {
     fn drop(self) {
         let Groups { left: _ } = self;

@@ -2,6 +2,7 @@ mod Dropped
 mod Empty
 mod Fitting
 mod Indexed
+mod Losses
 mod Lowered
 mod Marked
 mod Places

@@ -4,3 +4,4 @@ pub mod Said
 pub mod Sources
 pub mod Stored
 pub mod Telling
+pub mod Visits

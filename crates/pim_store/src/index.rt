@@ -7,8 +7,8 @@ ghost use Rattle.pim_source_trie.specs.Entries.{entry_key, nodes_visited, raised
 ghost use Rattle.pim_store.specs.Said.{AreEntries, SetsMarks, Writes, is_about, row_says, said, seen, source_bits, tunnel_in};
 ghost use Rattle.pim_store.specs.declared.marks.Mark.{Mark as MarkValue};
 
-use crate::marking::Marking;
 use crate::marks::{Mark, Marks};
+use crate::telling::TellsMarks;
 use pim_ip::Addr;
 use pim_source_trie::{Entries, Groups, Meter, SourceTrie};
 use pim_types::Key;
@@ -34,7 +34,7 @@ impl Model for Index {
 }
 
 // Whether the row says this of the mark; nothing is said where there is no row.
-pub(crate) fn row_says<R: Marking>(row: Option<R>, mark: Mark) -> bool
+pub(crate) fn row_says<R: TellsMarks>(row: Option<R>, mark: Mark) -> bool
     ensures { result ≡ row_says R.tells R.says mark row }
 {
     match row {
@@ -44,7 +44,7 @@ pub(crate) fn row_says<R: Marking>(row: Option<R>, mark: Mark) -> bool
 }
 
 // The marks of the key's group, or of its source, as the row under the key says.
-fn marked<R: Marking>(marks: Marks, key: Key, row: Option<R>) -> Marks
+fn marked<R: TellsMarks>(marks: Marks, key: Key, row: Option<R>) -> Marks
     requires { IsTrue (R.fits key) }
     ensures marks { (x : MarkValue) (i : ℕ)
         → seen x result i ≡ cond (R.tells x && is_about x i key) (row_says R.tells R.says x row) (seen x marks i) }
@@ -138,7 +138,7 @@ impl Index {
     }
 
     // Marks what the row says. An error is want of memory, and then nothing has changed.
-    pub(crate) fn mark<R: Marking>(&mut self, key: Key, row: R) -> Result<(), AllocError>
+    pub(crate) fn mark<R: TellsMarks>(&mut self, key: Key, row: R) -> Result<(), AllocError>
         requires { IsTrue (R.fits key) }
         ensures ok { OnOk result (SetsMarks R.tells R.says self.old self.new key (Some row)) }
         ensures err { OnErr result (self.new ≡ self.old) }
@@ -148,7 +148,7 @@ impl Index {
     }
 
     // Takes the marks away that a row under the key made; it takes no memory.
-    pub(crate) fn unmark<R: Marking>(&mut self, key: Key)
+    pub(crate) fn unmark<R: TellsMarks>(&mut self, key: Key)
         requires { IsTrue (R.fits key) }
         ensures { SetsMarks R.tells R.says self.old self.new key None }
     {

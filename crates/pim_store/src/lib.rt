@@ -2,10 +2,10 @@
 #![tactic(auto)]
 
 mod index;
-mod marking;
 pub mod marks;
 mod rows;
 pub mod store;
+mod telling;
 pub mod walks;
 
 pub use marks::Marks;

@@ -6,13 +6,13 @@ ghost use Rattle.pim_store.specs.Said.{IsTold, KeepsOtherMarks, SetsMarks, is_ab
 ghost use Rattle.pim_store.specs.declared.marks.Mark.{Mark as MarkValue};
 
 use crate::index::Index;
-use crate::marking::Marking;
+use crate::telling::TellsMarks;
 use pim_tables::{Timed, Wheel};
 use pim_types::{IfaceId, Key};
 use std::alloc::AllocError;
 
 // Whether the row says what the one before says, if there was one.
-fn says_alike<R: Marking>(key: Key, before: Option<R>, row: R) -> bool
+fn says_alike<R: TellsMarks>(key: Key, before: Option<R>, row: R) -> bool
     requires { IsTrue (R.fits key) }
     ensures { IsTrue result → (x : MarkValue) (i : ℕ) → (R.tells x && is_about x i key) ≡ true
         → row_says R.tells R.says x (Some row) ≡ row_says R.tells R.says x before }
@@ -32,7 +32,7 @@ fn says_alike<R: Marking>(key: Key, before: Option<R>, row: R) -> bool
 
 // Marks what the row says, unless it says what the one that is there says. An error is want of memory, and then
 // nothing has changed.
-fn mark_row<R: Marking>(
+fn mark_row<R: TellsMarks>(
     rows: &Timed<R, Wheel>,
     index: &mut Index,
     key: Key,
@@ -50,7 +50,7 @@ fn mark_row<R: Marking>(
 }
 
 // Puts the row under the key, in place of one that is there. An error is want of memory.
-pub(crate) fn put_row<R: Marking>(
+pub(crate) fn put_row<R: TellsMarks>(
     rows: &mut Timed<R, Wheel>,
     index: &mut Index,
     key: Key,
@@ -73,7 +73,7 @@ pub(crate) fn put_row<R: Marking>(
 }
 
 // Takes the row under the key away.
-pub(crate) fn remove_row<R: Marking>(rows: &mut Timed<R, Wheel>, index: &mut Index, key: Key)
+pub(crate) fn remove_row<R: TellsMarks>(rows: &mut Timed<R, Wheel>, index: &mut Index, key: Key)
     requires fits { IsTrue (R.fits key) }
     requires told { IsTold R.tells R.says R.fits index.old rows.old }
     ensures removed { rows.new ≡ drop_at rows.old key }
@@ -86,7 +86,7 @@ pub(crate) fn remove_row<R: Marking>(rows: &mut Timed<R, Wheel>, index: &mut Ind
 
 // Puts the row under the key, or takes away the one that is there. An error is want of memory.
 #[tactic(auto, unfolding(pim_model::specs::Tables::set_row))]
-pub(crate) fn set_row<R: Marking>(
+pub(crate) fn set_row<R: TellsMarks>(
     rows: &mut Timed<R, Wheel>,
     index: &mut Index,
     key: Key,
@@ -108,7 +108,7 @@ pub(crate) fn set_row<R: Marking>(
 }
 
 // Where there is a row under the key, puts this one in its place, or takes it away. An error is want of memory.
-pub(crate) fn change_row<R: Marking>(
+pub(crate) fn change_row<R: TellsMarks>(
     rows: &mut Timed<R, Wheel>,
     index: &mut Index,
     key: Key,
@@ -119,8 +119,8 @@ pub(crate) fn change_row<R: Marking>(
     ensures told { IsTold R.tells R.says R.fits index.new rows.new }
     ensures others { KeepsOtherMarks R.tells index.old index.new }
 {
-    // It tells that the keys rise: what is put under a key that is there stands in its place.
-    let _ = rows.len();
+    // What is put under a key that is there stands in its place.
+    rows.recall_rising();
     if !rows.contains(key) {
         return Ok(());
     }
@@ -128,7 +128,7 @@ pub(crate) fn change_row<R: Marking>(
 }
 
 // Takes the row under the key away, if there is one.
-pub(crate) fn drop_row<R: Marking>(rows: &mut Timed<R, Wheel>, index: &mut Index, key: Key)
+pub(crate) fn drop_row<R: TellsMarks>(rows: &mut Timed<R, Wheel>, index: &mut Index, key: Key)
     requires { IsTold R.tells R.says R.fits index.old rows.old }
     ensures dropped { rows.new ≡ drop_at rows.old key }
     ensures told { IsTold R.tells R.says R.fits index.new rows.new }
@@ -140,7 +140,7 @@ pub(crate) fn drop_row<R: Marking>(rows: &mut Timed<R, Wheel>, index: &mut Index
 }
 
 // Takes the marks away that the interface's rows made.
-fn unmark_on<R: Marking>(rows: &Timed<R, Wheel>, index: &mut Index, iface: IfaceId)
+fn unmark_on<R: TellsMarks>(rows: &Timed<R, Wheel>, index: &mut Index, iface: IfaceId)
     requires { IsTold R.tells R.says R.fits index.old rows.now }
     ensures told { IsTold R.tells R.says R.fits index.new (drop_where (is_on iface.number) rows.now) }
     ensures others { KeepsOtherMarks R.tells index.old index.new }
@@ -153,7 +153,7 @@ fn unmark_on<R: Marking>(rows: &Timed<R, Wheel>, index: &mut Index, iface: Iface
 }
 
 // Takes the interface's rows away.
-pub(crate) fn drop_rows_on<R: Marking>(
+pub(crate) fn drop_rows_on<R: TellsMarks>(
     rows: &mut Timed<R, Wheel>,
     index: &mut Index,
     iface: IfaceId,

@@ -42,7 +42,7 @@ pub struct Store {
     index: Index,
 }
 
-// Called at each exit of an owner, where a derived drop would be spelled out and proved anew.
+// Written out, so that it is proved once (docs/PROOF_NOTES.md, Drops).
 impl Drop for Store {
     fn drop(self) {
         let Store {
@@ -341,8 +341,8 @@ impl Store {
         ensures { OnOk result (self.new
             ≡ record self.old { join_timers = change_row (lowered end) key self.old.join_timers }) }
     {
-        // It tells that the keys rise: what is put under a key that is there stands in its place.
-        let _ = self.join_timers.len();
+        // What is put under a key that is there stands in its place.
+        self.join_timers.recall_rising();
         let Some(row) = self.join_timers.get(key) else {
             return Ok(());
         };
@@ -369,8 +369,8 @@ impl Store {
           asserts = filter (λ e. not (is_loser (Some e.1) && same_key e.0 key)) self.old.asserts;
         } }
     {
-        // It tells that the keys rise, so that the key stands once.
-        let _ = self.asserts.len();
+        // The key stands once.
+        self.asserts.recall_rising();
         if row_says(self.asserts.get(key), Mark::Lost) {
             remove_row(&mut self.asserts, &mut self.index, key);
         }
@@ -452,12 +452,12 @@ impl Store {
     }
 
     /// Asserts, sources and registers are under keys of their kind, which rise.
-    pub fn are_keyed(&self)
+    pub fn recall_keyed(&self)
         ensures { AreKeyed self.now }
     {
-        let _ = self.asserts.len();
-        let _ = self.sources.len();
-        let _ = self.registers.len();
+        self.asserts.recall_rising();
+        self.sources.recall_rising();
+        self.registers.recall_rising();
     }
 
     /// How many facts count: the downstream states, the asserts and the sources.

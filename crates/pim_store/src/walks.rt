@@ -14,7 +14,7 @@ pub struct Sources<'a> {
     entries: Entries<'a, Marks>,
 }
 
-// Called at each exit of an owner, where a derived drop would be spelled out and proved anew.
+// Written out, so that it is proved once (docs/PROOF_NOTES.md, Drops).
 impl<'a> Drop for Sources<'a> {
     fn drop(self) {
         let Sources { entries: _ } = self;

@@ -5,7 +5,6 @@ mod GroupKeys
 mod GroupRuns
 mod Joined
 pub mod Lookups
-pub mod Losses
 pub mod Orders
 pub mod Rows
 mod Steps

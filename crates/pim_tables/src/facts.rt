@@ -54,6 +54,13 @@ impl<R> Facts<R> {
         self.rows.len()
     }
 
+    /// The keys rise. It does nothing.
+    pub fn recall_rising(&self)
+        ensures { IsStrictlySortedBy key_cmp (keys_in self.now) }
+    {
+        let _ = &self.rows;
+    }
+
     /// Whether there is no fact.
     pub fn is_empty(&self) -> bool
         ensures { IsTrue result ↔ (self.now ≡ []) }
@@ -101,8 +108,9 @@ impl<R> Facts<R> {
             ++ filter (λ k. is_on iface.number k && k.rpt && list_any (λ a. group_in k == a.bits) groups.now.keys)
             (keys_in self.now)) }
     {
-        // These tell that the keys rise, and the groups.
-        let _ = (self.len(), groups.len());
+        self.recall_rising();
+        // It tells that the groups rise.
+        let _ = groups.len();
         for group in groups {
             push_keys(self.rpt_keys(iface, *group), keys)?;
         }

@@ -21,7 +21,7 @@ pub struct GroupRows<'a, R> {
     left: Range<'a, Key, R>,
 }
 
-// Called at each exit of an owner, where a derived drop would be spelled out and proved anew.
+// Written out, so that it is proved once (docs/PROOF_NOTES.md, Drops).
 impl<'a, R> Drop for GroupRows<'a, R> {
     fn drop(self) {
         let GroupRows {
@@ -82,7 +82,7 @@ pub struct RptKeys<'a, R> {
     rows: GroupRows<'a, R>,
 }
 
-// Called at each exit of an owner, where a derived drop would be spelled out and proved anew.
+// Written out, so that it is proved once (docs/PROOF_NOTES.md, Drops).
 impl<'a, R> Drop for RptKeys<'a, R> {
     fn drop(self) {
         let RptKeys { rows: _ } = self;

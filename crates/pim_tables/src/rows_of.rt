@@ -17,7 +17,7 @@ pub struct RowsOf<'a, R> {
     group: Option<Addr>,
 }
 
-// Called at each exit of an owner, where a derived drop would be spelled out and proved anew.
+// Written out, so that it is proved once (docs/PROOF_NOTES.md, Drops).
 impl<'a, R> Drop for RowsOf<'a, R> {
     fn drop(self) {
         let RowsOf {

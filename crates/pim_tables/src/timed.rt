@@ -31,7 +31,7 @@ pub struct Timed<R: Ends, T: Timers> {
     timers: T,
 }
 
-// Called at each exit of an owner, where a derived drop would be spelled out and proved anew.
+// Written out, so that it is proved once (docs/PROOF_NOTES.md, Drops).
 impl<R: Ends + Drop, T: Timers + Drop> Drop for Timed<R, T> {
     fn drop(self) {
         let Timed { rows: _, timers: _ } = self;
@@ -140,6 +140,13 @@ impl<R: Ends, T: Timers> Timed<R, T> {
         self.rows.len()
     }
 
+    /// The keys rise. It does nothing.
+    pub fn recall_rising(&self)
+        ensures { IsStrictlySortedBy key_cmp (keys_in self.now) }
+    {
+        self.rows.recall_rising();
+    }
+
     /// Whether there is no fact.
     pub fn is_empty(&self) -> bool
         ensures { IsTrue result ↔ (self.now ≡ []) }
@@ -223,8 +230,8 @@ impl<R: Ends, T: Timers> Timed<R, T> {
     pub fn next(&self) -> Option<(u64, Timer)>
         ensures { result ≡ option_map due_of (first_by is_ending_first (row_endings R.kinds R.ends self.now)) }
     {
-        // It tells that the keys rise: a key stands once, so that the timers are all the ends.
-        let _ = self.rows.len();
+        // A key stands once, so that the timers are all the ends.
+        self.rows.recall_rising();
         self.timers.next()
     }
 
@@ -269,8 +276,8 @@ impl<R: Ends, T: Timers> Timed<R, T> {
             → self.new ≡ change_row change key self.old) }
         ensures err { OnErr result (self.new ≡ left_at R.kinds.1 self.old key) }
     {
-        // It tells that the keys rise: what is put under a key that is there stands in its place.
-        let _ = self.len();
+        // What is put under a key that is there stands in its place.
+        self.recall_rising();
         if self.contains(key) {
             self.put(key, row)?;
         }

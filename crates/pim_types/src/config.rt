@@ -9,7 +9,10 @@ pub struct IfaceId {
 }
 
 impl IfaceId {
-    /// What a key of the whole router has in place of an interface.
+    /// What a key of the whole router has in place of an interface. It is the number of interface 0, and no fact can be
+    /// taken for another by it: each table has facts of interfaces alone, or, as Join timers, override timers, sources
+    /// and registers, of the whole router alone. Where keys of both stand in one list, which is what a change touches,
+    /// their groups and sources alone are read.
     pub const NONE: IfaceId = IfaceId { number: 0 };
 }
 
@@ -99,7 +102,7 @@ pub struct Config {
     pub rps: Series<RpRange>,
 }
 
-// Called at each exit of an owner, where a derived drop would be spelled out and proved anew.
+// Written out, so that it is proved once (docs/PROOF_NOTES.md, Drops).
 impl Drop for Config {
     fn drop(self) {
         let Config {

@@ -39,7 +39,7 @@ pub struct Series<T> {
     items: Vec<T>,
 }
 
-// Called at each exit of an owner, where a derived drop would be spelled out and proved anew.
+// Written out, so that it is proved once (docs/PROOF_NOTES.md, Drops).
 impl<T: Drop> Drop for Series<T> {
     fn drop(self) {
         let Series { items: _ } = self;

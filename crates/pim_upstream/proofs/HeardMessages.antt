@@ -1,13 +1,15 @@
 -- What is heard of a message, key by key, is what its entries do to the timers.
 use Rattle.std.proofs.Common.{◌≡◌, ℕ, Bool, true, false, cond, List, [], ◌∷◌, ◌++◌, map, Option, Some, None, refl, ap, sym, ◌∙◌, fold, not, ◌&&◌}
 use Rattle.std.specs.List.{filter}
-use Rattle.std.specs.Prelude.{if◌then◌else◌}
+use Rattle.std.specs.Option.{option_map_or}
+use Rattle.std.specs.Prelude.{if◌then◌else◌, min, option_map}
 use Rattle.std.proofs.lemmas.List.Sums.{fold-append}
 use Rattle.pim_ip.specs.Addr.{addr}
 use Rattle.pim_ip.specs.declared.addr.Addr.{Addr}
 use Rattle.pim_types.specs.declared.config.IfaceId.{IfaceId}
 use Rattle.pim_types.specs.declared.fact.JoinTimerRow.{JoinTimerRow}
 use Rattle.pim_types.specs.declared.fact.Key.{Key}
+use Rattle.pim_types.specs.declared.fact.OverrideTimerRow.{OverrideTimerRow}
 use Rattle.pim_types.specs.declared.path.Hop.{Hop}
 use Rattle.pim_types.specs.Keys.{is_of_group, is_star, source_in, source_key}
 use Rattle.pim_wire.specs.Values.{JoinPrune}
@@ -16,15 +18,39 @@ use Rattle.pim_wire.specs.declared.join_prune.EntryKind.TheVariants.{Star, Sourc
 use Rattle.pim_model.specs.Desires.{rpf_source}
 use Rattle.pim_model.specs.Downstream.{Named, accepted_joins, accepted_prunes, joined_keys, key_by, named_key, pruned_keys}
 use Rattle.pim_model.specs.Messages.{entry}
-use Rattle.pim_model.specs.Seen.{is_star_entry, is_unpruned_towards, join_seen, lower_join_timer, lower_source_timer, lower_tree_timer, override_end, prune_seen, seen, sources_joined_towards, suppressed_end}
+use Rattle.pim_model.specs.Seen.{is_star_entry, is_unpruned_towards, join_seen, cancel_override_timer, lower_join_timer, lower_override_timer, lower_source_timer, lower_tree_timer, override_end, prune_seen, seen, sources_joined_towards, suppressed_end}
 use Rattle.pim_model.specs.State.{State}
-use Rattle.pim_model.specs.Tables.{Table, hop_at, keys_in, same_bool, same_hop}
-use Rattle.pim_upstream.specs.Hearing.{after_all_heard, after_heard, heard_if, heard_in_join, heard_in_joins, heard_in_prunes, heard_of_join, heard_of_prune, heard_of_source, heard_of_timer, heard_of_timers, is_source_towards, is_star_towards, timers_of}
-use Rattle.pim_upstream.specs.declared.heard.Heard.{Heard}
+use Rattle.pim_model.specs.Tables.{Table, hop_at, keys_in, row_at, same_bool, same_hop, set_row}
+use Rattle.pim_model.specs.Upstream.{LowerTo, changed_end, moved_override_timer, with_override_timer}
+use Rattle.pim_upstream.specs.Hearing.{heard_if, heard_in_join, heard_in_joins, heard_in_prunes, heard_of_join, heard_of_prune, heard_of_source, heard_of_timer, heard_of_timers, is_source_towards, is_star_towards, timers_of}
+use Rattle.pim_telling.specs.Changes.{change_of}
+use Rattle.pim_telling.specs.declared.change.Change.{Change}
+use Rattle.pim_upstream.specs.Timers.{after_move, after_moves}
+use Rattle.pim_upstream.specs.declared.timer.TimerMove.{TimerMove}
 use Rattle.pim_upstream.proofs.EntryChanges.{all_entries, passing_entries}
 
-if_heard : (b : Bool) (change : Heard) (s : State)
-    → fold after_heard s (heard_if b change) ≡ (if b then after_heard s change else s)
+-- an override timer that ends at this moment at the latest
+abbrev overriding : ℕ → OverrideTimerRow
+overriding end = record { end = end }
+
+lowered_anew : (end : ℕ) (row : Option OverrideTimerRow)
+    → option_map (λ e. overriding e) (changed_end (LowerTo end) (option_map (λ (r : OverrideTimerRow). r.end) row))
+    ≡ Some (overriding (option_map_or (λ (r : OverrideTimerRow). min r.end end) row end))
+lowered_anew end None = refl
+lowered_anew end (Some r) = refl
+
+overrides : (s : State) (k : Key) (end : ℕ) → with_override_timer s k (LowerTo end) ≡ lower_override_timer s k end
+unfolding with_override_timer moved_override_timer lower_override_timer set_row
+overrides s k end =
+    ap (λ row. record s { override_timers = set_row s.override_timers k row })
+    (lowered_anew end (row_at s.override_timers k))
+
+overrides_if : (b : Bool) (s : State) (k : Key) (end : ℕ)
+    → (if b then with_override_timer s k (LowerTo end) else s) ≡ (if b then lower_override_timer s k end else s)
+overrides_if b s k end = ap (λ (t : State). if b then t else s) (overrides s k end)
+
+if_heard : (b : Bool) (change : TimerMove) (s : State)
+    → fold after_move s (heard_if b change) ≡ (if b then after_move s change else s)
 if_heard true change s = refl
 if_heard false change s = refl
 
@@ -32,16 +58,16 @@ module _ (o : State) (hop : Hop) (i w : ℕ) where
   -- ---- Joins
 
   join_of_kind : (holdtime g address : ℕ) (kind : EntryKind) (s : State)
-      → fold after_heard s
+      → fold after_move s
       (heard_in_join o hop (suppressed_end o hop.iface.number w holdtime) (key_by i g address kind))
       ≡ join_seen o holdtime w hop s (g, entry kind address)
-  unfolding heard_of_join after_heard join_seen
+  unfolding heard_of_join after_move change_of with_override_timer moved_override_timer cancel_override_timer set_row join_seen
   join_of_kind holdtime g address Star s = if_heard (is_star_towards o hop g) _ s
   join_of_kind holdtime g address Source s = if_heard (is_source_towards o hop g address) _ s
   join_of_kind holdtime g address SourceRpt s = if_heard (is_unpruned_towards o hop g address) _ s
 
   join_heard : (holdtime : ℕ) (s : State) (n : Named)
-      → fold after_heard s (heard_in_join o hop (suppressed_end o hop.iface.number w holdtime) (named_key i n))
+      → fold after_move s (heard_in_join o hop (suppressed_end o hop.iface.number w holdtime) (named_key i n))
       ≡ join_seen o holdtime w hop s n
   join_heard holdtime s n = join_of_kind holdtime n.0 (n.1).address.bits (n.1).kind s
 
@@ -51,8 +77,8 @@ module _ (o : State) (hop : Hop) (i w : ℕ) where
   end = override_end o hop.iface.number w
 
   source_heard : (g : ℕ) (source : Addr) (s : State)
-      → fold after_heard s (heard_of_source o hop end (addr g) source) ≡ lower_source_timer o w hop g source.bits s
-  unfolding heard_of_source after_heard
+      → fold after_move s (heard_of_source o hop end (addr g) source) ≡ lower_source_timer o w hop g source.bits s
+  unfolding heard_of_source after_move
   source_heard g source s = if_heard (is_source_towards o hop g source.bits) _ s
 
   module _ (g : ℕ) where
@@ -69,12 +95,12 @@ module _ (o : State) (hop : Hop) (i w : ℕ) where
         → (if c then lower_join_timer s (source_key 0 g src) end else s) ≡ lowered s src
     lowered_by src s c is = ap (λ (b : Bool). if b then lower_join_timer s (source_key 0 g src) end else s) (sym is)
 
-    one_source : (source : Addr) (left : List Heard) (sources : List ℕ) (s : State)
-        → ((t : State) → fold after_heard t left ≡ fold lowered t (filter towards sources)) → (c : Bool)
+    one_source : (source : Addr) (left : List TimerMove) (sources : List ℕ) (s : State)
+        → ((t : State) → fold after_move t left ≡ fold lowered t (filter towards sources)) → (c : Bool)
         → towards source.bits ≡ c
-        → fold after_heard s (heard_of_source o hop end (addr g) source ++ left)
+        → fold after_move s (heard_of_source o hop end (addr g) source ++ left)
         ≡ fold lowered s (cond (towards source.bits) (source.bits ∷ filter towards sources) (filter towards sources))
-    unfolding heard_of_source after_heard
+    unfolding heard_of_source after_move
     one_source source left sources s rest true is =
         rw is
         (rest (lower_join_timer s (source_key 0 g source.bits) end)
@@ -82,9 +108,9 @@ module _ (o : State) (hop : Hop) (i w : ℕ) where
     one_source source left sources s rest false is = rw is (rest s)
 
     one_timer : (iface : IfaceId) (group : Addr) (rpt : Bool) (row : JoinTimerRow) (t : Table JoinTimerRow)
-        (keys : List Key) → ((s : State) → fold after_heard s (heard_of_timers o hop end (addr g) t)
+        (keys : List Key) → ((s : State) → fold after_move s (heard_of_timers o hop end (addr g) t)
         ≡ fold lowered s (filter towards (map source_in keys))) → (b : Bool) (source : Option Addr) (s : State)
-        → fold after_heard s (heard_of_timers o hop end (addr g)
+        → fold after_move s (heard_of_timers o hop end (addr g)
         (cond b ((key_with iface group rpt source, row) ∷ t) t))
         ≡ fold lowered s (filter towards (map source_in
         (cond (b && not (is_star (key_with iface group rpt source))) (key_with iface group rpt source ∷ keys) keys)))
@@ -95,7 +121,7 @@ module _ (o : State) (hop : Hop) (i w : ℕ) where
         one_source source (heard_of_timers o hop end (addr g) t) (map source_in keys) s rest (towards source.bits) refl
 
     timers_heard : (t : Table JoinTimerRow) (s : State)
-        → fold after_heard s (heard_of_timers o hop end (addr g) (filter (λ e. is_of_group g e.0) t))
+        → fold after_move s (heard_of_timers o hop end (addr g) (filter (λ e. is_of_group g e.0) t))
         ≡ fold lowered s
         (filter towards (map source_in (filter (λ k. is_of_group g k && not (is_star k)) (keys_in t))))
     unfolding heard_of_timers keys_in
@@ -106,29 +132,30 @@ module _ (o : State) (hop : Hop) (i w : ℕ) where
         s
 
     star_pruned : (s : State)
-        → fold after_heard s (heard_of_prune o hop end (addr g) None) ≡ prune_seen o w hop s (g, entry Star 0)
-    unfolding heard_of_prune after_heard prune_seen sources_joined_towards
+        → fold after_move s (heard_of_prune o hop end (addr g) None) ≡ prune_seen o w hop s (g, entry Star 0)
+    unfolding heard_of_prune after_move prune_seen sources_joined_towards
     star_pruned s =
-        fold-append after_heard s (heard_if (is_star_towards o hop g) (Heard.Lower (addr g) None end))
+        fold-append after_move s (heard_if (is_star_towards o hop g) (TimerMove.LowerJoin (addr g) None end))
         (heard_of_timers o hop end (addr g) (timers_of o g))
-        ∙ ap (λ t. fold after_heard t (heard_of_timers o hop end (addr g) (timers_of o g)))
-        (if_heard (is_star_towards o hop g) (Heard.Lower (addr g) None end) s)
+        ∙ ap (λ t. fold after_move t (heard_of_timers o hop end (addr g) (timers_of o g)))
+        (if_heard (is_star_towards o hop g) (TimerMove.LowerJoin (addr g) None end) s)
         ∙ timers_heard o.join_timers _
 
     source_pruned : (source : Addr) (s : State)
-        → fold after_heard s (heard_of_prune o hop end (addr g) (Some source))
+        → fold after_move s (heard_of_prune o hop end (addr g) (Some source))
         ≡ lower_tree_timer o w hop g source.bits (lower_source_timer o w hop g source.bits s)
-    unfolding heard_of_prune after_heard
+    unfolding heard_of_prune after_move change_of
     source_pruned source s =
-        fold-append after_heard s (heard_of_source o hop end (addr g) source)
-        (heard_if (is_unpruned_towards o hop g source.bits) (Heard.Override (addr g) source end))
-        ∙ ap (λ t. fold after_heard t
-        (heard_if (is_unpruned_towards o hop g source.bits) (Heard.Override (addr g) source end)))
+        fold-append after_move s (heard_of_source o hop end (addr g) source)
+        (heard_if (is_unpruned_towards o hop g source.bits) (TimerMove.Override (addr g) source (Change.LowerTo end)))
+        ∙ ap (λ t. fold after_move t
+        (heard_if (is_unpruned_towards o hop g source.bits) (TimerMove.Override (addr g) source (Change.LowerTo end))))
         (source_heard g source s)
-        ∙ if_heard (is_unpruned_towards o hop g source.bits) (Heard.Override (addr g) source end) _
+        ∙ if_heard (is_unpruned_towards o hop g source.bits) (TimerMove.Override (addr g) source (Change.LowerTo end)) _
+        ∙ overrides_if (is_unpruned_towards o hop g source.bits) _ _ _
 
     prune_of_kind : (address : ℕ) (kind : EntryKind) (s : State)
-        → fold after_heard s
+        → fold after_move s
         (heard_of_prune o hop end (key_by i g address kind).group (key_by i g address kind).source)
         ≡ prune_seen o w hop s (g, entry kind address)
     unfolding prune_seen
@@ -137,7 +164,7 @@ module _ (o : State) (hop : Hop) (i w : ℕ) where
     prune_of_kind address SourceRpt s = source_pruned (addr address) s
 
   prune_heard : (s : State) (n : Named)
-      → fold after_heard s (heard_of_prune o hop end (named_key i n).group (named_key i n).source)
+      → fold after_move s (heard_of_prune o hop end (named_key i n).group (named_key i n).source)
       ≡ prune_seen o w hop s n
   prune_heard s n = prune_of_kind n.0 (n.1).address.bits (n.1).kind s
 
@@ -159,61 +186,61 @@ module _ (s : State) (w i : ℕ) (m : JoinPrune) where
   abbrev hop : Hop
   hop = hop_at i m.upstream
 
-  abbrev in_joins : Bool → List Heard
+  abbrev in_joins : Bool → List TimerMove
   in_joins star = heard_in_joins s hop (suppressed_end s i w m.holdtime) star (joined_keys s i m)
 
-  abbrev in_prunes : List Heard
+  abbrev in_prunes : List TimerMove
   in_prunes = heard_in_prunes s hop (override_end s i w) (pruned_keys i m)
 
   stars_heard : (t : State)
-      → fold after_heard t (in_joins true)
+      → fold after_move t (in_joins true)
       ≡ fold (join_seen s m.holdtime w hop) t (filter is_star_entry (accepted_joins s m))
   unfolding heard_in_joins joined_keys
   stars_heard t =
-      passing_entries after_heard (join_seen s m.holdtime w hop) (named_key i)
+      passing_entries after_move (join_seen s m.holdtime w hop) (named_key i)
       (heard_in_join s hop (suppressed_end s i w m.holdtime)) (join_heard s hop i w m.holdtime)
       (λ k. same_bool true (is_star k)) is_star_entry
       (λ n. is_star_kind i n.0 (n.1).address.bits (n.1).kind) (accepted_joins s m) t
 
   others_heard : (t : State)
-      → fold after_heard t (in_joins false)
+      → fold after_move t (in_joins false)
       ≡ fold (join_seen s m.holdtime w hop) t (filter (λ n. not (is_star_entry n)) (accepted_joins s m))
   unfolding heard_in_joins joined_keys
   others_heard t =
-      passing_entries after_heard (join_seen s m.holdtime w hop) (named_key i)
+      passing_entries after_move (join_seen s m.holdtime w hop) (named_key i)
       (heard_in_join s hop (suppressed_end s i w m.holdtime)) (join_heard s hop i w m.holdtime)
       (λ k. same_bool false (is_star k)) (λ n. not (is_star_entry n))
       (λ n. is_other_kind i n.0 (n.1).address.bits (n.1).kind) (accepted_joins s m) t
 
   prunes_heard : (t : State)
-      → fold after_heard t in_prunes ≡ fold (prune_seen s w hop) t (accepted_prunes m)
+      → fold after_move t in_prunes ≡ fold (prune_seen s w hop) t (accepted_prunes m)
   unfolding heard_in_prunes pruned_keys
   prunes_heard t =
-      all_entries after_heard (prune_seen s w hop) (named_key i)
+      all_entries after_move (prune_seen s w hop) (named_key i)
       (λ (k : Key). heard_of_prune s hop (override_end s i w) k.group k.source) (prune_heard s hop i w)
       (accepted_prunes m) t
 
-  pub all_heard : (changes : List Heard) → changes ≡ (in_joins true ++ in_joins false) ++ in_prunes
-      → after_all_heard s changes ≡ seen s w i m
-  unfolding after_all_heard seen
+  pub all_heard : (changes : List TimerMove) → changes ≡ (in_joins true ++ in_joins false) ++ in_prunes
+      → after_moves s changes ≡ seen s w i m
+  unfolding after_moves seen
   all_heard changes are =
-      ap (λ xs. fold after_heard s xs) are
-      ∙ fold-append after_heard s (in_joins true ++ in_joins false) in_prunes
-      ∙ ap (λ t. fold after_heard t in_prunes)
-      (fold-append after_heard s (in_joins true) (in_joins false)
-      ∙ ap (λ t. fold after_heard t (in_joins false)) (stars_heard s)
+      ap (λ xs. fold after_move s xs) are
+      ∙ fold-append after_move s (in_joins true ++ in_joins false) in_prunes
+      ∙ ap (λ t. fold after_move t in_prunes)
+      (fold-append after_move s (in_joins true) (in_joins false)
+      ∙ ap (λ t. fold after_move t (in_joins false)) (stars_heard s)
       ∙ others_heard _)
       ∙ prunes_heard _
 
   -- as one loop after the other gathers them
   pub gathered : {v early late holdtime : ℕ} {to : Hop} {stars others pruned : List Key}
-      {first second third fourth last : List Heard} → v ≡ w → to ≡ hop → holdtime ≡ m.holdtime
+      {first second third fourth last : List TimerMove} → v ≡ w → to ≡ hop → holdtime ≡ m.holdtime
       → early ≡ suppressed_end s i v holdtime → late ≡ override_end s i v → stars ≡ joined_keys s i m
       → others ≡ joined_keys s i m → pruned ≡ pruned_keys i m → first ≡ []
       → second ≡ first ++ heard_in_joins s to early true stars
       → third ≡ second ++ heard_in_joins s to early false others
       → fourth ≡ third ++ heard_in_prunes s to late pruned → last ≡ fourth
-      → after_all_heard s last ≡ seen s w i m
+      → after_moves s last ≡ seen s w i m
   gathered {last = last} drawn is_hop is_holdtime is_early is_late are_stars are_others are_pruned none one two three
       four =
       let nothing : [] ++ in_joins true ≡ in_joins true = refl in

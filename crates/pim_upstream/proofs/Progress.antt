@@ -1,5 +1,5 @@
 -- Where a loop over changes stands: what was told so far, and what is left to tell.
-use Rattle.std.proofs.Common.{◌≡◌, ◌<◌, ◌≤◌, ◌+◌, ℕ, List, [], ◌∷◌, refl, ap, sym, subst, ◌∙◌, drop, get_or, length}
+use Rattle.std.proofs.Common.{◌≡◌, ◌<◌, ◌≤◌, ◌+◌, ℕ, List, [], ◌∷◌, ap, sym, subst, ◌∙◌, drop, get_or, length}
 use Rattle.std.proofs.lemmas.List.{drop_more, drop_all}
 use Rattle.pim_model.specs.Messages.{Message}
 use Rattle.pim_model.specs.Querier.{each_in_turn}
@@ -17,9 +17,6 @@ module _ {A : Type 0} (step : ℕ → State → A → State × List Message) (be
     pub state : (s : State) → (in_turn (now s) left).0 ≡ (in_turn (opened s) whole).0
     pub taking : (s : State) → saying t (in_turn (now s) left).1 ≡ saying before (in_turn (opened s) whole).1
     pub draw : t.draw ≡ before.draw
-
-  pub stands_first : (whole : List A) (opened : State → State) → Stands whole whole before opened opened
-  stands_first whole opened = record { state = λ s. refl; taking = λ s. refl; draw = refl }
 
   module _ (whole : List A) (opened : State → State) (t v : Taking) (now then : State → State) where
     next : (x : A) (left : List A) → State → ((s : State) → then s ≡ (step t.draw (now s) x).0)

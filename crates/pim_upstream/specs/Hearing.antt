@@ -1,29 +1,20 @@
 -- What a Join/Prune between other routers does to timers (RFC 7761, sections 4.5.4, 4.5.5 and 4.5.7), key by key.
 use Rattle.std.specs.Option.{option_map_or}
-use Rattle.std.specs.Prelude.{Bool, List, None, Option, Some, [], false, filter, flat_map, fold, if◌then◌else◌, true, ℕ, ◌++◌, ◌∷◌}
+use Rattle.std.specs.Prelude.{Bool, List, None, Option, Some, [], false, filter, flat_map, if◌then◌else◌, true, ℕ, ◌++◌, ◌∷◌}
 use Rattle.pim_ip.specs.declared.addr.Addr.{Addr}
 use Rattle.pim_types.specs.declared.fact.JoinTimerRow.{JoinTimerRow}
 use Rattle.pim_types.specs.declared.fact.Key.{Key}
 use Rattle.pim_types.specs.declared.path.Hop.{Hop}
-use Rattle.pim_types.specs.Keys.{is_of_group, is_star, rpt_key}
+use Rattle.pim_types.specs.Keys.{is_of_group, is_star}
 use Rattle.pim_model.specs.Desires.{rpf_source, rpf_star}
-use Rattle.pim_model.specs.Seen.{cancel_override_timer, is_unpruned_towards, lower_join_timer, lower_override_timer, raise_join_timer}
+use Rattle.pim_model.specs.Seen.{is_unpruned_towards}
 use Rattle.pim_model.specs.State.{State}
 use Rattle.pim_model.specs.Tables.{Table, same_bool, same_hop}
-use Rattle.pim_upstream.specs.Timers.{join_key}
-use Rattle.pim_upstream.specs.declared.heard.Heard.{Heard}
-
-unfoldable pub after_heard : State → Heard → State
-after_heard s (Heard.Raise group source end) = raise_join_timer s (join_key group source) end
-after_heard s (Heard.Lower group source end) = lower_join_timer s (join_key group source) end
-after_heard s (Heard.Override group source end) = lower_override_timer s (rpt_key 0 group.bits source.bits) end
-after_heard s (Heard.Cancel group source) = cancel_override_timer s (rpt_key 0 group.bits source.bits)
-
-unfoldable pub after_all_heard : State → List Heard → State
-after_all_heard s changes = fold after_heard s changes
+use Rattle.pim_telling.specs.declared.change.Change.{Change}
+use Rattle.pim_upstream.specs.declared.timer.TimerMove.{TimerMove}
 
 -- one change, or none
-abbrev pub heard_if : Bool → Heard → List Heard
+abbrev pub heard_if : Bool → TimerMove → List TimerMove
 heard_if b change = if b then change ∷ [] else []
 
 -- the upstream neighbour of (*,G), and of (S,G), is this one
@@ -39,41 +30,41 @@ timers_of o g = filter (λ e. is_of_group g e.0) o.join_timers
 
 module _ (o : State) (hop : Hop) (end : ℕ) where
   -- a Join to the router's upstream neighbour: its own is suppressed up to the end, an override isn't wanted any more
-  unfoldable pub heard_of_join : Addr → Option Addr → Bool → List Heard
-  heard_of_join group None rpt = heard_if (is_star_towards o hop group.bits) (Heard.Raise group None end)
+  unfoldable pub heard_of_join : Addr → Option Addr → Bool → List TimerMove
+  heard_of_join group None rpt = heard_if (is_star_towards o hop group.bits) (TimerMove.RaiseJoin group None end)
   heard_of_join group (Some source) true =
-      heard_if (is_unpruned_towards o hop group.bits source.bits) (Heard.Cancel group source)
+      heard_if (is_unpruned_towards o hop group.bits source.bits) (TimerMove.Override group source Change.Cancel)
   heard_of_join group (Some source) false =
-      heard_if (is_source_towards o hop group.bits source.bits) (Heard.Raise group (Some source) end)
+      heard_if (is_source_towards o hop group.bits source.bits) (TimerMove.RaiseJoin group (Some source) end)
 
-  abbrev pub heard_in_join : Key → List Heard
+  abbrev pub heard_in_join : Key → List TimerMove
   heard_in_join k = heard_of_join k.group k.source k.rpt
 
   -- of the keys of Joins, those of (*,G), or the others
-  unfoldable pub heard_in_joins : Bool → List Key → List Heard
+  unfoldable pub heard_in_joins : Bool → List Key → List TimerMove
   heard_in_joins star keys =
       flat_map (λ (k : Key). if same_bool star (is_star k) then heard_in_join k else []) keys
 
   -- the Join of a source is to leave by the end
-  unfoldable pub heard_of_source : Addr → Addr → List Heard
+  unfoldable pub heard_of_source : Addr → Addr → List TimerMove
   heard_of_source group source =
-      heard_if (is_source_towards o hop group.bits source.bits) (Heard.Lower group (Some source) end)
+      heard_if (is_source_towards o hop group.bits source.bits) (TimerMove.LowerJoin group (Some source) end)
 
-  unfoldable pub heard_of_timer : Addr → Key → List Heard
+  unfoldable pub heard_of_timer : Addr → Key → List TimerMove
   heard_of_timer group k = option_map_or (heard_of_source group) k.source []
 
   -- those of the sources of the group that have a Join timer
-  unfoldable pub heard_of_timers : Addr → Table JoinTimerRow → List Heard
+  unfoldable pub heard_of_timers : Addr → Table JoinTimerRow → List TimerMove
   heard_of_timers group timers = flat_map (λ (e : Key × JoinTimerRow). heard_of_timer group e.0) timers
 
   -- a Prune to the router's upstream neighbour: a Join that overrides it is to leave by the end
-  unfoldable pub heard_of_prune : Addr → Option Addr → List Heard
+  unfoldable pub heard_of_prune : Addr → Option Addr → List TimerMove
   heard_of_prune group None =
-      heard_if (is_star_towards o hop group.bits) (Heard.Lower group None end)
+      heard_if (is_star_towards o hop group.bits) (TimerMove.LowerJoin group None end)
       ++ heard_of_timers group (timers_of o group.bits)
   heard_of_prune group (Some source) =
       heard_of_source group source
-      ++ heard_if (is_unpruned_towards o hop group.bits source.bits) (Heard.Override group source end)
+      ++ heard_if (is_unpruned_towards o hop group.bits source.bits) (TimerMove.Override group source (Change.LowerTo end))
 
-  unfoldable pub heard_in_prunes : List Key → List Heard
+  unfoldable pub heard_in_prunes : List Key → List TimerMove
   heard_in_prunes keys = flat_map (λ (k : Key). heard_of_prune k.group k.source) keys

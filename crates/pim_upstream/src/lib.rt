@@ -3,15 +3,14 @@
 #![tactic(auto)]
 
 mod compound;
-pub mod ends;
-mod heard;
-pub mod hearing;
+pub mod join_timer;
 pub mod laws;
+pub mod overheard;
 mod source;
 mod star;
 mod timer;
 pub mod turns;
 
-pub use ends::fired;
-pub use hearing::seen;
-pub use turns::changed;
+pub use join_timer::fired;
+pub use overheard::seen;
+pub use turns::{changed, changed_alone};

@@ -1,26 +1,34 @@
 //! The Join timers of (*,G) and (S,G), and the override timers of (S,G,rpt).
-ghost use Rattle.std.specs.Prelude.{◌≡◌, OnOk, Some};
+ghost use Rattle.std.specs.Prelude.{◌≡◌, ◌++◌, OnOk, Some};
 ghost use Rattle.pim_types.specs.Keys.{rpt_key};
+ghost use Rattle.pim_model.specs.Seen.{lowered_row, raised_row};
 ghost use Rattle.pim_model.specs.State.{State};
+ghost use Rattle.pim_model.specs.Tables.{row_at};
 ghost use Rattle.pim_model.specs.Upstream.{LowerTo, changed_end, with_join_timer, with_override_timer};
+ghost use Rattle.pim_upstream.specs.Hearing.{heard_if};
 ghost use Rattle.pim_upstream.specs.Timers.{after_move, after_moves, join_key};
-ghost use Rattle.pim_rpt.specs.Changes.{change_of};
+ghost use Rattle.pim_telling.specs.Changes.{change_of};
 
-use pim_rpt::Change;
+use pim_telling::Change;
 use pim_types::fact::{JoinTimerRow, OverrideTimerRow};
 use pim_types::{Addr, IfaceId, Key};
 use pim_world::World;
 use std::alloc::AllocError;
 
-/// What becomes of the Join timer of (*,G), without a source, or of (S,G), or of the override timer of (S,G,rpt).
+/// What becomes of the Join timer of (*,G), without a source, or of (S,G), or of the override timer of (S,G,rpt); ends
+/// in ms.
 #[derive(Clone, Copy)]
-pub(crate) enum Move {
+pub(crate) enum TimerMove {
     Join(Addr, Option<Addr>, Change),
     Override(Addr, Addr, Change),
+    /// Where the Join timer runs, it ends at this moment at the earliest.
+    RaiseJoin(Addr, Option<Addr>, u64),
+    /// Where the Join timer runs, it ends at this moment at the latest.
+    LowerJoin(Addr, Option<Addr>, u64),
 }
 
 // The end, in ms, of a timer that ends at this moment at the latest.
-fn lowered(old: Option<u64>, end: u64) -> u64
+fn lowered_end(old: Option<u64>, end: u64) -> u64
     ensures { Some result ≡ changed_end (LowerTo end) old }
 {
     match old {
@@ -29,8 +37,40 @@ fn lowered(old: Option<u64>, end: u64) -> u64
     }
 }
 
+// A Join timer that ends at this moment, in ms, at the earliest.
+fn raised(row: Option<JoinTimerRow>, end: u64) -> Option<JoinTimerRow>
+    ensures { result ≡ raised_row end row }
+{
+    let row = row?;
+    Some(JoinTimerRow {
+        end: row.end.max(end),
+    })
+}
+
+// A Join timer that ends at this moment, in ms, at the latest.
+fn lowered(row: Option<JoinTimerRow>, end: u64) -> Option<JoinTimerRow>
+    ensures { result ≡ lowered_row end row }
+{
+    let row = row?;
+    Some(JoinTimerRow {
+        end: row.end.min(end),
+    })
+}
+
+// The Join timer of (*,G), without a source, or of (S,G).
+fn join_timer(world: &World, group: Addr, source: Option<Addr>) -> Option<JoinTimerRow>
+    ensures { result ≡ row_at world.now.join_timers (join_key group source) }
+{
+    world.store().join_timer(Key {
+        iface: IfaceId::NONE,
+        group,
+        source,
+        rpt: false,
+    })
+}
+
 // What becomes of a Join timer.
-#[tactic(auto, unfolding(pim_model::specs::Upstream::with_join_timer, pim_model::specs::Upstream::moved_join_timer, pim_rpt::specs::Changes::change_of))]
+#[tactic(auto, unfolding(pim_model::specs::Upstream::with_join_timer, pim_model::specs::Upstream::moved_join_timer, pim_telling::specs::Changes::change_of))]
 fn move_join_timer(
     world: &mut World,
     group: Addr,
@@ -47,13 +87,7 @@ fn move_join_timer(
             .store_mut()
             .set_join_timer(group, source, Some(JoinTimerRow { end })),
         Change::LowerTo(end) => {
-            let key = Key {
-                iface: IfaceId::NONE,
-                group,
-                source,
-                rpt: false,
-            };
-            let end = lowered(world.store().join_timer(key).map(|row| row.end), end);
+            let end = lowered_end(join_timer(world, group, source).map(|row| row.end), end);
             world
                 .store_mut()
                 .set_join_timer(group, source, Some(JoinTimerRow { end }))
@@ -62,7 +96,7 @@ fn move_join_timer(
 }
 
 // What becomes of an override timer.
-#[tactic(auto, unfolding(pim_model::specs::Upstream::with_override_timer, pim_model::specs::Upstream::moved_override_timer, pim_rpt::specs::Changes::change_of))]
+#[tactic(auto, unfolding(pim_model::specs::Upstream::with_override_timer, pim_model::specs::Upstream::moved_override_timer, pim_telling::specs::Changes::change_of))]
 fn move_override_timer(
     world: &mut World,
     group: Addr,
@@ -82,7 +116,7 @@ fn move_override_timer(
         }
         Change::LowerTo(end) => {
             let key = Key::source_rpt(IfaceId::NONE, group, source);
-            let end = lowered(world.store().override_timer(key).map(|row| row.end), end);
+            let end = lowered_end(world.store().override_timer(key).map(|row| row.end), end);
             world
                 .store_mut()
                 .set_override_timer(group, source, Some(OverrideTimerRow { end }))
@@ -91,18 +125,29 @@ fn move_override_timer(
 }
 
 // Moves a timer.
-#[tactic(auto, unfolding(crate::specs::Timers::after_move))]
-fn move_timer(world: &mut World, moved: Move) -> Result<(), AllocError>
+#[tactic(auto, unfolding(crate::specs::Timers::after_move, pim_model::specs::Seen::raise_join_timer, pim_model::specs::Seen::lower_join_timer))]
+fn move_timer(world: &mut World, moved: TimerMove) -> Result<(), AllocError>
     ensures { OnOk result (world.new ≡ after_move world.old moved) }
 {
     match moved {
-        Move::Join(group, source, change) => move_join_timer(world, group, source, change),
-        Move::Override(group, source, change) => move_override_timer(world, group, source, change),
+        TimerMove::Join(group, source, change) => move_join_timer(world, group, source, change),
+        TimerMove::Override(group, source, change) => {
+            move_override_timer(world, group, source, change)
+        }
+        TimerMove::RaiseJoin(group, source, end) => {
+            let row = raised(join_timer(world, group, source), end);
+            world.store_mut().set_join_timer(group, source, row)
+        }
+        TimerMove::LowerJoin(group, source, end) => {
+            let row = lowered(join_timer(world, group, source), end);
+            world.store_mut().set_join_timer(group, source, row)
+        }
     }
 }
 
 /// Moves these timers, one after the other.
-pub(crate) fn move_timers(world: &mut World, moves: &[Move]) -> Result<(), AllocError>
+#[tactic(auto, unfolding(crate::specs::Timers::after_moves))]
+pub(crate) fn move_timers(world: &mut World, moves: &[TimerMove]) -> Result<(), AllocError>
     ensures { OnOk result (world.new ≡ after_moves world.old moves.now) }
 {
     for moved in moves {
@@ -111,9 +156,23 @@ pub(crate) fn move_timers(world: &mut World, moves: &[Move]) -> Result<(), Alloc
     Ok(())
 }
 
+/// Puts the move behind the others, if it is to be made.
+pub(crate) fn note_if(
+    moves: &mut Vec<TimerMove>,
+    is_made: bool,
+    moved: TimerMove,
+) -> Result<(), AllocError>
+    ensures { OnOk result (moves.new.items ≡ moves.old.items ++ heard_if is_made moved) }
+{
+    if is_made {
+        moves.push(moved)?;
+    }
+    Ok(())
+}
+
 /// Puts what becomes of a Join timer behind the moves.
 pub(crate) fn note_join(
-    moves: &mut Vec<Move>,
+    moves: &mut Vec<TimerMove>,
     group: Addr,
     source: Option<Addr>,
     change: Change,
@@ -124,7 +183,7 @@ pub(crate) fn note_join(
     match change {
         Change::Keep => Ok(()),
         _ => {
-            moves.push(Move::Join(group, source, change))?;
+            moves.push(TimerMove::Join(group, source, change))?;
             Ok(())
         }
     }
@@ -132,7 +191,7 @@ pub(crate) fn note_join(
 
 /// Puts what becomes of an override timer behind the moves.
 pub(crate) fn note_override(
-    moves: &mut Vec<Move>,
+    moves: &mut Vec<TimerMove>,
     group: Addr,
     source: Addr,
     change: Change,
@@ -143,7 +202,7 @@ pub(crate) fn note_override(
     match change {
         Change::Keep => Ok(()),
         _ => {
-            moves.push(Move::Override(group, source, change))?;
+            moves.push(TimerMove::Override(group, source, change))?;
             Ok(())
         }
     }

@@ -10,7 +10,7 @@ ghost use Rattle.pim_world.specs.Turns.{saying};
 ghost use Rattle.pim_upstream.specs.Told.{group_step, source_moved, source_step, star_changed, upstream_by};
 ghost use Rattle.pim_upstream.specs.Timers.{after_moves};
 
-use crate::timer::{Move, move_timers, note_join, note_override};
+use crate::timer::{TimerMove, move_timers, note_join, note_override};
 use crate::{source, star};
 use pim_macros::{SourceSight, StarSight};
 use pim_opening::{GroupOpening, Opening, SourceOpening};
@@ -25,7 +25,7 @@ fn tell_views(
     turn: &mut Turn,
     sight: &SourceSight,
     old: SourceView,
-    moves: &mut Vec<Move>,
+    moves: &mut Vec<TimerMove>,
 ) -> Result<(), AllocError>
     requires { IsSourceSight world.now sight.now }
     ensures timers { OnOk result ((s : State) → after_moves s moves.new.items
@@ -58,7 +58,7 @@ fn tell_seen(
     turn: &mut Turn,
     sight: &SourceSight,
     before: SourceOpening,
-    moves: &mut Vec<Move>,
+    moves: &mut Vec<TimerMove>,
 ) -> Result<(), AllocError>
     requires sight { IsSourceSight world.now sight.now }
     requires source { sight.now.source ≡ before.source }
@@ -80,7 +80,7 @@ fn tell_source(
     turn: &mut Turn,
     star: &StarSight,
     before: SourceOpening,
-    moves: &mut Vec<Move>,
+    moves: &mut Vec<TimerMove>,
 ) -> Result<(), AllocError>
     requires { IsStarSight world.now star.now }
     ensures timers { OnOk result ((s : State) → after_moves s moves.new.items
@@ -101,7 +101,7 @@ fn tell_sources(
     turn: &mut Turn,
     star: &StarSight,
     sources: &[SourceOpening],
-    moves: &mut Vec<Move>,
+    moves: &mut Vec<TimerMove>,
 ) -> Result<(), AllocError>
     requires { IsStarSight world.now star.now }
     ensures timers { OnOk result ((s : State) → after_moves s moves.new.items
@@ -123,7 +123,7 @@ fn tell_star(
     turn: &mut Turn,
     star: &StarSight,
     old: StarView,
-    moves: &mut Vec<Move>,
+    moves: &mut Vec<TimerMove>,
 ) -> Result<(), AllocError>
     requires { IsStarSight world.now star.now }
     ensures timers { OnOk result ((s : State) → after_moves s moves.new.items
@@ -143,7 +143,7 @@ fn tell_group(
     world: &World,
     turn: &mut Turn,
     before: &GroupOpening,
-    moves: &mut Vec<Move>,
+    moves: &mut Vec<TimerMove>,
 ) -> Result<(), AllocError>
     ensures timers { OnOk result ((s : State) → after_moves s moves.new.items
         ≡ (group_step world.now turn.old.draw (after_moves s moves.old.items) before.now).0) }
@@ -160,7 +160,7 @@ fn tell_groups(
     world: &World,
     turn: &mut Turn,
     groups: &[GroupOpening],
-    moves: &mut Vec<Move>,
+    moves: &mut Vec<TimerMove>,
 ) -> Result<(), AllocError>
     ensures timers { OnOk result ((s : State) → after_moves s moves.new.items
         ≡ (each_in_turn (group_step world.now turn.old.draw) (after_moves s moves.old.items) groups.now).0) }

@@ -1,5 +1,5 @@
 -- What was judged to be data, or a Register, was read of the event's bytes.
-use Rattle.std.proofs.Common.{if◌then◌else◌, ◌≡◌, ◌∙◌, ◌&&◌, ◌==◌, ℕ, Bool, true, false, List, Option, Some, None, Result, Ok, Err, nat_le, nat_lt, not, length, refl, sym, ap}
+use Rattle.std.proofs.Common.{if◌then◌else◌, ◌≡◌, ◌∙◌, ◌&&◌, ◌==◌, ℕ, Bool, true, false, List, Option, Some, None, Result, Ok, Err, nat_le, nat_lt, not, length, refl, ap}
 use Rattle.pim_ip.specs.Addr.{addr}
 use Rattle.pim_ip.specs.Ipv4.{Packet, all_pim_routers, frame_limit, ipv4_reading, is_link_local, is_multicast, protocol_igmp, protocol_pim}
 use Rattle.pim_ip.specs.declared.refusal.Refusal.{Refusal}
@@ -10,7 +10,7 @@ use Rattle.pim_types.specs.declared.outcome.Ignored.{Ignored}
 use Rattle.pim_types.specs.declared.outcome.Stop.{Stop}
 use Rattle.pim_types.specs.declared.outcome.Verdict.{Verdict}
 use Rattle.pim_wire.specs.Messages.{pim_reading}
-use Rattle.pim_wire.specs.Values.{Encapsulated, Null, Register}
+use Rattle.pim_wire.specs.Values.{Encapsulated, Null}
 use Rattle.pim_wire.specs.declared.view.PimView.{PimView}
 use Rattle.igmp_wire.specs.Messages.{igmp_reading}
 use Rattle.igmp_wire.specs.declared.view.IgmpView.{IgmpView}
@@ -25,7 +25,6 @@ use Rattle.pim_model.specs.State.{State, iface_count, is_own, is_up, my_address}
 use Rattle.pim_model.specs.Step.{step}
 use Rattle.pim_model.specs.Unicast.{is_rp}
 use Rattle.pim_words.specs.Brought.{Brings, InRegister, OnLink, PacketIsBrought}
-use Rattle.pim_words.specs.Copies.{happens}
 
 -- the packet of what was judged
 abbrev packet_of : Judged → Option Packet

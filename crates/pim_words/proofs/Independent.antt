@@ -4,7 +4,6 @@ use Rattle.std.proofs.lemmas.Bool.{true≢false}
 use Rattle.std.proofs.lemmas.Bool.Decides.{nat_tests}
 use Rattle.std.specs.Cmp.{first_so, second_so}
 use Rattle.std.specs.List.{list_all}
-use Rattle.pim_types.specs.declared.event.Event.{Event}
 use Rattle.pim_types.specs.declared.fact.Key.{Key}
 use Rattle.pim_types.specs.declared.timer.TimerKind.{TimerKind}
 use Rattle.pim_types.specs.Keys.{group_in, is_of_group, source_in, source_key}
@@ -12,16 +11,15 @@ use Rattle.pim_model.specs.declared.accepted.Accepted.{Accepted}
 use Rattle.pim_model.specs.Reach.{own_firing}
 use Rattle.pim_model.specs.State.{State}
 use Rattle.pim_model.specs.Step.{Answered, change, done, taken}
-use Rattle.pim_model.specs.Timers.{Ending}
 use Rattle.pim_locality.specs.Events.{touched_by_event}
-use Rattle.pim_locality.specs.Locality.{IsQuiet, touching}
+use Rattle.pim_locality.specs.Locality.{touching}
 use Rattle.pim_locality.specs.Scopes.{reads}
-use Rattle.pim_locality.specs.Touches.{isnt_neighbour, touched_by}
+use Rattle.pim_locality.specs.Touches.{touched_by}
 use Rattle.pim_locality.proofs.EventLaws.{change_touches}
 use Rattle.pim_reach.specs.Keeps.{KeepsAnswers}
 use Rattle.pim_reach.proofs.Settled.{event_keeps, firing_keeps}
 use Rattle.pim_reach.proofs.Touched.{firing_agrees, touched_names}
-use Rattle.pim_words.specs.Independent.{NamesAlone, OtherGroupsKeep, OtherGroupsOutlast}
+use Rattle.pim_words.specs.Independent.{OtherGroupsKeep, OtherGroupsOutlast}
 use Rattle.pim_words.proofs.Made.{step_taken}
 
 module _ (h src g : ℕ) (other : (h == g) ≡ false) where
@@ -42,7 +40,7 @@ module _ (h src g : ℕ) (other : (h == g) ≡ false) where
       (unread keys (second_so (is_of_group g k) (list_all (is_of_group g) keys) all))
 
 -- an event that touches keys of its own is settled at once
-taken_at_once : (s : State) (w : ℕ) (a : Accepted) (keys : List Key) → touched_by_event s a ≡ Some keys
+pub taken_at_once : (s : State) (w : ℕ) (a : Accepted) (keys : List Key) → touched_by_event s a ≡ Some keys
     → taken s w a ≡ done s w (change s w a)
 unfolding taken touched_by_event
 taken_at_once s w (Accepted.Advance moment) keys e = cc

@@ -13,3 +13,17 @@ pub mod Read
 pub mod Settings
 pub mod Independent
 pub mod Brought
+pub mod Sent
+pub mod Told
+pub mod Cancels
+pub mod Own
+pub mod Follows
+pub mod Keyed
+pub mod KeyedEvents
+pub mod Placed
+pub mod Covered
+pub mod KeyedChanges
+pub mod Few
+pub mod Asks
+pub mod Hops
+pub mod NetHops

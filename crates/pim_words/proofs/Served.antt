@@ -1,5 +1,5 @@
 -- Who is served.
-use Rattle.std.proofs.Common.{◌≡◌, ◌∙◌, ℕ, ◌==◌, ◌<◌, ◌&&◌, ◌||◌, Bool, not, true, false, List, ◌⊎◌, length, refl, sym, ap, subst, arith, lt-ltb, inl, inr}
+use Rattle.std.proofs.Common.{◌≡◌, ◌∙◌, ℕ, ◌==◌, ◌<◌, ◌&&◌, ◌||◌, Bool, not, true, false, List, length, refl, sym, ap, subst, arith, lt-ltb, inl, inr}
 use Rattle.std.specs.Cmp.Derive.{both_true}
 use Rattle.std.specs.List.{Contains}
 use Rattle.pim_ip.specs.Ipv4.{Packet, copy_text}

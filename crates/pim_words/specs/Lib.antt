@@ -3,3 +3,6 @@ pub mod Served
 pub mod Bounded
 pub mod Independent
 pub mod Brought
+pub mod Answers
+pub mod Hops
+pub mod NetHops

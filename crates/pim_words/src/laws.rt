@@ -1,9 +1,12 @@
 //! Laws of the definitions, each the contract of a function with nothing to do.
 
-ghost use Rattle.pim_words.specs.Bounded.{RunStaysWithin, StepStaysWithin, TimeAddsNone};
+ghost use Rattle.pim_words.specs.Answers.{AnswersAreBounded, AssertGivesOne, DataGivesCopiesOrAssert, HelloAgainIsSilent, OneSourceFollows, OthersGiveNone, RecordAsksFew, RegisterGivesCopiesAndStop, SeenIsSilent};
+ghost use Rattle.pim_words.specs.Bounded.{AddsWhatIsNeeded, AssertsStayBounded, CountedStayBounded, NothingNewAddsNone, RunStaysWithin, StepStaysWithin, TimeAddsNone};
 ghost use Rattle.pim_words.specs.Brought.{PacketIsBrought};
 ghost use Rattle.pim_words.specs.Copies.{CopiesReadLower, NeverBack, NeverTwice, TtlFalls, TunnelTtlFalls};
+ghost use Rattle.pim_words.specs.Hops.{HopsEnd};
 ghost use Rattle.pim_words.specs.Independent.{OtherGroupsKeep, OtherGroupsOutlast};
+ghost use Rattle.pim_words.specs.NetHops.{NetHopsEnd};
 ghost use Rattle.pim_words.specs.Served.{ListIsServed, MemberIsServed, ServedHere, SourceIsServed};
 
 /// The copies of an event are one text on each of some configured interfaces, ascending: on each link at most once.
@@ -36,6 +39,16 @@ pub fn tunnel_ttl_falls()
     ensures { TunnelTtlFalls }
 {}
 
+/// From router to router, whatever state each is in, a packet makes fewer hops than its TTL, as copies on links and in Registers.
+pub fn hops_end()
+    ensures { HopsEnd }
+{}
+
+/// So it is in a network, in which frames are delivered as often and in whatever order as one likes.
+pub fn net_hops_end()
+    ensures { NetHopsEnd }
+{}
+
 /// A data packet on its tree leaves on every other interface of the tree's list.
 pub fn list_is_served()
     ensures { ListIsServed }
@@ -61,6 +74,16 @@ pub fn time_adds_none()
     ensures { TimeAddsNone }
 {}
 
+/// An event adds at most as many of these as it names keys without a row, of those under which it may make one.
+pub fn adds_what_is_needed()
+    ensures { AddsWhatIsNeeded }
+{}
+
+/// So an event that names no new key adds none.
+pub fn nothing_new_adds_none()
+    ensures { NothingNewAddsNone }
+{}
+
 /// Every event keeps neighbours, membership records, downstream rows and sources, taken together, within the limit.
 pub fn step_stays_within()
     ensures { StepStaysWithin }
@@ -69,6 +92,63 @@ pub fn step_stays_within()
 /// So they are after any events from the opening with an accepted configuration.
 pub fn run_stays_within()
     ensures { RunStaysWithin }
+{}
+
+/// Asserts may pass the limit: there are at most as many as the limit on each interface.
+pub fn asserts_stay_bounded()
+    ensures { AssertsStayBounded }
+{}
+
+/// So all that counts is at most the limit, once for each interface and once more.
+pub fn counted_stay_bounded()
+    ensures { CountedStayBounded }
+{}
+
+/// Data gives at most a copy on each interface and one Register, or else one Assert.
+pub fn data_gives_copies_or_assert()
+    ensures { DataGivesCopiesOrAssert }
+{}
+
+/// A Register to the router gives at most a copy on each interface and one Register-Stop.
+pub fn register_gives_copies_and_stop()
+    ensures { RegisterGivesCopiesAndStop }
+{}
+
+/// An Assert gives at most one Assert.
+pub fn assert_gives_one()
+    ensures { AssertGivesOne }
+{}
+
+/// A Hello, a Join/Prune, a query and a Register-Stop give nothing themselves.
+pub fn others_give_none()
+    ensures { OthersGiveNone }
+{}
+
+/// A record of a report asks at most a query of its group, and for its sources two and one more for each 366 of them; each
+/// query names at most 366.
+pub fn record_asks_few()
+    ensures { RecordAsksFew }
+{}
+
+/// All that an event of some keys sends: what it gives itself, what is cancelled and told upstream of those keys, and a Hello
+/// before each message whose interface owes one.
+pub fn answers_are_bounded()
+    ensures { AnswersAreBounded }
+{}
+
+/// Of one source follow at most two messages upstream, and what is cancelled.
+pub fn one_source_follows()
+    ensures { OneSourceFollows }
+{}
+
+/// A Join/Prune between other routers sends nothing.
+pub fn seen_is_silent()
+    ensures { SeenIsSilent }
+{}
+
+/// The Hello of a neighbour that says what it said sends nothing.
+pub fn hello_again_is_silent()
+    ensures { HelloAgainIsSilent }
 {}
 
 /// What names one group alone leaves all that the macros answer of the sources of other groups.

@@ -1,9 +1,8 @@
 -- The state after a change of what it lent.
 use Rattle.std.proofs.Common.{◌≡◌, Ok, Err, OnOk, Result, ap, ◌∙◌}
-use Rattle.pim_membership.specs.MembershipTables.{MembershipTables}
 use Rattle.pim_model.specs.State.{State}
 use Rattle.pim_store.specs.PimTables.{PimTables, pim_tables}
-use Rattle.pim_world.specs.Lending.{membership_tables, with_membership, with_store}
+use Rattle.pim_world.specs.Lending.{with_store}
 
 module _ (s : State) where
   pub stored : (lent left : PimTables) (change : PimTables → PimTables) → lent ≡ pim_tables s → left ≡ change lent
@@ -14,14 +13,3 @@ module _ (s : State) where
       → lent ≡ pim_tables s → OnOk r (left ≡ change lent) → OnOk r (with_store s left ≡ with_store s (change (pim_tables s)))
   stored_on_ok (Ok x) lent left change value e = stored lent left change value e
   stored_on_ok (Err x) lent left change value e = tt
-
-  pub recorded : (lent left : MembershipTables) (change : MembershipTables → MembershipTables)
-      → lent ≡ membership_tables s → left ≡ change lent
-      → with_membership s left ≡ with_membership s (change (membership_tables s))
-  recorded lent left change value e = ap (with_membership s) (e ∙ ap change value)
-
-  pub recorded_on_ok : {T E : Type 0} (r : Result T E) (lent left : MembershipTables)
-      (change : MembershipTables → MembershipTables) → lent ≡ membership_tables s → OnOk r (left ≡ change lent)
-      → OnOk r (with_membership s left ≡ with_membership s (change (membership_tables s)))
-  recorded_on_ok (Ok x) lent left change value e = recorded lent left change value e
-  recorded_on_ok (Err x) lent left change value e = tt

@@ -10,4 +10,5 @@ mod NextEnding
 mod Options
 mod Short
 pub mod Said
+pub mod Visits
 pub mod Written

@@ -6,3 +6,4 @@ pub mod Short
 pub mod Sources
 pub mod Touches
 pub mod Turns
+pub mod Visits

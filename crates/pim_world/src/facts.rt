@@ -18,10 +18,10 @@ const KEEPALIVE_PERIOD: u64 = 210_000;
 
 impl World {
     /// Asserts, sources and registers are under keys of their kind, which rise.
-    pub fn are_keyed(&self)
+    pub fn recall_keyed(&self)
         ensures { AreKeyed (pim_tables self.now) }
     {
-        self.store.are_keyed();
+        self.store.recall_keyed();
     }
 
     // SPTbit(S,G).

@@ -1,10 +1,12 @@
 //! The sources of a group that have any fact.
 ghost use Rattle.std.specs.List.{list_any};
-ghost use Rattle.std.specs.Prelude.{◌≡◌, [], ◌∷◌, IfOk, OnOk};
+ghost use Rattle.std.specs.Prelude.{◌≡◌, ◌≤◌, [], ◌∷◌, IfOk, OnOk};
 ghost use Rattle.pim_types.specs.Keys.{is_of_group, names_source};
 ghost use Rattle.pim_model.specs.Upstream.{fact_keys, sources_of};
 ghost use Rattle.pim_world.specs.Groups.{gathered, numbers_of};
 ghost use Rattle.pim_world.specs.Sources.{sources_among};
+ghost use Rattle.pim_world.specs.Visits.{fact_nodes};
+ghost use Rattle.pim_trie.specs.Meter.{raised};
 
 use crate::world::World;
 use pim_store::Sources;
@@ -27,10 +29,12 @@ impl World {
         Ok(found)
     }
 
-    /// Whether there is a fact of the source of the group.
+    /// Whether there is a fact of the source of the group. The meter rises by the nodes that are visited, at least those
+    /// that lead to its source records and, where membership has no fact of it, to its PIM facts.
     #[tactic(auto, using(crate::proofs::GatheredSources::any_fact), unfolding(pim_membership::specs::MembershipTables::membership_keys, pim_store::specs::PimTables::stored_keys))]
     pub fn has_facts(&self, group: Addr, source: Addr, meter: &mut Meter) -> bool
-        ensures { result ≡ list_any (names_source group.bits source.bits) (fact_keys self.now) }
+        ensures value { result ≡ list_any (names_source group.bits source.bits) (fact_keys self.now) }
+        ensures at_least { raised meter.old (fact_nodes self.now group source) ≤ meter.new }
     {
         self.membership.has_facts(group, source, meter)
             || self.store.has_facts(group, source, meter)

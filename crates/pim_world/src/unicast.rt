@@ -4,6 +4,7 @@ ghost use Rattle.pim_model.specs.Unicast.{is_rp, route, rp_of, rp_route};
 ghost use Rattle.pim_mrib.specs.Routes.{route_nodes, rp_nodes};
 ghost use Rattle.pim_trie.specs.Meter.{raised};
 ghost use Rattle.pim_world.specs.Short.{IsShort};
+ghost use Rattle.pim_world.specs.Visits.{path_nodes};
 
 use crate::world::World;
 use pim_trie::Meter;
@@ -40,11 +41,13 @@ impl World {
         self.mrib.route(&self.interfaces, address, meter)
     }
 
-    /// The route to RP(G), which is this one.
-    #[tactic(auto, using(crate::proofs::Options::next_of_some, crate::proofs::Options::next_of_none), unfolding(pim_model::specs::Unicast::rp_route))]
+    /// The route to RP(G), which is this one. The meter rises by the nodes of the trie of routes that are visited, 33 at
+    /// most.
+    #[tactic(auto, using(crate::proofs::Options::next_of_some, crate::proofs::Options::next_of_none), unfolding(pim_model::specs::Unicast::rp_route, pim_trie::specs::Meter::raised))]
     pub fn rp_route(&self, group: Addr, rp: Option<Addr>, meter: &mut Meter) -> Option<Path>
         requires { option_map (λ a. a.bits) rp ≡ rp_of self.now group.bits }
-        ensures { result ≡ rp_route self.now group.bits }
+        ensures value { result ≡ rp_route self.now group.bits }
+        ensures visited { meter.new ≡ raised meter.old (path_nodes self.now (option_map (λ a. a.bits) rp)) }
     {
         match rp {
             Some(rp) => self.route(rp, meter),
@@ -53,10 +56,10 @@ impl World {
     }
 
     /// The preferences of all routes have 31 bits.
-    pub fn are_preferences_short(&self)
+    pub fn recall_short_preferences(&self)
         ensures source { (address : ℕ) → IsShort (route self.now address) }
         ensures group { (group : ℕ) → IsShort (rp_route self.now group) }
     {
-        self.mrib.are_preferences_short();
+        self.mrib.recall_short_preferences();
     }
 }

@@ -38,7 +38,7 @@ pub struct World {
     pub(crate) store: Store,
 }
 
-// Called at each exit of an owner, where a derived drop would be spelled out and proved anew.
+// Written out, so that it is proved once (docs/PROOF_NOTES.md, Drops).
 impl Drop for World {
     fn drop(self) {
         let World {

@@ -9,7 +9,7 @@ use pim_lab::{
 use pim_types::Fault;
 use std::env;
 use std::fs::File;
-use std::io::{self, Write};
+use std::io::{self, ErrorKind, Write};
 use std::process::ExitCode;
 
 fn main(rt: HostRuntime) -> ExitCode {
@@ -22,8 +22,12 @@ fn main(rt: HostRuntime) -> ExitCode {
 
 // The status. The error is want of memory.
 fn status(rt: &HostRuntime) -> io::Result<u8> {
+    let given = match env::args(rt) {
+        Ok(given) => given,
+        Err(error) => return Ok(unread(&error).tell(&mut rt.stderr())),
+    };
     let mut arguments = Vec::new(rt.alloc());
-    for word in env::args(rt)? {
+    for word in given {
         arguments.push(word)?;
     }
     let mut words = Vec::new(rt.alloc());
@@ -44,6 +48,14 @@ fn status(rt: &HostRuntime) -> io::Result<u8> {
             Err(_) => Complaint::Fault(Fault::Wire).tell(&mut rt.stderr()),
         },
     })
+}
+
+// What is said of a command line that can't be read: a word that isn't UTF-8 is none that is known.
+fn unread(error: &io::Error) -> Complaint<'static> {
+    match error.kind() {
+        ErrorKind::InvalidData => Complaint::CommandLine,
+        _ => Complaint::Fault(Fault::Memory),
+    }
 }
 
 // Does what the command line asks.

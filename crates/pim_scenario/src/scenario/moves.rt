@@ -8,7 +8,7 @@ ghost use Rattle.pim_scenario.specs.Scenario.{IsAdvance, IsCarry, IsDeliver, IsD
 ghost use Rattle.pim_scenario.specs.Scenario.{IsRoutes, IsRps, IsSettle, IsTable, IsUnicast, IsUp, bytes_at, draw_at, router_at};
 ghost use Rattle.pim_scenario.specs.Texts.{Reads, ReadsExactly};
 
-use super::{Move, RouterText, Unread, Wrong, field, hex, router, routes};
+use super::{RouterText, ScenarioMove, Unread, Wrong, field, hex, router, routes};
 use pim_types::{Event, EventKind, IfaceId, Series};
 use std::alloc::Global;
 use toml::{Table, Value};
@@ -18,7 +18,7 @@ pub(super) fn moves_in(
     alloc: Global,
     values: &[Value],
     routers: &[RouterText],
-) -> Result<Series<Move>, Unread>
+) -> Result<Series<ScenarioMove>, Unread>
     ensures { ReadsExactly (AllZip (IsTable (IsMove routers.now)) (map view values.now)) result }
 {
     let mut moves = Series::new(alloc);
@@ -28,7 +28,7 @@ pub(super) fn moves_in(
     Ok(moves)
 }
 
-fn move_in(alloc: Global, table: &Table, routers: &[RouterText]) -> Result<Move, Unread>
+fn move_in(alloc: Global, table: &Table, routers: &[RouterText]) -> Result<ScenarioMove, Unread>
     ensures { ReadsExactly (IsMove routers.now (table_view table.now)) result }
 {
     match field::text(table, "do")? {
@@ -39,11 +39,11 @@ fn move_in(alloc: Global, table: &Table, routers: &[RouterText]) -> Result<Move,
     }
 }
 
-fn deliver_in(table: &Table, routers: &[RouterText]) -> Result<Move, Unread>
+fn deliver_in(table: &Table, routers: &[RouterText]) -> Result<ScenarioMove, Unread>
     ensures { ReadsExactly (IsDeliver routers.now (table_view table.now)) result }
 {
     field::only(table, &["do", "router", "draw", "iface", "frame"])?;
-    Ok(Move::Deliver {
+    Ok(ScenarioMove::Deliver {
         router: router_of(table, routers)?,
         iface: interface_in(table)?,
         frame: field::number(table, "frame")?,
@@ -51,33 +51,33 @@ fn deliver_in(table: &Table, routers: &[RouterText]) -> Result<Move, Unread>
     })
 }
 
-fn carry_in(table: &Table, routers: &[RouterText]) -> Result<Move, Unread>
+fn carry_in(table: &Table, routers: &[RouterText]) -> Result<ScenarioMove, Unread>
     ensures { ReadsExactly (IsCarry routers.now (table_view table.now)) result }
 {
     field::only(table, &["do", "router", "draw", "frame"])?;
-    Ok(Move::Carry {
+    Ok(ScenarioMove::Carry {
         router: router_of(table, routers)?,
         frame: field::number(table, "frame")?,
         draw: draw_in(table)?,
     })
 }
 
-fn settle_in(table: &Table) -> Result<Move, Unread>
+fn settle_in(table: &Table) -> Result<ScenarioMove, Unread>
     ensures { ReadsExactly (IsSettle (table_view table.now)) result }
 {
     field::only(table, &["do", "draw"])?;
-    Ok(Move::Settle {
+    Ok(ScenarioMove::Settle {
         draw: draw_in(table)?,
     })
 }
 
-fn event_in(alloc: Global, table: &Table, routers: &[RouterText]) -> Result<Move, Unread>
+fn event_in(alloc: Global, table: &Table, routers: &[RouterText]) -> Result<ScenarioMove, Unread>
     ensures { ReadsExactly (IsEvent routers.now (table_view table.now)) result }
 {
     let kind = kind_in(alloc, table)?;
     let router = router_of(table, routers)?;
     let draw = draw_in(table)?;
-    Ok(Move::Event {
+    Ok(ScenarioMove::Event {
         router,
         event: Event { draw, kind },
     })

@@ -25,11 +25,11 @@ pub returns-in_default-clause-state : goal.returns-in_default-clause-state
 returns-in_default-clause-state c =
     ap (λ (p : State × List Message). p.0)
     (sym (nothing_goes c.args.world.now c.args.sight.now.star.group.bits c.args.sight.now.source c.args.opened
-    c.are_keyed.ensures c.requires.source (sym c.in_default.ensures)))
+    c.recall_keyed.ensures c.requires.source (sym c.in_default.ensures)))
 
 pub returns-in_default-clause-messages : goal.returns-in_default-clause-messages
 returns-in_default-clause-messages c =
     sym (said_nothing c.args.turn.now)
     ∙ ap (λ (p : State × List Message). saying c.args.turn.now p.1)
     (sym (nothing_goes c.args.world.now c.args.sight.now.star.group.bits c.args.sight.now.source c.args.opened
-    c.are_keyed.ensures c.requires.source (sym c.in_default.ensures)))
+    c.recall_keyed.ensures c.requires.source (sym c.in_default.ensures)))

@@ -18,7 +18,7 @@ returns c =
     on_ok_weaker c.set_source.result
     (λ e. e ∙ ap (λ (t : Table SourceRow). let u : State = record s { sources = t } in u)
     (ap (set_row s.sources key) c.then_some-left.ensures
-    ∙ bit_forgotten key s.sources c.args.row c.is_some.result c.are_keyed.ensures.sources_rise c.requires c.is_some.ensures))
+    ∙ bit_forgotten key s.sources c.args.row c.is_some.result c.recall_keyed.ensures.sources_rise c.requires c.is_some.ensures))
     (stored_on_ok s c.set_source.result _ _ (λ (f : PimTables). record f {
       sources = set_row f.sources key c.then_some-left.result;
     }) c.store_mut.ensures.value c.set_source.ensures)

@@ -10,7 +10,7 @@ use Rattle.pim_asserts.proofs.part.clear_next.Goals as goal
 pub returns-in_default-clause-more : goal.returns-in_default-clause-more
 returns-in_default-clause-more c =
     sym (ap is_some (nothing_next c.args.part.group.bits (bits_of c.args.part.source) c.args.part.was c.args.world.now
-    c.are_keyed.ensures c.are_keyed.ensures.asserts_rise (sym c.in_default.ensures.first)))
+    c.recall_keyed.ensures c.recall_keyed.ensures.asserts_rise (sym c.in_default.ensures.first)))
 
 pub returns-in_default-clause-state : goal.returns-in_default-clause-state
 unfolding clear_once
@@ -18,7 +18,7 @@ returns-in_default-clause-state c =
     let s = c.args.world.now in
     ap (λ (o : Option Cleared). (option_map_or (cleared s) o (s, [])).0)
     (sym (nothing_next c.args.part.group.bits (bits_of c.args.part.source) c.args.part.was s
-    c.are_keyed.ensures c.are_keyed.ensures.asserts_rise (sym c.in_default.ensures.first)))
+    c.recall_keyed.ensures c.recall_keyed.ensures.asserts_rise (sym c.in_default.ensures.first)))
 
 pub returns-in_default-clause-messages : goal.returns-in_default-clause-messages
 unfolding clear_once
@@ -28,28 +28,28 @@ returns-in_default-clause-messages c =
     c.first_to_go.ensures.silent ∙ sym (said_nothing t)
     ∙ ap (λ (o : Option Cleared). saying t (option_map_or (cleared s) o (s, [])).1)
     (sym (nothing_next c.args.part.group.bits (bits_of c.args.part.source) c.args.part.was s
-    c.are_keyed.ensures c.are_keyed.ensures.asserts_rise (sym c.in_default.ensures.first)))
+    c.recall_keyed.ensures c.recall_keyed.ensures.asserts_rise (sym c.in_default.ensures.first)))
 
 pub forget-requires : goal.forget-requires
 forget-requires c =
-    (forgets c.args.part.group.bits (bits_of c.args.part.source) c.args.part.was c.args.world.now c.are_keyed.ensures
-    c.are_keyed.ensures.asserts_rise c.in-Some.iface.number (sym c.in-Some.ensures.first)).below
+    (forgets c.args.part.group.bits (bits_of c.args.part.source) c.args.part.was c.args.world.now c.recall_keyed.ensures
+    c.recall_keyed.ensures.asserts_rise c.in-Some.iface.number (sym c.in-Some.ensures.first)).below
 
 pub returns-clause-more : goal.returns-clause-more
 returns-clause-more c =
     sym (forgets c.args.part.group.bits
-    (bits_of c.args.part.source) c.args.part.was c.args.world.now c.are_keyed.ensures
-    c.are_keyed.ensures.asserts_rise c.in-Some.iface.number (sym c.in-Some.ensures.first)).more
+    (bits_of c.args.part.source) c.args.part.was c.args.world.now c.recall_keyed.ensures
+    c.recall_keyed.ensures.asserts_rise c.in-Some.iface.number (sym c.in-Some.ensures.first)).more
 
 pub returns-clause-state : goal.returns-clause-state
 returns-clause-state c =
     c.in_ok-forget.ensures.state
-    ∙ (forgets c.args.part.group.bits (bits_of c.args.part.source) c.args.part.was c.args.world.now c.are_keyed.ensures
-    c.are_keyed.ensures.asserts_rise c.in-Some.iface.number (sym c.in-Some.ensures.first)).state
+    ∙ (forgets c.args.part.group.bits (bits_of c.args.part.source) c.args.part.was c.args.world.now c.recall_keyed.ensures
+    c.recall_keyed.ensures.asserts_rise c.in-Some.iface.number (sym c.in-Some.ensures.first)).state
 
 pub returns-clause-messages : goal.returns-clause-messages
 returns-clause-messages c =
     c.in_ok-forget.ensures.messages
     ∙ (λ j. saying (c.first_to_go.ensures.silent j)
-    ((forgets c.args.part.group.bits (bits_of c.args.part.source) c.args.part.was c.args.world.now c.are_keyed.ensures
-    c.are_keyed.ensures.asserts_rise c.in-Some.iface.number (sym c.in-Some.ensures.first)).messages j))
+    ((forgets c.args.part.group.bits (bits_of c.args.part.source) c.args.part.was c.args.world.now c.recall_keyed.ensures
+    c.recall_keyed.ensures.asserts_rise c.in-Some.iface.number (sym c.in-Some.ensures.first)).messages j))

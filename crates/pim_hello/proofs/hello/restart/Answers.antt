@@ -21,7 +21,7 @@ returns-clause-state c =
     c.in_ok-lower_timers.ensures
     ∙ restarted s c.args.iface.number c.args.from.bits w c.args.hello.now c.replace_neighbour.new.self
     _ (c.present.result + c.override_delay.result) c.deref-2.result.now c.deref.result.now is
-    c.are_keyed.ensures.asserts_rise (c.deref.ensures.value ∙ c.in_ok-lost.ensures)
+    c.recall_keyed.ensures.asserts_rise (c.deref.ensures.value ∙ c.in_ok-lost.ensures)
     (stored c.replace_neighbour.new.self _ _ (λ (f : PimTables). record f {
       asserts = filter (λ e. not (is_loser (Some e.1) && is_named c.deref.result.now e.0)) f.asserts;
     }) c.store_mut.ensures.value c.end_losses.ensures)

@@ -4,11 +4,14 @@ use Rattle.pim_membership.specs.MembershipTables.{MembershipTables}
 use Rattle.pim_macros.proofs.Asserted.{shown_of_all}
 use Rattle.pim_macros.proofs.gather.excluded.Goals as goal
 
-pub returns : goal.returns
+pub returns-clause-shows : goal.returns-clause-shows
 unfolding local_receiver_exclude
-returns c =
+returns-clause-shows c =
     let s = c.args.world.now in
     let g = c.args.group.bits in
     shown_of_all _ _ (local_receiver_exclude s g c.args.source.bits) (λ i. c.receivers_exclude.ensures.interfaces i
     ∙ ap (λ (w : MembershipTables). local_receiver_exclude_among w.group_records w.source_records g c.args.source.bits i) c.membership.ensures)
     c.without_tunnel.ensures.limit
+
+pub returns-clause-at_least : goal.returns-clause-at_least
+returns-clause-at_least c = rw c.membership.ensures at c.receivers_exclude.ensures.at_least

@@ -4,11 +4,14 @@ use Rattle.pim_membership.specs.MembershipTables.{MembershipTables}
 use Rattle.pim_macros.proofs.Asserted.{shown_of_all}
 use Rattle.pim_macros.proofs.gather.included.Goals as goal
 
-pub returns : goal.returns
+pub returns-clause-shows : goal.returns-clause-shows
 unfolding local_receiver_include
-returns c =
+returns-clause-shows c =
     let s = c.args.world.now in
     let g = c.args.group.bits in
     shown_of_all _ _ (local_receiver_include s g c.args.source.bits) (λ i. c.receivers_include.ensures.interfaces i
     ∙ ap (λ (w : MembershipTables). local_receiver_include_among w.group_records w.source_records g c.args.source.bits i) c.membership.ensures)
     c.without_tunnel.ensures.limit
+
+pub returns-clause-at_least : goal.returns-clause-at_least
+returns-clause-at_least c = rw c.membership.ensures at c.receivers_include.ensures.at_least

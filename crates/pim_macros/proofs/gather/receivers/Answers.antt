@@ -4,11 +4,14 @@ use Rattle.pim_membership.specs.MembershipTables.{MembershipTables}
 use Rattle.pim_macros.proofs.Asserted.{shown_of_all}
 use Rattle.pim_macros.proofs.gather.receivers.Goals as goal
 
-pub returns : goal.returns
+pub returns-clause-shows : goal.returns-clause-shows
 unfolding is_exclude
-returns c =
+returns-clause-shows c =
     let s = c.args.world.now in
     let g = c.args.group.bits in
     shown_of_all _ _ (is_exclude s g) (λ i. c.receivers_star.ensures.interfaces i
     ∙ ap (λ (w : MembershipTables). is_exclude_among w.group_records g i) c.membership.ensures)
     c.without_tunnel.ensures.limit
+
+pub returns-clause-at_least : goal.returns-clause-at_least
+returns-clause-at_least c = rw c.membership.ensures at c.receivers_star.ensures.at_least

@@ -13,8 +13,8 @@ returns-then-is_running-clause-ok g c =
 
 pub returns-clause-ok : goal.returns-clause-ok
 returns-clause-ok g c =
-    subst (λ (k : Key). OnOk c.list.result (Lists c.args.listing.now c.list.new.self k (Some (g.R.Record.runs c.args.row))))
+    subst (λ (k : Key). OnOk c.list.result (Lists c.args.index.now c.list.new.self k (Some (g.R.Record.runs c.args.row))))
     (key_again c.args.key c.requires.near)
     (subst (λ (b : Bool). OnOk c.list.result
-    (Lists c.args.listing.now c.list.new.self (record_key (iface_in c.args.key) c.args.key.group c.args.key.source) (Some b)))
+    (Lists c.args.index.now c.list.new.self (record_key (iface_in c.args.key) c.args.key.group c.args.key.source) (Some b)))
     c.is_running-is_running.ensures c.list.ensures.ok)

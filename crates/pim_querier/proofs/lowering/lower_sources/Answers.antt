@@ -9,5 +9,5 @@ returns c =
     (λ e. e
     ∙ all_lowered c.args.world.now c.args.iface.number c.args.group.bits c.args.sources.now c.in_ok-set.set.keys c.args.end
     c.deref.result.now c.in_ok-set.ensures (c.deref.ensures.value ∙ c.in_ok-records.ensures)
-    (rw c.membership.ensures at c.source_records_rise.ensures))
+    (rw c.membership.ensures at c.recall_rising_source_records.ensures))
     c.lower_each.ensures

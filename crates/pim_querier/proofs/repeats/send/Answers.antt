@@ -13,7 +13,7 @@ returns-clause-state c =
     sent_of c.args.iface.number c.args.group.bits c.args.world.now c.lessen.new.world
     (c.lessen.ensures
     ∙ all_sent c.args.iface.number c.args.group.bits c.args.world.now c.deref-5.result.now
-    (c.deref-5.ensures.value ∙ c.in_ok-sendings.ensures) (rw c.membership.ensures at c.sendings_rise.ensures))
+    (c.deref-5.ensures.value ∙ c.in_ok-sendings.ensures) (rw c.membership.ensures at c.recall_rising_sendings.ensures))
 
 pub returns-clause-messages : goal.returns-clause-messages
 returns-clause-messages c =

@@ -22,7 +22,7 @@ returns c =
     same_on_ok c.change_register.result _ _ _
     (ap (λ (t : Table RegisterRow). let s : State = record c.args.world.now { registers = t } in s)
     (changed_by_found (stopping c.args.end) c.args.key s.registers c.in-Some.row c.stopped.result
-    c.are_keyed.ensures.registers_rise (sym found ∙ sym c.register.ensures ∙ c.in-Some.is)
+    c.recall_keyed.ensures.registers_rise (sym found ∙ sym c.register.ensures ∙ c.in-Some.is)
     (ap Some (sym c.stopped.ensures))))
     (stored_on_ok s c.change_register.result _ _ (λ (f : PimTables). record f {
       registers = change_row (λ before. Some c.stopped.result) c.args.key f.registers;

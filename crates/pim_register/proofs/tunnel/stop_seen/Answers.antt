@@ -31,5 +31,5 @@ returns-clause-state c =
     ∙ source_is_stopped s c.args.turn.now.draw c.args.group.bits (c.present.result + c.delay_in.result)
     (ending c.present.result s.present c.delay_in.result c.turn.inside.draw c.args.turn.now.draw c.present.ensures.present
     c.delay_in.ensures.value (ap (λ (t : Taking). t.draw) c.turn.view_is))
-    c.args.source.bits (sym c.is_any.ensures ∙ c.if-is_any.false) c.are_keyed.ensures.registers)
+    c.args.source.bits (sym c.is_any.ensures ∙ c.if-is_any.false) c.recall_keyed.ensures.registers)
     c.stop.ensures

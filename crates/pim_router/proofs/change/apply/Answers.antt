@@ -1,3 +1,5 @@
+use Rattle.std.proofs.Common.{rules}
+use Rattle.pim_router.specs.Naming.{HasNoPacket}
 use Rattle.pim_router.proofs.Sending.{data_sends, nothing_sends, register_sends}
 use Rattle.pim_router.proofs.change.apply.Goals as goal
 
@@ -12,10 +14,10 @@ returns-in-Register c =
     c.in-Register.is c.decapsulate.new.world c.args.turn.now c.decapsulate.new.turn c.decapsulate.result
     c.decapsulate.ensures
 
-pub returns-in_ok-apply_without_packet-in_default : goal.returns-in_ok-apply_without_packet-in_default
-returns-in_ok-apply_without_packet-in_default c =
-    nothing_sends c.args.world.now c.args.turn.now.draw c.args.accepted.now
-    (record { packet = c.in_default.not-Data; register = c.in_default.not-Register })
-    c.apply_without_packet.new.world c.args.turn.now c.apply_without_packet.new.turn c.nothing.result
-    c.in_ok-apply_without_packet-in_default.ensures.state c.in_ok-apply_without_packet-in_default.ensures.messages
+pub returns-in_ok-apply_without_packet-in-Advance : goal.returns-in_ok-apply_without_packet-in-Advance
+returns-in_ok-apply_without_packet-in-Advance c =
+    let none : HasNoPacket c.args.accepted.now = search rules in
+    nothing_sends c.args.world.now c.args.turn.now.draw c.args.accepted.now none c.apply_without_packet.new.world
+    c.args.turn.now c.apply_without_packet.new.turn c.nothing.result
+    c.in_ok-apply_without_packet-in-Advance.ensures.state c.in_ok-apply_without_packet-in-Advance.ensures.messages
     c.nothing.ensures.copies c.nothing.ensures.registered

@@ -1,18 +1,25 @@
+use Rattle.std.proofs.Common.{◌≤◌, ◌+◌, ◌*◌, ℕ, Ok, OnOk, ap, length, refl, subst, sym}
+use Rattle.pim_fanout.specs.Refreshing.{touches}
+use Rattle.pim_model.specs.Judging.{Judged, judged}
+use Rattle.pim_model.specs.Reach.{where_accepted}
+use Rattle.pim_reach.specs.Named.{event_named, named_of}
+use Rattle.pim_world.specs.Turns.{Taking}
 use Rattle.pim_router.proofs.Configured.{configured}
-use Rattle.pim_router.proofs.Taking.{accepted_unsurely, fails_unsurely}
 use Rattle.pim_router.proofs.event.take_turn.Goals as goal
 
-pub returns-in_err-accepted-clause-sure : goal.returns-in_err-accepted-clause-sure
-returns-in_err-accepted-clause-sure c =
-    fails_unsurely c.args.world.now c.args.event.now c.judge.result c.from_residual.result c.in_err-accepted.field-0.0
-    c.judge.ensures.sure c.in_err-accepted.was
+pub take_unless_full-outcome-requires-clause-configured : goal.take_unless_full-outcome-requires-clause-configured
+take_unless_full-outcome-requires-clause-configured c =
+    configured c.args.world.now c.args.event.now.kind (judged c.args.world.now c.args.event.now.kind)
+    c.args.accepted.now refl c.requires.heard
 
-pub take_unless_full-requires-clause-configured : goal.take_unless_full-requires-clause-configured
-take_unless_full-requires-clause-configured c =
-    configured c.args.world.now c.args.event.now.kind c.in_ok-accepted.field-0 c.in-Ok.accepted
-    c.in_ok-accepted.ensures.value c.in-Ok.is
-
-pub returns-in-Ok-clause-sure : goal.returns-in-Ok-clause-sure
-returns-in-Ok-clause-sure c =
-    accepted_unsurely c.args.world.now c.args.event.now c.in_ok-accepted.field-0 c.in-Ok.accepted c.take_unless_full.result
-    c.in_ok-accepted.ensures.value c.in-Ok.is
+pub returns-clause-few : goal.returns-clause-few
+unfolding event_named
+returns-clause-few c =
+    subst (λ (j : Judged). OnOk c.take_unless_full-outcome.result (touches c.take_unless_full-outcome.new.cache
+    ≤ touches c.args.cache.now
+    + 2 * length (where_accepted c.args.world.now (named_of c.args.world.now c.args.event.now.draw) j)))
+    (sym c.requires.heard)
+    (subst (λ (w : ℕ). OnOk c.take_unless_full-outcome.result (touches c.take_unless_full-outcome.new.cache
+    ≤ touches c.args.cache.now
+    + 2 * length (where_accepted c.args.world.now (named_of c.args.world.now w) (Ok c.args.accepted.now))))
+    (ap (λ (t : Taking). t.draw) c.new-turn.ensures) c.take_unless_full-outcome.ensures.few)

@@ -1,4 +1,4 @@
-use Rattle.std.proofs.Common.{◌≡◌, ℕ, fold, take}
+use Rattle.std.proofs.Common.{◌≡◌, fold, take}
 use Rattle.pim_types.specs.declared.outcome.Outcome.{Outcome}
 use Rattle.pim_router.proofs.router.last_copies.Given as goal
 

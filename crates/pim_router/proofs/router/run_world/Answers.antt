@@ -1,28 +1,54 @@
 use Rattle.std.proofs.Common.{◌++◌, ◌∷◌, [], ap, ◌∙◌}
-use Rattle.pim_router.proofs.Runs.{runs_end, runs_next}
+use Rattle.pim_fanout.specs.Refreshing.{touches}
+use Rattle.pim_router.proofs.Costs.{counts_all, counts_next, counts_none}
+use Rattle.pim_router.proofs.Runs.{runs_begin, runs_end, runs_next}
 use Rattle.pim_router.proofs.router.run_world.Goals as goal
 
-pub take_in-requires : goal.take_in-requires
-take_in-requires c = c.loop-event.invariant.rest
+pub loop-event-init : goal.loop-event-init
+loop-event-init c = (
+  runs_begin c.args.world.now c.args.events.now c.new-outcomes.result.items c.new-outcomes.ensures.items c.requires.rest,
+  c.requires.shown,
+  counts_none c.args.world.now c.args.events.now c.args.meter.now (touches c.args.cache.now),
+)
+
+pub take_in-requires-clause-rest : goal.take_in-requires-clause-rest
+take_in-requires-clause-rest c = c.loop-event.invariant.0.rest
+
+pub take_in-requires-clause-shown : goal.take_in-requires-clause-shown
+take_in-requires-clause-shown c = c.loop-event.invariant.1
 
 pub loop-event-preserved : goal.loop-event-preserved
-loop-event-preserved c =
-    runs_next c.args.world.now c.args.events.now c.loop-event.event-index c.loop-event.world c.take_in.new.world
-    c.loop-event.outcomes.items
-    c.push.new.self.items c.event-item.result c.loop-event-test.true c.event-item.is c.in_ok-take_in.ensures.rest
-    c.in_ok-take_in.ensures.state
-    (c.in_ok-push.ensures.items
-    ∙ ap (λ o. c.loop-event.outcomes.items ++ o ∷ []) c.in_ok-take_in.ensures.outcome) c.loop-event.invariant
+loop-event-preserved c = (
+  runs_next c.args.world.now c.args.events.now c.loop-event.event-index c.loop-event.world c.take_in.new.world
+      c.loop-event.outcomes.items
+      c.push.new.self.items c.event-item.result c.loop-event-test.true c.event-item.is c.in_ok-take_in.ensures.rest
+      c.in_ok-take_in.ensures.state
+      (c.in_ok-push.ensures.items
+      ∙ ap (λ o. c.loop-event.outcomes.items ++ o ∷ []) c.in_ok-take_in.ensures.outcome) c.loop-event.invariant.0,
+  c.in_ok-take_in.ensures.shown,
+  counts_next c.args.world.now c.args.events.now c.loop-event.event-index c.loop-event.world c.take_in.new.world
+      c.event-item.result c.loop-event.meter (touches c.loop-event.cache) c.take_in.new.meter
+      (touches c.take_in.new.cache) c.loop-event-test.true c.event-item.is c.in_ok-take_in.ensures.state
+      c.in_ok-take_in.ensures.cheap c.loop-event.invariant.2,
+)
 
 pub returns-clause-outcomes : goal.returns-clause-outcomes
 returns-clause-outcomes c =
     (runs_end c.args.world.now c.args.events.now c.loop-event.event-index c.loop-event.world
-    c.loop-event.outcomes.items c.loop-event-test.false c.loop-event.invariant).0
+    c.loop-event.outcomes.items c.loop-event-test.false c.loop-event.invariant.0).0
 
 pub returns-clause-state : goal.returns-clause-state
 returns-clause-state c =
     (runs_end c.args.world.now c.args.events.now c.loop-event.event-index c.loop-event.world
-    c.loop-event.outcomes.items c.loop-event-test.false c.loop-event.invariant).1
+    c.loop-event.outcomes.items c.loop-event-test.false c.loop-event.invariant.0).1
 
 pub returns-clause-rest : goal.returns-clause-rest
-returns-clause-rest c = c.loop-event.invariant.rest
+returns-clause-rest c = c.loop-event.invariant.0.rest
+
+pub returns-clause-shown : goal.returns-clause-shown
+returns-clause-shown c = c.loop-event.invariant.1
+
+pub returns-clause-cheap : goal.returns-clause-cheap
+returns-clause-cheap c =
+    counts_all c.args.world.now c.args.events.now c.loop-event.event-index c.loop-event.world c.loop-event.meter
+    (touches c.loop-event.cache) c.loop-event-test.false c.loop-event.invariant.2

@@ -1,6 +1,13 @@
 use Rattle.std.proofs.Common.{drop}
+use Rattle.pim_fanout.specs.Refreshing.{touches}
+use Rattle.pim_mfc.specs.Laws.{ShowsRows}
+use Rattle.pim_model.specs.Cache.{cached}
+use Rattle.pim_router.proofs.Costs.{Counted}
 use Rattle.pim_router.proofs.Runs.{Runs}
 use Rattle.pim_router.proofs.router.run_world.Given as goal
 
 abbrev pub invariant-loop-event : goal.invariant-loop-event
-invariant-loop-event l = Runs l.fn.world l.events l.world l.outcomes.items (drop l.event-index l.events)
+invariant-loop-event l =
+    Runs l.fn.world l.events l.world l.outcomes.items (drop l.event-index l.events)
+    × ShowsRows l.cache.mfc.rows (cached l.world)
+    × Counted l.fn.world l.events l.event-index l.world l.meter (touches l.cache)

@@ -1,4 +1,5 @@
 use Rattle.pim_laws.proofs.FiringLaws.{ahead_is_ready}
+use Rattle.pim_router.proofs.Rows.{rows_present}
 use Rattle.pim_router.proofs.time.advance.Goals as goal
 
 pub fire_all-requires-clause-lawful : goal.fire_all-requires-clause-lawful
@@ -11,3 +12,9 @@ fire_all-requires-clause-lawful c = record {
 pub fire_all-requires-clause-ready : goal.fire_all-requires-clause-ready
 fire_all-requires-clause-ready c =
     ahead_is_ready c.args.world.now.present c.args.world.now c.requires.rest.settled.ahead
+
+pub returns-clause-shown : goal.returns-clause-shown
+returns-clause-shown c =
+    rows_present c.fire_all.new.world c.set_present.new.self c.args.moment c.fire_all.new.cache.mfc.rows
+    c.interfaces.result.now c.interfaces.ensures c.recall_few.ensures c.set_present.ensures
+    c.in_ok-fire_all.ensures.shown

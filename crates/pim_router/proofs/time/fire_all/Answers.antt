@@ -1,4 +1,8 @@
-use Rattle.std.proofs.Common.{◌≤◌, ◌++◌, ap, arith, refl, sym, ◌∙◌}
+use Rattle.std.proofs.Common.{◌≤◌, ◌+◌, ◌*◌, ◌++◌, length, ap, arith, refl, subst, sym, ◌∙◌}
+use Rattle.pim_fanout.specs.Refreshing.{touches}
+use Rattle.pim_model.specs.Reach.{told_instant}
+use Rattle.pim_reach.specs.Named.{named_by}
+use Rattle.pim_router.proofs.Firings.{all_cost, all_costs_none, instant_costs}
 use Rattle.pim_laws.proofs.FiringLaws.{next_is_due, next_is_least}
 use Rattle.pim_model.specs.Firing.{fire_instant}
 use Rattle.pim_model.specs.Timers.{next_due}
@@ -7,7 +11,7 @@ use Rattle.pim_router.proofs.time.fire_all.Goals as goal
 use Rattle.pim_router.specs.Ends.{ending_of}
 
 pub instants-init : goal.instants-init
-instants-init c = (firing_begins c.args.turn.now.draw c.args.moment c.args.world.now c.args.emissions.now.items c.requires.lawful c.requires.quiet c.requires.ready, refl)
+instants-init c = (firing_begins c.args.turn.now.draw c.args.moment c.args.world.now c.args.emissions.now.items c.requires.lawful c.requires.quiet c.requires.ready, refl, c.requires.shown, all_costs_none c.args.turn.now.draw c.args.moment c.args.world.now (touches c.args.cache.now))
 
 pub fire_instant-requires-clause-from : goal.fire_instant-requires-clause-from
 fire_instant-requires-clause-from c =
@@ -42,6 +46,16 @@ instants-preserved c = (
       ∙ ap (λ w. c.instants.emissions.items ++ (fire_instant w c.instants.world (ending_of c.in-Some.first)).1)
       c.instants.invariant.1),
   c.in_ok-fire_instant.ensures.draw ∙ c.instants.invariant.1,
+  c.in_ok-fire_instant.ensures.shown,
+  instant_costs c.args.turn.now.draw c.args.moment c.args.world.now (touches c.args.cache.now) c.instants.world
+      (touches c.instants.cache) (ending_of c.in-Some.first) c.instants.invariant.0.ready
+      (ending_told (next_due c.args.moment c.instants.world) c.in-Some.first (sym c.next_due.ensures ∙ c.in-Some.is))
+      c.fire_instant.new.world (touches c.fire_instant.new.cache)
+      (c.in_ok-fire_instant.ensures.state
+      ∙ ap (λ w. (fire_instant w c.instants.world (ending_of c.in-Some.first)).0) c.instants.invariant.1)
+      (subst (λ w. touches c.fire_instant.new.cache ≤ touches c.instants.cache
+      + 2 * length (told_instant named_by w c.instants.world (ending_of c.in-Some.first)).1) c.instants.invariant.1
+      c.in_ok-fire_instant.ensures.few) c.instants.invariant.3,
 )
 
 pub returns-clause-state : goal.returns-clause-state
@@ -55,3 +69,11 @@ returns-clause-sent c =
     (firing_ends c.args.turn.now.draw c.args.moment c.args.world.now c.args.emissions.now.items
     c.instants.world c.instants.emissions.items c.instants.invariant.0
     (none_told (next_due c.args.moment c.instants.world) (sym c.next_due.ensures ∙ c.in_default.is))).1
+
+pub returns-clause-shown : goal.returns-clause-shown
+returns-clause-shown c = c.instants.invariant.2
+
+pub returns-clause-few : goal.returns-clause-few
+returns-clause-few c =
+    all_cost c.args.turn.now.draw c.args.moment c.args.world.now (touches c.args.cache.now) c.instants.world
+    (touches c.instants.cache) c.instants.invariant.3

@@ -1,5 +1,8 @@
 use Rattle.std.proofs.Common.{◌≤◌, ◌++◌, ap, arith, refl, sym, ◌∙◌}
+use Rattle.pim_fanout.specs.Refreshing.{touches}
 use Rattle.pim_laws.proofs.FiringLaws.{next_is_due}
+use Rattle.pim_laws.proofs.TimerLaws.{shown_from}
+use Rattle.pim_router.proofs.Firings.{firing_costs, instant_cost, instant_costs_none}
 use Rattle.pim_model.specs.Firing.{fire_once}
 use Rattle.pim_model.specs.Timers.{next_due}
 use Rattle.pim_router.proofs.Instants.{ending_told, fewer_after, firing_follows, instant_begins, instant_ends, none_told}
@@ -7,7 +10,7 @@ use Rattle.pim_router.proofs.time.fire_instant.Goals as goal
 use Rattle.pim_router.specs.Ends.{ending_of}
 
 pub firings-init : goal.firings-init
-firings-init c = (instant_begins c.args.turn.now.draw c.args.world.now (ending_of c.args.first) c.args.emissions.now.items c.requires.lawful c.requires.quiet c.requires.from, refl)
+firings-init c = (instant_begins c.args.turn.now.draw c.args.world.now (ending_of c.args.first) c.args.emissions.now.items c.requires.lawful c.requires.quiet c.requires.from, refl, c.requires.shown, instant_costs_none c.args.turn.now.draw c.args.world.now (ending_of c.args.first) (touches c.args.cache.now))
 
 pub fire_once-requires-clause-within : goal.fire_once-requires-clause-within
 fire_once-requires-clause-within c =
@@ -37,6 +40,15 @@ firings-preserved c = (
       ∙ ap (λ w. c.firings.emissions.items ++ (fire_once w c.firings.world (ending_of c.in-Some.due)).1)
       c.firings.invariant.1),
   c.in_ok-fire_once.ensures.draw ∙ c.firings.invariant.1,
+  c.in_ok-fire_once.ensures.shown,
+  firing_costs c.args.turn.now.draw c.args.world.now (ending_of c.args.first) (touches c.args.cache.now)
+      c.firings.world (touches c.firings.cache) (ending_of c.in-Some.due) c.firings.invariant.0.lawful.firable
+      (shown_from c.args.first.0 c.firings.world c.firings.invariant.0.inside.from)
+      (ending_told (next_due c.args.first.0 c.firings.world) c.in-Some.due (sym c.next_due.ensures ∙ c.in-Some.is))
+      c.fire_once.new.world (touches c.fire_once.new.cache)
+      (c.in_ok-fire_once.ensures.state
+      ∙ ap (λ w. (fire_once w c.firings.world (ending_of c.in-Some.due)).0) c.firings.invariant.1)
+      c.in_ok-fire_once.ensures.few c.firings.invariant.3,
 )
 
 pub returns-clause-state : goal.returns-clause-state
@@ -50,3 +62,13 @@ returns-clause-sent c =
     (instant_ends c.args.turn.now.draw c.args.world.now (ending_of c.args.first) c.args.emissions.now.items
     c.firings.world c.firings.emissions.items c.firings.invariant.0
     (none_told (next_due c.args.first.0 c.firings.world) (sym c.next_due.ensures ∙ c.in_default.is))).1
+
+pub returns-clause-shown : goal.returns-clause-shown
+returns-clause-shown c = c.firings.invariant.2
+
+pub returns-clause-few : goal.returns-clause-few
+returns-clause-few c =
+    instant_cost c.args.turn.now.draw c.args.world.now (ending_of c.args.first) (touches c.args.cache.now)
+    c.firings.world (touches c.firings.cache)
+    (none_told (next_due c.args.first.0 c.firings.world) (sym c.next_due.ensures ∙ c.in_default.is))
+    c.firings.invariant.3

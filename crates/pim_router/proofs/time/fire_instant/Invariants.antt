@@ -1,5 +1,9 @@
 use Rattle.std.specs.Prelude.{◌≡◌}
+use Rattle.pim_fanout.specs.Refreshing.{touches}
 use Rattle.pim_laws.proofs.FiringLaws.{still_due}
+use Rattle.pim_mfc.specs.Laws.{ShowsRows}
+use Rattle.pim_model.specs.Cache.{cached}
+use Rattle.pim_router.proofs.Firings.{InstantCosts}
 use Rattle.pim_router.proofs.Instants.{WithinInstant}
 use Rattle.pim_router.specs.Ends.{ending_of}
 use Rattle.pim_router.proofs.time.fire_instant.Given as goal
@@ -7,7 +11,8 @@ use Rattle.pim_router.proofs.time.fire_instant.Given as goal
 abbrev pub invariant-firings : goal.invariant-firings
 invariant-firings l =
     WithinInstant l.fn.turn.draw l.fn.world (ending_of l.first) l.fn.emissions.items l.world l.emissions.items
-    × (l.turn.draw ≡ l.fn.turn.draw)
+    × (l.turn.draw ≡ l.fn.turn.draw) × ShowsRows l.cache.mfc.rows (cached l.world)
+    × InstantCosts l.fn.turn.draw l.fn.world (ending_of l.first) (touches l.fn.cache) l.world (touches l.cache)
 
 abbrev pub decreases-firings : goal.decreases-firings
 decreases-firings l = still_due l.first.0 l.fn.world l.world

@@ -6,9 +6,9 @@ use Rattle.pim_store.proofs.rows.put_row.Goals as goal
 
 pub returns-in-Err-clause-told : goal.returns-in-Err-clause-told
 returns-in-Err-clause-told g c =
-    told_after g.R.Marking.tells g.R.Marking.says g.R.Marking.fits c.args.key _ _ c.requires.told None _ _
+    told_after g.R.TellsMarks.tells g.R.TellsMarks.says g.R.TellsMarks.fits c.args.key _ _ c.requires.told None _ _
     c.requires.fits
-    (marks_again g.R.Marking.tells g.R.Marking.says c.args.key (Some c.args.row) None _ _ _
+    (marks_again g.R.TellsMarks.tells g.R.TellsMarks.says c.args.key (Some c.args.row) None _ _ _
     c.in_ok-mark_row.ensures.ok c.unmark.ensures)
     (found_dropped c.args.key _ _
     (c.remove.ensures ∙ ap (λ t. drop_at t c.args.key) c.in-Err.ensures.err
@@ -16,5 +16,5 @@ returns-in-Err-clause-told g c =
 
 pub returns-clause-told : goal.returns-clause-told
 returns-clause-told g c =
-    told_after g.R.Marking.tells g.R.Marking.says g.R.Marking.fits c.args.key _ _ c.requires.told (Some c.args.row)
+    told_after g.R.TellsMarks.tells g.R.TellsMarks.says g.R.TellsMarks.fits c.args.key _ _ c.requires.told (Some c.args.row)
     _ _ c.requires.fits c.in_ok-mark_row.ensures.ok (found_put c.args.key c.args.row _ _ c.in_default.ensures.ok)

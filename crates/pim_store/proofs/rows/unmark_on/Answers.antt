@@ -4,30 +4,30 @@ use Rattle.pim_store.proofs.rows.unmark_on.Goals as goal
 
 pub loop-key-init : goal.loop-key-init
 loop-key-init g c =
-    at_first g.R.Marking.tells g.R.Marking.says g.R.Marking.fits c.args.iface.number _ _ _
+    at_first g.R.TellsMarks.tells g.R.TellsMarks.says g.R.TellsMarks.fits c.args.iface.number _ _ _
     (c.into_iter-key-iterator.ensures.into_iter_gives ∙ c.iter-key-items.ensures) c.requires
 
 pub unmark-requires : goal.unmark-requires
 unmark-requires g c =
-    fits_here g.R.Marking.tells g.R.Marking.says g.R.Marking.fits c.args.iface.number _ _ c.args.rows.now
+    fits_here g.R.TellsMarks.tells g.R.TellsMarks.says g.R.TellsMarks.fits c.args.iface.number _ _ c.args.rows.now
     c.loop-key.key-iterator c.next.new.self c.in-Some.key.now c.in-Some.field-0-1.now c.loop-key.invariant
     c.in-Some.ensures.steps c.requires
 
 pub loop-key-preserved-then-eq : goal.loop-key-preserved-then-eq
 loop-key-preserved-then-eq g c =
-    unmarked_here g.R.Marking.tells g.R.Marking.says g.R.Marking.fits c.args.iface.number _ _ c.args.rows.now
+    unmarked_here g.R.TellsMarks.tells g.R.TellsMarks.says g.R.TellsMarks.fits c.args.iface.number _ _ c.args.rows.now
     c.loop-key.key-iterator c.next.new.self c.in-Some.key.now c.in-Some.field-0-1.now c.loop-key.invariant
     c.in-Some.ensures.steps _ (sym c.if-eq.ensures) c.unmark.ensures
 
 pub loop-key-preserved : goal.loop-key-preserved
 loop-key-preserved g c =
-    another g.R.Marking.tells g.R.Marking.says g.R.Marking.fits c.args.iface.number _ _ c.args.rows.now
+    another g.R.TellsMarks.tells g.R.TellsMarks.says g.R.TellsMarks.fits c.args.iface.number _ _ c.args.rows.now
     c.loop-key.key-iterator c.next.new.self c.in-Some.key.now c.in-Some.field-0-1.now c.loop-key.invariant
     c.in-Some.ensures.steps (sym c.if-eq.ensures)
 
 pub returns-clause-told : goal.returns-clause-told
 returns-clause-told g c =
-    all_unmarked g.R.Marking.tells g.R.Marking.says g.R.Marking.fits c.args.iface.number _ _ c.args.rows.now
+    all_unmarked g.R.TellsMarks.tells g.R.TellsMarks.says g.R.TellsMarks.fits c.args.iface.number _ _ c.args.rows.now
     c.loop-key.key-iterator c.in-None.ensures.steps.0 c.loop-key.invariant c.requires
 
 pub returns-clause-others : goal.returns-clause-others

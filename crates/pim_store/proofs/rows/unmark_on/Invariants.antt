@@ -3,4 +3,4 @@ use Rattle.pim_store.proofs.rows.unmark_on.Given as goal
 
 abbrev pub invariant-loop-key : goal.invariant-loop-key
 invariant-loop-key g l =
-    IsUnmarked g.R.Marking.tells g.R.Marking.says g.R.Marking.fits l.iface.number l.fn.index l.index l.fn.rows l.key-iterator
+    IsUnmarked g.R.TellsMarks.tells g.R.TellsMarks.says g.R.TellsMarks.fits l.iface.number l.fn.index l.index l.fn.rows l.key-iterator

@@ -1,9 +1,9 @@
 use Rattle.std.proofs.Common.{ap, sym, ◌∙◌}
 use Rattle.pim_model.specs.Upstream.{with_join_timer}
 use Rattle.pim_upstream.specs.Timers.{after_move, after_moves, join_key}
-use Rattle.pim_rpt.specs.Changes.{change_of}
-use Rattle.pim_rpt.specs.declared.change.Change.{Change}
-use Rattle.pim_upstream.specs.declared.timer.Move.{Move}
+use Rattle.pim_telling.specs.Changes.{change_of}
+use Rattle.pim_telling.specs.declared.change.Change.{Change}
+use Rattle.pim_upstream.specs.declared.timer.TimerMove.{TimerMove}
 use Rattle.pim_upstream.proofs.Moves.{after_one_more}
 use Rattle.pim_upstream.proofs.timer.note_join.Goals as goal
 
@@ -17,4 +17,4 @@ pub returns-in_ok-push-in_default : goal.returns-in_ok-push-in_default
 unfolding after_move
 returns-in_ok-push-in_default c = λ s.
     ap (after_moves s) c.in_ok-push-in_default.ensures.items
-    ∙ after_one_more c.args.moves.now.items (Move.Join c.args.group c.args.source c.args.change) s
+    ∙ after_one_more c.args.moves.now.items (TimerMove.Join c.args.group c.args.source c.args.change) s

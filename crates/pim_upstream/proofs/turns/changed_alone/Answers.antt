@@ -9,7 +9,7 @@ use Rattle.pim_world.specs.Turns.{Taking, saying}
 use Rattle.pim_world.proofs.Said.{said_both}
 use Rattle.pim_upstream.specs.Timers.{after_moves}
 use Rattle.pim_upstream.specs.Told.{source_step, star_changed}
-use Rattle.pim_upstream.specs.declared.timer.Move.{Move}
+use Rattle.pim_upstream.specs.declared.timer.TimerMove.{TimerMove}
 use Rattle.pim_upstream.proofs.Alone.{both, told_alone}
 use Rattle.pim_upstream.proofs.turns.changed_alone.Goals as goal
 
@@ -25,10 +25,10 @@ returns-clause-state c =
     let star : Told = star_changed a w g x.star in
     let moved : after_moves a c.tell_star.new.moves.items ≡ with_join_timer a (star_key 0 g) star.timer =
     c.in_ok-tell_star.ensures.timers a
-    ∙ ap (λ (ms : List Move). with_join_timer (after_moves a ms) (star_key 0 g) star.timer) c.new-moves.ensures.items in
+    ∙ ap (λ (ms : List TimerMove). with_join_timer (after_moves a ms) (star_key 0 g) star.timer) c.new-moves.ensures.items in
     on_ok_weaker c.move_timers.result
     (λ e. e
-    ∙ ap (λ (ms : List Move). after_moves a ms) c.as_slice.ensures.value
+    ∙ ap (λ (ms : List TimerMove). after_moves a ms) c.as_slice.ensures.value
     ∙ c.in_ok-tell_seen.ensures.timers a
     ∙ ap (λ d. (source_step a d g (after_moves a c.tell_star.new.moves.items) o).0) draw
     ∙ ap (λ (u : State). (source_step a w g u o).0) moved
@@ -50,7 +50,7 @@ returns-clause-messages c =
     let first : State = with_join_timer a (star_key 0 g) star.timer in
     let moved : after_moves a c.tell_star.new.moves.items ≡ first =
     c.in_ok-tell_star.ensures.timers a
-    ∙ ap (λ (ms : List Move). with_join_timer (after_moves a ms) (star_key 0 g) star.timer) c.new-moves.ensures.items in
+    ∙ ap (λ (ms : List TimerMove). with_join_timer (after_moves a ms) (star_key 0 g) star.timer) c.new-moves.ensures.items in
     on_ok_weaker c.move_timers.result
     (λ e. c.in_ok-tell_seen.ensures.messages a
     ∙ ap (λ d. saying c.tell_star.new.turn (source_step a d g (after_moves a c.tell_star.new.moves.items) o).1) draw

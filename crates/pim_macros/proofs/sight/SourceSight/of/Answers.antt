@@ -1,11 +1,15 @@
-use Rattle.std.proofs.Common.{ap, arith, rules, sym, ◌∙◌}
+use Rattle.std.proofs.Common.{Some, ap, arith, rules, sym, ◌∙◌}
 use Rattle.std.proofs.lemmas.Grind.{common_steps}
 use Rattle.pim_model.specs.Sets.{assert_source, is_kept_alive, is_loser, is_winner, joins, prunes, spt_bit, tunnel}
 use Rattle.pim_model.specs.Tables.{has_row, row_at}
 use Rattle.pim_model.specs.Unicast.{rpf_interface, rpf_interface_rp}
-use Rattle.pim_store.specs.PimTables.{PimTables, is_prune}
+use Rattle.pim_store.specs.PimTables.{PimTables, is_prune, stored_keys}
+use Rattle.pim_store.specs.Visits.{nodes_visited}
+use Rattle.pim_world.specs.Visits.{source_nodes}
 use Rattle.pim_types.specs.Keys.{rpt_key, source_key}
 use Rattle.pim_macros.proofs.Asserted.{asserted_where_either, shown_of_all}
+use Rattle.pim_macros.proofs.Counted.{at_least_as}
+use Rattle.pim_world.proofs.Visits.{at_least_itself, four_in_turn}
 use Rattle.pim_macros.proofs.sight.SourceSight.of.Goals as goal
 
 pub beaten-requires-clause-asserted : goal.beaten-requires-clause-asserted
@@ -45,13 +49,21 @@ returns-clause-sight c =
           (λ i. marks.won i ∙ ap (λ t. is_winner (row_at t (source_key i g src))) asserts)
           c.without_tunnel-4.ensures.limit;
       beaten = c.beaten.ensures;
-      included = c.included.ensures;
-      excluded = c.excluded.ensures;
+      included = c.included.ensures.shows;
+      excluded = c.excluded.ensures.shows;
       spt = grind (arith, common_steps);
       is_kept_alive = grind (arith, common_steps);
       tunnel = grind (arith, common_steps);
       is_own = search rules;
       is_dr = search rules;
       is_spt_wanted = search rules;
-      short = rw (sym c.route-path.ensures.value) at (c.are_preferences_short.ensures.source src);
+      short = rw (sym c.route-path.ensures.value) at (c.recall_short_preferences.ensures.source src);
     }
+
+pub returns-clause-at_least : goal.returns-clause-at_least
+unfolding source_nodes
+returns-clause-at_least c =
+    let marked = at_least_as _ _ _ _ c.marks-marks.ensures.visited
+    (ap (λ (f : PimTables). nodes_visited (stored_keys f) c.args.star.group (Some c.args.source)) c.store.ensures) in
+    four_in_turn _ _ _ _ _ _ _ _ _ (at_least_itself _ _ _ c.route-path.ensures.visited) marked
+    c.included.ensures.at_least c.excluded.ensures.at_least

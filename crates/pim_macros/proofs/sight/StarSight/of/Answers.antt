@@ -1,14 +1,18 @@
-use Rattle.std.proofs.Common.{◌≡◌, ◌≤◌, ap, arith, false, length, nat_lt, rules, sym, ◌∙◌}
+use Rattle.std.proofs.Common.{None, ◌≡◌, ◌≤◌, ap, arith, false, length, nat_lt, rules, sym, ◌∙◌}
 use Rattle.std.specs.Option.{option_map_or}
 use Rattle.std.proofs.lemmas.Grind.{common_steps}
 use Rattle.pim_model.specs.Sets.{assert_star, is_loser, is_winner, joins_star}
 use Rattle.pim_model.specs.State.{InterfaceTable, iface_count, is_own}
 use Rattle.pim_model.specs.Tables.{has_row, row_at}
 use Rattle.pim_model.specs.Unicast.{rpf_interface_rp}
-use Rattle.pim_store.specs.PimTables.{PimTables}
+use Rattle.pim_store.specs.PimTables.{PimTables, stored_keys}
+use Rattle.pim_store.specs.Visits.{nodes_visited}
+use Rattle.pim_world.specs.Visits.{path_nodes, star_nodes}
 use Rattle.pim_types.specs.Keys.{star_key}
 use Rattle.pim_macros.proofs.Asserted.{shown_of_all}
 use Rattle.pim_macros.proofs.Emptiness.{below_limit}
+use Rattle.pim_macros.proofs.Counted.{at_least_as}
+use Rattle.pim_world.proofs.Visits.{at_least_itself, four_in_turn}
 use Rattle.pim_macros.proofs.sight.StarSight.of.Goals as goal
 
 pub returns-clause-sight : goal.returns-clause-sight
@@ -33,12 +37,20 @@ returns-clause-sight c =
           (λ i. marks.lost i ∙ ap (λ t. is_loser (row_at t (star_key i g))) asserts) c.without_tunnel-2.ensures.limit;
       won = shown_of_all _ _ (λ i. is_winner (assert_star s g i))
           (λ i. marks.won i ∙ ap (λ t. is_winner (row_at t (star_key i g))) asserts) c.without_tunnel-3.ensures.limit;
-      receivers = c.receivers.ensures;
+      receivers = c.receivers.ensures.shows;
       dr = c.dr.ensures;
       configured = λ i.
           c.below.ensures.interfaces i ∙ ap (nat_lt i) count ∙ below_limit i (iface_count s) few;
       bare = c.below.ensures.tunnel;
       few = few;
       is_own_rp = c.is_own.ensures ∙ ap (λ o. option_map_or (is_own s) o false) c.rp-rp.ensures.value;
-      short = rw (sym c.rp_route-rp_path.ensures) at (c.are_preferences_short.ensures.group g);
+      short = rw (sym c.rp_route-rp_path.ensures.value) at (c.recall_short_preferences.ensures.group g);
     }
+
+pub returns-clause-at_least : goal.returns-clause-at_least
+unfolding star_nodes
+returns-clause-at_least c =
+    let routed = at_least_as _ _ _ _ c.rp_route-rp_path.ensures.visited (ap (path_nodes c.args.world.now) c.rp-rp.ensures.value) in
+    let marked = at_least_as _ _ _ _ c.marks-marks.ensures.visited
+    (ap (λ (f : PimTables). nodes_visited (stored_keys f) c.args.group None) c.store.ensures) in
+    four_in_turn _ _ _ _ _ _ _ _ _ (at_least_itself _ _ _ c.rp-rp.ensures.visited) routed marked c.receivers.ensures.at_least

@@ -13,8 +13,8 @@ returns-then-has_source-clause-any c =
     ∙ ap (λ (m : MembershipTables). list_any (names_source c.args.group.bits c.args.source.bits) (keys_in m.source_records))
     c.self.view_is)
     c.if-has_source.true
-    (any_member c.args.group.bits c.args.source.bits c.args.self.now c.are_keyed.ensures.records
-    c.are_keyed.ensures.group_repeats c.are_keyed.ensures.source_repeats)
+    (any_member c.args.group.bits c.args.source.bits c.args.self.now c.recall_keyed.ensures.records
+    c.recall_keyed.ensures.group_repeats c.recall_keyed.ensures.source_repeats)
 
 pub returns-else-has_source-clause-any : goal.returns-else-has_source-clause-any
 returns-else-has_source-clause-any c =
@@ -26,5 +26,5 @@ returns-else-has_source-clause-any c =
     (c.has_source-else-has_source.ensures
     ∙ ap (λ (m : MembershipTables). list_any (names_source c.args.group.bits c.args.source.bits) (keys_in m.sendings))
     c.self.view_is)
-    (any_member c.args.group.bits c.args.source.bits c.args.self.now c.are_keyed.ensures.records
-    c.are_keyed.ensures.group_repeats c.are_keyed.ensures.source_repeats)
+    (any_member c.args.group.bits c.args.source.bits c.args.self.now c.recall_keyed.ensures.records
+    c.recall_keyed.ensures.group_repeats c.recall_keyed.ensures.source_repeats)

@@ -9,5 +9,5 @@ use Rattle.pim_membership.proofs.membership.Membership.source_records_at.Goals a
 pub returns-clause-rising : goal.returns-clause-rising
 returns-clause-rising c =
     subst (λ t. IsStrictlySortedBy nat_cmp (map (λ e. source_in e.0) t)) (sym c.rows_at.ensures.rows)
-    (sources_rise c.args.iface.number c.args.group.bits c.self.inside.source_records c.are_of_kind.ensures.fit
-    c.are_of_kind.ensures.kind c.are_rising.ensures)
+    (sources_rise c.args.iface.number c.args.group.bits c.self.inside.source_records c.recall_kind.ensures.fit
+    c.recall_kind.ensures.kind c.recall_rising.ensures)

@@ -9,8 +9,8 @@ use Rattle.pim_membership.proofs.membership.Membership.sources_of.Goals as goal
 pub returns : goal.returns
 unfolding addr_cmp
 returns c =
-    all_sources c.args.group.bits c.args.self.now c.gather_sources-2.new.found.entries c.are_keyed.ensures.records
-    c.are_keyed.ensures.group_repeats c.are_keyed.ensures.source_repeats c.len.ensures.ordered (λ n.
+    all_sources c.args.group.bits c.args.self.now c.gather_sources-2.new.found.entries c.recall_keyed.ensures.records
+    c.recall_keyed.ensures.group_repeats c.recall_keyed.ensures.source_repeats c.len.ensures.ordered (λ n.
     both_gathered c.args.group.bits c.self.inside.source_records c.self.inside.sendings c.new-found.result.entries
     c.gather_sources.new.found.entries c.gather_sources-2.new.found.entries c.new-found.ensures.empty
     c.in_ok-gather_sources.ensures c.in_ok-gather_sources-2.ensures n

@@ -27,7 +27,7 @@ pub returns-in_ok-put-clause-to : goal.returns-in_ok-put-clause-to
 returns-in_ok-put-clause-to g c =
     c.in_ok-put.ensures
     ∙ put_is_changed (record_key c.args.iface.number c.args.group c.args.source) c.args.row (λ _. Some c.args.row)
-    c.args.self.now (subst (λ t. IsStrictlySortedBy key_cmp (keys_in t)) c.self.view_is c.len.ensures.ascending)
+    c.args.self.now (subst (λ t. IsStrictlySortedBy key_cmp (keys_in t)) c.self.view_is c.recall_rising.ensures)
     (rw (← c.self.view_is) (ap (has_row c.self.inside.rows) (sym c.record_key.ensures) ∙ sym c.if-contains.ensures))
     (always _ c.args.row)
 
@@ -35,7 +35,7 @@ pub returns-in_ok-put-clause-by : goal.returns-in_ok-put-clause-by
 returns-in_ok-put-clause-by g c = λ change is.
     c.in_ok-put.ensures
     ∙ put_is_changed (record_key c.args.iface.number c.args.group c.args.source) c.args.row change
-    c.args.self.now (subst (λ t. IsStrictlySortedBy key_cmp (keys_in t)) c.self.view_is c.len.ensures.ascending)
+    c.args.self.now (subst (λ t. IsStrictlySortedBy key_cmp (keys_in t)) c.self.view_is c.recall_rising.ensures)
     (rw (← c.self.view_is) (ap (has_row c.self.inside.rows) (sym c.record_key.ensures) ∙ sym c.if-contains.ensures))
     is
 

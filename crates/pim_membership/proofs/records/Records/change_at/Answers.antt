@@ -24,7 +24,7 @@ returns-in_ok-put g c =
     ∙ ap (λ (k : Key). put c.args.self.now k c.args.row)
     (key_again c.args.key (fits_there c.args.key c.self.inside.rows c.self.invariant.fit (sym c.if-contains.ensures)))
     ∙ put_is_changed c.args.key c.args.row (λ _. Some c.args.row) c.args.self.now
-    (subst (λ t. IsStrictlySortedBy key_cmp (keys_in t)) c.self.view_is c.len.ensures.ascending)
+    (subst (λ t. IsStrictlySortedBy key_cmp (keys_in t)) c.self.view_is c.recall_rising.ensures)
     (rw (← c.self.view_is) (sym c.if-contains.ensures)) (always _ c.args.row)
 
 pub returns-else-contains : goal.returns-else-contains

@@ -22,16 +22,16 @@ returns-clause-running g c = rw (← c.self.view_is) (λ i.
 
 pub returns-clause-at_least : goal.returns-clause-at_least
 returns-clause-at_least g c = rw (← c.self.view_is)
-    (records_visited g.R.Record.runs g.R.Record.of_sources c.self.inside.listing c.self.inside.rows c.self.invariant
+    (records_visited g.R.Record.runs g.R.Record.of_sources c.self.inside.index c.self.inside.rows c.self.invariant
     c.args.group c.args.source _ _ c.get.ensures.visited)
 
 pub returns-clause-at_most : goal.returns-clause-at_most
 returns-clause-at_most g c =
     raised_at_most _ _ _ 66 c.get.ensures.visited
-    (visited_at_most (keys_in c.self.inside.listing) c.args.group c.args.source)
+    (visited_at_most (keys_in c.self.inside.index) c.args.group c.args.source)
 
 pub returns-clause-star_at_most : goal.returns-clause-star_at_most
 returns-clause-star_at_most g c = λ star.
     raised_at_most _ _ _ 33 c.get.ensures.visited
-    (subst (λ s. nodes_visited (keys_in c.self.inside.listing) c.args.group s ≤ 33) (sym star)
-    (star_at_most (keys_in c.self.inside.listing) c.args.group))
+    (subst (λ s. nodes_visited (keys_in c.self.inside.index) c.args.group s ≤ 33) (sym star)
+    (star_at_most (keys_in c.self.inside.index) c.args.group))

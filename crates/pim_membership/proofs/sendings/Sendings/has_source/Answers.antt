@@ -13,7 +13,7 @@ returns-then-contains c = rw (← c.self.view_is)
 pub returns : goal.returns
 returns c =
     sym (none_named c.args.group.bits c.args.source.bits c.above_interfaces-number-end.result c.args.self.now
-    c.are_rising.ensures (rw (← c.self.view_is) c.self.invariant)
+    c.recall_rising.ensures (rw (← c.self.view_is) c.self.invariant)
     (subst (λ t. AllByRecursion (λ e. iface_in e.0 < c.above_interfaces-number-end.result) t)
     (c.iter.ensures ∙ c.self.view_is) c.above_interfaces-number-end.ensures.above)
     (λ i below. c.loop-number.invariant i (omega (arith, below, c.loop-number-test.false))))

@@ -1,4 +1,8 @@
-use Rattle.std.proofs.Common.{subst, sym}
+use Rattle.std.proofs.Common.{[], subst, sym}
+use Rattle.pim_fanout.specs.Refreshing.{CacheValue}
+use Rattle.pim_fanout.proofs.Shown.{opening_shows_rows}
+use Rattle.pim_mfc.specs.Laws.{ShowsRows}
+use Rattle.pim_model.specs.Cache.{cached}
 use Rattle.pim_model.specs.State.{State}
 use Rattle.pim_locality.proofs.Rest.{opening_is_at_rest}
 use Rattle.pim_locality.specs.Rest.{IsAtRest}
@@ -6,5 +10,8 @@ use Rattle.pim_router.proofs.router.Router.new.Goals as goal
 
 pub invariant_of-result : goal.invariant_of-result
 invariant_of-result c = λ works.
-    let opens = rw c.in-Ok.is at c.in_ok-world.ensures.accepted in
-    subst (λ (x : State). IsAtRest x) (sym opens.1) (opening_is_at_rest c.args.config opens.0)
+    let opens = rw c.in-Ok.is at c.in_ok-world.ensures.accepted in (
+      subst (λ (x : State). IsAtRest x) (sym opens.1) (opening_is_at_rest c.args.config opens.0),
+      subst (λ (k : CacheValue). ShowsRows k.mfc.rows (cached c.in-Ok.world)) (sym c.new-in-Ok.ensures)
+          (subst (λ (x : State). ShowsRows [] (cached x)) (sym opens.1) (opening_shows_rows c.args.config)),
+    )

@@ -4,5 +4,5 @@ use Rattle.pim_store.proofs.index.Index.mark.Goals as goal
 
 pub returns-clause-ok : goal.returns-clause-ok
 returns-clause-ok g c =
-    marks_set g.R.Marking.tells g.R.Marking.says c.args.key (Some c.args.row) _ _ _ _ c.get-marks.ensures.marks
+    marks_set g.R.TellsMarks.tells g.R.TellsMarks.says c.args.key (Some c.args.row) _ _ _ _ c.get-marks.ensures.marks
     c.marked.ensures.marks _ c.write.ensures.ok

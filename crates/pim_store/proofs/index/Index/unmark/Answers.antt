@@ -4,5 +4,5 @@ use Rattle.pim_store.proofs.index.Index.unmark.Goals as goal
 
 pub returns : goal.returns
 returns g c =
-    marks_taken g.R.Marking.tells g.R.Marking.says c.args.key None _ _ _ _ c.get-marks.ensures.marks
+    marks_taken g.R.TellsMarks.tells g.R.TellsMarks.says c.args.key None _ _ _ _ c.get-marks.ensures.marks
     c.marked.ensures.marks _ c.write.ensures.ok c.write.ensures.err c.write.ensures.absent refl

@@ -2,7 +2,7 @@ use Rattle.std.proofs.Common.{sym, ap, ◌∙◌}
 use Rattle.pim_types.specs.declared.fact.AssertRow.{AssertRow}
 use Rattle.pim_model.specs.Sets.{is_loser}
 use Rattle.pim_model.specs.Tables.{Table}
-use Rattle.pim_tables.proofs.Losses.{loss_dropped, none_lost}
+use Rattle.pim_store.proofs.Losses.{loss_dropped, none_lost}
 use Rattle.pim_store.specs.Stored.{tables_of}
 use Rattle.pim_store.proofs.Indexed.{after_asserts, row_lost}
 use Rattle.pim_store.proofs.Lowered.{lost_there}
@@ -24,11 +24,11 @@ pub returns-then-row_says : goal.returns-then-row_says
 returns-then-row_says c = rw (← c.self.view_is)
     (ap (λ (t : Table AssertRow). record (tables_of c.self.inside) { asserts = t })
     (c.remove_row.ensures.removed
-    ∙ loss_dropped is_loser c.args.key c.self.inside.asserts c.len.ensures.ascending
+    ∙ loss_dropped is_loser c.args.key c.self.inside.asserts c.recall_rising.ensures
     (ap is_loser (sym c.get.ensures) ∙ sym (row_lost c.get.result) ∙ sym c.row_says.ensures ∙ c.if-row_says.true)))
 
 pub returns-else-row_says : goal.returns-else-row_says
 returns-else-row_says c = rw (← c.self.view_is)
     (ap (λ (t : Table AssertRow). record (tables_of c.self.inside) { asserts = t })
-    (none_lost is_loser c.args.key c.self.inside.asserts c.len.ensures.ascending
+    (none_lost is_loser c.args.key c.self.inside.asserts c.recall_rising.ensures
     (ap is_loser (sym c.get.ensures) ∙ sym (row_lost c.get.result) ∙ sym c.row_says.ensures ∙ c.if-row_says.false)))

@@ -3,7 +3,7 @@ use Rattle.pim_types.specs.declared.fact.AssertRow.{AssertRow}
 use Rattle.pim_model.specs.Downstream.{is_named}
 use Rattle.pim_model.specs.Sets.{is_loser}
 use Rattle.pim_model.specs.Tables.{Table}
-use Rattle.pim_tables.proofs.Losses.{one_further, past_last, staying}
+use Rattle.pim_store.proofs.Losses.{one_further, past_last, staying}
 use Rattle.pim_store.specs.PimTables.{PimTables}
 use Rattle.pim_store.proofs.store.Store.end_losses.Goals as goal
 

@@ -28,6 +28,6 @@ returns c = rw (← c.self.view_is)
     (same_on_ok c.put_row.result (λ (t : Table JoinTimerRow). record (tables_of c.self.inside) { join_timers = t })
     c.put_row.new.rows (change_row (lowered c.args.end) c.args.key c.self.inside.join_timers)
     (changed_there c.args.key c.self.inside.join_timers c.in-Some.row (record { end = c.min.result })
-    (lowered c.args.end) c.put_row.new.rows c.put_row.result c.len.ensures.ascending
+    (lowered c.args.end) c.put_row.new.rows c.put_row.result c.recall_rising.ensures
     (sym c.get.ensures ∙ c.in-Some.is) (ap (λ (e : ℕ). Some (record { end = e })) (sym c.min.ensures))
     c.put_row.ensures.put))

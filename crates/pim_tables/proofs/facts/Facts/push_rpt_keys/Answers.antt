@@ -13,4 +13,4 @@ returns g c =
     ∙ ap (λ gs. l.keys.items ++ rpt_keys_of c.args.iface.number keys gs) (sym c.in-None.ensures.steps.0)
     ∙ l.invariant
     ∙ ap (λ ks. c.args.keys.now.items ++ ks)
-    (keys_among c.args.iface.number keys c.len.ensures.ascending c.args.groups.now.keys c.len-2.ensures.ordered)
+    (keys_among c.args.iface.number keys c.recall_rising.ensures c.args.groups.now.keys c.len.ensures.ordered)

@@ -1,0 +1,130 @@
+-- What a call leaves of a handle, and answers, by what stood there: nothing, a router that has failed, or one that hasn't.
+use Rattle.std.specs.Prelude.{[], Bool, Err, List, None, Ok, Option, Result, Some, false, nat_lt, true, unwrap_or, ℕ, ◌&&◌, ◌≡◌, ◌⊎◌}
+use Rattle.pim_ip.specs.Refusal.{refusal_number}
+use Rattle.pim_ip.specs.declared.refusal.Refusal.{Refusal}
+use Rattle.pim_model.specs.Cache.{Answers, cached}
+use Rattle.pim_model.specs.Limits.{config_test}
+use Rattle.pim_model.specs.Printed.{rows}
+use Rattle.pim_model.specs.State.{opening}
+use Rattle.pim_model.specs.Step.{step}
+use Rattle.pim_router.specs.Costs.{IsCheap}
+use Rattle.pim_router.specs.Standing.{Standing, begun, nothing_shown, standing}
+use Rattle.pim_session.specs.Session.{Shown}
+use Rattle.pim_types.specs.declared.config.Config.{Config}
+use Rattle.pim_types.specs.declared.event.Event.{Event}
+use Rattle.pim_types.specs.declared.outcome.Emission.{Emission}
+use Rattle.pim_types.specs.declared.table.Row.{Row}
+use Rattle.pim_types.specs.declared.table.Table.{Table}
+use Rattle.pim_c.specs.Told.{answer_number, bytes_in, no_interface, packet_of, row_of, written}
+use Rattle.pim_c.specs.declared.told.Forwarding.{Forwarding}
+use Rattle.pim_c.specs.declared.told.Packet.{Packet}
+use Rattle.pim_c.specs.declared.told.TableRow.{TableRow}
+
+-- a new router
+abbrev pub new_shown : Config → Shown
+new_shown config = record { router = begun (opening config); sent = []; rows = [] }
+
+-- after memory was refused
+abbrev pub lost : Shown → Shown
+lost s = record { router = nothing_shown; sent = s.sent; rows = s.rows }
+
+-- after an event that was taken
+abbrev pub Taken : Shown → Standing → Event → Shown → Type 0
+Taken s r e left = (left.router.standing ≡ Some (standing (step r.state e)))
+    × IsCheap r.state e left.router.probes left.router.touched
+    × (left.sent ≡ (step r.state e).emissions) × (left.rows ≡ s.rows)
+
+abbrev pub SteppedFrom : Shown → Option Standing → Event → ℕ → Shown → Type 0
+SteppedFrom s None e answer left = (answer ≡ 41) × (left ≡ lost s)
+SteppedFrom s (Some r) e answer left =
+    ((answer ≡ answer_number (step r.state e).answer) × Taken s r e left) ⊎ ((answer ≡ 40) × (left ≡ lost s))
+
+-- the router took the event and the answer is its own, or memory was refused
+abbrev pub Stepped : Option Shown → Event → ℕ → Option Shown → Type 0
+Stepped None e answer left = (answer ≡ 50) × (left ≡ None)
+Stepped (Some s) e answer (Some left) = SteppedFrom s s.router.standing e answer left
+Stepped (Some s) e answer None = ⊥
+
+abbrev pub refused_number : Option Standing → ℕ
+refused_number None = 41
+refused_number (Some r) = 40
+
+-- memory was refused for an event
+abbrev pub Refused : Option Shown → ℕ → Option Shown → Type 0
+Refused None answer left = (answer ≡ 50) × (left ≡ None)
+Refused (Some s) answer left = (answer ≡ refused_number s.router.standing) × (left ≡ Some (lost s))
+
+abbrev pub ReadFrom : Shown → Option Standing → Table → ℕ → Shown → Type 0
+ReadFrom s None table answer left = (answer ≡ 41) × (left ≡ s)
+ReadFrom s (Some r) table answer left =
+    ((answer ≡ 0) × (left ≡ record { router = s.router; sent = s.sent; rows = rows r.state table }))
+    ⊎ ((answer ≡ 40) × (left ≡ s))
+
+-- the rows of the table were read, or memory was refused
+abbrev pub Read : Option Shown → Table → ℕ → Option Shown → Type 0
+Read None table answer left = (answer ≡ 50) × (left ≡ None)
+Read (Some s) table answer (Some left) = ReadFrom s s.router.standing table answer left
+Read (Some s) table answer None = ⊥
+
+-- a letter of no table is refused, and nothing is read
+abbrev pub ReadBy : Option Shown → Option Table → ℕ → Option Shown → Type 0
+ReadBy old None answer left = (answer ≡ 51) × (left ≡ old)
+ReadBy old (Some table) answer left = Read old table answer left
+
+abbrev pub packets_in : Option Shown → List Emission
+packets_in None = []
+packets_in (Some s) = s.sent
+
+abbrev pub rows_in : Option Shown → List Row
+rows_in None = []
+rows_in (Some s) = s.rows
+
+abbrev pub standing_in : Option Shown → Option Standing
+standing_in None = None
+standing_in (Some s) = s.router.standing
+
+abbrev pub probes_in : Option Shown → ℕ
+probes_in None = 0
+probes_in (Some s) = s.router.probes
+
+abbrev pub touched_in : Option Shown → ℕ
+touched_in None = 0
+touched_in (Some s) = s.router.touched
+
+-- a packet that is there is told, and its bytes are written
+abbrev pub PacketTold : Option Emission → Bool → Packet → Packet → List ℕ → List ℕ → Type 0
+PacketTold None is_there packet told room filled = (is_there ≡ false) × (told ≡ packet) × (filled ≡ room)
+PacketTold (Some emission) is_there packet told room filled =
+    (is_there ≡ true) × (told ≡ packet_of emission) × (filled ≡ written room (bytes_in emission))
+
+abbrev pub RowTold : Option Row → Bool → TableRow → TableRow → Type 0
+RowTold None is_there row told = (is_there ≡ false) × (told ≡ row)
+RowTold (Some found) is_there row told = (is_there ≡ true) × (told ≡ row_of found)
+
+-- the answers of a source, as they are told of one interface
+abbrev pub forwarding_of : Answers → ℕ → Forwarding
+forwarding_of a i = record {
+  rpf = unwrap_or a.rpf no_interface;
+  has_spt_bit = a.spt;
+  has_tunnel = a.has_tunnel;
+  is_in_immediate = nat_lt i 120 && a.immediate i;
+  is_in_inherited = nat_lt i 120 && a.inherited i;
+  is_in_shared_tree = nat_lt i 120 && a.inherited_rpt i;
+}
+
+abbrev pub AnswersTold : Option Answers → ℕ → Bool → Forwarding → Forwarding → Type 0
+AnswersTold None i is_there row told = (is_there ≡ false) × (told ≡ row)
+AnswersTold (Some a) i is_there row told = (is_there ≡ true) × (told ≡ forwarding_of a i)
+
+-- the row of a source with a fact is told
+abbrev pub CachedTold : Option Standing → ℕ → ℕ → ℕ → Bool → Forwarding → Forwarding → Type 0
+CachedTold None source group i is_there row told = (is_there ≡ false) × (told ≡ row)
+CachedTold (Some r) source group i is_there row told = AnswersTold (cached r.state group source) i is_there row told
+
+abbrev pub MadeBy : Result (Unit {0}) Refusal → Option Shown → Config → ℕ → Option Shown → Type 0
+MadeBy (Ok _) old config answer left = (answer ≡ 0) × (left ≡ Some (new_shown config))
+MadeBy (Err refusal) old config answer left = (answer ≡ refusal_number refusal) × (left ≡ old)
+
+-- a router was made of the configuration, or this was refused, or memory was
+abbrev pub Made : Option Shown → Config → ℕ → Option Shown → Type 0
+Made old config answer left = MadeBy (config_test config) old config answer left ⊎ ((answer ≡ 40) × (left ≡ old))

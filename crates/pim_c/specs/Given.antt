@@ -1,0 +1,59 @@
+-- What the values that a program gives stand for.
+use Rattle.std.specs.Prelude.{List, if◌then◌else◌, map, ℕ}
+use Rattle.pim_ip.specs.Addr.{addr}
+use Rattle.pim_ip.specs.declared.addr.Prefix.{Prefix}
+use Rattle.pim_types.specs.declared.config.Config.{Config}
+use Rattle.pim_types.specs.declared.config.IfaceId.{IfaceId}
+use Rattle.pim_types.specs.declared.config.InterfaceConfig.{InterfaceConfig}
+use Rattle.pim_types.specs.declared.config.Route.{Route}
+use Rattle.pim_types.specs.declared.config.RpRange.{RpRange}
+use Rattle.pim_types.specs.declared.config.SptSwitch.{SptSwitch}
+use Rattle.pim_types.specs.declared.event.Event.{Event}
+use Rattle.pim_types.specs.declared.event.EventKind.{EventKind}
+use Rattle.pim_c.specs.declared.given.GivenInterface.{GivenInterface}
+use Rattle.pim_c.specs.declared.given.GivenRange.{GivenRange}
+use Rattle.pim_c.specs.declared.given.GivenRoute.{GivenRoute}
+use Rattle.pim_c.specs.declared.given.GivenSettings.{GivenSettings}
+
+abbrev pub interface_of : GivenInterface → InterfaceConfig
+interface_of g = record {
+  address = addr g.address;
+  length = g.length;
+  priority = g.priority;
+  propagation_delay = g.propagation_delay;
+  override_interval = g.override_interval;
+}
+
+abbrev pub iface_of : ℕ → IfaceId
+iface_of n = record { number = n }
+
+abbrev pub prefix_of : ℕ → ℕ → Prefix
+prefix_of address length = record { address = addr address; length = length }
+
+abbrev pub route_of : GivenRoute → Route
+route_of g = record {
+  prefix = prefix_of g.prefix g.length;
+  next_hop = addr g.next_hop;
+  iface = iface_of g.iface;
+  preference = g.preference;
+  metric = g.metric;
+}
+
+abbrev pub range_of : GivenRange → RpRange
+range_of g = record { prefix = prefix_of g.prefix g.length; rp = addr g.rp }
+
+abbrev pub config_of : GivenSettings → List GivenInterface → List GivenRoute → List GivenRange → Config
+config_of g interfaces routes ranges = record {
+  interfaces = map interface_of interfaces;
+  limit = g.limit;
+  spt = if g.stays_on_shared_tree then SptSwitch.Never else SptSwitch.Always;
+  robustness = g.robustness;
+  query_interval = g.query_interval;
+  query_response_interval = g.query_response_interval;
+  last_member_query_interval = g.last_member_query_interval;
+  routes = map route_of routes;
+  rps = map range_of ranges;
+}
+
+abbrev pub event_of : ℕ → EventKind → Event
+event_of draw kind = record { draw = draw; kind = kind }

@@ -1,0 +1,135 @@
+-- The numbers and values by which a program is told.
+use Rattle.std.specs.Prelude.{Bool, Err, List, None, Ok, Option, Some, drop, false, length, take, true, unwrap_or, Result, if◌then◌else◌, ℕ, ◌++◌, ◌^◌, ◌-◌, ◌==◌}
+use Rattle.pim_ip.specs.Refusal.{refusal_number}
+use Rattle.pim_ip.specs.declared.refusal.Refusal.{Refusal}
+use Rattle.pim_types.specs.declared.outcome.Emission.{Emission}
+use Rattle.pim_types.specs.declared.outcome.Ignored.{Ignored}
+use Rattle.pim_types.specs.declared.outcome.Verdict.{Verdict}
+use Rattle.pim_ip.specs.declared.addr.Addr.{Addr}
+use Rattle.pim_types.specs.declared.config.IfaceId.{IfaceId}
+use Rattle.pim_types.specs.declared.fact.AssertRole.{AssertRole}
+use Rattle.pim_types.specs.declared.fact.Key.{Key}
+use Rattle.pim_types.specs.declared.table.DownstreamState.{DownstreamState}
+use Rattle.pim_types.specs.declared.table.RegisterName.{RegisterName}
+use Rattle.pim_types.specs.declared.table.Row.{Row}
+use Rattle.pim_types.specs.declared.table.Table.{Table}
+use Rattle.pim_c.specs.declared.told.Packet.{Packet}
+use Rattle.pim_c.specs.declared.told.TableRow.{TableRow}
+
+-- no timer runs, and a time that isn't there
+abbrev pub never : ℕ
+never = 2 ^ 64 - 1
+
+-- no interface
+abbrev pub no_interface : ℕ
+no_interface = 2 ^ 32 - 1
+
+abbrev pub ignored_number : Ignored → ℕ
+ignored_number Ignored.Own = 101
+ignored_number Ignored.NotForMe = 102
+ignored_number Ignored.OtherType = 103
+ignored_number Ignored.Mask = 104
+ignored_number Ignored.LinkLocal = 105
+ignored_number Ignored.NoNeighbour = 106
+ignored_number Ignored.NotRp = 107
+ignored_number Ignored.Already = 108
+
+abbrev pub verdict_number : Verdict → ℕ
+verdict_number Verdict.Done = 0
+verdict_number (Verdict.Ignored reason) = ignored_number reason
+
+abbrev pub answer_number : Result Verdict Refusal → ℕ
+answer_number (Ok verdict) = verdict_number verdict
+answer_number (Err refusal) = refusal_number refusal
+
+abbrev pub bytes_in : Emission → List ℕ
+bytes_in (Emission.Link iface bytes) = bytes
+bytes_in (Emission.Unicast destination bytes) = bytes
+
+abbrev pub packet_of : Emission → Packet
+packet_of (Emission.Link iface bytes) = record { is_unicast = false; iface = iface.number; destination = 0; length = length bytes }
+packet_of (Emission.Unicast destination bytes) =
+    record { is_unicast = true; iface = 0; destination = destination.bits; length = length bytes }
+
+-- bytes written into a room from its start, as many as it takes
+abbrev pub written : List ℕ → List ℕ → List ℕ
+written room bytes = take (length room) bytes ++ drop (length bytes) room
+
+abbrev pub source_bits : Option Addr → ℕ
+source_bits None = 0
+source_bits (Some address) = address.bits
+
+abbrev pub iface_number : Option IfaceId → ℕ
+iface_number None = no_interface
+iface_number (Some iface) = iface.number
+
+abbrev pub downstream_number : DownstreamState → ℕ
+downstream_number DownstreamState.Join = 1
+downstream_number DownstreamState.PrunePending = 2
+downstream_number DownstreamState.Prune = 3
+
+abbrev pub register_number : Option RegisterName → ℕ
+register_number None = 0
+register_number (Some RegisterName.Join) = 1
+register_number (Some RegisterName.JoinPending) = 2
+register_number (Some RegisterName.Prune) = 3
+
+abbrev pub is_loser : AssertRole → Bool
+is_loser AssertRole.Winner = false
+is_loser AssertRole.Loser = true
+
+abbrev pub blank : ℕ → TableRow
+blank table = record {
+  table = table;
+  iface = 0;
+  group = 0;
+  source = 0;
+  winner = 0;
+  is_rpt = false;
+  is_set = false;
+  state = 0;
+  end = never;
+  pending = never;
+}
+
+abbrev pub keyed : ℕ → Key → TableRow
+keyed table k = record (blank table) {
+  iface = k.iface.number;
+  group = k.group.bits;
+  source = source_bits k.source;
+  is_rpt = k.rpt;
+}
+
+abbrev pub row_of : Row → TableRow
+row_of (Row.Neighbour iface address end) =
+    record (blank 78) { iface = iface.number; source = address.bits; end = unwrap_or end never }
+row_of (Row.Group iface group is_exclude end) =
+    record (blank 71) { iface = iface.number; group = group.bits; is_set = is_exclude; end = unwrap_or end never }
+row_of (Row.Source iface group source end) =
+    record (blank 83) { iface = iface.number; group = group.bits; source = source.bits; end = unwrap_or end never }
+row_of (Row.Downstream key state end pending) =
+    record (keyed 68 key) { state = downstream_number state; end = unwrap_or end never; pending = unwrap_or pending never }
+row_of (Row.Assert key role winner end) =
+    record (keyed 65 key) { is_set = is_loser role; winner = winner.bits; end = end }
+row_of (Row.Upstream group source next_join) =
+    record (blank 85) { group = group.bits; source = source_bits source; end = next_join }
+row_of (Row.Tree group source is_pruned) =
+    record (blank 82) { group = group.bits; source = source.bits; is_rpt = true; is_set = is_pruned }
+row_of (Row.Active group source keepalive spt register) = record (blank 70) {
+  group = group.bits;
+  source = source.bits;
+  is_set = spt;
+  state = register_number register;
+  end = unwrap_or keepalive never;
+}
+
+abbrev pub table_of : ℕ → Option Table
+table_of letter =
+    if letter == 78 then Some Table.Neighbours
+    else (if letter == 71 then Some Table.Groups
+    else (if letter == 83 then Some Table.Sources
+    else (if letter == 68 then Some Table.Downstream
+    else (if letter == 65 then Some Table.Asserts
+    else (if letter == 85 then Some Table.Upstream
+    else (if letter == 82 then Some Table.Trees
+    else (if letter == 70 then Some Table.Active else None)))))))

@@ -1,0 +1,216 @@
+//! What a program gives: the parts of a configuration, and events.
+ghost use Rattle.std.specs.Prelude.{◌≡◌, IfOk, map};
+ghost use Rattle.pim_c.specs.Given.{config_of, event_of, iface_of, interface_of, range_of, route_of};
+ghost use Rattle.pim_types.specs.declared.event.EventKind.{EventKind};
+
+use pim_types::{
+    Addr, Config, Event, EventKind, IfaceId, InterfaceConfig, Prefix, Route, RpRange, Series,
+    SptSwitch,
+};
+use std::alloc::{AllocError, Global};
+
+/// An interface. The ranges of its values are those of `pim_types::InterfaceConfig`.
+#[repr(C)]
+#[derive(Drop)]
+pub struct GivenInterface {
+    pub address: u32,
+    pub length: u32,
+    pub priority: u32,
+    /// In ms.
+    pub propagation_delay: u32,
+    /// In ms.
+    pub override_interval: u32,
+}
+
+/// A unicast route.
+#[repr(C)]
+#[derive(Drop)]
+pub struct GivenRoute {
+    pub prefix: u32,
+    pub length: u32,
+    pub next_hop: u32,
+    pub iface: u32,
+    pub preference: u32,
+    pub metric: u32,
+}
+
+/// A range of groups and its RP.
+#[repr(C)]
+#[derive(Drop)]
+pub struct GivenRange {
+    pub prefix: u32,
+    pub length: u32,
+    pub rp: u32,
+}
+
+/// A configuration without its lists. The ranges of its values are those of `pim_types::Config`.
+#[repr(C)]
+#[derive(Drop)]
+pub struct GivenSettings {
+    pub limit: u32,
+    pub robustness: u32,
+    /// In seconds.
+    pub query_interval: u32,
+    /// In tenths of a second.
+    pub query_response_interval: u32,
+    /// In tenths of a second.
+    pub last_member_query_interval: u32,
+    pub stays_on_shared_tree: bool,
+}
+
+fn interface(given: &GivenInterface) -> InterfaceConfig
+    ensures { result ≡ interface_of given.now }
+{
+    InterfaceConfig {
+        address: Addr {
+            bits: given.address,
+        },
+        length: given.length,
+        priority: given.priority,
+        propagation_delay: given.propagation_delay,
+        override_interval: given.override_interval,
+    }
+}
+
+fn route(given: &GivenRoute) -> Route
+    ensures { result ≡ route_of given.now }
+{
+    Route {
+        prefix: Prefix {
+            address: Addr { bits: given.prefix },
+            length: given.length,
+        },
+        next_hop: Addr {
+            bits: given.next_hop,
+        },
+        iface: IfaceId {
+            number: given.iface,
+        },
+        preference: given.preference,
+        metric: given.metric,
+    }
+}
+
+fn range(given: &GivenRange) -> RpRange
+    ensures { result ≡ range_of given.now }
+{
+    RpRange {
+        prefix: Prefix {
+            address: Addr { bits: given.prefix },
+            length: given.length,
+        },
+        rp: Addr { bits: given.rp },
+    }
+}
+
+fn interfaces(
+    alloc: Global,
+    given: &[GivenInterface],
+) -> Result<Series<InterfaceConfig>, AllocError>
+    ensures { IfOk result (λ all. all ≡ map interface_of given.now) }
+{
+    let mut all = Series::new(alloc);
+    for one in given {
+        all.push(interface(one))?;
+    }
+    Ok(all)
+}
+
+fn routes(alloc: Global, given: &[GivenRoute]) -> Result<Series<Route>, AllocError>
+    ensures { IfOk result (λ all. all ≡ map route_of given.now) }
+{
+    let mut all = Series::new(alloc);
+    for one in given {
+        all.push(route(one))?;
+    }
+    Ok(all)
+}
+
+fn ranges(alloc: Global, given: &[GivenRange]) -> Result<Series<RpRange>, AllocError>
+    ensures { IfOk result (λ all. all ≡ map range_of given.now) }
+{
+    let mut all = Series::new(alloc);
+    for one in given {
+        all.push(range(one))?;
+    }
+    Ok(all)
+}
+
+fn bytes(alloc: Global, given: &[u8]) -> Result<Series<u8>, AllocError>
+    ensures { IfOk result (λ all. all ≡ given.now) }
+{
+    Ok(Series::from_vec(Vec::from_slice(alloc, given)?))
+}
+
+/// The configuration that these stand for.
+pub fn config(
+    alloc: Global,
+    settings: &GivenSettings,
+    given_interfaces: &[GivenInterface],
+    given_routes: &[GivenRoute],
+    given_ranges: &[GivenRange],
+) -> Result<Config, AllocError>
+    ensures { IfOk result (λ config. config
+        ≡ config_of settings.now given_interfaces.now given_routes.now given_ranges.now) }
+{
+    let interfaces = interfaces(alloc, given_interfaces)?;
+    let routes = routes(alloc, given_routes)?;
+    let rps = ranges(alloc, given_ranges)?;
+    let spt = if settings.stays_on_shared_tree {
+        SptSwitch::Never
+    } else {
+        SptSwitch::Always
+    };
+    Ok(Config {
+        interfaces,
+        limit: settings.limit,
+        spt,
+        robustness: settings.robustness,
+        query_interval: settings.query_interval,
+        query_response_interval: settings.query_response_interval,
+        last_member_query_interval: settings.last_member_query_interval,
+        routes,
+        rps,
+    })
+}
+
+/// A packet received on a link.
+pub fn frame(alloc: Global, draw: u32, iface: u32, packet: &[u8]) -> Result<Event, AllocError>
+    ensures { IfOk result (λ event. event ≡ event_of draw (EventKind.Frame (iface_of iface) packet.now)) }
+{
+    let kind = EventKind::Frame {
+        iface: IfaceId { number: iface },
+        bytes: bytes(alloc, packet)?,
+    };
+    Ok(Event { draw, kind })
+}
+
+/// A packet received for an address of the router.
+pub fn unicast(alloc: Global, draw: u32, packet: &[u8]) -> Result<Event, AllocError>
+    ensures { IfOk result (λ event. event ≡ event_of draw (EventKind.Unicast packet.now)) }
+{
+    let kind = EventKind::Unicast {
+        bytes: bytes(alloc, packet)?,
+    };
+    Ok(Event { draw, kind })
+}
+
+/// New unicast routes.
+pub fn new_routes(alloc: Global, draw: u32, given: &[GivenRoute]) -> Result<Event, AllocError>
+    ensures { IfOk result (λ event. event ≡ event_of draw (EventKind.Routes (map route_of given.now))) }
+{
+    let kind = EventKind::Routes {
+        routes: routes(alloc, given)?,
+    };
+    Ok(Event { draw, kind })
+}
+
+/// New RP ranges.
+pub fn new_ranges(alloc: Global, draw: u32, given: &[GivenRange]) -> Result<Event, AllocError>
+    ensures { IfOk result (λ event. event ≡ event_of draw (EventKind.Rps (map range_of given.now))) }
+{
+    let kind = EventKind::Rps {
+        rps: ranges(alloc, given)?,
+    };
+    Ok(Event { draw, kind })
+}

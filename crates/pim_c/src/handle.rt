@@ -1,0 +1,317 @@
+//! A handle of a router.
+ghost use Rattle.std.specs.List.{slice_get};
+ghost use Rattle.std.specs.Option.{option_map_or};
+ghost use Rattle.std.specs.Prelude.{◌≡◌, [], Err, IfErr, IfOk, MatchOption, None, Ok, OnErr, Option, Some, false, is_some, length, option_and_then, unwrap_or};
+ghost use Rattle.pim_ip.specs.declared.fault.Fault.{Fault};
+ghost use Rattle.pim_model.specs.Limits.{config_test};
+ghost use Rattle.pim_mfc.specs.Laws.{TellsRow};
+ghost use Rattle.pim_model.specs.Cache.{Answers};
+ghost use Rattle.pim_model.specs.Timers.{next_moment};
+ghost use Rattle.pim_c.specs.Told.{never};
+ghost use Rattle.pim_c.specs.Called.{AnswersTold, CachedTold, Made, PacketTold, Read, ReadFrom, Refused, RowTold, Stepped, SteppedFrom, lost, new_shown, packets_in, probes_in, refused_number, rows_in, standing_in, touched_in};
+
+use crate::place::Place;
+use crate::told::{
+    self, DONE, FAILED, Forwarding, MEMORY, NEVER, NO_ROUTER, Packet, TableRow, answer_number,
+};
+use pim_mfc::CacheRow;
+use pim_session::Session;
+use pim_types::{Addr, Config, Emission, Event, Fault, IfaceId, Refusal, Row, Table};
+use std::alloc::{AllocError, Global};
+use std::mem::replace;
+
+/// A handle: a router that C keeps, or none. One that is all zeros has none.
+#[repr(C)]
+pub struct Handle {
+    pub place: Place,
+    is_there: bool,
+    ghost told: { is_there ≡ is_some place.inside },
+}
+
+impl Handle {
+    /// A handle that has no router.
+    pub fn none(alloc: Global) -> Handle
+        ensures { result.place.inside ≡ None }
+    {
+        Handle {
+            place: Place::none(alloc),
+            is_there: false,
+        }
+    }
+
+    /// The session, taken out.
+    pub fn take(&mut self, alloc: Global) -> Option<Box<Session>>
+        ensures left { self.new.place.inside ≡ None }
+        ensures taken { MatchOption result (self.old.place.inside ≡ None) (λ session. self.old.place.inside ≡ Some session.value) }
+    {
+        if !self.is_there {
+            return None;
+        }
+        self.is_there = false;
+        Some(replace(&mut self.place, Place::none(alloc)).take())
+    }
+
+    /// Puts a session in. One that stood there is forgotten.
+    pub fn put(&mut self, session: Box<Session>)
+        ensures { self.new.place.inside ≡ Some session.value }
+    {
+        self.place = Place::put(session);
+        self.is_there = true;
+    }
+
+    /// Has the router take an event, for which memory may have been refused. The answer, by its number.
+    pub fn step(&mut self, alloc: Global, event: Result<Event, AllocError>) -> u32
+        ensures stepped { IfOk event (λ e. Stepped self.old.place.inside e result self.new.place.inside) }
+        ensures refused { OnErr event (Refused self.old.place.inside result self.new.place.inside) }
+    {
+        let Some(mut session) = self.take(alloc) else {
+            return NO_ROUTER;
+        };
+        let answer = step(alloc, session.as_mut(), event);
+        self.put(session);
+        answer
+    }
+
+    /// Has the router read the rows of a table. The answer, by its number.
+    pub fn read(&mut self, alloc: Global, table: Table) -> u32
+        ensures { Read self.old.place.inside table result self.new.place.inside }
+    {
+        let Some(mut session) = self.take(alloc) else {
+            return NO_ROUTER;
+        };
+        let answer = read(session.as_mut(), table);
+        self.put(session);
+        answer
+    }
+
+    /// Makes a router of a configuration, in place of the one that stood there.
+    pub fn make(&mut self, alloc: Global, config: Config) -> u32
+        ensures { Made self.old.place.inside config result self.new.place.inside }
+    {
+        match boxed(alloc, config) {
+            Ok(Ok(session)) => {
+                let _ended = self.take(alloc);
+                self.put(session);
+                DONE
+            }
+            Ok(Err(refusal)) => u32::from(refusal.number()),
+            Err(fault) => u32::from(fault.number()),
+        }
+    }
+
+    /// How many packets the last event sent that was taken.
+    pub fn packets(&mut self, alloc: Global) -> usize
+        ensures count { result ≡ length (packets_in self.old.place.inside) }
+        ensures stays { self.new.place.inside ≡ self.old.place.inside }
+    {
+        let Some(session) = self.take(alloc) else {
+            return 0;
+        };
+        let count = session.sent().len();
+        self.put(session);
+        count
+    }
+
+    /// One of these packets, counted from 0.
+    pub fn packet(
+        &mut self,
+        alloc: Global,
+        index: usize,
+        packet: &mut Packet,
+        room: &mut [u8],
+    ) -> bool
+        ensures told { PacketTold (slice_get (packets_in self.old.place.inside) index) result packet.old packet.new room.old room.new }
+        ensures stays { self.new.place.inside ≡ self.old.place.inside }
+    {
+        let Some(session) = self.take(alloc) else {
+            return false;
+        };
+        let is_there = tell_packet(session.sent(), index, packet, room);
+        self.put(session);
+        is_there
+    }
+
+    /// How many copies of a data packet the last event sent on links.
+    pub fn copies(&mut self, alloc: Global) -> u32
+        ensures copies { result ≡ option_map_or (λ r. r.copies) (standing_in self.old.place.inside) 0 }
+        ensures stays { self.new.place.inside ≡ self.old.place.inside }
+    {
+        let Some(session) = self.take(alloc) else {
+            return 0;
+        };
+        let copies = session.copies();
+        self.put(session);
+        copies
+    }
+
+    /// The moment, in ms, at which the next timer ends.
+    pub fn next_moment(&mut self, alloc: Global) -> u64
+        ensures moment { result ≡ unwrap_or (option_and_then (λ r. next_moment r.state) (standing_in self.old.place.inside)) never }
+        ensures stays { self.new.place.inside ≡ self.old.place.inside }
+    {
+        let Some(session) = self.take(alloc) else {
+            return NEVER;
+        };
+        let next = session.next_moment().unwrap_or(NEVER);
+        self.put(session);
+        next
+    }
+
+    /// The row of the forwarding cache of a source, as it is told of one interface.
+    pub fn cached(
+        &mut self,
+        alloc: Global,
+        source: Addr,
+        group: Addr,
+        iface: IfaceId,
+        forwarding: &mut Forwarding,
+    ) -> bool
+        ensures told { CachedTold (standing_in self.old.place.inside) source.bits group.bits iface.number result
+            forwarding.old forwarding.new }
+        ensures stays { self.new.place.inside ≡ self.old.place.inside }
+    {
+        let Some(session) = self.take(alloc) else {
+            return false;
+        };
+        let is_there = tell_cached(session.cached(source, group), iface, forwarding);
+        self.put(session);
+        is_there
+    }
+
+    /// The trie nodes that the last event visited.
+    pub fn probes(&mut self, alloc: Global) -> u64
+        ensures probes { result ≡ probes_in self.old.place.inside }
+        ensures stays { self.new.place.inside ≡ self.old.place.inside }
+    {
+        let Some(session) = self.take(alloc) else {
+            return 0;
+        };
+        let probes = session.probes();
+        self.put(session);
+        probes
+    }
+
+    /// The rows of the forwarding cache that the last event touched.
+    pub fn touched(&mut self, alloc: Global) -> u64
+        ensures touched { result ≡ touched_in self.old.place.inside }
+        ensures stays { self.new.place.inside ≡ self.old.place.inside }
+    {
+        let Some(session) = self.take(alloc) else {
+            return 0;
+        };
+        let touched = session.touched();
+        self.put(session);
+        touched
+    }
+
+    /// How many rows were read.
+    pub fn rows(&mut self, alloc: Global) -> usize
+        ensures count { result ≡ length (rows_in self.old.place.inside) }
+        ensures stays { self.new.place.inside ≡ self.old.place.inside }
+    {
+        let Some(session) = self.take(alloc) else {
+            return 0;
+        };
+        let count = session.rows().len();
+        self.put(session);
+        count
+    }
+
+    /// One of these rows, counted from 0.
+    pub fn row(&mut self, alloc: Global, index: usize, row: &mut TableRow) -> bool
+        ensures told { RowTold (slice_get (rows_in self.old.place.inside) index) result row.old row.new }
+        ensures stays { self.new.place.inside ≡ self.old.place.inside }
+    {
+        let Some(session) = self.take(alloc) else {
+            return false;
+        };
+        let is_there = tell_row(session.rows(), index, row);
+        self.put(session);
+        is_there
+    }
+}
+
+// A session behind a box.
+fn boxed(alloc: Global, config: Config) -> Result<Result<Box<Session>, Refusal>, Fault>
+    ensures accepted { IfOk result (λ made. IfOk made (λ held. (config_test config ≡ Ok tt)
+        × (held.value ≡ new_shown config))) }
+    ensures refused { IfOk result (λ made. IfErr made (λ refusal. config_test config ≡ Err refusal)) }
+    ensures memory { IfErr result (λ fault. fault ≡ Fault.Memory) }
+{
+    match Session::new(alloc, config)? {
+        Ok(session) => Ok(Ok(Box::new(alloc, session)?)),
+        Err(refusal) => Ok(Err(refusal)),
+    }
+}
+
+// Tells one of the packets, where it is there.
+fn tell_packet(sent: &[Emission], index: usize, packet: &mut Packet, room: &mut [u8]) -> bool
+    ensures { PacketTold (slice_get sent.now index) result packet.old packet.new room.old room.new }
+{
+    match sent.get(index) {
+        Some(emission) => {
+            *packet = told::outline(emission);
+            told::write(room, told::bytes(emission));
+            true
+        }
+        None => false,
+    }
+}
+
+// Tells one of the rows, where it is there.
+fn tell_row(rows: &[Row], index: usize, row: &mut TableRow) -> bool
+    ensures { RowTold (slice_get rows.now index) result row.old row.new }
+{
+    match rows.get(index) {
+        Some(found) => {
+            *row = told::row(found);
+            true
+        }
+        None => false,
+    }
+}
+
+// Tells a row of the forwarding cache, where it is there.
+fn tell_cached(row: Option<CacheRow>, iface: IfaceId, forwarding: &mut Forwarding) -> bool
+    ensures told { (answers : Option Answers) → TellsRow row answers
+        → AnswersTold answers iface.number result forwarding.old forwarding.new }
+    ensures none { row ≡ None → (result ≡ false) × (forwarding.new ≡ forwarding.old) }
+{
+    match row {
+        Some(row) => {
+            *forwarding = told::row_of_iface(&row, iface);
+            true
+        }
+        None => false,
+    }
+}
+
+// Has a session take an event, for which memory may have been refused.
+fn step(alloc: Global, session: &mut Session, event: Result<Event, AllocError>) -> u32
+    ensures stepped { IfOk event (λ e. SteppedFrom session.old session.old.router.standing e result session.new) }
+    ensures refused { OnErr event ((result ≡ refused_number session.old.router.standing) × (session.new ≡ lost session.old)) }
+{
+    match event {
+        Ok(event) => answer_number(session.step(alloc, &event)),
+        Err(_) => lose(session),
+    }
+}
+
+// Has a session fail. It answers that it failed before, or that memory was refused.
+fn lose(session: &mut Session) -> u32
+    ensures { (result ≡ refused_number session.old.router.standing) × (session.new ≡ lost session.old) }
+{
+    let had_failed = session.has_failed();
+    session.lose();
+    if had_failed { FAILED } else { MEMORY }
+}
+
+// Has a session read the rows of a table.
+fn read(session: &mut Session, table: Table) -> u32
+    ensures { ReadFrom session.old session.old.router.standing table result session.new }
+{
+    match session.read(table) {
+        Ok(()) => DONE,
+        Err(fault) => u32::from(fault.number()),
+    }
+}

@@ -1,0 +1,8 @@
+//! The router in other programs: a static library whose functions C calls. `include/pim.h` describes each of them.
+#![tactic(auto)]
+
+pub mod calls;
+pub mod given;
+pub mod handle;
+pub mod place;
+pub mod told;

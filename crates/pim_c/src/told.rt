@@ -1,0 +1,369 @@
+//! What a program is told: answers, packets and rows.
+ghost use Rattle.std.specs.Prelude.{◌≡◌, IfErr, IfOk};
+ghost use Rattle.pim_ip.specs.Fault.{fault_number};
+ghost use Rattle.pim_mfc.specs.Laws.{IsAfresh};
+ghost use Rattle.pim_model.specs.Cache.{Answers};
+ghost use Rattle.pim_c.specs.Called.{forwarding_of};
+ghost use Rattle.pim_c.specs.Told.{answer_number, blank, bytes_in, downstream_number, iface_number, ignored_number, keyed, packet_of, register_number, row_of, source_bits, table_of, verdict_number, written};
+
+use pim_mfc::CacheRow;
+use pim_types::fact::AssertRole;
+use pim_types::table::{DownstreamState, RegisterName};
+use pim_types::{Addr, Emission, Fault, IfaceId, Ignored, Key, Refusal, Row, Table, Verdict};
+
+/// An event was taken.
+pub const DONE: u32 = 0;
+/// Memory was refused.
+pub const MEMORY: u32 = 40;
+/// The router has failed before.
+pub const FAILED: u32 = 41;
+/// The handle has no router.
+pub const NO_ROUTER: u32 = 50;
+/// No table has this letter.
+pub const NO_TABLE: u32 = 51;
+/// No timer runs, or the time isn't there.
+pub const NEVER: u64 = u64::MAX;
+/// No interface.
+pub const NO_INTERFACE: u32 = u32::MAX;
+
+fn ignored_number(reason: Ignored) -> u32
+    ensures { result ≡ ignored_number reason }
+{
+    match reason {
+        Ignored::Own => 101,
+        Ignored::NotForMe => 102,
+        Ignored::OtherType => 103,
+        Ignored::Mask => 104,
+        Ignored::LinkLocal => 105,
+        Ignored::NoNeighbour => 106,
+        Ignored::NotRp => 107,
+        Ignored::Already => 108,
+    }
+}
+
+fn verdict_number(verdict: Verdict) -> u32
+    ensures { result ≡ verdict_number verdict }
+{
+    match verdict {
+        Verdict::Done => DONE,
+        Verdict::Ignored(reason) => ignored_number(reason),
+    }
+}
+
+/// The number of an answer.
+pub fn answer_number(answer: Result<Result<Verdict, Refusal>, Fault>) -> u32
+    ensures answer { IfOk answer (λ a. result ≡ answer_number a) }
+    ensures fault { IfErr answer (λ f. result ≡ fault_number f) }
+{
+    match answer {
+        Ok(Ok(verdict)) => verdict_number(verdict),
+        Ok(Err(refusal)) => u32::from(refusal.number()),
+        Err(fault) => u32::from(fault.number()),
+    }
+}
+
+/// A packet that leaves, without its bytes.
+#[repr(C)]
+#[derive(Drop)]
+pub struct Packet {
+    pub is_unicast: bool,
+    /// The interface on which it leaves, or 0.
+    pub iface: u32,
+    /// The address to which it is to be routed, or 0.
+    pub destination: u32,
+    /// How many bytes it has.
+    pub length: usize,
+}
+
+/// What a packet is, without its bytes.
+pub fn outline(emission: &Emission) -> Packet
+    ensures { result ≡ packet_of emission.now }
+{
+    match emission {
+        Emission::Link { iface, bytes } => Packet {
+            is_unicast: false,
+            iface: iface.number,
+            destination: 0,
+            length: bytes.len(),
+        },
+        Emission::Unicast { destination, bytes } => Packet {
+            is_unicast: true,
+            iface: 0,
+            destination: destination.bits,
+            length: bytes.len(),
+        },
+    }
+}
+
+/// A packet's bytes.
+pub fn bytes(emission: &Emission) -> &[u8]
+    ensures { result.now ≡ bytes_in emission.now }
+{
+    match emission {
+        Emission::Link { iface: _, bytes } => bytes.as_slice(),
+        Emission::Unicast {
+            destination: _,
+            bytes,
+        } => bytes.as_slice(),
+    }
+}
+
+/// Writes bytes into a room from its start, as many as it takes.
+pub fn write(room: &mut [u8], bytes: &[u8])
+    ensures { room.new ≡ written room.old bytes.now }
+{
+    if bytes.len() < room.len() {
+        room[..bytes.len()].copy_from_slice(bytes);
+    } else {
+        let count = room.len();
+        room.copy_from_slice(&bytes[..count]);
+    }
+}
+
+/// A row of a table. What its kind of row doesn't have is 0, or `NEVER` for a time.
+#[repr(C)]
+#[derive(Drop)]
+pub struct TableRow {
+    /// The letter of its table.
+    pub table: u32,
+    pub iface: u32,
+    pub group: u32,
+    /// Of an upstream or downstream state, or an assert: 0 for (*,G). Of a neighbour: its address.
+    pub source: u32,
+    /// The winner of an assert.
+    pub winner: u32,
+    pub is_rpt: bool,
+    /// A group record in EXCLUDE mode; an assert that the router lost; a source that is pruned off the shared tree; SPTbit.
+    pub is_set: bool,
+    /// Downstream 1 joined, 2 about to be pruned, 3 pruned; register 1 joined, 2 about to be joined, 3 pruned.
+    pub state: u32,
+    /// In ms.
+    pub end: u64,
+    /// In ms: the end of Prune-Pending.
+    pub pending: u64,
+}
+
+impl TableRow {
+    fn blank(table: u8) -> TableRow
+        ensures { result ≡ blank table }
+    {
+        TableRow {
+            table: u32::from(table),
+            iface: 0,
+            group: 0,
+            source: 0,
+            winner: 0,
+            is_rpt: false,
+            is_set: false,
+            state: 0,
+            end: NEVER,
+            pending: NEVER,
+        }
+    }
+
+    fn keyed(table: u8, key: Key) -> TableRow
+        ensures { result ≡ keyed table key }
+    {
+        let mut row = TableRow::blank(table);
+        row.iface = key.iface.number;
+        row.group = key.group.bits;
+        row.source = source_bits(key.source);
+        row.is_rpt = key.rpt;
+        row
+    }
+}
+
+fn source_bits(source: Option<Addr>) -> u32
+    ensures { result ≡ source_bits source }
+{
+    match source {
+        Some(address) => address.bits,
+        None => 0,
+    }
+}
+
+fn iface_number(iface: Option<IfaceId>) -> u32
+    ensures { result ≡ iface_number iface }
+{
+    match iface {
+        Some(iface) => iface.number,
+        None => NO_INTERFACE,
+    }
+}
+
+fn downstream_number(state: DownstreamState) -> u32
+    ensures { result ≡ downstream_number state }
+{
+    match state {
+        DownstreamState::Join => 1,
+        DownstreamState::PrunePending => 2,
+        DownstreamState::Prune => 3,
+    }
+}
+
+fn register_number(register: Option<RegisterName>) -> u32
+    ensures { result ≡ register_number register }
+{
+    match register {
+        None => 0,
+        Some(RegisterName::Join) => 1,
+        Some(RegisterName::JoinPending) => 2,
+        Some(RegisterName::Prune) => 3,
+    }
+}
+
+/// A row as it is told.
+pub fn row(row: &Row) -> TableRow
+    ensures { result ≡ row_of row.now }
+{
+    match *row {
+        Row::Neighbour {
+            iface,
+            address,
+            end,
+        } => {
+            let mut told = TableRow::blank(b'N');
+            told.iface = iface.number;
+            told.source = address.bits;
+            told.end = end.unwrap_or(NEVER);
+            told
+        }
+        Row::Group {
+            iface,
+            group,
+            is_exclude,
+            end,
+        } => {
+            let mut told = TableRow::blank(b'G');
+            told.iface = iface.number;
+            told.group = group.bits;
+            told.is_set = is_exclude;
+            told.end = end.unwrap_or(NEVER);
+            told
+        }
+        Row::Source {
+            iface,
+            group,
+            source,
+            end,
+        } => {
+            let mut told = TableRow::blank(b'S');
+            told.iface = iface.number;
+            told.group = group.bits;
+            told.source = source.bits;
+            told.end = end.unwrap_or(NEVER);
+            told
+        }
+        Row::Downstream {
+            key,
+            state,
+            end,
+            pending,
+        } => {
+            let mut told = TableRow::keyed(b'D', key);
+            told.state = downstream_number(state);
+            told.end = end.unwrap_or(NEVER);
+            told.pending = pending.unwrap_or(NEVER);
+            told
+        }
+        Row::Assert {
+            key,
+            role,
+            winner,
+            end,
+        } => {
+            let mut told = TableRow::keyed(b'A', key);
+            told.is_set = matches!(role, AssertRole::Loser);
+            told.winner = winner.bits;
+            told.end = end;
+            told
+        }
+        Row::Upstream {
+            group,
+            source,
+            next_join,
+        } => {
+            let mut told = TableRow::blank(b'U');
+            told.group = group.bits;
+            told.source = source_bits(source);
+            told.end = next_join;
+            told
+        }
+        Row::Tree {
+            group,
+            source,
+            is_pruned,
+        } => {
+            let mut told = TableRow::blank(b'R');
+            told.group = group.bits;
+            told.source = source.bits;
+            told.is_rpt = true;
+            told.is_set = is_pruned;
+            told
+        }
+        Row::Active {
+            group,
+            source,
+            keepalive,
+            spt,
+            register,
+        } => {
+            let mut told = TableRow::blank(b'F');
+            told.group = group.bits;
+            told.source = source.bits;
+            told.is_set = spt;
+            told.state = register_number(register);
+            told.end = keepalive.unwrap_or(NEVER);
+            told
+        }
+    }
+}
+
+/// How data of a source to a group goes, of one interface.
+#[repr(C)]
+#[derive(Drop)]
+pub struct Forwarding {
+    /// RPF_interface(S), or `NO_INTERFACE`.
+    pub rpf: u32,
+    /// SPTbit(S,G).
+    pub has_spt_bit: bool,
+    /// The register tunnel is in the first two lists.
+    pub has_tunnel: bool,
+    /// immediate_olist(S,G).
+    pub is_in_immediate: bool,
+    /// inherited_olist(S,G).
+    pub is_in_inherited: bool,
+    /// inherited_olist(S,G,rpt).
+    pub is_in_shared_tree: bool,
+}
+
+/// A row of the forwarding cache as it is told of one interface.
+pub fn row_of_iface(row: &CacheRow, iface: IfaceId) -> Forwarding
+    ensures { (a : Answers) → IsAfresh row.now a → result ≡ forwarding_of a iface.number }
+{
+    Forwarding {
+        rpf: iface_number(row.rpf),
+        has_spt_bit: row.spt,
+        has_tunnel: row.inherited.has_tunnel(),
+        is_in_immediate: row.immediate.contains(iface),
+        is_in_inherited: row.inherited.contains(iface),
+        is_in_shared_tree: row.inherited_rpt.contains(iface),
+    }
+}
+
+/// The table of a letter.
+pub fn table(letter: u8) -> Option<Table>
+    ensures { result ≡ table_of letter }
+{
+    match letter {
+        b'N' => Some(Table::Neighbours),
+        b'G' => Some(Table::Groups),
+        b'S' => Some(Table::Sources),
+        b'D' => Some(Table::Downstream),
+        b'A' => Some(Table::Asserts),
+        b'U' => Some(Table::Upstream),
+        b'R' => Some(Table::Trees),
+        b'F' => Some(Table::Active),
+        _ => None,
+    }
+}

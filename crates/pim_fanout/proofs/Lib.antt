@@ -1,0 +1,9 @@
+mod Counts
+pub mod Few
+mod Listed
+mod Opened
+mod Others
+mod Refreshed
+mod Same
+mod SameSets
+pub mod Shown

@@ -1,0 +1,89 @@
+-- What is compared of two sights of a source is what is compared of the states of which they are true.
+use Rattle.std.proofs.Common.{◌≡◌, ◌&&◌, ℕ, Bool, true, false, not, refl, sym, ap, subst, ◌∙◌}
+use Rattle.pim_ifset.specs.Members.{has}
+use Rattle.pim_types.specs.Keys.{group_in, source_in, source_key}
+use Rattle.pim_model.specs.Rows.{same_both, same_path, same_register_state}
+use Rattle.pim_model.specs.State.{State}
+use Rattle.pim_model.specs.Tables.{has_row, same_bool, same_hop, same_option}
+use Rattle.pim_reach.specs.Named.{is_named, is_same_beside, is_same_sight, is_same_star}
+use Rattle.pim_reach.proofs.Masks.{same_masks}
+use Rattle.pim_macros.specs.Sights.{ShowsSource, ShowsStar}
+use Rattle.pim_macros.specs.declared.sight.SourceSight.{SourceSight}
+use Rattle.pim_macros.specs.declared.sight.StarSight.{StarSight}
+use Rattle.pim_fanout.specs.Before.{IsKnown, KnownAs, seen_key}
+use Rattle.pim_fanout.specs.Named.{is_changed, is_same_source}
+use Rattle.pim_fanout.specs.Same.{same_asserts, same_beside, same_routes, same_sight, same_source, same_star, same_star_routes}
+use Rattle.pim_fanout.specs.declared.before.KnownSource.{KnownSource}
+
+module _ (g src : ℕ) (o a : State) where
+  stars : (x y : StarSight) → ShowsStar o g x → ShowsStar a g y → same_star x y ≡ is_same_star g o a
+  unfolding same_star same_star_routes is_same_star has
+  stars x y p q = λ j.
+      same_option (p.rp j) (q.rp j) && same_both same_path (p.rp_path j) (q.rp_path j)
+      && same_hop (p.next_hop j) (q.next_hop j) && same_hop (p.winner j) (q.winner j)
+      && same_masks (x.joined).mask (y.joined).mask _ _ p.joined q.joined j
+      && same_masks (x.lost).mask (y.lost).mask _ _ p.lost q.lost j
+      && same_masks (x.won).mask (y.won).mask _ _ p.won q.won j
+      && same_masks (x.receivers).mask (y.receivers).mask _ _ p.receivers q.receivers j
+      && same_masks (x.dr).mask (y.dr).mask _ _ p.dr q.dr j
+
+  sights : (x y : SourceSight) → ShowsSource o g src x → ShowsSource a g src y
+      → same_sight x y ≡ is_same_sight g src o a
+  unfolding same_sight same_asserts same_routes is_same_sight has
+  sights x y p q = λ j.
+      stars x.star y.star p.star q.star j && same_both same_path (p.path j) (q.path j)
+      && same_hop (p.next_hop j) (q.next_hop j) && same_hop (p.winner j) (q.winner j)
+      && same_hop (p.tree_winner j) (q.tree_winner j)
+      && same_masks (x.joined).mask (y.joined).mask _ _ p.joined q.joined j
+      && same_masks (x.pruned).mask (y.pruned).mask _ _ p.pruned q.pruned j
+      && same_masks (x.lost).mask (y.lost).mask _ _ p.lost q.lost j
+      && same_masks (x.won).mask (y.won).mask _ _ p.won q.won j
+      && same_masks (x.beaten).mask (y.beaten).mask _ _ p.beaten q.beaten j
+      && same_masks (x.included).mask (y.included).mask _ _ p.included q.included j
+      && same_masks (x.excluded).mask (y.excluded).mask _ _ p.excluded q.excluded j
+      && same_bool (p.spt j) (q.spt j)
+
+  besides : (x y : KnownSource) → KnownAs o g src x → KnownAs a g src y → same_beside x y ≡ is_same_beside g src o a
+  unfolding same_beside is_same_beside
+  besides x y p q = λ j.
+      same_bool (p.may_register j) (q.may_register j) && same_bool (p.could_register j) (q.could_register j)
+      && same_both same_register_state (p.register j) (q.register j) && same_bool (p.is_desired j) (q.is_desired j)
+
+  known_alike : (x y : KnownSource) → KnownAs o g src x → KnownAs a g src y → same_source x y ≡ is_same_source g src o a
+  unfolding same_source
+  known_alike x y p q = λ j. sights x.sight y.sight p.sight q.sight j && besides x y p q j
+
+-- ---- who is named
+
+module _ (o a : State) (g src : ℕ) where
+  new_step : (h s b : Bool) → (h && not ((not h && s) && b)) ≡ h
+  new_step true s b = refl
+  new_step false s b = refl
+
+  -- it had no fact
+  pub new_is_changed : has_row o.sources (source_key 0 g src) ≡ false
+      → is_changed o a (source_key 0 g src) ≡ has_row a.sources (source_key 0 g src)
+  unfolding is_changed is_named
+  new_is_changed none =
+      rw none (new_step (has_row a.sources (source_key 0 g src)) (is_same_sight g src o a) (is_same_beside g src o a))
+
+  -- it has none now
+  pub gone_is_changed : has_row o.sources (source_key 0 g src) ≡ true → has_row a.sources (source_key 0 g src) ≡ false
+      → is_changed o a (source_key 0 g src) ≡ true
+  unfolding is_changed is_named
+  gone_is_changed there none = rw (there, none) refl
+
+  pub kept_is_changed : has_row o.sources (source_key 0 g src) ≡ true → has_row a.sources (source_key 0 g src) ≡ true
+      → is_changed o a (source_key 0 g src) ≡ not (is_same_source g src o a)
+  unfolding is_changed is_named
+  kept_is_changed there still = rw (there, still) refl
+
+-- two of one key
+pub known_is_changed : (o a : State) (x y : KnownSource) → IsKnown o x → IsKnown a y
+    → seen_key y.sight ≡ seen_key x.sight → not (same_source x y) ≡ is_changed o a (seen_key x.sight)
+known_is_changed o a x y p q same =
+    let g : ℕ = x.sight.star.group.bits in
+    let src : ℕ = x.sight.source.bits in
+    let alike : KnownAs a g src y =
+    subst (λ k. KnownAs a (group_in k) (source_in k) y) same q in
+    ap not (known_alike g src o a x y p alike) ∙ sym (kept_is_changed o a g src p.fact alike.fact)

@@ -1,0 +1,16 @@
+use Rattle.std.proofs.Common.{◌≡◌, ◌++◌, map}
+use Rattle.std.specs.List.{flat_map}
+use Rattle.pim_types.specs.Keys.{source_key}
+use Rattle.pim_world.specs.Groups.{numbers_of}
+use Rattle.pim_opening.specs.Openings.{touched_sources}
+use Rattle.pim_fanout.specs.Before.{AreBefore, key_before}
+use Rattle.pim_fanout.proofs.before.gather_groups.Given as goal
+
+abbrev pub invariant-loop-group : goal.invariant-loop-group
+invariant-loop-group l = record {
+  keys : map key_before l.found.items
+      ++ flat_map (λ g. map (source_key 0 g) (touched_sources l.world l.touched g)) (numbers_of l.group-iterator)
+      ≡ flat_map (λ g. map (source_key 0 g) (touched_sources l.world l.touched g)) (numbers_of l.fn.groups.entries);
+  each : AreBefore l.world l.found.items;
+  silent : l.turn ≡ l.fn.turn;
+}

@@ -1,0 +1,15 @@
+use Rattle.std.proofs.Common.{◌≡◌, ◌++◌, IfSome, map}
+use Rattle.pim_types.specs.Keys.{source_key}
+use Rattle.pim_world.specs.Groups.{numbers_of}
+use Rattle.pim_macros.specs.Sights.{IsStarSight}
+use Rattle.pim_fanout.specs.Before.{AreBefore, key_before}
+use Rattle.pim_fanout.proofs.before.gather_sources.Given as goal
+
+abbrev pub invariant-loop-source : goal.invariant-loop-source
+invariant-loop-source l = record {
+  keys : map key_before l.found.items ++ map (source_key 0 l.group.bits) (numbers_of l.source-iterator)
+      ≡ map key_before l.fn.found.items ++ map (source_key 0 l.group.bits) (numbers_of l.fn.sources.entries);
+  each : AreBefore l.world l.found.items;
+  last : IfSome l.last (IsStarSight l.world);
+  silent : l.turn ≡ l.fn.turn;
+}

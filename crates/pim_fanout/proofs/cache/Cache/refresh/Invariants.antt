@@ -1,0 +1,10 @@
+use Rattle.std.proofs.Common.{◌≤◌, ◌+◌, ◌*◌, take}
+use Rattle.pim_fanout.specs.Refreshing.{Refreshes, touches}
+use Rattle.pim_fanout.specs.Named.{keys_of}
+use Rattle.pim_fanout.proofs.cache.Cache.refresh.Given as goal
+
+abbrev pub invariant-loop-name : goal.invariant-loop-name
+invariant-loop-name l = record {
+  shown : Refreshes (keys_of (take l.name-index l.names)) l.world (l.fn.self.mfc).rows (l.self.mfc).rows;
+  few : touches l.self ≤ touches l.fn.self + 2 * l.name-index;
+}

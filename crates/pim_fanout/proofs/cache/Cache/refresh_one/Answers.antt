@@ -1,0 +1,31 @@
+use Rattle.std.proofs.Common.{sym, ◌∙◌}
+use Rattle.pim_mfc.specs.Kept.{with_row, without_row}
+use Rattle.pim_mfc.proofs.Shown.{removal_refreshes}
+use Rattle.pim_fanout.specs.Refreshing.{touches}
+use Rattle.pim_fanout.proofs.Counts.{both_raised, one_raised}
+use Rattle.pim_fanout.proofs.Refreshed.{put_named}
+use Rattle.pim_fanout.proofs.cache.Cache.refresh_one.Goals as goal
+
+pub returns-then-not-has_fact-clause-shown : goal.returns-then-not-has_fact-clause-shown
+returns-then-not-has_fact-clause-shown c =
+    rw (← c.self.view_is, c.remove.ensures) (λ names cache shows.
+    removal_refreshes c.args.world.now cache names c.self.inside.mfc c.args.name.group.bits c.args.name.source.bits
+    (sym c.has_fact.ensures ∙ c.if-not-has_fact.true) shows)
+
+pub returns-then-not-has_fact-clause-few : goal.returns-then-not-has_fact-clause-few
+unfolding touches without_row
+returns-then-not-has_fact-clause-few c =
+    rw (← c.self.view_is, c.remove.ensures) (one_raised (c.self.inside.mfc).changes c.self.inside.evaluated)
+
+pub returns-clause-shown : goal.returns-clause-shown
+returns-clause-shown c =
+    rw (← c.self.view_is, c.in_ok-put.ensures.ok) (λ names cache shows.
+    put_named c.args.world.now cache names c.self.inside.mfc c.row-made.result c.args.name.group c.args.name.source
+    c.row-made.ensures.group c.row-made.ensures.source (sym c.has_fact.ensures ∙ c.if-not-has_fact.false)
+    c.row-made.ensures.answers shows)
+
+pub returns-clause-few : goal.returns-clause-few
+unfolding touches with_row
+returns-clause-few c =
+    rw (← c.self.view_is, c.in_ok-put.ensures.ok, c.row-made.ensures.counted)
+    (both_raised (c.self.inside.mfc).changes c.self.inside.evaluated)

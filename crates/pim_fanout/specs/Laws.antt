@@ -1,0 +1,113 @@
+-- What the named sources of an event are, and how rows that are made anew by them stay those of the state.
+use Rattle.std.specs.List.Sorted.{IsStrictlySortedBy}
+use Rattle.std.specs.Prelude.{List, [], false, length, true, ℕ, ◌||◌, ◌≡◌, ◌≤◌}
+use Rattle.pim_ip.specs.Ipv4.{Packet}
+use Rattle.pim_types.specs.declared.config.Config.{Config}
+use Rattle.pim_types.specs.declared.event.Event.{Event}
+use Rattle.pim_types.specs.declared.fact.Key.{Key}
+use Rattle.pim_types.specs.Keys.{key_cmp, source_key}
+use Rattle.pim_model.specs.Cache.{Plain, cached}
+use Rattle.pim_model.specs.Clearing.{clear}
+use Rattle.pim_model.specs.declared.accepted.Accepted.{Accepted}
+use Rattle.pim_model.specs.Firing.{fire_once}
+use Rattle.pim_model.specs.Limits.{most_ifaces}
+use Rattle.pim_model.specs.Reach.{differs_among, own_firing, passes}
+use Rattle.pim_model.specs.State.{State, opening}
+use Rattle.pim_model.specs.Step.{change, done, step}
+use Rattle.pim_model.specs.Tables.{Table, has_row}
+use Rattle.pim_model.specs.Timers.{Ending}
+use Rattle.pim_locality.specs.Locality.{IsQuiet}
+use Rattle.pim_locality.specs.Rest.{IsAtRest}
+use Rattle.pim_reach.specs.Calm.{is_calm}
+use Rattle.pim_reach.specs.Keeps.{KeepsAnswers}
+use Rattle.pim_reach.specs.Named.{named_by}
+use Rattle.pim_cached.specs.Decided.{IsDecided}
+use Rattle.pim_cached.specs.Kept.{is_listed, refreshed}
+use Rattle.pim_world.specs.declared.touched.Touched.{Touched}
+use Rattle.pim_macros.specs.declared.rows.SourceAnswers.{SourceAnswers}
+use Rattle.pim_opening.specs.Covers.{Covers}
+use Rattle.pim_mfc.specs.Laws.{ShowsRows}
+use Rattle.pim_fanout.specs.Named.{named_among}
+
+-- ---- who is named
+
+-- the opening is compared with what clearing leaves
+abbrev pub names_of : State → State → Touched → List Key
+names_of o changed touched = named_among o (clear o changed).0 touched
+
+-- each stands once
+abbrev pub NamesRise : Type 0
+NamesRise = (o a : State) (touched : Touched) → IsStrictlySortedBy key_cmp (named_among o a touched)
+
+-- from a quiet state those are named of the touched sources that are named of all
+abbrev pub NamesAreNamed : Type 0
+NamesAreNamed = (o : State) → IsQuiet o → (touched : Touched) (changed : State) → Covers touched o changed → (g src : ℕ)
+    → is_listed (names_of o changed touched) g src ≡ is_listed (named_by o changed) g src
+
+-- they are no more than those of all
+abbrev pub NamesAreFew : Type 0
+NamesAreFew = (o changed : State) (touched : Touched)
+    → length (names_of o changed touched) ≤ length (named_by o changed)
+
+-- where no interface row and no neighbour row differs on the way, those alone that the event reaches
+abbrev pub NamesAreReached : Type 0
+NamesAreReached = (s : State) (w : ℕ) (a : Accepted) → is_calm s (change s w a).state ≡ true → (touched : Touched)
+    → (g src : ℕ) → is_listed (names_of s (change s w a).state touched) g src ≡ true
+    → differs_among g src (passes s (change s w a).state) ≡ true
+
+abbrev pub FiredNamesAreReached : Type 0
+FiredNamesAreReached = (s : State) (e : Ending) → is_calm s (own_firing s e) ≡ true → (touched : Touched)
+    → (g src : ℕ) → is_listed (names_of s (own_firing s e) touched) g src ≡ true
+    → differs_among g src (passes s (own_firing s e)) ≡ true
+
+-- ---- who isn't
+
+-- there is a fact of the source in one of the states
+abbrev pub HasFact : ℕ → ℕ → State → State → Type 0
+HasFact g src o a =
+    (has_row o.sources (source_key 0 g src) || has_row a.sources (source_key 0 g src)) ≡ true
+
+-- a source with a fact that isn't named keeps SPTbit, CouldRegister, the states of its register fact and of both its
+-- asserts, and every macro, to the end of the event
+abbrev pub OthersKeep : Type 0
+OthersKeep = (s : State) → IsQuiet s → length s.configured ≤ most_ifaces → (w : ℕ) (a : Accepted) (touched : Touched)
+    → Covers touched s (change s w a).state → (g src : ℕ) → HasFact g src s (done s w (change s w a)).state
+    → is_listed (names_of s (change s w a).state touched) g src ≡ false
+    → KeepsAnswers g src s (done s w (change s w a)).state
+
+-- and of a timer's end
+abbrev pub FiredOthersKeep : Type 0
+FiredOthersKeep = (s : State) → IsQuiet s → length s.configured ≤ most_ifaces → (w : ℕ) (e : Ending) (touched : Touched)
+    → Covers touched s (own_firing s e) → (g src : ℕ) → HasFact g src s (fire_once w s e).0
+    → is_listed (names_of s (own_firing s e) touched) g src ≡ false → KeepsAnswers g src s (fire_once w s e).0
+
+-- ---- the rows
+
+-- at the opening there are none
+abbrev pub OpeningShowsRows : Type 0
+OpeningShowsRows = (c : Config) → ShowsRows [] (cached (opening c))
+
+-- where the named ones of what the state had are made anew, the rows are those of the state that the event leaves
+abbrev pub EventShowsRows : Type 0
+EventShowsRows = (s : State) → IsQuiet s → length s.configured ≤ most_ifaces → (w : ℕ) (a : Accepted)
+    → (touched : Touched) → Covers touched s (change s w a).state → (rows : Table SourceAnswers)
+    → (let after : State = (done s w (change s w a)).state in
+    ShowsRows rows (refreshed (names_of s (change s w a).state touched) after (cached s))
+    → ShowsRows rows (cached after))
+
+-- and that a timer's end leaves
+abbrev pub FiringShowsRows : Type 0
+FiringShowsRows = (s : State) → IsQuiet s → length s.configured ≤ most_ifaces → (w : ℕ) (e : Ending)
+    → (touched : Touched) → Covers touched s (own_firing s e) → (rows : Table SourceAnswers)
+    → (let after : State = (fire_once w s e).0 in
+    ShowsRows rows (refreshed (names_of s (own_firing s e) touched) after (cached s)) → ShowsRows rows (cached after))
+
+-- a packet that the answers of its source decide leaves them so
+abbrev pub PlainShowsRows : Type 0
+PlainShowsRows = (s : State) (e : Event) (p : Packet) (how : Plain) → IsAtRest s → IsDecided s e p how
+    → (rows : Table SourceAnswers) → ShowsRows rows (cached s) → ShowsRows rows (cached (step s e).state)
+
+-- where the present alone moves they stay so
+abbrev pub PresentShowsRows : Type 0
+PresentShowsRows = (s : State) (m : ℕ) → length s.configured ≤ most_ifaces → (rows : Table SourceAnswers)
+    → ShowsRows rows (cached s) → ShowsRows rows (cached (record s { present = m }))

@@ -1,0 +1,5 @@
+pub mod Before
+pub mod Same
+pub mod Named
+pub mod Refreshing
+pub mod Laws

@@ -1,0 +1,34 @@
+-- The forwarding cache beside the number of rows that were evaluated, and what it is to make named rows anew.
+use Rattle.std.specs.Prelude.{List, [], ℕ, ◌++◌, ◌∷◌}
+use Rattle.pim_trie.specs.Meter.{raised}
+use Rattle.pim_types.specs.declared.fact.Key.{Key}
+use Rattle.pim_model.specs.State.{State}
+use Rattle.pim_model.specs.Tables.{Table}
+use Rattle.pim_macros.specs.declared.rows.SourceAnswers.{SourceAnswers}
+use Rattle.pim_cached.specs.Kept.{Cache, refreshed}
+use Rattle.pim_mfc.specs.Kept.{Kept}
+use Rattle.pim_mfc.specs.Laws.{ShowsRows}
+
+pub record CacheValue : Type 0 where
+  pub mfc : Kept
+  pub evaluated : ℕ
+
+abbrev pub nothing_cached : CacheValue
+nothing_cached = record { mfc = record { rows = []; changes = 0 }; evaluated = 0 }
+
+-- with both counts begun anew
+abbrev pub uncounted : CacheValue → CacheValue
+uncounted c = record { mfc = record c.mfc { changes = 0 }; evaluated = 0 }
+
+-- puts, removals and rows evaluated, together
+unfoldable pub touches : CacheValue → ℕ
+touches c = raised (c.mfc).changes c.evaluated
+
+-- of whatever the old rows show, the new ones show the named sources as the state has them, and the others as they were
+abbrev pub Refreshes : List Key → State → Table SourceAnswers → Table SourceAnswers → Type 0
+Refreshes names s old new = (c : Cache) → ShowsRows old c → ShowsRows new (refreshed names s c)
+
+-- one named source more
+abbrev pub RefreshesOne : Key → State → Table SourceAnswers → Table SourceAnswers → Type 0
+RefreshesOne k s old new = (names : List Key) (c : Cache) → ShowsRows old (refreshed names s c)
+    → ShowsRows new (refreshed (names ++ k ∷ []) s c)

@@ -1,0 +1,45 @@
+-- Two sights of one source, compared field by field: what is configured stays, and isn't compared.
+use Rattle.std.specs.Prelude.{Bool, ◌&&◌, ◌==◌}
+use Rattle.pim_ifset.specs.Members.{Members}
+use Rattle.pim_model.specs.Rows.{same_both, same_path, same_register_state}
+use Rattle.pim_model.specs.Tables.{same_address, same_bool, same_hop}
+use Rattle.pim_macros.specs.declared.sight.SourceSight.{SourceSight}
+use Rattle.pim_macros.specs.declared.sight.StarSight.{StarSight}
+use Rattle.pim_fanout.specs.declared.before.KnownSource.{KnownSource}
+
+-- the same interfaces, with the register tunnel or without it
+abbrev pub same_members : Members → Members → Bool
+same_members s t = s.mask == t.mask
+
+unfoldable pub same_star_routes : StarSight → StarSight → Bool
+same_star_routes x y =
+    same_address x.rp y.rp && same_both same_path x.rp_path y.rp_path && same_hop x.next_hop y.next_hop
+    && same_hop x.winner y.winner
+
+unfoldable pub same_star : StarSight → StarSight → Bool
+same_star x y =
+    same_star_routes x y && same_members x.joined y.joined && same_members x.lost y.lost && same_members x.won y.won
+    && same_members x.receivers y.receivers && same_members x.dr y.dr
+
+unfoldable pub same_routes : SourceSight → SourceSight → Bool
+same_routes x y =
+    same_star x.star y.star && same_both same_path x.path y.path && same_hop x.next_hop y.next_hop
+    && same_hop x.winner y.winner && same_hop x.tree_winner y.tree_winner
+
+unfoldable pub same_asserts : SourceSight → SourceSight → Bool
+same_asserts x y =
+    same_routes x y && same_members x.joined y.joined && same_members x.pruned y.pruned
+    && same_members x.lost y.lost && same_members x.won y.won
+
+unfoldable pub same_sight : SourceSight → SourceSight → Bool
+same_sight x y =
+    same_asserts x y && same_members x.beaten y.beaten && same_members x.included y.included
+    && same_members x.excluded y.excluded && same_bool x.spt y.spt
+
+unfoldable pub same_beside : KnownSource → KnownSource → Bool
+same_beside x y =
+    same_bool x.may_register y.may_register && same_bool x.could_register y.could_register
+    && same_both same_register_state x.register y.register && same_bool x.is_desired y.is_desired
+
+unfoldable pub same_source : KnownSource → KnownSource → Bool
+same_source x y = same_sight x.sight y.sight && same_beside x y

@@ -1,0 +1,15 @@
+//! Which rows of the forwarding cache an event makes anew: of the sources that it touches those whose fact, sight or
+//! register state differs between the opening and what clearing leaves. And the cache itself, with what that costs.
+#![tactic(auto)]
+
+pub mod before;
+pub mod cache;
+mod compare;
+pub mod laws;
+pub mod name;
+pub mod naming;
+
+pub use before::{Before, KnownSource, SourceBefore};
+pub use cache::Cache;
+pub use name::SourceName;
+pub use naming::named;

@@ -1,0 +1,9 @@
+//! The name of a source of a group.
+use pim_types::Addr;
+
+/// (S,G).
+#[derive(Clone, Copy)]
+pub struct SourceName {
+    pub group: Addr,
+    pub source: Addr,
+}

@@ -1,0 +1,97 @@
+//! What is listed of all groups and sources.
+ghost use Rattle.std.specs.Prelude.{◌≡◌, ◌<◌, ◌≤◌, ◌+◌, [], ℕ, None, Some, OnErr, OnOk, filter};
+ghost use Rattle.pim_model.specs.Tables.{keys_in, row_at};
+ghost use Rattle.pim_source_trie.specs.Entries.{entry_key, nodes_visited, raised};
+ghost use Rattle.pim_types.specs.Keys.{is_of_group};
+ghost use Rattle.pim_membership.specs.Listing.{Lists, Side, Writes, in_side, listed, record_key, source_bits};
+
+use crate::listed::Listed;
+use pim_ip::Addr;
+use pim_source_trie::{Entries, Meter, SourceTrie};
+use pim_types::IfaceId;
+use std::alloc::{AllocError, Global};
+use std::marker::Model;
+
+// The interfaces listed of each group, and of each source, that has any.
+#[derive(Drop)]
+pub(crate) struct Index {
+    entries: SourceTrie<Listed>,
+}
+
+impl Model for Index {
+    ghost use Rattle.pim_model.specs.Tables.{Table};
+    ghost use Rattle.pim_membership.specs.declared.listed.Listed.{Listed};
+
+    ghost Value = { Table Listed };
+
+    ghost view = { λ a. a.entries };
+}
+
+impl Index {
+    // No interface is listed; it takes no memory.
+    pub(crate) fn new(alloc: Global) -> Index
+        ensures { result ≡ [] }
+    {
+        Index {
+            entries: SourceTrie::new(alloc),
+        }
+    }
+
+    // What is listed of (*,G), where `source` is `None`, or of a source of the group.
+    pub(crate) fn get(&self, group: Addr, source: Option<Addr>, meter: &mut Meter) -> Listed
+        ensures sides { (x : Side) (i : ℕ) → in_side x result i ≡ listed self.now x i group.bits (source_bits source) }
+        ensures visited { meter.new ≡ raised meter.old (nodes_visited (keys_in self.now) group source) }
+    {
+        match self.entries.get(group, source, meter) {
+            Some(listed) => *listed,
+            None => Listed::none(),
+        }
+    }
+
+    // What is listed of the group and of its sources.
+    pub(crate) fn walk(&self, group: Addr) -> Entries<'_, Listed>
+        ensures { result ≡ filter (λ e. is_of_group group.bits e.0) self.now }
+    {
+        self.entries.walk(group)
+    }
+
+    // Lists these of a group, or of a source. Where there are some and nothing was listed it may fail for want of
+    // memory, and then nothing has changed.
+    fn write(&mut self, group: Addr, source: Option<Addr>, listed: Listed) -> Result<(), AllocError>
+        ensures ok { OnOk result (Writes self.old self.new (entry_key group source) listed) }
+        ensures err { OnErr result (self.new ≡ self.old) }
+        ensures absent { OnErr result (row_at self.old (entry_key group source) ≡ None) }
+    {
+        if listed.is_empty() {
+            self.entries.remove(group, source);
+            return Ok(());
+        }
+        self.entries.put(group, source, listed)
+    }
+
+    // Lists the interface, where the record's timer runs or doesn't. An error is want of memory, and then nothing
+    // has changed.
+    pub(crate) fn list(
+        &mut self,
+        iface: IfaceId,
+        group: Addr,
+        source: Option<Addr>,
+        is_running: bool,
+    ) -> Result<(), AllocError>
+        requires { iface.number < 120 }
+        ensures ok { OnOk result (Lists self.old self.new (record_key iface.number group source) (Some is_running)) }
+        ensures err { OnErr result (self.new ≡ self.old) }
+    {
+        let listed = self.get(group, source, &mut Meter::new());
+        self.write(group, source, listed.with(iface, is_running))
+    }
+
+    // Takes the interface out; it takes no memory.
+    pub(crate) fn unlist(&mut self, iface: IfaceId, group: Addr, source: Option<Addr>)
+        ensures { Lists self.old self.new (record_key iface.number group source) None }
+    {
+        let listed = self.get(group, source, &mut Meter::new());
+        // Where it fails nothing was listed.
+        let _ = self.write(group, source, listed.without(iface));
+    }
+}

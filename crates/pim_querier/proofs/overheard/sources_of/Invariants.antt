@@ -1,0 +1,6 @@
+use Rattle.std.proofs.Common.{◌≡◌, ◌++◌}
+use Rattle.pim_querier.specs.Queries.{bits_of}
+use Rattle.pim_querier.proofs.overheard.sources_of.Given as goal
+
+abbrev pub invariant-loop-source : goal.invariant-loop-source
+invariant-loop-source l = bits_of l.sources.items ++ l.source-iterator ≡ l.fn.query.sources

@@ -1,6 +1,0 @@
-use Rattle.std.proofs.Common.{◌≡◌, ◌++◌}
-use Rattle.pim_querier.specs.Queries.{bits_of}
-use Rattle.pim_querier.proofs.query.sources_of.Given as goal
-
-abbrev pub invariant-loop-source : goal.invariant-loop-source
-invariant-loop-source l = bits_of l.sources.items ++ l.source-iterator ≡ l.fn.query.sources

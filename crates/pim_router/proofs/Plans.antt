@@ -1,0 +1,138 @@
+-- Plans of events: each kind's fits where its parts do.
+use Rattle.std.proofs.Common.{◌≡◌, ℕ, Bool, true, false, List, ap, refl, subst, sym, ◌∙◌}
+use Rattle.pim_types.specs.declared.fact.Key.{Key}
+use Rattle.pim_model.specs.declared.accepted.Accepted.{Accepted}
+use Rattle.pim_model.specs.Full.{is_full, join_prune_is_full, keys_are_full, source_is_full}
+use Rattle.pim_locality.specs.Touches.{packet_keys}
+use Rattle.pim_macros.specs.Sights.{IsSourceSight}
+use Rattle.pim_model.specs.State.{State}
+use Rattle.pim_model.specs.Step.{advanced, change, stopped, taken, taken_unless_full}
+use Rattle.pim_ip.specs.declared.refusal.Refusal.{Refusal}
+use Rattle.pim_types.specs.declared.outcome.Stop.{Stop}
+use Rattle.pim_opening.specs.Covers.{Concerns, IsWithin}
+use Rattle.pim_world.specs.declared.touched.Touched.{Touched}
+use Rattle.pim_ip.specs.Ipv4.{Packet}
+use Rattle.pim_types.specs.declared.config.IfaceId.{IfaceId}
+use Rattle.pim_wire.specs.Values.{JoinPrune}
+use Rattle.pim_model.specs.Downstream.{joined_keys, pruned_keys}
+use Rattle.pim_downstream.specs.declared.named.Named.{Named}
+use Rattle.pim_macros.specs.declared.sight.SourceSight.{SourceSight}
+use Rattle.pim_router.specs.Planning.{Fits, HasKeys, HasSight, HasSomeKeys, HasSomeSight, IsSightOf, Supplies}
+use Rattle.pim_router.specs.declared.plan.Means.{Means}
+use Rattle.pim_router.specs.declared.plan.Plan.{Plan}
+use Rattle.pim_router.proofs.Touching.{MakesNone, facts_covered, packet_covered}
+
+module _ (s : State) (a : Accepted) (plan : Plan) where
+  -- some keys are touched
+  pub keys_fit : (keys : List Key) (means : Means) → (let p : Plan = record { touched = Touched.Keys keys; means = means } in plan ≡ p)
+      → is_full s a ≡ false → ((w : ℕ) → Concerns keys s (change s w a).state) → Supplies s a means → Fits s a plan
+  keys_fit keys means is room covers supplied =
+      subst (λ (p : Plan). Fits s a p) (sym is) (record { room = room; covers = covers; means = supplied })
+
+  -- all may be touched
+  all_fit : (let p : Plan = record { touched = Touched.All; means = Means.Nothing } in plan ≡ p)
+      → is_full s a ≡ false → ((w : ℕ) → IsWithin s (change s w a).state) → Supplies s a Means.Nothing → Fits s a plan
+  all_fit is room covers supplied =
+      subst (λ (p : Plan). Fits s a p) (sym is) (record { room = room; covers = covers; means = supplied })
+
+-- all may be touched, of an event whose kind is known
+pub all_planned : (s : State) (a b : Accepted) (plan : Plan)
+    → (let p : Plan = record { touched = Touched.All; means = Means.Nothing } in plan ≡ p) → a ≡ b → is_full s b ≡ false
+    → MakesNone b → Supplies s b Means.Nothing → Fits s a plan
+all_planned s a b plan whole is room none supplied =
+    subst (λ (x : Accepted). Fits s x plan) (sym is)
+    (all_fit s b plan whole room (λ w. facts_covered s w b none) supplied)
+
+-- ---- room
+
+pub join_prune_room : (s : State) (i : IfaceId) (m : JoinPrune) (holdtime : ℕ) (joined pruned : List Key) (full b : Bool)
+    → holdtime ≡ m.holdtime → joined ≡ joined_keys s i.number m → pruned ≡ pruned_keys i.number m
+    → full ≡ keys_are_full s holdtime joined pruned → full ≡ b → is_full s (Accepted.JoinPruneToMe i m) ≡ b
+unfolding is_full join_prune_is_full
+join_prune_room s i m holdtime joined pruned full b lasts joins prunes is e =
+    ap (λ (n : ℕ). keys_are_full s n (joined_keys s i.number m) (pruned_keys i.number m)) (sym lasts)
+    ∙ ap (λ (ks : List Key). keys_are_full s holdtime ks (pruned_keys i.number m)) (sym joins)
+    ∙ ap (λ (ks : List Key). keys_are_full s holdtime joined ks) (sym prunes)
+    ∙ sym is ∙ e
+
+module _ (s : State) (i : IfaceId) (p : Packet) where
+  pub source_room : (g src : ℕ) (full b : Bool) → g ≡ p.destination → src ≡ p.source → full ≡ source_is_full s g src
+      → full ≡ b → is_full s (Accepted.Data i p) ≡ b
+  unfolding is_full
+  source_room g src full b group source is e =
+      ap (λ (n : ℕ). source_is_full s n p.source) (sym group) ∙ ap (λ (n : ℕ). source_is_full s g n) (sym source)
+      ∙ sym is ∙ e
+
+  pub data_fits : (sight : SourceSight) (keys : List Key) (plan : Plan)
+      → (let q : Plan = record { touched = Touched.Keys keys; means = Means.Sight sight } in plan ≡ q)
+      → sight.star.group.bits ≡ p.destination → sight.source.bits ≡ p.source → IsSourceSight s sight
+      → is_full s (Accepted.Data i p) ≡ false
+      → keys ≡ packet_keys s sight.star.group.bits sight.source.bits i.number → Fits s (Accepted.Data i p) plan
+  data_fits sight keys plan is group source shown room those =
+      keys_fit s (Accepted.Data i p) plan keys (Means.Sight sight) is room
+      (packet_covered s i p keys
+      (those ∙ ap (λ (n : ℕ). packet_keys s n sight.source.bits i.number) group
+      ∙ ap (λ (n : ℕ). packet_keys s p.destination n i.number) source))
+      (record { shown = shown; group = group; source = source })
+
+-- what is taken, where there is room and where there is none
+module _ (s : State) (w : ℕ) (a : Accepted) where
+  pub with_room : is_full s a ≡ false → taken_unless_full s w a ≡ taken s w a
+  unfolding taken_unless_full
+  with_room room = rw (room, taken_unless_full) refl
+
+  -- time needs no room
+  pub time_is_taken : (moment : ℕ) → a ≡ Accepted.Advance moment → advanced s w moment ≡ taken_unless_full s w a
+  unfolding taken_unless_full taken is_full
+  time_is_taken moment is =
+      subst (λ (x : Accepted). advanced s w moment ≡ taken_unless_full s w x) (sym is) refl
+
+  pub without_room : is_full s a ≡ true → taken_unless_full s w a ≡ stopped s (Stop.Refuse Refusal.Full)
+  unfolding taken_unless_full
+  without_room full = rw (full, taken_unless_full) refl
+
+-- ---- what a plan gives to its change
+
+module _ (s : State) (a : Accepted) (m : Means) where
+  some_keys : (joined pruned : List Key) (n : Means) → HasKeys joined pruned n → HasSomeKeys n
+  some_keys joined pruned (Means.Keys named) h = tt
+  some_keys joined pruned Means.Nothing h = h
+  some_keys joined pruned (Means.Sight sight) h = h
+
+  some_sight : (g src : ℕ) (n : Means) → HasSight s g src n → HasSomeSight n
+  some_sight g src (Means.Sight sight) h = tt
+  some_sight g src Means.Nothing h = h
+  some_sight g src (Means.Keys named) h = h
+
+  module _ (i : IfaceId) (message : JoinPrune) where
+    pub to_me_has_keys : a ≡ Accepted.JoinPruneToMe i message → Supplies s a m → HasSomeKeys m
+    to_me_has_keys is supplied =
+        some_keys (joined_keys s i.number message) (pruned_keys i.number message) m
+        (subst (λ (x : Accepted). Supplies s x m) is supplied)
+
+    pub seen_has_keys : a ≡ Accepted.JoinPruneSeen i message → Supplies s a m → HasSomeKeys m
+    seen_has_keys is supplied =
+        some_keys (joined_keys s i.number message) (pruned_keys i.number message) m
+        (subst (λ (x : Accepted). Supplies s x m) is supplied)
+
+    pub to_me_keys : (named : Named) → a ≡ Accepted.JoinPruneToMe i message → Supplies s a m → m ≡ Means.Keys named
+        → (named.joined.items ≡ joined_keys s i.number message) × (named.pruned.items ≡ pruned_keys i.number message)
+    to_me_keys named is supplied are =
+        subst (λ (n : Means). HasKeys (joined_keys s i.number message) (pruned_keys i.number message) n) are
+        (subst (λ (x : Accepted). Supplies s x m) is supplied)
+
+    pub seen_keys : (named : Named) → a ≡ Accepted.JoinPruneSeen i message → Supplies s a m → m ≡ Means.Keys named
+        → (named.joined.items ≡ joined_keys s i.number message) × (named.pruned.items ≡ pruned_keys i.number message)
+    seen_keys named is supplied are =
+        subst (λ (n : Means). HasKeys (joined_keys s i.number message) (pruned_keys i.number message) n) are
+        (subst (λ (x : Accepted). Supplies s x m) is supplied)
+
+  module _ (i : IfaceId) (p : Packet) (is : a ≡ Accepted.Data i p) (supplied : Supplies s a m) where
+    pub data_has_sight : HasSomeSight m
+    data_has_sight =
+        some_sight p.destination p.source m (subst (λ (x : Accepted). Supplies s x m) is supplied)
+
+    pub data_sight : (sight : SourceSight) → m ≡ Means.Sight sight → IsSightOf s p.destination p.source sight
+    data_sight sight shows =
+        subst (λ (n : Means). HasSight s p.destination p.source n) shows
+        (subst (λ (x : Accepted). Supplies s x m) is supplied)

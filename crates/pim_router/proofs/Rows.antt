@@ -1,0 +1,156 @@
+-- Which rows of the cache are made anew after a change, and that all rows are those of the state then.
+use Rattle.std.specs.Prelude.{if◌then◌else◌}
+use Rattle.std.proofs.Common.{◌≡◌, ◌≤◌, ◌+◌, ◌*◌, ℕ, Bool, false, List, Option, Some, IfSome, Result, Ok, Err, IfOk, length, refl, ap, subst, sym, ◌∙◌, arith}
+use Rattle.std.proofs.lemmas.List.{length-map}
+use Rattle.pim_types.specs.declared.fact.Key.{Key}
+use Rattle.pim_model.specs.Cache.{cached}
+use Rattle.pim_model.specs.Clearing.{clear}
+use Rattle.pim_model.specs.declared.accepted.Accepted.{Accepted}
+use Rattle.pim_model.specs.Firing.{fire_once}
+use Rattle.pim_model.specs.Full.{is_full}
+use Rattle.pim_model.specs.Reach.{own_firing, told_all, where_accepted}
+use Rattle.pim_model.specs.State.{InterfaceTable, State, interfaces_of}
+use Rattle.pim_model.specs.Step.{change, done, taken}
+use Rattle.pim_model.specs.Tables.{Table}
+use Rattle.pim_model.specs.Timers.{Ending}
+use Rattle.pim_locality.specs.Locality.{IsQuiet}
+use Rattle.pim_reach.specs.Named.{named_by, named_of}
+use Rattle.pim_cached.specs.Kept.{refreshed}
+use Rattle.pim_macros.specs.declared.rows.SourceAnswers.{SourceAnswers}
+use Rattle.pim_mfc.specs.declared.cache_row.CacheRow.{CacheRow}
+use Rattle.pim_mfc.specs.Laws.{ShowsRows, TellsRow}
+use Rattle.pim_opening.specs.Covers.{Covers}
+use Rattle.pim_opening.specs.Openings.{opening_of}
+use Rattle.pim_opening.specs.declared.opening.GroupOpening.{GroupOpening}
+use Rattle.pim_store.specs.PimTables.{AreKeyed, pim_tables}
+use Rattle.pim_world.specs.declared.touched.Touched.{Touched}
+use Rattle.pim_fanout.specs.Before.{IsBefore}
+use Rattle.pim_fanout.specs.Refreshing.{Refreshes}
+use Rattle.pim_fanout.specs.Named.{keys_of, named_among}
+use Rattle.pim_fanout.specs.declared.before.SourceBefore.{SourceBefore}
+use Rattle.pim_fanout.specs.declared.name.SourceName.{SourceName}
+use Rattle.pim_fanout.proofs.Few.{names_are_few}
+use Rattle.pim_fanout.proofs.Shown.{event_shows_rows, firing_shows_rows, present_shows_rows}
+use Rattle.pim_router.specs.Settling.{AreNamed, AreNames, cleared_by}
+use Rattle.pim_router.specs.Standing.{Shown, Standing, nothing_shown}
+use Rattle.pim_router.proofs.Settling.{cleared_as_opened}
+use Rattle.pim_router.proofs.Taking.{taken_is_done}
+
+-- ---- the names
+
+-- what is named where all is cleared by what was opened
+pub names_opened : (o changed a : State) (touched : Touched) (opening : List GroupOpening) (before : List SourceBefore)
+    (names : List Key) → IsQuiet o → AreKeyed (pim_tables a) → Covers touched o changed → a ≡ changed
+    → opening ≡ opening_of o touched → IsBefore o touched before → AreNamed before (cleared_by opening a).0 names
+    → AreNames o changed names
+names_opened o changed a touched opening before names quiet keyed covers is opens befores named = record {
+  touched = touched;
+  covers = covers;
+  are = named o touched befores
+      ∙ ap (λ (vs : List GroupOpening). named_among o (cleared_by vs a).0 touched) opens
+      ∙ ap (λ (t : State). named_among o (cleared_by (opening_of o touched) t).0 touched) is
+      ∙ ap (λ (t : State). named_among o t touched)
+      (sym (cleared_as_opened o changed quiet (subst (λ (t : State). AreKeyed (pim_tables t)) is keyed) touched covers));
+}
+
+-- they are few
+few_of : (o changed : State) (names : List SourceName) → AreNames o changed (keys_of names)
+    → length names ≤ length (named_by o changed)
+few_of o changed names are =
+    let here : length (keys_of names) ≤ length (named_by o changed) =
+    subst (λ (ks : List Key). length ks ≤ length (named_by o changed)) (sym are.are)
+    (names_are_few o changed are.touched) in
+    let same : length (keys_of names) ≡ length names = length-map names _ in
+    omega (arith, here, same)
+
+pub each_ok : {A E : Type 0} {P Q : A → Type 0} (r : Result A E) → ((x : A) → P x → Q x) → IfOk r P → IfOk r Q
+each_ok (Ok x) f p = f x p
+each_ok (Err e) f p = tt
+
+-- ---- after an event
+
+named_timeless : (s : State) (w : ℕ) (a : Accepted) → ((m : ℕ) → ¬ (a ≡ Accepted.Advance m))
+    → named_of s w a ≡ named_by s (change s w a).state
+unfolding named_of
+named_timeless s w (Accepted.Up i) timeless = refl
+named_timeless s w (Accepted.Down i) timeless = refl
+named_timeless s w (Accepted.Hello i from h) timeless = refl
+named_timeless s w (Accepted.JoinPruneToMe i m) timeless = refl
+named_timeless s w (Accepted.Advance moment) timeless = absurd (timeless moment refl)
+named_timeless s w a timeless = refl
+
+module _ (s : State) (w : ℕ) (a : Accepted) (timeless : (m : ℕ) → ¬ (a ≡ Accepted.Advance m)) (names : List SourceName)
+    (are : AreNames s (change s w a).state (keys_of names)) where
+  pub rows_after : (t : State) (old new : Table SourceAnswers) (lent : InterfaceTable) (slice : List SourceName)
+      → IsQuiet s → lent ≡ interfaces_of s → length lent.configured ≤ 120 → t ≡ (taken s w a).state
+      → slice ≡ names → Refreshes (keys_of slice) t old new → ShowsRows old (cached s) → ShowsRows new (cached t)
+  rows_after t old new lent slice quiet lends few is sliced refreshed_so shows =
+      let refreshes : Refreshes (keys_of names) t old new =
+      subst (λ (ns : List SourceName). Refreshes (keys_of ns) t old new) sliced refreshed_so in
+      let same : t ≡ (done s w (change s w a)).state = is ∙ ap (λ x. x.state) (taken_is_done s w a timeless) in
+      let within : length s.configured ≤ 120 = subst (λ (x : InterfaceTable). length x.configured ≤ 120) lends few in
+      subst (λ (u : State). ShowsRows new (cached u)) (sym same)
+      (event_shows_rows s quiet within w a are.touched are.covers new
+      (subst (λ (u : State). ShowsRows new (refreshed (named_among s (clear s (change s w a).state).0 are.touched) u (cached s)))
+      same
+      (subst (λ (ks : List Key). ShowsRows new (refreshed ks t (cached s))) are.are (refreshes (cached s) shows))))
+
+  pub cost_after : (old new : ℕ) (slice : List SourceName) → slice ≡ names → new ≤ old + 2 * length slice → new ≤ old + 2 * length (named_of s w a)
+  cost_after old new slice sliced costs =
+      let lengths : length slice ≡ length names = ap (λ (ns : List SourceName). length ns) sliced in
+      let few : length names ≤ length (named_by s (change s w a).state) =
+      few_of s (change s w a).state names are in
+      let same : length (named_by s (change s w a).state) ≡ length (named_of s w a) =
+      ap (λ (ks : List Key). length ks) (sym (named_timeless s w a timeless)) in
+      omega (arith, costs, few, same, lengths)
+
+-- ---- after a timer's end
+
+module _ (s : State) (w : ℕ) (e : Ending) (names : List SourceName) (are : AreNames s (own_firing s e) (keys_of names)) where
+  pub rows_fired : (t : State) (old new : Table SourceAnswers) (lent : InterfaceTable) (slice : List SourceName)
+      → IsQuiet s → lent ≡ interfaces_of s → length lent.configured ≤ 120 → t ≡ (fire_once w s e).0
+      → slice ≡ names → Refreshes (keys_of slice) t old new → ShowsRows old (cached s) → ShowsRows new (cached t)
+  rows_fired t old new lent slice quiet lends few is sliced refreshed_so shows =
+      let refreshes : Refreshes (keys_of names) t old new =
+      subst (λ (ns : List SourceName). Refreshes (keys_of ns) t old new) sliced refreshed_so in
+      let within : length s.configured ≤ 120 = subst (λ (x : InterfaceTable). length x.configured ≤ 120) lends few in
+      subst (λ (u : State). ShowsRows new (cached u)) (sym is)
+      (firing_shows_rows s quiet within w e are.touched are.covers new
+      (subst (λ (u : State). ShowsRows new (refreshed (named_among s (clear s (own_firing s e)).0 are.touched) u (cached s))) is
+      (subst (λ (ks : List Key). ShowsRows new (refreshed ks t (cached s))) are.are (refreshes (cached s) shows))))
+
+  pub cost_fired : (old new : ℕ) (slice : List SourceName) → slice ≡ names → new ≤ old + 2 * length slice
+      → new ≤ old + 2 * length (named_by s (own_firing s e))
+  cost_fired old new slice sliced costs =
+      let lengths : length slice ≡ length names = ap (λ (ns : List SourceName). length ns) sliced in
+      let few : length names ≤ length (named_by s (own_firing s e)) = few_of s (own_firing s e) names are in
+      omega (arith, costs, few, lengths)
+
+-- ---- what the router shows of them
+
+pub tells_shown : (shown : Shown) (failed : Bool) (r : Standing) (probes touched : ℕ)
+    → (if failed then nothing_shown else record { standing = Some r; probes = probes; touched = touched }) ≡ shown
+    → failed ≡ false → (row : Option CacheRow) (g src : ℕ) → TellsRow row (cached r.state g src)
+    → IfSome shown.standing (λ (x : Standing). TellsRow row (cached x.state g src))
+tells_shown shown failed r probes touched shows works row g src tells =
+    let some = ap (λ (x : Shown). x.standing) (rw works at shows) in
+    rw (← some) tells
+
+-- where the present alone moves
+pub rows_present : (s t : State) (m : ℕ) (rows : Table SourceAnswers) (lent : InterfaceTable)
+    → lent ≡ interfaces_of s → length lent.configured ≤ 120 → t ≡ record s { present = m }
+    → ShowsRows rows (cached s) → ShowsRows rows (cached t)
+rows_present s t m rows lent lends few is shows =
+    let within : length s.configured ≤ 120 = subst (λ (x : InterfaceTable). length x.configured ≤ 120) lends few in
+    subst (λ (u : State). ShowsRows rows (cached u)) (sym is) (present_shows_rows s m within rows shows)
+
+-- ---- what is named of what was accepted
+
+pub named_in_time : (s : State) (w : ℕ) (a : Accepted) (m : ℕ) → a ≡ Accepted.Advance m
+    → (told_all named_by w m s).1 ≡ where_accepted s (named_of s w) (Ok a)
+unfolding is_full named_of
+named_in_time s w a m is = rw is refl
+
+pub named_with_room : (s : State) (w : ℕ) (a : Accepted) → is_full s a ≡ false
+    → named_of s w a ≡ where_accepted s (named_of s w) (Ok a)
+named_with_room s w a room = rw room refl

@@ -1,0 +1,49 @@
+use Rattle.std.proofs.Common.{Ok, ap, ◌∙◌}
+use Rattle.pim_fanout.specs.Refreshing.{touches}
+use Rattle.pim_router.proofs.Costs.{cheap_turn, is_cheap, untouched}
+use Rattle.pim_router.proofs.Instants.{on_ok}
+use Rattle.pim_router.proofs.Plainly.{answered_by_row, its_packet, not_plain, plain_outcome, plain_rows, plain_state}
+use Rattle.pim_router.proofs.event.take_data.Goals as goal
+
+pub returns-in-Some-clause-outcome : goal.returns-in-Some-clause-outcome
+returns-in-Some-clause-outcome c =
+    plain_outcome c.args.cache.now.mfc c.args.world.now c.args.event.now c.args.iface c.args.packet.now
+    c.in-Some.forward c.requires.rest (c.requires.heard ∙ ap Ok c.requires.data)
+    (answered_by_row c.args.cache.now.mfc c.args.world.now c.args.iface c.args.packet.now c.requires.shown
+    c.requires.below c.in-Some.forward c.by_row.result c.in-Some.is c.by_row.ensures.decided)
+    c.take_plain.result c.take_plain.ensures.outcome
+
+pub returns-in-Some-clause-state : goal.returns-in-Some-clause-state
+returns-in-Some-clause-state c =
+    plain_state c.args.cache.now.mfc c.args.world.now c.args.event.now c.args.iface c.args.packet.now
+    c.in-Some.forward c.requires.rest (c.requires.heard ∙ ap Ok c.requires.data)
+    (answered_by_row c.args.cache.now.mfc c.args.world.now c.args.iface c.args.packet.now c.requires.shown
+    c.requires.below c.in-Some.forward c.by_row.result c.in-Some.is c.by_row.ensures.decided)
+    c.take_plain.result c.take_plain.new.world c.take_plain.ensures.state
+
+pub returns-in-Some-clause-shown : goal.returns-in-Some-clause-shown
+returns-in-Some-clause-shown c =
+    plain_rows c.args.cache.now.mfc c.args.world.now c.args.event.now c.args.iface c.args.packet.now
+    c.in-Some.forward c.requires.rest (c.requires.heard ∙ ap Ok c.requires.data)
+    (answered_by_row c.args.cache.now.mfc c.args.world.now c.args.iface c.args.packet.now c.requires.shown
+    c.requires.below c.in-Some.forward c.by_row.result c.in-Some.is c.by_row.ensures.decided)
+    c.take_plain.result c.take_plain.new.world c.args.cache.now.mfc.rows c.take_plain.ensures.state c.requires.shown
+
+pub returns-in-Some-clause-cheap : goal.returns-in-Some-clause-cheap
+returns-in-Some-clause-cheap c =
+    on_ok c.take_plain.result
+    (is_cheap c.args.world.now c.requires.rest c.args.event.now c.by_row.new.meter (touches c.args.cache.now)
+    (λ _. c.by_row.ensures.visited c.requires.unvisited
+    (answered_by_row c.args.cache.now.mfc c.args.world.now c.args.iface c.args.packet.now c.requires.shown
+    c.requires.below c.in-Some.forward c.by_row.result c.in-Some.is c.by_row.ensures.decided).row)
+    (untouched (touches c.args.cache.now) c.args.world.now c.args.event.now c.requires.uncounted))
+
+pub returns-in-None-clause-cheap : goal.returns-in-None-clause-cheap
+returns-in-None-clause-cheap c =
+    cheap_turn c.take_turn.result c.args.world.now c.args.event.now c.take_turn.new.meter
+    (touches c.take_turn.new.cache) (touches c.args.cache.now) c.requires.rest
+    (λ is. let packet = its_packet c.args.world.now c.args.event.now c.requires.rest c.args.iface c.args.packet.now
+    (c.requires.heard ∙ ap Ok c.requires.data) is in
+    absurd (not_plain c.args.cache.now.mfc c.args.world.now c.args.iface c.args.packet.now c.requires.shown
+    c.requires.below c.by_row.result c.in-None.is c.by_row.ensures.decided packet.0 packet.1))
+    c.take_turn.ensures.few c.requires.uncounted

@@ -1,0 +1,12 @@
+use Rattle.pim_fanout.specs.Refreshing.{touches}
+use Rattle.pim_router.proofs.Costs.{cheap_turn}
+use Rattle.pim_router.proofs.Plainly.{isnt_plain}
+use Rattle.pim_router.proofs.event.take_other.Goals as goal
+
+pub returns-clause-cheap : goal.returns-clause-cheap
+returns-clause-cheap c =
+    cheap_turn c.take_turn.result c.args.world.now c.args.event.now c.take_turn.new.meter
+    (touches c.take_turn.new.cache) (touches c.args.cache.now) c.requires.rest
+    (λ is. absurd (isnt_plain c.args.world.now c.args.event.now c.requires.rest c.args.accepted.now c.requires.heard
+    c.requires.other is))
+    c.take_turn.ensures.few c.requires.uncounted

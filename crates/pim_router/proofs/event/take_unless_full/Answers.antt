@@ -1,0 +1,66 @@
+use Rattle.std.proofs.Common.{◌≡◌, ◌≤◌, ◌+◌, ◌*◌, true, List, length, IfOk, OnOk, Option, ap, arith, subst, sym, ◌∙◌}
+use Rattle.pim_types.specs.declared.fact.Key.{Key}
+use Rattle.pim_fanout.specs.Refreshing.{touches}
+use Rattle.pim_reach.specs.Named.{named_of}
+use Rattle.pim_router.proofs.Rows.{named_in_time, named_with_room}
+use Rattle.pim_model.specs.Full.{is_full}
+use Rattle.pim_model.specs.Step.{Answered, outcome_of, taken, taken_unless_full}
+use Rattle.pim_world.specs.Turns.{Taking}
+use Rattle.pim_router.specs.Planning.{Fits, IsPlanned}
+use Rattle.pim_router.specs.declared.plan.Plan.{Plan}
+use Rattle.pim_router.proofs.Plans.{time_is_taken, with_room, without_room}
+use Rattle.pim_router.proofs.event.take_unless_full.Goals as goal
+
+pub returns-in-Advance-clause-outcome : goal.returns-in-Advance-clause-outcome
+returns-in-Advance-clause-outcome c =
+    subst (λ (x : Answered). IfOk c.advance.result (λ outcome. outcome ≡ outcome_of x))
+    (time_is_taken c.args.world.now c.args.turn.now.draw c.args.accepted.now c.in-Advance.moment c.in-Advance.is)
+    c.advance.ensures.outcome
+
+pub returns-in-Advance-clause-state : goal.returns-in-Advance-clause-state
+returns-in-Advance-clause-state c =
+    subst (λ (x : Answered). OnOk c.advance.result (c.advance.new.world ≡ x.state))
+    (time_is_taken c.args.world.now c.args.turn.now.draw c.args.accepted.now c.in-Advance.moment c.in-Advance.is)
+    c.advance.ensures.state
+
+pub returns-in-Advance-clause-few : goal.returns-in-Advance-clause-few
+returns-in-Advance-clause-few c =
+    subst (λ (ks : List Key). OnOk c.advance.result (touches c.advance.new.cache
+    ≤ touches c.args.cache.now + 2 * length ks))
+    (named_in_time c.args.world.now c.args.turn.now.draw c.args.accepted.now c.in-Advance.moment c.in-Advance.is)
+    c.advance.ensures.few
+
+pub returns-in-Some : goal.returns-in-Some
+returns-in-Some c =
+    let fits : Fits c.args.world.now c.args.accepted.now c.in-Some.plan =
+    subst (λ (p : Option Plan). IsPlanned c.args.world.now c.args.accepted.now p) c.in-Some.is c.in_ok-plan.ensures.plan in
+    let same : taken c.args.world.now c.planned.new.turn.draw c.args.accepted.now
+    ≡ taken_unless_full c.args.world.now c.args.turn.now.draw c.args.accepted.now =
+    ap (λ (t : Taking). taken c.args.world.now t.draw c.args.accepted.now) c.planned.ensures.silent
+    ∙ sym (with_room c.args.world.now c.args.turn.now.draw c.args.accepted.now fits.room) in
+    record {
+      outcome = subst (λ (x : Answered). IfOk c.take_change.result (λ outcome. outcome ≡ outcome_of x)) same
+          c.take_change.ensures.outcome;
+      state = subst (λ (x : Answered). OnOk c.take_change.result (c.take_change.new.world ≡ x.state)) same
+          c.take_change.ensures.state;
+      shown = c.take_change.ensures.shown;
+      few = subst (λ (ks : List Key). OnOk c.take_change.result (touches c.take_change.new.cache
+          ≤ touches c.args.cache.now + 2 * length ks))
+          (ap (λ (t : Taking). named_of c.args.world.now t.draw c.args.accepted.now) c.planned.ensures.silent
+          ∙ named_with_room c.args.world.now c.args.turn.now.draw c.args.accepted.now fits.room)
+          c.take_change.ensures.few;
+      fault = c.take_change.ensures.fault;
+    }
+
+pub returns-in-None : goal.returns-in-None
+returns-in-None c =
+    let full : is_full c.args.world.now c.args.accepted.now ≡ true =
+    subst (λ (p : Option Plan). IsPlanned c.args.world.now c.args.accepted.now p) c.in-None.is c.in_ok-plan.ensures.plan in
+    let refused = sym (without_room c.args.world.now c.args.turn.now.draw c.args.accepted.now full) in
+    record {
+      outcome = c.stopped.ensures ∙ ap outcome_of refused;
+      state = ap (λ (x : Answered). x.state) refused;
+      shown = c.requires.shown;
+      few = omega arith;
+      fault = tt;
+    }

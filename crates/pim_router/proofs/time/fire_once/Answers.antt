@@ -1,0 +1,22 @@
+use Rattle.std.proofs.Common.{ap, ◌∙◌}
+use Rattle.pim_model.specs.Firing.{fire_once}
+use Rattle.pim_world.specs.Turns.{Taking}
+use Rattle.pim_fanout.specs.Refreshing.{touches}
+use Rattle.pim_router.proofs.Rows.{cost_fired, rows_fired}
+use Rattle.pim_router.specs.Ends.{ending_of}
+use Rattle.pim_router.proofs.time.fire_once.Goals as goal
+
+pub returns-clause-shown : goal.returns-clause-shown
+returns-clause-shown c =
+    rows_fired c.args.world.now c.args.turn.now.draw (ending_of c.args.due) c.in_ok-names.names
+    c.in_ok-names.ensures.names c.fire_world.new.world c.args.cache.now.mfc.rows c.refresh.new.self.mfc.rows
+    c.interfaces.result.now c.as_slice.result.now c.requires.quiet c.interfaces.ensures c.recall_few.ensures
+    (c.in_ok-names.ensures.state ∙ ap (λ w. (fire_once w c.args.world.now (ending_of c.args.due)).0)
+    (ap (λ (t : Taking). t.draw) c.turn.view_is)) c.as_slice.ensures
+    c.in_ok-refresh.ensures.shown c.requires.shown
+
+pub returns-clause-few : goal.returns-clause-few
+returns-clause-few c =
+    cost_fired c.args.world.now c.args.turn.now.draw (ending_of c.args.due) c.in_ok-names.names
+    c.in_ok-names.ensures.names (touches c.args.cache.now) (touches c.refresh.new.self) c.as_slice.result.now
+    c.as_slice.ensures c.in_ok-refresh.ensures.few

@@ -1,0 +1,40 @@
+use Rattle.std.proofs.Common.{◌≡◌, ◌++◌, List, OnOk, subst, ◌∙◌}
+use Rattle.pim_fanout.specs.Named.{keys_of}
+use Rattle.pim_model.specs.Reach.{own_firing}
+use Rattle.pim_model.specs.State.{State}
+use Rattle.pim_router.specs.Ends.{ending_of}
+use Rattle.pim_router.proofs.Rows.{each_ok, names_opened}
+use Rattle.pim_types.specs.declared.outcome.Emission.{Emission}
+use Rattle.pim_router.proofs.Instants.{end_fired, end_touched, fired_in_turn}
+use Rattle.pim_router.proofs.time.fire_world.Goals as goal
+
+pub returns-clause-state : goal.returns-clause-state
+returns-clause-state c =
+    subst (λ (p : State × List Emission). OnOk c.settle.result (c.settle.new.world ≡ p.0))
+    (fired_in_turn c.args.world.now c.args.due c.set_present.new.self c.fired.new.world c.in_ok-touched.touched
+    c.in_ok-opening.opening c.args.turn.now c.of-2.new.turn c.fired.new.turn c.requires.lawful c.requires.quiet
+    c.recall_keyed.ensures c.in_ok-touched.ensures c.in_ok-opening.ensures.opening c.requires.begun (c.of-2.ensures.silent ∙ c.of.ensures.silent)
+    c.set_present.ensures c.in_ok-fired.ensures.state c.in_ok-fired.ensures.messages)
+    c.settle.ensures.state
+
+pub returns-clause-sent : goal.returns-clause-sent
+returns-clause-sent c =
+    subst (λ (p : State × List Emission). OnOk c.settle.result (c.settle.new.emissions.items
+    ≡ c.args.emissions.now.items ++ p.1))
+    (fired_in_turn c.args.world.now c.args.due c.set_present.new.self c.fired.new.world c.in_ok-touched.touched
+    c.in_ok-opening.opening c.args.turn.now c.of-2.new.turn c.fired.new.turn c.requires.lawful c.requires.quiet
+    c.recall_keyed.ensures c.in_ok-touched.ensures c.in_ok-opening.ensures.opening c.requires.begun (c.of-2.ensures.silent ∙ c.of.ensures.silent)
+    c.set_present.ensures c.in_ok-fired.ensures.state c.in_ok-fired.ensures.messages)
+    c.settle.ensures.sent
+
+pub returns-clause-names : goal.returns-clause-names
+returns-clause-names c =
+    each_ok c.settle.result
+    (λ names named. names_opened c.args.world.now (own_firing c.args.world.now (ending_of c.args.due)) c.fired.new.world
+    c.in_ok-touched.touched c.in_ok-opening.opening c.in_ok-before.before (keys_of names) c.requires.quiet
+    c.recall_keyed.ensures
+    (end_touched c.args.world.now c.args.due c.in_ok-touched.touched c.requires.lawful c.in_ok-touched.ensures)
+    (end_fired c.args.world.now c.args.due c.set_present.new.self c.fired.new.world c.set_present.ensures
+    c.in_ok-fired.ensures.state)
+    c.in_ok-opening.ensures.opening c.in_ok-before.ensures.before named)
+    c.settle.ensures.named

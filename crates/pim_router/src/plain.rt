@@ -1,0 +1,42 @@
+//! A packet of data that the row of its source decides.
+ghost use Rattle.std.specs.Prelude.{◌≡◌, IfOk, IsOkUnless, OnOk};
+ghost use Rattle.pim_cached.specs.Decided.{plainly_taken};
+ghost use Rattle.pim_ip.specs.declared.fault.Fault.{Fault};
+ghost use Rattle.pim_model.specs.Cache.{Plain};
+ghost use Rattle.pim_model.specs.Step.{outcome_of};
+ghost use Rattle.pim_router.specs.Plainly.{Forwards};
+
+use pim_data::copies;
+use pim_ip::Ipv4View;
+use pim_mfc::Forward;
+use pim_types::{Fault, Outcome, Series, Verdict};
+use pim_world::World;
+use std::alloc::Global;
+
+/// Takes a packet as its row says: KAT(S,G) is set or not, and copies leave on links. Nothing is looked up, opened,
+/// settled or told.
+#[tactic(auto, unfolding(pim_cached::specs::Decided::plainly_taken, pim_cached::specs::Decided::kept_if))]
+pub(crate) fn take_plain(
+    alloc: Global,
+    world: &mut World,
+    packet: &Ipv4View<'_>,
+    forward: Forward,
+) -> Result<Outcome, Fault>
+    ensures outcome { IfOk result (λ outcome. (how : Plain) → Forwards forward how
+        → outcome ≡ outcome_of (plainly_taken world.old packet.now how)) }
+    ensures state { OnOk result ((how : Plain) → Forwards forward how
+        → world.new ≡ (plainly_taken world.old packet.now how).state) }
+    ensures fault { IsOkUnless result Fault.Memory }
+{
+    let olist = forward.olist.without_tunnel();
+    let copies = copies(world, alloc, packet, olist)?;
+    if forward.sets_keepalive {
+        world.keep_alive(packet.destination(), packet.source())?;
+    }
+    let count = copies.len() as u32;
+    Ok(Outcome {
+        answer: Ok(Verdict::Done),
+        emissions: Series::from_vec(copies),
+        copies: count,
+    })
+}

@@ -1,0 +1,295 @@
+//! What is planned of an event before its change: whether there is room for the facts that it names, what its change
+//! touches, and what that needs. Each kind of event says all three in one place.
+ghost use Rattle.std.specs.Prelude.{◌≡◌, ◌∷◌, [], IfOk, filter, not};
+ghost use Rattle.pim_types.specs.Keys.{is_star, source_key};
+ghost use Rattle.pim_model.specs.Registers.{registered_group, registered_source};
+ghost use Rattle.pim_model.specs.declared.accepted.Accepted.{Accepted as AcceptedValue};
+ghost use Rattle.pim_locality.specs.Rest.{IsAtRest};
+ghost use Rattle.pim_locality.specs.Touches.{packet_keys};
+ghost use Rattle.pim_macros.specs.Sights.{IsSourceSight};
+ghost use Rattle.pim_router.specs.Planning.{IsPlanned, IsSightOf};
+
+use igmp_wire::{QueryView, ReportView};
+use pim_downstream::Named;
+use pim_ip::Ipv4View;
+use pim_macros::{SourceSight, StarSight};
+use pim_model::Accepted;
+use pim_register::source_is_full;
+use pim_types::{Addr, IfaceId, Key, Series};
+use pim_wire::{Assert, Hello, JoinPruneView, RegisterStop, RegisterView};
+use pim_world::{Touched, Turn, World};
+use std::alloc::{AllocError, Global};
+
+/// What the change of an event needs beside the event.
+#[derive(Drop)]
+pub enum Means {
+    Nothing,
+    /// The keys that a Join/Prune names.
+    Keys(Named),
+    /// What the macros of a packet's source read.
+    Sight(SourceSight),
+}
+
+/// What is planned of an event that there is room for.
+#[derive(Drop)]
+pub struct Plan {
+    pub touched: Touched,
+    pub means: Means,
+}
+
+impl Plan {
+    // All may be touched, by an event that makes no facts.
+    fn of_all() -> Plan
+        ensures { result ≡ record { touched = Touched.All; means = Means.Nothing } }
+    {
+        Plan {
+            touched: Touched::All,
+            means: Means::Nothing,
+        }
+    }
+
+    // These keys are touched.
+    fn of_keys(keys: Series<Key>) -> Plan
+        ensures { result ≡ record { touched = Touched.Keys keys; means = Means.Nothing } }
+    {
+        Plan {
+            touched: Touched::Keys(keys),
+            means: Means::Nothing,
+        }
+    }
+}
+
+// Those of the keys that name a source.
+fn of_sources(alloc: Global, keys: &[Key]) -> Result<Series<Key>, AllocError>
+    ensures { IfOk result (λ found. found ≡ filter (λ k. not (is_star k)) keys.now) }
+{
+    let mut found = Vec::new(alloc);
+    for key in keys {
+        if key.source.is_some() {
+            found.push(*key)?;
+        }
+    }
+    Ok(Series::from_vec(found))
+}
+
+// A key alone.
+fn only(alloc: Global, key: Key) -> Result<Series<Key>, AllocError>
+    ensures { IfOk result (λ keys. keys ≡ key ∷ []) }
+{
+    let mut keys = Vec::new(alloc);
+    keys.push(key)?;
+    Ok(Series::from_vec(keys))
+}
+
+// A Hello that says no more of its neighbour than that it lasts touches nothing, any other may touch all.
+fn plan_hello(world: &World, turn: &Turn, iface: IfaceId, from: Addr, hello: &Hello) -> Option<Plan>
+    requires { IsAtRest world.now }
+    ensures { IsPlanned world.now (AcceptedValue.Hello iface from hello.now) result }
+{
+    if pim_hello::is_full(world, iface, from, hello) {
+        return None;
+    }
+    if world.neighbours().is_refreshed(iface, from, hello) {
+        return Some(Plan::of_keys(Series::new(turn.alloc)));
+    }
+    Some(Plan::of_all())
+}
+
+// A Join/Prune to the router touches all keys that it names.
+fn plan_join_prune(
+    world: &World,
+    turn: &mut Turn,
+    iface: IfaceId,
+    message: &JoinPruneView<'_>,
+) -> Result<Option<Plan>, AllocError>
+    ensures plan { IfOk result (λ plan. IsPlanned world.now (AcceptedValue.JoinPruneToMe iface message.now) plan) }
+    ensures silent { turn.new ≡ turn.old }
+{
+    let named = Named::of(world, turn, iface, message)?;
+    if pim_downstream::is_full(world, turn, message.holdtime(), &named)? {
+        return Ok(None);
+    }
+    let touched = Touched::Keys(named.keys(turn.alloc)?);
+    let means = Means::Keys(named);
+    Ok(Some(Plan { touched, means }))
+}
+
+// A Join/Prune to another router makes no more than override timers: they may be the first facts of the sources that it
+// prunes.
+fn plan_seen(
+    world: &World,
+    turn: &mut Turn,
+    iface: IfaceId,
+    message: &JoinPruneView<'_>,
+) -> Result<Option<Plan>, AllocError>
+    ensures plan { IfOk result (λ plan. IsPlanned world.now (AcceptedValue.JoinPruneSeen iface message.now) plan) }
+    ensures silent { turn.new ≡ turn.old }
+{
+    let named = Named::of(world, turn, iface, message)?;
+    let touched = Touched::Keys(of_sources(turn.alloc, &named.pruned)?);
+    let means = Means::Keys(named);
+    Ok(Some(Plan { touched, means }))
+}
+
+// An Assert touches the keys of the asserts that it names.
+fn plan_assert(
+    world: &World,
+    turn: &Turn,
+    iface: IfaceId,
+    from: Addr,
+    assert: &Assert,
+) -> Result<Option<Plan>, AllocError>
+    ensures { IfOk result (λ plan. IsPlanned world.now (AcceptedValue.Assert iface from assert.now) plan) }
+{
+    if pim_asserts::is_full(world, iface, assert) {
+        return Ok(None);
+    }
+    let keys = pim_asserts::named_keys(turn.alloc, iface, assert)?;
+    Ok(Some(Plan::of_keys(keys)))
+}
+
+// A query touches its group, and makes no facts.
+fn plan_query(
+    world: &World,
+    turn: &Turn,
+    iface: IfaceId,
+    from: Addr,
+    query: &QueryView<'_>,
+) -> Result<Option<Plan>, AllocError>
+    ensures { IfOk result (λ plan. IsPlanned world.now (AcceptedValue.Query iface from query.now) plan) }
+{
+    let key = Key::group(query.group());
+    let keys = only(turn.alloc, key)?;
+    Ok(Some(Plan::of_keys(keys)))
+}
+
+// A report touches the groups and the sources that it names.
+fn plan_report(
+    world: &World,
+    turn: &Turn,
+    iface: IfaceId,
+    report: &ReportView<'_>,
+) -> Result<Option<Plan>, AllocError>
+    requires { IsAtRest world.now }
+    ensures { IfOk result (λ plan. IsPlanned world.now (AcceptedValue.Report iface report.now) plan) }
+{
+    if pim_querier::is_full(world, turn.alloc, iface, report)? {
+        return Ok(None);
+    }
+    let keys = pim_querier::named_keys(turn.alloc, iface, report)?;
+    Ok(Some(Plan::of_keys(keys)))
+}
+
+// The keys that a packet of data may touch: its source, and its group where it may make an assert of (*,G).
+#[tactic(auto, unfolding(pim_locality::specs::Touches::packet_keys))]
+fn packet_keys(
+    world: &World,
+    alloc: Global,
+    iface: IfaceId,
+    sight: &SourceSight,
+) -> Result<Series<Key>, AllocError>
+    requires { IsSourceSight world.now sight.now }
+    ensures { IfOk result (λ keys. keys
+        ≡ packet_keys world.now sight.now.star.group.bits sight.now.source.bits iface.number) }
+{
+    let mut keys = Vec::new(alloc);
+    keys.push(Key::source(IfaceId::NONE, sight.star.group, sight.source))?;
+    if !(sight.star.is_rpf_interface(iface) || sight.spt) {
+        keys.push(Key::group(sight.star.group))?;
+    }
+    Ok(Series::from_vec(keys))
+}
+
+// A packet of data goes by the sight of its source.
+fn plan_data(
+    world: &World,
+    turn: &mut Turn,
+    iface: IfaceId,
+    packet: &Ipv4View<'_>,
+) -> Result<Option<Plan>, AllocError>
+    ensures plan { IfOk result (λ plan. IsPlanned world.now (AcceptedValue.Data iface packet.now) plan) }
+    ensures silent { turn.new ≡ turn.old }
+{
+    let (group, source) = (packet.destination(), packet.source());
+    if source_is_full(world, group, source) {
+        return Ok(None);
+    }
+    let star = StarSight::of(world, group, &mut turn.meter);
+    let sight = SourceSight::of(world, star, source, &mut turn.meter);
+    let touched = Touched::Keys(packet_keys(world, turn.alloc, iface, &sight)?);
+    let means = Means::Sight(sight);
+    Ok(Some(Plan { touched, means }))
+}
+
+// The key of the source that a Register names.
+fn registered_key(register: &RegisterView<'_>) -> Key
+    ensures { result ≡ source_key 0 (registered_group register.now) (registered_source register.now) }
+{
+    Key::source(IfaceId::NONE, register.group(), register.source())
+}
+
+// A Register touches the source of its packet.
+fn plan_register(
+    world: &World,
+    turn: &mut Turn,
+    packet: &Ipv4View<'_>,
+    register: &RegisterView<'_>,
+) -> Result<Option<Plan>, AllocError>
+    ensures plan { IfOk result (λ plan. IsPlanned world.now (AcceptedValue.Register packet.now register.now) plan) }
+    ensures silent { turn.new ≡ turn.old }
+{
+    if pim_register::is_full(world, turn, packet, register) {
+        return Ok(None);
+    }
+    let keys = only(turn.alloc, registered_key(register))?;
+    Ok(Some(Plan::of_keys(keys)))
+}
+
+// A Register-Stop touches the source that it names, and makes no facts.
+fn plan_stop(
+    world: &World,
+    turn: &Turn,
+    from: Addr,
+    stop: &RegisterStop,
+) -> Result<Option<Plan>, AllocError>
+    ensures { IfOk result (λ plan. IsPlanned world.now (AcceptedValue.RegisterStop from stop.now) plan) }
+{
+    let keys = only(
+        turn.alloc,
+        Key::source(IfaceId::NONE, stop.group, stop.source),
+    )?;
+    Ok(Some(Plan::of_keys(keys)))
+}
+
+/// The plan of an event whose bytes and interface passed their tests; none where there is no room for the facts that it
+/// names.
+pub(crate) fn planned(
+    world: &World,
+    turn: &mut Turn,
+    accepted: &Accepted<'_>,
+) -> Result<Option<Plan>, AllocError>
+    requires { IsAtRest world.now }
+    ensures plan { IfOk result (λ plan. IsPlanned world.now accepted.now plan) }
+    ensures silent { turn.new ≡ turn.old }
+{
+    match accepted {
+        Accepted::Advance { .. }
+        | Accepted::Up { .. }
+        | Accepted::Down { .. }
+        | Accepted::Routes { .. }
+        | Accepted::Rps { .. } => Ok(Some(Plan::of_all())),
+        Accepted::Hello { iface, from, hello } => Ok(plan_hello(world, turn, *iface, *from, hello)),
+        Accepted::JoinPruneToMe { iface, message } => plan_join_prune(world, turn, *iface, message),
+        Accepted::JoinPruneSeen { iface, message } => plan_seen(world, turn, *iface, message),
+        Accepted::Assert {
+            iface,
+            from,
+            assert,
+        } => plan_assert(world, turn, *iface, *from, assert),
+        Accepted::Query { iface, from, query } => plan_query(world, turn, *iface, *from, query),
+        Accepted::Report { iface, report } => plan_report(world, turn, *iface, report),
+        Accepted::Data { iface, packet } => plan_data(world, turn, *iface, packet),
+        Accepted::Register { packet, register } => plan_register(world, turn, packet, register),
+        Accepted::RegisterStop { from, stop } => plan_stop(world, turn, *from, stop),
+    }
+}

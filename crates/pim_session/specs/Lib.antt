@@ -1,0 +1,2 @@
+pub mod Session
+pub use Rattle.pim_router.specs.Standing

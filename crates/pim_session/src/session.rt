@@ -1,0 +1,210 @@
+//! A router behind a box, with what the last calls told of it.
+ghost use Rattle.std.specs.Option.{option_map_or};
+ghost use Rattle.std.specs.Prelude.{◌≡◌, ◌↔◌, [], Err, IfErr, IfOk, IfSome, IsOkUnless, IsSome, IsTrue, None, Ok, OnErr, OnOk, Some, option_and_then};
+ghost use Rattle.pim_ip.specs.declared.fault.Fault.{Fault};
+ghost use Rattle.pim_mfc.specs.Laws.{TellsRow};
+ghost use Rattle.pim_model.specs.Cache.{cached};
+ghost use Rattle.pim_model.specs.Limits.{config_test};
+ghost use Rattle.pim_model.specs.Printed.{rows};
+ghost use Rattle.pim_model.specs.State.{opening};
+ghost use Rattle.pim_model.specs.Step.{step};
+ghost use Rattle.pim_model.specs.Timers.{next_moment};
+ghost use Rattle.pim_router.specs.Costs.{IsCheap};
+ghost use Rattle.pim_router.specs.Standing.{begun, nothing_shown, standing};
+
+use pim_mfc::CacheRow;
+use pim_router::Router;
+use pim_types::{Addr, Config, Emission, Event, Fault, Refusal, Row, Table, Verdict};
+use std::alloc::Global;
+use std::marker::Model;
+
+/// A router, the packets of the last event that it took, and the rows of the table that was asked for last.
+pub struct Session {
+    router: Box<Router>,
+    // Memory was refused to it, or for an event that it hasn't seen.
+    is_lost: bool,
+    sent: Vec<Emission>,
+    rows: Vec<Row>,
+}
+
+impl Model for Session {
+    ghost use Rattle.std.specs.Prelude.{◌≡◌, IsSome, false, if◌then◌else◌};
+    ghost use Rattle.pim_router.specs.Standing.{nothing_shown};
+    ghost use Rattle.pim_session.specs.Session.{Shown};
+
+    ghost Value = { Shown };
+
+    ghost view = { λ s. record {
+      router = if s.is_lost then nothing_shown else s.router.value;
+      sent = s.sent.items;
+      rows = s.rows.items;
+    } };
+
+    ghost invariant = { λ s. s.is_lost ≡ false → IsSome s.router.value.standing };
+}
+
+// Called at each exit of an owner, where a derived drop would be spelled out and proved anew.
+impl Drop for Session {
+    fn drop(self) {
+        let Session {
+            router: _,
+            is_lost: _,
+            sent: _,
+            rows: _,
+        } = self;
+    }
+}
+
+impl Session {
+    /// A router with this configuration, at moment 0 and with all its interfaces down, as `Router::new` makes it.
+    pub fn new(alloc: Global, config: Config) -> Result<Result<Session, Refusal>, Fault>
+        ensures accepted { IfOk result (λ made. IfOk made (λ s. (config_test config ≡ Ok tt)
+            × (s.router ≡ begun (opening config)) × (s.sent ≡ []) × (s.rows ≡ []))) }
+        ensures refused { IfOk result (λ made. IfErr made (λ refusal. config_test config ≡ Err refusal)) }
+        ensures memory { IfErr result (λ fault. fault ≡ Fault.Memory) }
+    {
+        match Router::new(alloc, config)? {
+            Ok(router) => Ok(Ok(Session::of(alloc, Box::new(alloc, router)?))),
+            Err(refusal) => Ok(Err(refusal)),
+        }
+    }
+
+    fn of(alloc: Global, router: Box<Router>) -> Session
+        requires { IsSome router.value.standing }
+        ensures { (result.router ≡ router.value) × (result.sent ≡ []) × (result.rows ≡ []) }
+    {
+        Session {
+            router,
+            is_lost: false,
+            sent: Vec::new(alloc),
+            rows: Vec::new(alloc),
+        }
+    }
+
+    /// Takes one event, as `Router::step` does, and keeps its packets in place of those before. After a fault the packets are as
+    /// they were, and the session answers `Failed` from then on.
+    pub fn step(&mut self, alloc: Global, event: &Event) -> Result<Result<Verdict, Refusal>, Fault>
+        ensures answer { IfSome self.old.router.standing (λ r. IfOk result (λ answer. answer ≡ (step r.state event.now).answer)) }
+        ensures state { IfSome self.old.router.standing (λ r. OnOk result
+            (self.new.router.standing ≡ Some (standing (step r.state event.now)))) }
+        ensures sent { IfSome self.old.router.standing (λ r. OnOk result (self.new.sent ≡ (step r.state event.now).emissions)) }
+        ensures cheap { IfSome self.old.router.standing (λ r. OnOk result
+            (IsCheap r.state event.now self.new.router.probes self.new.router.touched)) }
+        ensures failing { OnErr result (self.new.router ≡ nothing_shown) }
+        ensures silent { OnErr result (self.new.sent ≡ self.old.sent) }
+        ensures failed { (result ≡ Err Fault.Failed) ↔ (self.old.router.standing ≡ None) }
+        ensures fault { IfSome self.old.router.standing (λ r. IsOkUnless result Fault.Memory) }
+        ensures rows { self.new.rows ≡ self.old.rows }
+    {
+        if self.is_lost {
+            return Err(Fault::Failed);
+        }
+        let mut sent = Vec::new(alloc);
+        match self.router.step(event, &mut sent) {
+            Ok(answer) => {
+                self.sent = sent;
+                Ok(answer)
+            }
+            Err(fault) => {
+                self.is_lost = true;
+                Err(fault)
+            }
+        }
+    }
+
+    /// Whether memory was refused to it: it answers `Failed` from then on.
+    pub fn has_failed(&self) -> bool
+        ensures { IsTrue result ↔ (self.now.router.standing ≡ None) }
+    {
+        self.is_lost
+    }
+
+    /// The router is given up, as after a fault: memory was refused for an event that it should have seen.
+    pub fn lose(&mut self)
+        ensures router { self.new.router ≡ nothing_shown }
+        ensures rest { (self.new.sent ≡ self.old.sent) × (self.new.rows ≡ self.old.rows) }
+    {
+        self.is_lost = true;
+    }
+
+    /// Reads the rows of a table, as `Router::rows` does, and keeps them in place of those before. After a fault these are as they
+    /// were.
+    pub fn read(&mut self, table: Table) -> Result<(), Fault>
+        ensures rows { IfSome self.old.router.standing (λ r. OnOk result (self.new.rows ≡ rows r.state table)) }
+        ensures silent { OnErr result (self.new.rows ≡ self.old.rows) }
+        ensures failed { (result ≡ Err Fault.Failed) ↔ (self.old.router.standing ≡ None) }
+        ensures fault { IfSome self.old.router.standing (λ r. IsOkUnless result Fault.Memory) }
+        ensures rest { (self.new.router ≡ self.old.router) × (self.new.sent ≡ self.old.sent) }
+    {
+        if self.is_lost {
+            return Err(Fault::Failed);
+        }
+        self.rows = self.router.rows(table)?;
+        Ok(())
+    }
+
+    /// The packets of the last event that was taken, in their order.
+    pub fn sent(&self) -> &[Emission]
+        ensures { result.now ≡ self.now.sent }
+    {
+        self.sent.as_slice()
+    }
+
+    /// The rows that were read last, ascending by their keys.
+    pub fn rows(&self) -> &[Row]
+        ensures { result.now ≡ self.now.rows }
+    {
+        self.rows.as_slice()
+    }
+
+    /// The moment, in ms, at which the next timer ends; `None` where no timer runs, and after a fault.
+    pub fn next_moment(&self) -> Option<u64>
+        ensures { result ≡ option_and_then (λ r. next_moment r.state) self.now.router.standing }
+    {
+        if self.is_lost {
+            return None;
+        }
+        self.router.next_moment()
+    }
+
+    /// How many copies of a data packet the last event sent on links; 0 after a fault.
+    pub fn copies(&self) -> u32
+        ensures { result ≡ option_map_or (λ r. r.copies) self.now.router.standing 0 }
+    {
+        if self.is_lost {
+            return 0;
+        }
+        self.router.copies()
+    }
+
+    /// The row of the forwarding cache of a source, as `Router::cached` tells it; `None` after a fault.
+    pub fn cached(&self, source: Addr, group: Addr) -> Option<CacheRow>
+        ensures cached { IfSome self.now.router.standing (λ r. TellsRow result (cached r.state group.bits source.bits)) }
+        ensures failed { self.now.router.standing ≡ None → result ≡ None }
+    {
+        if self.is_lost {
+            return None;
+        }
+        self.router.cached(source, group)
+    }
+
+    /// The trie nodes that the last event visited, as `Router::probes` counts them; 0 after a fault.
+    pub fn probes(&self) -> u64
+        ensures { result ≡ self.now.router.probes }
+    {
+        if self.is_lost {
+            return 0;
+        }
+        self.router.probes()
+    }
+
+    /// The rows of the forwarding cache that the last event touched, as `Router::touched` counts them; 0 after a fault.
+    pub fn touched(&self) -> u64
+        ensures { result ≡ self.now.router.touched }
+    {
+        if self.is_lost {
+            return 0;
+        }
+        self.router.touched()
+    }
+}

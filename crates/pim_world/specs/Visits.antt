@@ -1,0 +1,50 @@
+-- How many nodes of tries look-ups visit: of the route to an address, and at least those that lead to the facts of a
+-- group and of a source of it.
+use Rattle.std.specs.List.{list_any}
+use Rattle.std.specs.Prelude.{None, Option, Some, if◌then◌else◌, ℕ, ◌+◌}
+use Rattle.pim_ip.specs.declared.addr.Addr.{Addr}
+use Rattle.pim_types.specs.Keys.{names_source}
+use Rattle.pim_model.specs.State.{State}
+use Rattle.pim_model.specs.Tables.{keys_in}
+use Rattle.pim_model.specs.Unicast.{rp_of}
+use Rattle.pim_membership.specs.MembershipTables.{membership_keys}
+use Rattle.pim_mrib.specs.Routes.{route_nodes, rp_nodes}
+use Rattle.pim_store.specs.PimTables.{pim_tables, stored_keys}
+use Rattle.pim_store.specs.Visits.{nodes_visited}
+use Rattle.pim_world.specs.Lending.{membership_tables}
+
+-- the route to the address, none where there is no address
+abbrev pub path_nodes : State → Option ℕ → ℕ
+path_nodes s None = 0
+path_nodes s (Some address) = route_nodes s.configured s.interfaces s.routes address
+
+-- the PIM facts of (*,G), where there is no source, or of (S,G)
+abbrev pub mark_nodes : State → Addr → Option Addr → ℕ
+mark_nodes s group source = nodes_visited (stored_keys (pim_tables s)) group source
+
+-- the group records, and those of the source
+abbrev pub group_record_nodes : State → Addr → ℕ
+group_record_nodes s group = nodes_visited (keys_in s.group_records) group None
+
+abbrev pub source_record_nodes : State → Addr → Addr → ℕ
+source_record_nodes s group source = nodes_visited (keys_in s.source_records) group (Some source)
+
+-- whether there is a fact of the source: those of the store are asked for where there is none of membership
+abbrev pub fact_nodes : State → Addr → Addr → ℕ
+fact_nodes s group source =
+    source_record_nodes s group source
+    + (if list_any (names_source group.bits source.bits) (membership_keys (membership_tables s)) then 0
+    else mark_nodes s group (Some source))
+
+-- what the macros of (*,G) read
+unfoldable pub star_nodes : State → Addr → ℕ
+star_nodes s group =
+    rp_nodes s.ranges group.bits + path_nodes s (rp_of s group.bits) + mark_nodes s group None
+    + group_record_nodes s group
+
+-- what those of (S,G) read beside
+unfoldable pub source_nodes : State → Addr → Addr → ℕ
+source_nodes s group source =
+    path_nodes s (Some source.bits) + mark_nodes s group (Some source)
+    + (group_record_nodes s group + source_record_nodes s group source)
+    + (group_record_nodes s group + source_record_nodes s group source)
