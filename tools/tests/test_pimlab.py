@@ -54,6 +54,10 @@ class Called(unittest.TestCase):
         self.assertEqual(called(), (2, b"", b"pimlab: command line refused\n"))
         self.assertEqual(called("run", ONE_JOIN, "--wire", "none"), (2, b"", b"pimlab: command line refused\n"))
 
+    def test_a_word_that_is_not_utf_8(self):
+        for words in [(b"run", b"\xff"), (b"\xc3",), (b"run", b"--wire", b"\xff\xfe", b"one_join.toml")]:
+            self.assertEqual(called(*words), (2, b"", b"pimlab: command line refused\n"))
+
     def test_help(self):
         status, out, err = called("--help")
         self.assertEqual((status, err), (0, b""))

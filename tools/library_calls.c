@@ -1,0 +1,266 @@
+/* Tries each call of pim.h, and what it says of each. A line for each answer that is another one, and a line with their number. */
+#include <stdio.h>
+#include <string.h>
+
+#include "pim.h"
+
+#define COUNT(items) (sizeof(items) / sizeof *(items))
+
+static unsigned tried, wrong;
+
+static void is(const char *what, uint64_t got, uint64_t wanted) {
+    tried++;
+    if (got == wanted) return;
+    wrong++;
+    printf("%s: %llu in place of %llu\n", what, (unsigned long long)got, (unsigned long long)wanted);
+}
+
+static const struct pim_settings usual = PIM_USUAL_SETTINGS;
+static const struct pim_interface three[] = {{0x0a000002, 24, 1, 500, 2500}, {0x0a000101, 24, 1, 500, 2500}, {0x0a000201, 24, 1, 500, 2500}};
+static const struct pim_route two[] = {{0x0a090900, 24, 0x0a000001, 0, 110, 20}, {0x0a000300, 24, 0x0a000001, 0, 110, 20}};
+static const struct pim_range one[] = {{0xe0000000, 4, 0x0a090909}};
+
+static uint32_t made(struct pim_router *router, const struct pim_settings *settings) {
+    return pim_new(router, settings, three, COUNT(three), two, COUNT(two), one, COUNT(one));
+}
+
+/* ---- a handle without a router */
+
+static void without_a_router(void) {
+    struct pim_router none = PIM_NO_HANDLE;
+    uint8_t room[2] = {7, 7};
+    struct pim_packet packet = {true, 7, 7, 7};
+    struct pim_row row = {.table = 7};
+    struct pim_forwarding forwarding = {.rpf = 7};
+    is("advance without a router", pim_advance(&none, 0, 1), PIM_NO_ROUTER);
+    is("frame without a router", pim_frame(&none, 0, 0, room, 2), PIM_NO_ROUTER);
+    is("unicast without a router", pim_unicast(&none, 0, room, 2), PIM_NO_ROUTER);
+    is("up without a router", pim_up(&none, 0, 0), PIM_NO_ROUTER);
+    is("down without a router", pim_down(&none, 0, 0), PIM_NO_ROUTER);
+    is("routes without a router", pim_routes(&none, 0, two, 2), PIM_NO_ROUTER);
+    is("ranges without a router", pim_ranges(&none, 0, one, 1), PIM_NO_ROUTER);
+    is("packets without a router", pim_packets(&none), 0);
+    is("packet without a router", pim_packet(&none, 0, &packet, room, 2), false);
+    is("its packet", packet.is_unicast && packet.iface == 7 && packet.destination == 7 && packet.length == 7, true);
+    is("its room", room[0] == 7 && room[1] == 7, true);
+    is("copies without a router", pim_copies(&none), 0);
+    is("next moment without a router", pim_next_moment(&none), PIM_NEVER);
+    is("read without a router", pim_read(&none, 'N'), PIM_NO_ROUTER);
+    is("read of no table without a router", pim_read(&none, 'X'), PIM_NO_TABLE);
+    is("rows without a router", pim_rows(&none), 0);
+    is("row without a router", pim_row(&none, 0, &row), false);
+    is("its row", row.table, 7);
+    is("cached without a router", pim_cached(&none, 0x0a000305, 0xe1010101, 0, &forwarding), false);
+    is("its forwarding", forwarding.rpf, 7);
+    is("probes without a router", pim_probes(&none), 0);
+    is("touched without a router", pim_touched(&none), 0);
+    pim_end(&none);
+    is("the handle after its end", none.is_there, false);
+}
+
+/* ---- configurations that are refused */
+
+static void refused_settings(struct pim_router *router) {
+    struct { struct pim_settings settings; uint32_t answer; } tries[] = {
+        {{0, 2, 125, 100, 10, false}, 34}, {{1000001, 2, 125, 100, 10, false}, 34}, {{65536, 1, 125, 100, 10, false}, 35},
+        {{65536, 8, 125, 100, 10, false}, 35}, {{65536, 2, 0, 100, 10, false}, 35}, {{65536, 2, 31745, 100, 10, false}, 35},
+        {{65536, 2, 125, 0, 10, false}, 35}, {{65536, 2, 125, 1250, 10, false}, 35}, {{65536, 2, 31744, 31745, 10, false}, 35},
+        {{65536, 2, 125, 100, 0, false}, 35}, {{65536, 2, 125, 100, 256, false}, 35},
+        {{1, 2, 1, 1, 1, true}, 0}, {{1000000, 7, 31744, 31744, 255, false}, 0}, {{65536, 2, 125, 1249, 10, true}, 0},
+    };
+    for (size_t at = 0; at < COUNT(tries); at++) is("settings", made(router, &tries[at].settings), tries[at].answer);
+}
+
+static void refused_interfaces(struct pim_router *router) {
+    struct { struct pim_interface interface; uint32_t answer; } tries[] = {
+        {{0, 24, 1, 500, 2500}, 31}, {{0xe0000000, 24, 1, 500, 2500}, 31}, {{0x0a000002, 0, 1, 500, 2500}, 32},
+        {{0x0a000002, 32, 1, 500, 2500}, 32}, {{0x0a000002, 24, 1, 32768, 2500}, 36}, {{0x0a000002, 24, 1, 500, 65536}, 36},
+        {{0xdffffffe, 31, 0, 32767, 65535}, 0}, {{1, 1, UINT32_MAX, 0, 0}, 0},
+    };
+    struct pim_interface many[121];
+    for (size_t at = 0; at < COUNT(tries); at++)
+        is("an interface", pim_new(router, &usual, &tries[at].interface, 1, two, 0, one, 0), tries[at].answer);
+    for (uint32_t at = 0; at < COUNT(many); at++) many[at] = (struct pim_interface){0x0a000001 + (at << 8), 24, 1, 500, 2500};
+    is("no interfaces", pim_new(router, &usual, many, 0, two, 0, one, 0), 30);
+    is("121 interfaces", pim_new(router, &usual, many, 121, two, 0, one, 0), 30);
+    is("120 interfaces", pim_new(router, &usual, many, 120, two, 0, one, 0), PIM_DONE);
+    many[7].length = 16;
+    is("overlap", pim_new(router, &usual, many, 120, two, 0, one, 0), 33);
+}
+
+/* As events, and in the configuration with an answer of 12 more. */
+static void refused_lists(struct pim_router *router) {
+    struct { struct pim_route route; uint32_t answer; } routes[] = {
+        {{0x0a090901, 24, 0x0a000001, 0, 110, 20}, 25}, {{0x0a090900, 33, 0x0a000001, 0, 110, 20}, 25},
+        {{0x0a090900, 24, 0x0a000001, 3, 110, 20}, 25}, {{0x0a090900, 24, 0x0a000002, 0, 110, 20}, 25},
+        {{0x0a090900, 24, 0xe0000001, 0, 110, 20}, 25}, {{0x0a090900, 24, 0x0a000001, 0, 0x7fffffff, 20}, 25},
+        {{0x0a090900, 24, 0x0a000001, 0, 0x7ffffffe, UINT32_MAX}, 0}, {{0, 0, 0x0a000201 + 5, 2, 0, 0}, 0},
+    };
+    struct { struct pim_range range; uint32_t answer; } ranges[] = {
+        {{0xe0000001, 4, 0x0a090909}, 26}, {{0xe0000000, 3, 0x0a090909}, 26}, {{0xe1010101, 33, 0x0a090909}, 26},
+        {{0x0a000000, 8, 0x0a090909}, 26}, {{0xe0000000, 4, 0xe0000001}, 26}, {{0xe1010101, 32, 0x0a000002}, 0},
+    };
+    for (size_t at = 0; at < COUNT(routes); at++) {
+        uint32_t answer = routes[at].answer;
+        is("a route", pim_routes(router, 0, &routes[at].route, 1), answer);
+        is("a configured route", pim_new(router, &usual, three, 3, &routes[at].route, 1, one, 1), answer ? answer + 12 : 0);
+    }
+    for (size_t at = 0; at < COUNT(ranges); at++) {
+        uint32_t answer = ranges[at].answer;
+        is("a range", pim_ranges(router, 0, &ranges[at].range, 1), answer);
+        is("a configured range", pim_new(router, &usual, three, 3, two, 2, &ranges[at].range, 1), answer ? answer + 12 : 0);
+    }
+    struct pim_route twice[] = {two[0], two[0]};
+    is("a route twice", pim_routes(router, 0, twice, 2), 25);
+    is("no routes", pim_routes(router, 0, twice, 0), PIM_DONE);
+    is("no ranges", pim_ranges(router, 0, one, 0), PIM_DONE);
+}
+
+static void configurations(void) {
+    struct pim_router router = PIM_NO_HANDLE;
+    is("new", made(&router, &usual), PIM_DONE);
+    is("the handle", router.is_there, true);
+    is("up", pim_up(&router, 7, 0), PIM_DONE);
+    uint64_t next = pim_next_moment(&router);
+    struct pim_settings wrong_one = {0, 2, 125, 100, 10, false};
+    is("new that is refused", made(&router, &wrong_one), 34);
+    is("the router that was there", pim_next_moment(&router), next);
+    is("its packets", pim_packets(&router), 1);
+    is("new in its place", made(&router, &usual), PIM_DONE);
+    is("its first moment", pim_next_moment(&router), PIM_NEVER);
+    is("no packets", pim_packets(&router), 0);
+    refused_settings(&router);
+    refused_interfaces(&router);
+    is("new again", made(&router, &usual), PIM_DONE);
+    refused_lists(&router);
+    pim_end(&router);
+    is("the handle after its end", router.is_there, false);
+    is("up after its end", pim_up(&router, 7, 0), PIM_NO_ROUTER);
+}
+
+/* ---- events: a Join of 10.0.1.2 and two packets of its source, as in crates/pim_played/data/a_join_that_is_over.toml */
+
+static const char hello_above[] = "45C0001E000000000167CEAB0A000001E000000D2000DFFC00010002FFFF";
+static const char hello_below[] = "45C0001E000000000167CDAA0A000102E000000D2000DFFC00010002FFFF";
+static const char join[] =
+    "45C00036000000000167CD920A000102E000000D2300DBB301000A0001010001000101000020E101010100010000010004200A000305";
+static const char data[] = "4500001C0000000040118BCA0A000305E10101010001000200030004";
+static const char copy[] = "4500001C000000003F118CCA0A000305E10101010001000200030004";
+
+static size_t bytes_of(const char *hex, uint8_t *bytes) {
+    size_t count = 0;
+    for (unsigned byte; sscanf(hex + 2 * count, "%2x", &byte) == 1; count++) bytes[count] = (uint8_t)byte;
+    return count;
+}
+
+static uint32_t frame(struct pim_router *router, uint32_t iface, const char *hex) {
+    uint8_t packet[PIM_MOST_BYTES];
+    return pim_frame(router, 0, iface, packet, bytes_of(hex, packet));
+}
+
+static void moments_and_interfaces(struct pim_router *router) {
+    uint8_t none[1] = {0};
+    is("advance to 5", pim_advance(router, 0, 5), PIM_DONE);
+    is("advance back", pim_advance(router, 0, 4), 20);
+    is("advance to the present", pim_advance(router, 0, 5), PIM_DONE);
+    is("advance too far", pim_advance(router, 0, ((uint64_t)1 << 62) + 1), 21);
+    is("up of no interface", pim_up(router, 0, 3), 22);
+    is("down of no interface", pim_down(router, 0, 3), 22);
+    is("frame on no interface", frame(router, 3, data), 22);
+    is("frame on one that is down", frame(router, 0, data), 23);
+    is("down of one that is down", pim_down(router, 0, 0), PIM_IGNORED + 7);
+    is("up", pim_up(router, 7, 0), PIM_DONE);
+    is("a packet of it", pim_packets(router), 1);
+    is("up once more", pim_up(router, 7, 0), PIM_IGNORED + 7);
+    is("no packet of what is ignored", pim_packets(router), 0);
+    is("a frame without bytes", pim_frame(router, 0, 0, none, 0), 1);
+    is("a unicast without bytes", pim_unicast(router, 0, none, 0), 1);
+    is("up of the second", pim_up(router, 7, 1), PIM_DONE);
+    is("up of the third", pim_up(router, 7, 2), PIM_DONE);
+}
+
+static void packets(struct pim_router *router) {
+    uint8_t wanted[PIM_MOST_BYTES], room[PIM_MOST_BYTES], small[9];
+    struct pim_packet packet = {true, 7, 7, 7};
+    size_t length = bytes_of(copy, wanted);
+    is("hello", frame(router, 0, hello_above), PIM_DONE);
+    is("hello of the other", frame(router, 1, hello_below), PIM_DONE);
+    is("join", frame(router, 1, join), PIM_DONE);
+    is("a Hello and a Join", pim_packets(router), 2);
+    is("none is a copy", pim_copies(router), 0);
+    is("data", frame(router, 0, data), PIM_DONE);
+    is("one packet", pim_packets(router), 1);
+    is("a copy", pim_copies(router), 1);
+    is("the copy", pim_packet(router, 0, &packet, room, sizeof room), true);
+    is("what it is", !packet.is_unicast && packet.iface == 1 && packet.destination == 0 && packet.length == length, true);
+    is("its bytes", memcmp(room, wanted, length) == 0, true);
+    memset(small, 7, sizeof small);
+    is("the copy into a small room", pim_packet(router, 0, &packet, small, 8), true);
+    is("its length", packet.length, length);
+    is("the room", memcmp(small, wanted, 8) == 0 && small[8] == 7, true);
+    is("the copy into no room", pim_packet(router, 0, &packet, small, 0), true);
+    memset(room, 7, sizeof room);
+    is("the copy into a large room", pim_packet(router, 0, &packet, room, sizeof room), true);
+    is("the rest of the room", room[length] == 7 && room[sizeof room - 1] == 7, true);
+    is("a second packet", pim_packet(router, 1, &packet, room, sizeof room), false);
+    is("the largest number", pim_packet(router, SIZE_MAX, &packet, room, sizeof room), false);
+    is("the node of the group and of the source", pim_probes(router) >= 1, true);
+    is("data of the known source", frame(router, 0, data), PIM_DONE);
+    is("its nodes", pim_probes(router) >= 1 && pim_probes(router) <= 66, true);
+    is("no row is touched", pim_touched(router), 0);
+}
+
+static void tables(struct pim_router *router) {
+    static const struct { uint8_t letter; size_t rows; } wanted[] = {{'N', 2}, {'G', 0}, {'S', 0}, {'D', 1}, {'A', 0}, {'U', 1}, {'R', 0}, {'F', 1}};
+    struct pim_row row = {.table = 7};
+    for (size_t at = 0; at < COUNT(wanted); at++) {
+        is("read", pim_read(router, wanted[at].letter), PIM_DONE);
+        is("how many rows", pim_rows(router), wanted[at].rows);
+    }
+    is("no table", pim_read(router, 'n'), PIM_NO_TABLE);
+    is("the rows before it", pim_rows(router), 1);
+    is("neighbours", pim_read(router, 'N'), PIM_DONE);
+    is("no third one", pim_row(router, 2, &row), false);
+    is("what isn't written", row.table, 7);
+    is("the second one", pim_row(router, 1, &row), true);
+    is("its table", row.table == 'N' && row.iface == 1 && row.source == 0x0a000102 && row.end == PIM_NEVER, true);
+    is("joins", pim_read(router, 'D'), PIM_DONE);
+    is("the join", pim_row(router, 0, &row), true);
+    is("whose", row.table == 'D' && row.iface == 1 && row.group == 0xe1010101 && row.source == 0x0a000305 && !row.is_rpt, true);
+    is("joined for a second", row.state == 1 && row.end == 5 + 1000 && row.pending == PIM_NEVER, true);
+    is("down", pim_down(router, 0, 1), PIM_DONE);
+    is("the rows stay", pim_rows(router), 1);
+    is("joins again", pim_read(router, 'D'), PIM_DONE);
+    is("there is none", pim_rows(router), 0);
+}
+
+static void cached(struct pim_router *router) {
+    struct pim_forwarding told = {.rpf = 7};
+    is("no fact of another source", pim_cached(router, 0x0a000306, 0xe1010101, 1, &told), false);
+    is("what isn't told", told.rpf, 7);
+    is("the source's row", pim_cached(router, 0x0a000305, 0xe1010101, 1, &told), true);
+    is("by the source's tree", told.rpf == 0 && told.has_spt_bit && !told.has_tunnel, true);
+    is("where it is joined", told.is_in_immediate && told.is_in_inherited && !told.is_in_shared_tree, true);
+    is("another interface", pim_cached(router, 0x0a000305, 0xe1010101, 2, &told), true);
+    is("where it isn't joined", told.is_in_immediate || told.is_in_inherited || told.is_in_shared_tree, false);
+    is("an interface that there can't be", pim_cached(router, 0x0a000305, 0xe1010101, UINT32_MAX, &told), true);
+    is("in no list", told.is_in_immediate || told.is_in_inherited || told.is_in_shared_tree, false);
+}
+
+int main(void) {
+    struct pim_router router = PIM_NO_HANDLE, other = PIM_NO_HANDLE;
+    without_a_router();
+    configurations();
+    is("new", made(&router, &usual), PIM_DONE);
+    is("new of another", made(&other, &usual), PIM_DONE);
+    moments_and_interfaces(&router);
+    packets(&router);
+    cached(&router);
+    tables(&router);
+    is("the other's moment", pim_next_moment(&other), PIM_NEVER);
+    is("the other's packets", pim_packets(&other), 0);
+    pim_end(&router);
+    pim_end(&other);
+    printf("%u calls and values, %u other than pim.h says\n", tried, wrong);
+    return wrong != 0;
+}

@@ -1,0 +1,67 @@
+"""What each router of a scenario is fed: its configuration, and the events that reach it."""
+from dataclasses import dataclass
+from ipaddress import IPv4Interface
+
+# The keys of a router's table, with the names and usual values of the library's settings.
+SETTINGS = {
+    "limit": ("limit", 65536),
+    "rv": ("robustness", 2),
+    "qi": ("query_interval", 125),
+    "qri": ("query_response_interval", 100),
+    "lmqi": ("last_member_query_interval", 10),
+}
+
+
+@dataclass(frozen=True)
+class Event:
+    """`name` is the library's call without `pim_`; `values` what it takes after the draw: numbers, bytes, or a list's texts."""
+    name: str
+    draw: int
+    values: tuple
+
+
+def interfaces(table):
+    """Each interface: its address, its prefix length, its DR priority and its two delays."""
+    for row in table.get("iface", []):
+        own = IPv4Interface(row["address"])
+        yield str(own.ip), own.network.prefixlen, row.get("priority", 1), row.get("propagation", 500), row.get("override", 2500)
+
+
+def settings(table):
+    given = {name: table.get(key, usual) for key, (name, usual) in SETTINGS.items()}
+    return given | {"stays_on_shared_tree": table.get("spt") == "never"}
+
+
+def routes(texts):
+    """Each route: prefix, next hop, interface, preference, metric."""
+    for text in texts:
+        prefix, hop, *numbers = text.split()
+        yield prefix, hop, *map(int, numbers)
+
+
+def ranges(texts):
+    """Each RP range: prefix, RP."""
+    return (tuple(text.split()) for text in texts)
+
+
+def event(step):
+    """The event that a step of `pimtext.story` was to its router; None where the move itself was refused."""
+    did = step.did
+    draw, kind = did.get("draw", 0), did["do"]
+    if step.verdict == "refused" and step.cause == "27":
+        return None
+    if step.brought is not None:
+        return arrival(draw, None if kind == "carry" else step.iface, step.brought.data)
+    if kind in ("frame", "unicast"):
+        return arrival(draw, did.get("iface"), bytes.fromhex(did["hex"]))
+    if kind in ("up", "down"):
+        return Event(kind, draw, (did["iface"],))
+    if kind == "advance":
+        return Event(kind, draw, (did["moment"],))
+    if kind in ("routes", "rps"):
+        return Event({"rps": "ranges"}.get(kind, kind), draw, (did["list"],))
+    return None
+
+
+def arrival(draw, iface, packet):
+    return Event("unicast", draw, (packet,)) if iface is None else Event("frame", draw, (iface, packet))

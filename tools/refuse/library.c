@@ -1,0 +1,298 @@
+/* Plays the events of one router over and over, with one allocation refused each time, and looks at what the library says then.
+ *
+ * Standard input has lines of words: `interface`, `route` and `range` with their numbers, `new` with the six settings, and then a
+ * line an event, as `frame DRAW IFACE HEX`; `new` takes the lists that stand before it, `routes DRAW` and `ranges DRAW` those since
+ * then. Linked with --wrap=malloc, realloc and free. */
+#include <stdio.h>
+#include <stdlib.h>
+#include <string.h>
+
+#include "pim.h"
+
+enum { MOST_EVENTS = 4096, MOST_ITEMS = 4096, MOST_SOURCES = 64 };
+static const char tables[] = "NGSDAURF";
+
+/* ---- memory */
+
+void *__real_malloc(size_t size);
+void *__real_realloc(void *old, size_t size);
+void __real_free(void *old);
+
+static unsigned long asked, refused_at;
+static long kept;
+
+static int is_refused(void) { return ++asked == refused_at; }
+
+void *__wrap_malloc(size_t size) {
+    void *made = is_refused() ? NULL : __real_malloc(size);
+    kept += made != NULL;
+    return made;
+}
+
+void *__wrap_realloc(void *old, size_t size) {
+    void *made = is_refused() ? NULL : __real_realloc(old, size);
+    kept += made != NULL && old == NULL;
+    return made;
+}
+
+void __wrap_free(void *old) {
+    kept -= old != NULL;
+    __real_free(old);
+}
+
+/* ---- what is played */
+
+struct event {
+    char kind; /* a f u + - r g */
+    uint32_t draw, iface;
+    uint64_t moment;
+    size_t first, count; /* bytes, routes or ranges */
+};
+
+static struct pim_settings settings;
+static struct pim_interface interfaces[128];
+static struct pim_route routes[MOST_ITEMS];
+static struct pim_range ranges[MOST_ITEMS];
+static uint8_t bytes[MOST_EVENTS * 256];
+static struct event events[MOST_EVENTS];
+static size_t interface_count, route_count, range_count, byte_count, event_count, first_routes, first_ranges;
+static size_t taken_routes, taken_ranges;
+
+static uint32_t number(void) {
+    char *word = strtok(NULL, " \n");
+    return word ? (uint32_t)strtoul(word, NULL, 10) : 0;
+}
+
+static void read_bytes(struct event *event) {
+    const char *word = strtok(NULL, " \n");
+    unsigned value;
+    event->first = byte_count;
+    for (; word && sscanf(word, "%2x", &value) == 1 && byte_count < sizeof bytes; word += 2) bytes[byte_count++] = (uint8_t)value;
+    event->count = byte_count - event->first;
+}
+
+static void read_event(const char *word) {
+    struct event *event = &events[event_count];
+    if (++event_count > MOST_EVENTS) exit(2);
+    event->kind = strcmp(word, "up") == 0 ? '+' : strcmp(word, "down") == 0 ? '-' : strcmp(word, "ranges") == 0 ? 'g' : word[0];
+    event->draw = number();
+    if (event->kind == 'a') event->moment = strtoull(strtok(NULL, " \n"), NULL, 10);
+    if (event->kind == 'f' || event->kind == '+' || event->kind == '-') event->iface = number();
+    if (event->kind == 'f' || event->kind == 'u') read_bytes(event);
+    if (event->kind == 'r') {
+        event->first = taken_routes;
+        event->count = route_count - taken_routes;
+        taken_routes = route_count;
+    }
+    if (event->kind == 'g') {
+        event->first = taken_ranges;
+        event->count = range_count - taken_ranges;
+        taken_ranges = range_count;
+    }
+}
+
+static void read_line(char *line) {
+    const char *word = strtok(line, " \n");
+    if (!word) return;
+    if (strcmp(word, "new") == 0) {
+        uint32_t given[6];
+        for (int at = 0; at < 6; at++) given[at] = number();
+        settings = (struct pim_settings){given[0], given[1], given[2], given[3], given[4], given[5] != 0};
+        first_routes = taken_routes = route_count;
+        first_ranges = taken_ranges = range_count;
+    } else if (strcmp(word, "interface") == 0) {
+        uint32_t *to = &interfaces[interface_count++].address;
+        for (int at = 0; at < 5; at++) to[at] = number();
+    } else if (strcmp(word, "route") == 0) {
+        if (route_count == MOST_ITEMS) exit(2);
+        uint32_t *to = &routes[route_count++].prefix;
+        for (int at = 0; at < 6; at++) to[at] = number();
+    } else if (strcmp(word, "range") == 0) {
+        if (range_count == MOST_ITEMS) exit(2);
+        uint32_t *to = &ranges[range_count++].prefix;
+        for (int at = 0; at < 3; at++) to[at] = number();
+    } else {
+        read_event(word);
+    }
+}
+
+static uint32_t play(struct pim_router *router, const struct event *event) {
+    switch (event->kind) {
+    case 'a': return pim_advance(router, event->draw, event->moment);
+    case 'f': return pim_frame(router, event->draw, event->iface, bytes + event->first, event->count);
+    case 'u': return pim_unicast(router, event->draw, bytes + event->first, event->count);
+    case '+': return pim_up(router, event->draw, event->iface);
+    case '-': return pim_down(router, event->draw, event->iface);
+    case 'r': return pim_routes(router, event->draw, routes + event->first, event->count);
+    default: return pim_ranges(router, event->draw, ranges + event->first, event->count);
+    }
+}
+
+/* ---- what is seen */
+
+struct seen {
+    uint64_t packets, cached, next, probes, touched;
+    uint32_t answer, copies;
+};
+static struct { uint32_t source, group; } sources[MOST_SOURCES];
+static size_t source_count;
+
+static uint64_t mixed(uint64_t sum, const void *from, size_t count) {
+    for (size_t at = 0; at < count; at++) sum = (sum ^ ((const uint8_t *)from)[at]) * 1099511628211u;
+    return sum;
+}
+
+static uint64_t packets_of(struct pim_router *router) {
+    uint64_t sum = 14695981039346656037u;
+    uint8_t room[PIM_MOST_BYTES];
+    struct pim_packet packet;
+    for (size_t index = 0; pim_packet(router, index, &packet, room, sizeof room); index++) {
+        uint64_t words[] = {packet.is_unicast, packet.iface, packet.destination, packet.length};
+        sum = mixed(mixed(sum, words, sizeof words), room, packet.length);
+    }
+    return sum;
+}
+
+/* The rows of the forwarding cache: of every source that comes up, each with all interfaces. 0 where there is none. */
+static uint64_t cached_of(struct pim_router *router) {
+    uint64_t sum = 0;
+    for (size_t at = 0; at < source_count; at++)
+        for (uint32_t iface = 0; iface < interface_count; iface++) {
+            struct pim_forwarding told;
+            if (!pim_cached(router, sources[at].source, sources[at].group, iface, &told)) continue;
+            uint64_t words[] = {at + 1, iface, told.rpf, told.has_spt_bit, told.has_tunnel, told.is_in_immediate,
+                                told.is_in_inherited, told.is_in_shared_tree};
+            sum = mixed(sum + 1, words, sizeof words);
+        }
+    return sum;
+}
+
+static struct seen look(struct pim_router *router, uint32_t answer) {
+    return (struct seen){packets_of(router), cached_of(router), pim_next_moment(router), pim_probes(router), pim_touched(router),
+                         answer, pim_copies(router)};
+}
+
+static int same(struct seen a, struct seen b) {
+    return a.packets == b.packets && a.cached == b.cached && a.next == b.next && a.probes == b.probes && a.touched == b.touched &&
+           a.answer == b.answer && a.copies == b.copies;
+}
+
+static uint64_t rows_of(struct pim_router *router, uint64_t sum) {
+    struct pim_row row;
+    for (size_t index = 0; pim_row(router, index, &row); index++) {
+        uint64_t words[] = {row.table, row.iface, row.group, row.source, row.winner, row.is_rpt,
+                            row.is_set, row.state, row.end, row.pending};
+        sum = mixed(sum, words, sizeof words);
+    }
+    return sum;
+}
+
+/* All tables. Where memory is refused, nothing has changed, and the table is read once more. */
+static int read_all(struct pim_router *router, uint64_t *sum, int *was_refused) {
+    for (const char *table = tables; *table; table++) {
+        uint64_t before = rows_of(router, 0);
+        uint32_t answer = pim_read(router, (uint8_t)*table);
+        if (answer == PIM_MEMORY) {
+            *was_refused = 1;
+            if (rows_of(router, 0) != before) return 0;
+            answer = pim_read(router, (uint8_t)*table);
+        }
+        if (answer != PIM_DONE) return 0;
+        *sum = rows_of(router, *sum);
+    }
+    return 1;
+}
+
+static struct seen full[MOST_EVENTS];
+static uint64_t full_rows;
+
+/* After memory was refused to an event: the packets are as they were, nothing else is told, and the router answers no more. */
+static int has_failed(struct pim_router *router, uint64_t packets) {
+    uint8_t none[1] = {0};
+    uint32_t answers[] = {pim_up(router, 1, 0), pim_down(router, 1, 0), pim_advance(router, 1, UINT64_MAX),
+                          pim_frame(router, 1, 0, none, 0), pim_unicast(router, 1, none, 0),
+                          pim_routes(router, 1, routes, first_routes), pim_ranges(router, 1, ranges, first_ranges)};
+    for (size_t at = 0; at < sizeof answers / sizeof *answers; at++)
+        if (answers[at] != PIM_FAILED) return 0;
+    for (const char *table = tables; *table; table++)
+        if (pim_read(router, (uint8_t)*table) != PIM_FAILED) return 0;
+    struct seen wanted = {packets, 0, PIM_NEVER, 0, 0, PIM_FAILED, 0};
+    return pim_rows(router) == 0 && same(look(router, PIM_FAILED), wanted);
+}
+
+/* Finds every source of which there is a fact after some event. */
+static void find_sources(struct pim_router *router) {
+    struct pim_row row;
+    if (pim_read(router, 'F') != PIM_DONE) return;
+    for (size_t index = 0; pim_row(router, index, &row); index++) {
+        size_t at = 0;
+        while (at < source_count && (sources[at].source != row.source || sources[at].group != row.group)) at++;
+        if (at < source_count || source_count == MOST_SOURCES) continue;
+        sources[source_count].source = row.source;
+        sources[source_count++].group = row.group;
+    }
+}
+
+static int began(struct pim_router *router) {
+    return pim_new(router, &settings, interfaces, interface_count, routes, first_routes, ranges, first_ranges) == PIM_DONE;
+}
+
+static void play_for_sources(void) {
+    struct pim_router router = PIM_NO_HANDLE;
+    if (!began(&router)) return;
+    for (size_t at = 0; at < event_count; at++) {
+        play(&router, &events[at]);
+        find_sources(&router);
+    }
+    pim_end(&router);
+}
+
+/* A run. 0 where all came as without a refusal, 1 where memory was refused and told, 2 otherwise. */
+static int run(int is_first) {
+    struct pim_router router = PIM_NO_HANDLE;
+    uint64_t sum = 0;
+    int was_refused = 0;
+    uint32_t answer = pim_new(&router, &settings, interfaces, interface_count, routes, first_routes,
+                              ranges, first_ranges);
+    if (answer == PIM_MEMORY)
+        return !router.is_there && pim_up(&router, 1, 0) == PIM_NO_ROUTER && pim_next_moment(&router) == PIM_NEVER ? 1 : 2;
+    if (answer != PIM_DONE) return 2;
+    uint64_t packets = packets_of(&router);
+    for (size_t at = 0; at < event_count; at++) {
+        answer = play(&router, &events[at]);
+        if (answer == PIM_MEMORY) {
+            int outcome = has_failed(&router, packets) ? 1 : 2;
+            pim_end(&router);
+            return outcome;
+        }
+        struct seen now = look(&router, answer);
+        if (is_first) full[at] = now;
+        else if (!same(now, full[at])) return 2;
+        packets = now.packets;
+    }
+    if (!read_all(&router, &sum, &was_refused)) return 2;
+    if (is_first) full_rows = sum;
+    else if (sum != full_rows) return 2;
+    pim_end(&router);
+    return was_refused;
+}
+
+int main(void) {
+    static char line[8192];
+    while (fgets(line, sizeof line, stdin)) read_line(line);
+    setvbuf(stdout, NULL, _IONBF, 0);
+    play_for_sources();
+    kept = 0, asked = 0;
+    if (run(1) != 0 || kept != 0) return printf("the full run fails, or keeps %ld blocks\n", kept), 1;
+    unsigned long total = asked, told = 0, other = 0;
+    for (refused_at = 1; refused_at <= total; refused_at++) {
+        asked = 0, kept = 0;
+        int outcome = run(0);
+        told += outcome == 1 && kept == 0;
+        if (outcome == 1 && kept == 0) continue;
+        other++;
+        printf("refused at %lu: outcome %d, %ld blocks kept\n", refused_at, outcome, kept);
+    }
+    printf("%lu events, %lu allocations, %lu refusals told, %lu other\n", (unsigned long)event_count, total, told, other);
+    return other != 0;
+}
