@@ -46,7 +46,7 @@ pub(crate) fn win_again(
     let end = world.present() + WINNER_TIME;
     world
         .store_mut()
-        .change_assert(key, AssertRow { end, ..row })
+        .change_assert(key, AssertRow { end, ..row }, &mut turn.meter)
 }
 
 /// What the end of an assert timer changes: a winner asserts again, and a loser forgets the assert. An error is want of
@@ -62,7 +62,7 @@ pub fn fired(world: &mut World, turn: &mut Turn, key: Key) -> Result<(), AllocEr
     match row.role {
         AssertRole::Winner => win_again(world, turn, key, row),
         AssertRole::Loser => {
-            world.store_mut().drop_assert(key);
+            world.store_mut().drop_assert(key, &mut turn.meter);
             Ok(())
         }
     }

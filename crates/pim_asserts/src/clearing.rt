@@ -15,7 +15,7 @@ use pim_macros::{SourceSight, StarSight};
 use pim_opening::{GroupOpening, Opening, SourceOpening};
 use pim_types::fact::SourceRow;
 use pim_types::{Addr, IfaceId, Key};
-use pim_world::{Turn, World};
+use pim_world::{Meter, Turn, World};
 use std::alloc::AllocError;
 
 // The asserts of (*,G), where all of the group was opened.
@@ -103,6 +103,7 @@ fn clear_all_asserts(
 // Takes SPTbit(S,G) away, which is set; a source fact stays while its keepalive timer runs.
 fn forget_spt_bit(
     world: &mut World,
+    meter: &mut Meter,
     group: Addr,
     source: Addr,
     row: SourceRow,
@@ -116,7 +117,7 @@ fn forget_spt_bit(
         .keepalive
         .is_some()
         .then_some(SourceRow { spt: false, ..row });
-    world.store_mut().set_source(group, source, left)
+    world.store_mut().set_source(group, source, left, meter)
 }
 
 // An SPTbit that JoinDesired(S,G) doesn't keep, and the asserts that must go without it.
@@ -139,7 +140,7 @@ fn clear_bit(
     if !row.spt || is_joined(world, turn, group, opened.source) {
         return Ok(());
     }
-    forget_spt_bit(world, group, opened.source, row)?;
+    forget_spt_bit(world, &mut turn.meter, group, opened.source, row)?;
     clear_source(world, turn, group, opened)
 }
 

@@ -14,7 +14,7 @@ use pim_macros::{SourceSight, StarSight};
 use pim_types::fact::{AssertMetric, AssertRole, AssertRow};
 use pim_types::{Addr, IfaceId, Key};
 use pim_wire::Assert;
-use pim_world::{Turn, World};
+use pim_world::{Meter, Turn, World};
 use std::alloc::AllocError;
 
 // Assert_Time (RFC 7761, section 4.11), in ms.
@@ -42,9 +42,7 @@ fn win_with(
         winner: mine,
         end: world.present() + WINNER_TIME,
     };
-    world
-        .store_mut()
-        .set_assert(key.iface, key.group, key.source, Some(row))
+    world.store_mut().set_assert(key.iface, key.group, key.source, Some(row), &mut turn.meter)
 }
 
 // The router wins with this metric of its own.
@@ -60,7 +58,12 @@ fn win(world: &mut World, turn: &mut Turn, key: Key, mine: AssertMetric) -> Resu
 
 // The router lost to this metric.
 #[tactic(auto, using(crate::proofs::Receiving::plain_key), unfolding(pim_model::specs::Asserts::loses, pim_model::specs::Tables::set_row))]
-fn lose(world: &mut World, key: Key, theirs: AssertMetric) -> Result<(), AllocError>
+fn lose(
+    world: &mut World,
+    meter: &mut Meter,
+    key: Key,
+    theirs: AssertMetric,
+) -> Result<(), AllocError>
     requires plain { key.rpt ≡ false }
     requires below { key.iface.number < 120 }
     ensures { OnOk result (world.new ≡ loses world.old key theirs) }
@@ -72,7 +75,7 @@ fn lose(world: &mut World, key: Key, theirs: AssertMetric) -> Result<(), AllocEr
     };
     world
         .store_mut()
-        .set_assert(key.iface, key.group, key.source, Some(row))
+        .set_assert(key.iface, key.group, key.source, Some(row), meter)
 }
 
 // The source of a key, or 0.0.0.0.
@@ -100,13 +103,13 @@ fn act(
         Action::Stay => Ok(()),
         Action::Win(mine) => win(world, turn, key, mine),
         Action::WinAgain(row) => win_again(world, turn, key, row),
-        Action::Lose => lose(world, key, theirs),
+        Action::Lose => lose(world, &mut turn.meter, key, theirs),
         Action::LoseAndSwitch => {
-            lose(world, key, theirs)?;
-            world.set_spt_bit(key.group, source_of(key))
+            lose(world, &mut turn.meter, key, theirs)?;
+            world.set_spt_bit(key.group, source_of(key), &mut turn.meter)
         }
         Action::Forget => {
-            world.store_mut().drop_assert(key);
+            world.store_mut().drop_assert(key, &mut turn.meter);
             Ok(())
         }
     }

@@ -58,7 +58,7 @@ fn forget(world: &mut World, turn: &mut Turn, part: Part, iface: IfaceId) -> Res
     });
     world
         .store_mut()
-        .set_assert(iface, part.group, part.source, None)?;
+        .set_assert(iface, part.group, part.source, None, &mut turn.meter)?;
     if row.is_some_and(|row| matches!(row.role, AssertRole::Winner)) {
         turn.out.assert(iface, part.group, part.source, infinite())?;
     }

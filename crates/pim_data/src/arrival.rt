@@ -35,9 +35,9 @@ pub fn arrived(
         ≡ saying turn.old (forwarded world.old sight.star.group.bits sight.source.bits iface.number).messages) }
 {
     let mut sight = sight;
-    source_here(world, &mut sight, iface)?;
-    source_joined(world, &mut sight, iface)?;
-    update_spt_bit(world, &mut sight, iface)?;
+    source_here(world, &mut turn.meter, &mut sight, iface)?;
+    source_joined(world, &mut turn.meter, &mut sight, iface)?;
+    update_spt_bit(world, &mut turn.meter, &mut sight, iface)?;
     let mut list = choose_list(world, turn, &sight, iface)?;
     list.remove(iface);
     Ok(list)

@@ -10,19 +10,19 @@ use pim_asserts::{data_seen_of_group, data_seen_of_source};
 use pim_ifset::IfSet;
 use pim_macros::SourceSight;
 use pim_types::IfaceId;
-use pim_world::{Turn, World};
+use pim_world::{Meter, Turn, World};
 use std::alloc::AllocError;
 
 // Off the shortest path tree a source that local receivers want is watched, so that the router can move to it.
 #[tactic(auto, unfolding(pim_model::specs::Forwarding::watched))]
-fn watch(world: &mut World, sight: &SourceSight) -> Result<(), AllocError>
+fn watch(world: &mut World, meter: &mut Meter, sight: &SourceSight) -> Result<(), AllocError>
     requires { IsSourceSight world.old sight.now }
     ensures { OnOk result (world.new ≡ watched world.old sight.now.star.group.bits sight.now.source.bits) }
 {
     if !(sight.has_local_receivers() && sight.is_spt_wanted) {
         return Ok(());
     }
-    world.keep_alive(sight.star.group, sight.source)
+    world.keep_alive(sight.star.group, sight.source, meter)
 }
 
 // Whether the interface is on the list of the tree that the source comes by: the shortest path tree once it is reached,
@@ -85,7 +85,7 @@ pub(crate) fn choose_list(
     }
     if sight.star.is_rpf_interface(iface) && !sight.spt {
         let list = sight.inherited_olist_rpt().without_tunnel();
-        watch(world, sight)?;
+        watch(world, &mut turn.meter, sight)?;
         return Ok(list);
     }
     take_stray(world, turn, sight, iface)?;

@@ -8,11 +8,15 @@ ghost use Rattle.pim_model.specs.Registers.{with_keepalive};
 use pim_macros::SourceSight;
 use pim_register::settle_register;
 use pim_types::IfaceId;
-use pim_world::World;
+use pim_world::{Meter, World};
 use std::alloc::AllocError;
 
 // KAT(S,G) runs for its whole period from now on.
-fn keep_alive(world: &mut World, sight: &mut SourceSight) -> Result<(), AllocError>
+fn keep_alive(
+    world: &mut World,
+    meter: &mut Meter,
+    sight: &mut SourceSight,
+) -> Result<(), AllocError>
     requires { IsSourceSight world.old sight.old }
     ensures state { OnOk result (world.new
         ≡ with_keepalive world.old sight.old.star.group.bits sight.old.source.bits) }
@@ -20,7 +24,7 @@ fn keep_alive(world: &mut World, sight: &mut SourceSight) -> Result<(), AllocErr
     ensures group { OnOk result (sight.new.star.group ≡ sight.old.star.group) }
     ensures source { OnOk result (sight.new.source ≡ sight.old.source) }
 {
-    world.keep_alive(sight.star.group, sight.source)?;
+    world.keep_alive(sight.star.group, sight.source, meter)?;
     *sight = sight.kept_alive();
     Ok(())
 }
@@ -29,6 +33,7 @@ fn keep_alive(world: &mut World, sight: &mut SourceSight) -> Result<(), AllocErr
 #[tactic(auto, unfolding(pim_model::specs::Forwarding::source_here))]
 pub(crate) fn source_here(
     world: &mut World,
+    meter: &mut Meter,
     sight: &mut SourceSight,
     iface: IfaceId,
 ) -> Result<(), AllocError>
@@ -42,14 +47,15 @@ pub(crate) fn source_here(
     if !(sight.is_connected() && sight.is_rpf_interface(iface)) {
         return Ok(());
     }
-    keep_alive(world, sight)?;
-    settle_register(world, sight)
+    keep_alive(world, meter, sight)?;
+    settle_register(world, meter, sight)
 }
 
 /// A source that is joined, and forwarded from here, is kept alive.
 #[tactic(auto, unfolding(pim_model::specs::Forwarding::source_joined))]
 pub(crate) fn source_joined(
     world: &mut World,
+    meter: &mut Meter,
     sight: &mut SourceSight,
     iface: IfaceId,
 ) -> Result<(), AllocError>
@@ -66,13 +72,14 @@ pub(crate) fn source_joined(
     if !is_forwarded {
         return Ok(());
     }
-    keep_alive(world, sight)
+    keep_alive(world, meter, sight)
 }
 
 /// Update_SPTbit(S,G,iif).
 #[tactic(auto, unfolding(pim_model::specs::Forwarding::spt_updated))]
 pub(crate) fn update_spt_bit(
     world: &mut World,
+    meter: &mut Meter,
     sight: &mut SourceSight,
     iface: IfaceId,
 ) -> Result<(), AllocError>
@@ -87,7 +94,7 @@ pub(crate) fn update_spt_bit(
     if !sight.is_spt_reached(iface) {
         return Ok(());
     }
-    world.set_spt_bit(sight.star.group, sight.source)?;
+    world.set_spt_bit(sight.star.group, sight.source, meter)?;
     *sight = sight.with_spt_bit();
     Ok(())
 }

@@ -9,6 +9,7 @@ ghost use Rattle.pim_model.specs.State.{my_address};
 ghost use Rattle.pim_world.specs.Turns.{saying};
 ghost use Rattle.pim_downstream.specs.Ends.{is_downstream_kind};
 
+use pim_trie::Meter;
 use pim_types::fact::DownstreamRow;
 use pim_types::{Addr, Hop, Key, TimerKind};
 use pim_wire::{Entry, EntryKind};
@@ -74,19 +75,21 @@ fn prune_pending_due(world: &mut World, turn: &mut Turn, key: Key) -> Result<(),
             pending: None,
             ..row
         };
-        return world.store_mut().change_downstream(key, pruned);
+        return world
+            .store_mut()
+            .change_downstream(key, pruned, &mut turn.meter);
     }
     echo(world, turn, key)?;
-    world.store_mut().drop_downstream(key);
+    world.store_mut().drop_downstream(key, &mut turn.meter);
     Ok(())
 }
 
 // The state expires.
 #[tactic(auto, unfolding(pim_model::specs::Firing::fired, pim_model::specs::Downstream::downstream_expired))]
-fn expired(world: &mut World, key: Key)
+fn expired(world: &mut World, meter: &mut Meter, key: Key)
     ensures { world.new ≡ (fired world.old TimerKind.DownstreamExpiry key).0 }
 {
-    world.store_mut().drop_downstream(key);
+    world.store_mut().drop_downstream(key, meter);
 }
 
 /// What the end of a Prune-Pending timer, or of an expiry timer, changes: where Prune-Pending ends, (S,G,rpt) is pruned
@@ -105,7 +108,7 @@ pub fn fired(
     match kind {
         TimerKind::PrunePending => prune_pending_due(world, turn, key),
         TimerKind::DownstreamExpiry => {
-            expired(world, key);
+            expired(world, &mut turn.meter, key);
             Ok(())
         }
         _ => unreachable!(),

@@ -8,6 +8,7 @@ ghost use Rattle.pim_model.specs.Downstream.{keys_taken, row_after, touched_keys
 use crate::named::Named;
 use crate::row::row_after;
 use crate::rpt::push_rpt_rows;
+use pim_trie::Meter;
 use pim_types::fact::DownstreamRow;
 use pim_types::{IfaceId, Key};
 use pim_world::{Turn, World};
@@ -62,13 +63,20 @@ fn rows_after(
 
 // Sets the rows of an interface, one after the other.
 #[tactic(auto, unfolding(crate::specs::Naming::row_set, crate::specs::Naming::rows_set))]
-fn set_rows(world: &mut World, iface: IfaceId, changes: &[Change]) -> Result<(), AllocError>
+fn set_rows(
+    world: &mut World,
+    meter: &mut Meter,
+    iface: IfaceId,
+    changes: &[Change],
+) -> Result<(), AllocError>
     requires within { iface.number < 120 }
     requires on { list_all (λ change. is_on iface.number change.key) changes.now ≡ true }
     ensures { OnOk result (world.new ≡ rows_set world.old changes.now) }
 {
     for change in changes {
-        world.store_mut().set_downstream(change.key, change.row)?;
+        world
+            .store_mut()
+            .set_downstream(change.key, change.row, meter)?;
     }
     Ok(())
 }
@@ -91,7 +99,7 @@ pub fn to_me(
 {
     let keys = touched_keys(turn.alloc, world, iface, named)?;
     let changes = rows_after(turn.alloc, world, iface, holdtime, named, &keys)?;
-    set_rows(world, iface, &changes)?;
-    world.store_mut().end_losses(&named.joined);
+    set_rows(world, &mut turn.meter, iface, &changes)?;
+    world.store_mut().end_losses(&named.joined, &mut turn.meter);
     Ok(())
 }

@@ -135,7 +135,7 @@ fn gather_group(
     ensures each { OnOk result (AreBefore world.now found.new.items) }
     ensures silent { turn.new ≡ turn.old }
 {
-    let sources = touched_sources(turn.alloc, world, touched, group)?;
+    let sources = touched_sources(turn.alloc, world, touched, group, &mut turn.meter)?;
     gather_sources(world, turn, group, &sources, found)
 }
 

@@ -78,8 +78,8 @@ fn restart(
     // It tells that the keys of asserts rise, so that each stands once.
     world.recall_keyed();
     let lost = asserts_lost_to(world, turn, neighbour)?;
-    world.store_mut().end_losses(&lost);
+    world.store_mut().end_losses(&lost, &mut turn.meter);
     let end = world.present() + world.override_delay(iface, turn.draw);
-    lower_timers(world, &towards, end)?;
+    lower_timers(world, &mut turn.meter, &towards, end)?;
     Ok(())
 }

@@ -10,7 +10,7 @@ use pim_macros::desires::is_same_hop;
 use pim_macros::upstream_of;
 use pim_types::fact::{AssertRole, AssertRow};
 use pim_types::{Hop, Key};
-use pim_world::{Turn, World};
+use pim_world::{Meter, Turn, World};
 use std::alloc::AllocError;
 
 /// The keys of the Join timers whose upstream neighbour it is.
@@ -61,12 +61,17 @@ pub(crate) fn asserts_lost_to(
 }
 
 /// Lowers the Join timers with these keys to an end, in ms.
-pub(crate) fn lower_timers(world: &mut World, keys: &[Key], end: u64) -> Result<(), AllocError>
+pub(crate) fn lower_timers(
+    world: &mut World,
+    meter: &mut Meter,
+    keys: &[Key],
+    end: u64,
+) -> Result<(), AllocError>
     ensures { OnOk result (world.new
         ≡ record world.old { join_timers = all_changed (lowered end) world.old.join_timers keys.now }) }
 {
     for key in keys {
-        world.store_mut().lower_join_timer(*key, end)?;
+        world.store_mut().lower_join_timer(*key, end, meter)?;
     }
     Ok(())
 }

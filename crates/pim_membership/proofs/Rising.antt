@@ -10,10 +10,13 @@ use Rattle.std.specs.declared.cmp.Ordering.TheVariants.{Less, Equal, Greater}
 use Rattle.std.proofs.lemmas.Bool.Decides.{nat_tests}
 use Rattle.pim_ip.specs.declared.addr.Addr.{Addr}
 use Rattle.pim_types.specs.declared.fact.Key.{Key}
-use Rattle.pim_types.specs.Keys.{addr_cmp, group_in, iface_in, key_cmp, source_in}
-use Rattle.pim_types.proofs.Keys.{nat_cmp_same}
+use Rattle.pim_types.specs.declared.config.IfaceId.{IfaceId}
+use Rattle.pim_types.specs.Keys.{addr_cmp, group_in, iface_in, key_cmp, same_key, source_in, source_key}
+use Rattle.pim_types.proofs.Keys.{nat_cmp_same, same_key_same}
 use Rattle.pim_model.specs.Records.{is_at_group}
 use Rattle.pim_model.specs.Tables.{Table, keys_in}
+use Rattle.pim_laws.specs.Laws.{is_under_source}
+use Rattle.pim_laws.proofs.ListLaws.{each_both}
 use Rattle.pim_membership.specs.Listing.{is_record_key}
 use Rattle.pim_membership.proofs.Told.{AreOfKind, Fits}
 
@@ -90,3 +93,22 @@ module _ (i g : ℕ) where
         rising_step e t (is_at_group i g e.0) refl
         (λ here. all_below e.0 t here fits.0 kinds.0 fits.1 kinds.1 rise.0)
         (sources_rise t fits.1 kinds.1 rise.1)
+
+-- ---- the keys of sources
+
+keyed_by : (iface : IfaceId) (group : Addr) (source : Option Addr) (rpt : Bool) → is_some source ≡ true
+    → not rpt ≡ true
+    → (let k : Key = record { iface = iface; group = group; source = source; rpt = rpt } in
+    same_key (source_key iface.number group.bits (source_in k)) k ≡ true)
+keyed_by iface group None rpt of fit = cc
+keyed_by iface group (Some a) true of fit = cc
+keyed_by iface group (Some a) false of fit =
+    same_key_same (record { iface = iface; group = group; source = Some a; rpt = false })
+
+-- each is under the key of its source
+pub are_under_sources : {R : Type 0} (t : Table R) → Fits t → AreOfKind true t
+    → AllByRecursion (λ (e : Key × R). is_under_source e ≡ true) t
+are_under_sources {R} t fits kinds =
+    each_both (λ (e : Key × R). is_record_key e.0 ≡ true) (λ (e : Key × R). is_some (e.0).source ≡ true)
+    (λ (e : Key × R). is_under_source e ≡ true)
+    (λ e fit of. keyed_by (e.0).iface (e.0).group (e.0).source (e.0).rpt of (second_so _ _ fit)) t fits kinds

@@ -49,10 +49,11 @@ impl Index {
     }
 
     // What is listed of the group and of its sources.
-    pub(crate) fn walk(&self, group: Addr) -> Entries<'_, Listed>
-        ensures { result ≡ filter (λ e. is_of_group group.bits e.0) self.now }
+    pub(crate) fn walk(&self, group: Addr, meter: &mut Meter) -> Entries<'_, Listed>
+        ensures entries { result ≡ filter (λ e. is_of_group group.bits e.0) self.now }
+        ensures visited { meter.new ≡ raised meter.old (nodes_visited (keys_in self.now) group None) }
     {
-        self.entries.walk(group)
+        self.entries.walk(group, meter)
     }
 
     // Lists these of a group, or of a source. Where there are some and nothing was listed it may fail for want of
@@ -77,20 +78,29 @@ impl Index {
         group: Addr,
         source: Option<Addr>,
         is_running: bool,
+        meter: &mut Meter,
     ) -> Result<(), AllocError>
         requires { iface.number < 120 }
         ensures ok { OnOk result (Lists self.old self.new (record_key iface.number group source) (Some is_running)) }
         ensures err { OnErr result (self.new ≡ self.old) }
+        ensures visited { meter.new ≡ raised meter.old (nodes_visited (keys_in self.old) group source) }
     {
-        let listed = self.get(group, source, &mut Meter::new());
+        let listed = self.get(group, source, meter);
         self.write(group, source, listed.with(iface, is_running))
     }
 
     // Takes the interface out; it takes no memory.
-    pub(crate) fn unlist(&mut self, iface: IfaceId, group: Addr, source: Option<Addr>)
-        ensures { Lists self.old self.new (record_key iface.number group source) None }
+    pub(crate) fn unlist(
+        &mut self,
+        iface: IfaceId,
+        group: Addr,
+        source: Option<Addr>,
+        meter: &mut Meter,
+    )
+        ensures listed { Lists self.old self.new (record_key iface.number group source) None }
+        ensures visited { meter.new ≡ raised meter.old (nodes_visited (keys_in self.old) group source) }
     {
-        let listed = self.get(group, source, &mut Meter::new());
+        let listed = self.get(group, source, meter);
         // Where it fails nothing was listed.
         let _ = self.write(group, source, listed.without(iface));
     }

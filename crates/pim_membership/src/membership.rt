@@ -1,9 +1,10 @@
 //! The membership facts.
-ghost use Rattle.std.specs.Prelude.{◌≡◌, ◌<◌, ◌≤◌, ◌+◌, ◌^◌, ℕ, None, Some, IfOk, IfSome, IsTrue, OnErr, OnOk, Option, false, filter, length, map, nat_lt, option_map};
-ghost use Rattle.std.specs.List.{list_all, list_any};
+ghost use Rattle.std.specs.Prelude.{◌≡◌, ◌<◌, ◌≤◌, ◌+◌, ◌^◌, ℕ, None, Some, IfOk, IfSome, IsTrue, OnErr, OnOk, Option, false, filter, length, map, nat_lt, option_map, true};
+ghost use Rattle.std.specs.List.{AllByRecursion, list_all, list_any};
 ghost use Rattle.std.specs.List.Sorted.{IsStrictlySortedBy};
 ghost use Rattle.std.specs.Ordering.{nat_cmp};
 ghost use Rattle.pim_ifset.specs.Members.{has};
+ghost use Rattle.pim_laws.specs.Laws.{is_under_source};
 ghost use Rattle.pim_model.specs.Clearing.{first_by};
 ghost use Rattle.pim_model.specs.Receivers.{is_exclude_among, local_receiver_exclude_among, local_receiver_include_among};
 ghost use Rattle.pim_model.specs.Records.{is_at_group};
@@ -34,7 +35,9 @@ use std::collections::btree_map::Iter;
 use std::marker::Model;
 
 /// The IGMP membership facts of the router (RFC 3376, sections 4 and 6). After want of memory in a call that changes
-/// them nothing is promised of what they are, but that all that is told of them is true.
+/// them nothing is promised of what they are, but that all that is told of them is true. What changes records raises the
+/// meter by the nodes that lead to what is listed of a group or a source, wherever a record comes or goes there, or its
+/// timer begins or ends to run.
 pub struct Membership {
     queriers: Timed<QuerierRow, Wheel>,
     group_records: Records<GroupRecordRow>,
@@ -158,22 +161,23 @@ impl Membership {
         iface: IfaceId,
         group: Addr,
         row: Option<GroupRecordRow>,
+        meter: &mut Meter,
     ) -> Result<(), AllocError>
         requires { iface.number < 120 }
         ensures { OnOk result (self.new ≡ record self.old {
           group_records = set_row self.old.group_records (star_key iface.number group.bits) row;
         }) }
     {
-        self.group_records.set(iface, group, None, row)
+        self.group_records.set(iface, group, None, row, meter)
     }
 
     /// Takes the group's record on the interface away.
-    pub fn remove_group_record(&mut self, iface: IfaceId, group: Addr)
+    pub fn remove_group_record(&mut self, iface: IfaceId, group: Addr, meter: &mut Meter)
         ensures { self.new ≡ record self.old {
           group_records = drop_at self.old.group_records (star_key iface.number group.bits);
         } }
     {
-        self.group_records.remove(iface, group, None);
+        self.group_records.remove(iface, group, None, meter);
     }
 
     /// Changes the group's record on the interface, if there is one, to this one. An error is want of memory.
@@ -182,6 +186,7 @@ impl Membership {
         iface: IfaceId,
         group: Addr,
         row: GroupRecordRow,
+        meter: &mut Meter,
     ) -> Result<(), AllocError>
         ensures to { OnOk result (self.new ≡ record self.old {
           group_records = change_row (λ _. Some row) (star_key iface.number group.bits) self.old.group_records;
@@ -193,7 +198,7 @@ impl Membership {
               group_records = change_row change (star_key iface.number group.bits) self.old.group_records;
             }) }
     {
-        self.group_records.change(iface, group, None, row)
+        self.group_records.change(iface, group, None, row, meter)
     }
 
     /// The record of the source of the group on the interface.
@@ -246,22 +251,45 @@ impl Membership {
         group: Addr,
         source: Addr,
         row: Option<SourceRecordRow>,
+        meter: &mut Meter,
     ) -> Result<(), AllocError>
         requires { iface.number < 120 }
         ensures { OnOk result (self.new ≡ record self.old {
           source_records = set_row self.old.source_records (source_key iface.number group.bits source.bits) row;
         }) }
     {
-        self.source_records.set(iface, group, Some(source), row)
+        self.source_records
+            .set(iface, group, Some(source), row, meter)
+    }
+
+    /// Takes the record of the source of the group on the interface away.
+    pub fn remove_source_record(
+        &mut self,
+        iface: IfaceId,
+        group: Addr,
+        source: Addr,
+        meter: &mut Meter,
+    )
+        ensures { self.new ≡ record self.old {
+          source_records = drop_at self.old.source_records (source_key iface.number group.bits source.bits);
+        } }
+    {
+        self.source_records
+            .remove(iface, group, Some(source), meter);
     }
 
     /// Changes the source record under the key, if there is one, to this one. An error is want of memory.
-    pub fn change_source_record(&mut self, key: Key, row: SourceRecordRow) -> Result<(), AllocError>
+    pub fn change_source_record(
+        &mut self,
+        key: Key,
+        row: SourceRecordRow,
+        meter: &mut Meter,
+    ) -> Result<(), AllocError>
         ensures { OnOk result (self.new ≡ record self.old {
           source_records = change_row (λ _. Some row) key self.old.source_records;
         }) }
     {
-        self.source_records.change_at(key, row)
+        self.source_records.change_at(key, row, meter)
     }
 
     /// Source records are under keys that rise.
@@ -271,13 +299,20 @@ impl Membership {
         self.source_records.recall_rising();
     }
 
+    /// Source records are each under the key of a source of a group.
+    pub fn recall_keyed_source_records(&self)
+        ensures { AllByRecursion (λ e. is_under_source e ≡ true) self.now.source_records }
+    {
+        self.source_records.recall_kind();
+    }
+
     /// Takes the source records of the group on the interface away.
-    pub fn drop_source_records(&mut self, iface: IfaceId, group: Addr)
+    pub fn drop_source_records(&mut self, iface: IfaceId, group: Addr, meter: &mut Meter)
         ensures { self.new ≡ record self.old {
           source_records = drop_where (is_at_group iface.number group.bits) self.old.source_records;
         } }
     {
-        self.source_records.drop_group(iface, group);
+        self.source_records.drop_group(iface, group, meter);
     }
 
     /// The repeats of a group's query that are still to leave, under the key.
@@ -421,7 +456,7 @@ impl Membership {
     }
 
     /// Takes all facts of the interface away.
-    pub fn drop_on(&mut self, iface: IfaceId)
+    pub fn drop_on(&mut self, iface: IfaceId, meter: &mut Meter)
         ensures { self.new ≡ record {
           queriers = drop_where (is_on iface.number) self.old.queriers;
           group_records = drop_where (is_on iface.number) self.old.group_records;
@@ -432,8 +467,8 @@ impl Membership {
         } }
     {
         self.queriers.drop_on(iface);
-        self.group_records.drop_on(iface);
-        self.source_records.drop_on(iface);
+        self.group_records.drop_on(iface, meter);
+        self.source_records.drop_on(iface, meter);
         self.drop_repeats_on(iface);
     }
 
@@ -456,13 +491,15 @@ impl Membership {
         &self,
         alloc: Global,
         group: Addr,
+        meter: &mut Meter,
     ) -> Result<BTreeMap<Addr, (), Global>, AllocError>
         ensures { IfOk result (λ found. map (λ e. (e.0).bits) found.entries ≡ sources_of group.bits (membership_keys self.now)) }
     {
         // It tells that no other fact is of a source.
         self.recall_keyed();
         let mut found = BTreeMap::new(alloc);
-        self.source_records.gather_sources(group, &mut found)?;
+        self.source_records
+            .gather_sources(group, &mut found, meter)?;
         self.sendings.gather_sources(group, &mut found)?;
         // It tells that the sources rise.
         let _ = found.len();

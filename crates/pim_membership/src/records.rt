@@ -180,18 +180,18 @@ impl<R: Record> Records<R> {
         &self,
         group: Addr,
         found: &mut BTreeMap<Addr, (), Global>,
+        meter: &mut Meter,
     ) -> Result<(), AllocError>
         ensures { OnOk result (Gathers found.old.entries found.new.entries group.bits self.now) }
     {
         // These tell that the keys rise, and of which form they are.
         self.recall_rising();
         self.recall_kind();
-        let mut uncounted = Meter::new();
-        for (key, _) in self.index.walk(group) {
+        for (key, _) in self.index.walk(group, meter) {
             let Some(source) = key.source else {
                 continue;
             };
-            if self.has_source(group, source, &mut uncounted) {
+            if self.has_source(group, source, meter) {
                 found.insert(source, ())?;
             }
         }
@@ -206,15 +206,16 @@ impl<R: Record> Records<R> {
         group: Addr,
         source: Option<Addr>,
         row: Option<R>,
+        meter: &mut Meter,
     ) -> Result<(), AllocError>
         requires below { iface.number < 120 }
         requires kind { is_some source ≡ R.of_sources }
         ensures { OnOk result (self.new ≡ set_row self.old (record_key iface.number group source) row) }
     {
         match row {
-            Some(row) => self.put(iface, group, source, row),
+            Some(row) => self.put(iface, group, source, row, meter),
             None => {
-                self.remove(iface, group, source);
+                self.remove(iface, group, source, meter);
                 Ok(())
             }
         }
@@ -227,28 +228,35 @@ impl<R: Record> Records<R> {
         group: Addr,
         source: Option<Addr>,
         row: R,
+        meter: &mut Meter,
     ) -> Result<(), AllocError>
         requires below { iface.number < 120 }
         requires kind { is_some source ≡ R.of_sources }
         ensures { OnOk result (self.new ≡ put self.old (record_key iface.number group source) row) }
     {
         let key = record_key(iface, group, source);
-        relist(&self.rows, &mut self.index, key, row)?;
+        relist(&self.rows, &mut self.index, key, row, meter)?;
         if let Err(refused) = self.rows.put(key, row) {
             // The record that was there may be listed otherwise now: it goes.
             self.rows.remove(key);
-            self.index.unlist(iface, group, source);
+            self.index.unlist(iface, group, source, meter);
             return Err(refused);
         }
         Ok(())
     }
 
     // Takes the record away.
-    pub(crate) fn remove(&mut self, iface: IfaceId, group: Addr, source: Option<Addr>)
+    pub(crate) fn remove(
+        &mut self,
+        iface: IfaceId,
+        group: Addr,
+        source: Option<Addr>,
+        meter: &mut Meter,
+    )
         ensures { self.new ≡ drop_at self.old (record_key iface.number group source) }
     {
         self.rows.remove(record_key(iface, group, source));
-        self.index.unlist(iface, group, source);
+        self.index.unlist(iface, group, source, meter);
     }
 
     // Changes the record, where there is one, to this one. An error is want of memory.
@@ -258,6 +266,7 @@ impl<R: Record> Records<R> {
         group: Addr,
         source: Option<Addr>,
         row: R,
+        meter: &mut Meter,
     ) -> Result<(), AllocError>
         ensures to { OnOk result (self.new
             ≡ change_row (λ _. Some row) (record_key iface.number group source) self.old) }
@@ -268,19 +277,24 @@ impl<R: Record> Records<R> {
         // What is put under a key that is there stands in its place.
         self.rows.recall_rising();
         if self.rows.contains(record_key(iface, group, source)) {
-            self.put(iface, group, source, row)?;
+            self.put(iface, group, source, row, meter)?;
         }
         Ok(())
     }
 
     // Changes the record under the key, where there is one, to this one. An error is want of memory.
-    pub(crate) fn change_at(&mut self, key: Key, row: R) -> Result<(), AllocError>
+    pub(crate) fn change_at(
+        &mut self,
+        key: Key,
+        row: R,
+        meter: &mut Meter,
+    ) -> Result<(), AllocError>
         ensures { OnOk result (self.new ≡ change_row (λ _. Some row) key self.old) }
     {
         // What is put under a key that is there stands in its place.
         self.rows.recall_rising();
         if self.rows.contains(key) {
-            self.put(key.iface, key.group, key.source, row)?;
+            self.put(key.iface, key.group, key.source, row, meter)?;
         }
         Ok(())
     }
@@ -304,20 +318,20 @@ impl<R: Record> Records<R> {
     }
 
     // Takes the group's records on the interface away.
-    pub(crate) fn drop_group(&mut self, iface: IfaceId, group: Addr)
+    pub(crate) fn drop_group(&mut self, iface: IfaceId, group: Addr, meter: &mut Meter)
         ensures { self.new ≡ drop_where (is_at_group iface.number group.bits) self.old }
     {
         while let Some(key) = self.first_of_group(iface, group) {
-            self.remove(key.iface, key.group, key.source);
+            self.remove(key.iface, key.group, key.source, meter);
         }
     }
 
     // Takes the interface's records away.
-    pub(crate) fn drop_on(&mut self, iface: IfaceId)
+    pub(crate) fn drop_on(&mut self, iface: IfaceId, meter: &mut Meter)
         ensures { self.new ≡ drop_where (is_on iface.number) self.old }
     {
         while let Some(key) = self.first_on(iface) {
-            self.remove(key.iface, key.group, key.source);
+            self.remove(key.iface, key.group, key.source, meter);
         }
     }
 }
@@ -341,11 +355,14 @@ fn relist<R: Record>(
     index: &mut Index,
     key: Key,
     row: R,
+    meter: &mut Meter,
 ) -> Result<(), AllocError>
     requires near { IsTrue (is_record_key key) }
     requires listed { IsListed R.runs R.of_sources index.old rows.now }
     ensures ok { OnOk result (Lists index.old index.new key (Some (R.runs row))) }
     ensures err { OnErr result (index.new ≡ index.old) }
+    ensures new { row_at rows.now key ≡ None
+        → meter.new ≡ raised meter.old (nodes_visited (keys_in index.old) key.group key.source) }
 {
     let is_running = row.is_running();
     if let Some(before) = rows.get(key) {
@@ -353,5 +370,5 @@ fn relist<R: Record>(
             return Ok(());
         }
     }
-    index.list(key.iface, key.group, key.source, is_running)
+    index.list(key.iface, key.group, key.source, is_running, meter)
 }

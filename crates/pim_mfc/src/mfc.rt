@@ -92,6 +92,7 @@ impl Mfc {
     pub fn cached(&self, group: Addr, source: Addr) -> Option<CacheRow>
         ensures { result ≡ option_map cache_row (kept_row self.now group.bits source.bits) }
     {
+        // No event looks this up.
         let mut uncounted = Meter::new();
         let row = self.rows.get(group, Some(source), &mut uncounted)?;
         Some(CacheRow::of(row))

@@ -1,18 +1,19 @@
 -- A trie filled with the values of a list, the last first.
 use Rattle.std.proofs.Common.{◌≡◌, ℕ, zero, suc, ◌+◌, ◌<◌, ◌≤◌, Bool, true, false, cond, eqb, not, ◌&&◌, ◌||◌, List, [], ◌∷◌, length, get_or, drop, map, Option, Some, None, option_map, is_some, refl, sym, ap, subst, ◌∙◌, arith, add-one}
 use Rattle.std.proofs.Math.Seq.{drop-cons}
-use Rattle.std.specs.List.{list_all, list_any, range_with_len}
+use Rattle.std.specs.List.{list_all, list_any}
 use Rattle.std.specs.Map.{lookup}
 use Rattle.std.specs.BTreeMap.{insert_entry, is_at}
 use Rattle.std.specs.declared.cmp.Ordering.{Ordering}
 use Rattle.std.specs.declared.cmp.Ordering.TheVariants.{Less, Equal, Greater}
 use Rattle.std.specs.Ordering.{is_eq, match_ordering, nat_cmp, ordering_then}
-use Rattle.std.specs.Prelude.{count_by, nat_le, nat_lt}
+use Rattle.std.specs.Prelude.{nat_lt}
 use Rattle.std.proofs.lemmas.Grind.{common_steps}
 use Rattle.pim_model.specs.Limits.{are_distinct, same_prefix}
 use Rattle.pim_ip.specs.declared.addr.Prefix.{Prefix}
 use Rattle.pim_ip.specs.Prefixes.{contains, longer, longest_match}
-use Rattle.pim_trie.specs.Entries.{is_canonical, nodes_along, passes, prefix_cmp}
+use Rattle.pim_trie.specs.Entries.{is_canonical, nodes_along, prefix_cmp}
+use Rattle.pim_trie.proofs.Counts.{along_same}
 use Rattle.pim_mrib.specs.Index.{IsIndexOf, entry_of, nodes_visited}
 use Rattle.pim_mrib.proofs.Inserted.{any-insert, is_some-lookup}
 use Rattle.pim_mrib.proofs.Longest.{candidates_swap, ties_are_equal, with_candidate}
@@ -281,11 +282,9 @@ module _ {T : Type 0} (prefix_of : T → Prefix) where
 
   pub index_nodes : (values : List T) (es : List (Prefix × T)) (address : ℕ) → IsIndexOf prefix_of values es
       → nodes_along es address 32 ≡ nodes_visited prefix_of values address
-  unfolding nodes_visited nodes_along passes
+  unfolding nodes_visited
   index_nodes values es address index =
-      λ i. count_by (λ length. index.holds
-      (λ (e : Prefix × T). nat_le length e.0.length
-      && contains (record { address = e.0.address; length = length }) address) i) (range_with_len 0 33)
+      along_same es (map (entry_of prefix_of) values) (λ test. index.holds (λ (e : Prefix × T). test e.0)) address 32
 
   -- what it finds is what the list has
 

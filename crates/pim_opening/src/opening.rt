@@ -113,7 +113,7 @@ fn open_group(
     ensures silent { turn.new ≡ turn.old }
 {
     let star = StarSight::of(world, group, &mut turn.meter);
-    let sources = touched_sources(turn.alloc, world, touched, group)?;
+    let sources = touched_sources(turn.alloc, world, touched, group, &mut turn.meter)?;
     let sources = open_sources(world, turn, &star, &sources)?;
     Ok(GroupOpening {
         group,

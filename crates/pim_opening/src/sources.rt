@@ -8,7 +8,7 @@ ghost use Rattle.pim_opening.specs.Openings.{facts_of_whole, is_of_all, touched_
 
 use pim_types::{Addr, Key};
 use pim_world::sources::gather_source;
-use pim_world::{Touched, World};
+use pim_world::{Meter, Touched, World};
 use std::alloc::{AllocError, Global};
 use std::collections::BTreeMap;
 
@@ -52,12 +52,13 @@ fn sources_of_whole(
     world: &World,
     keys: &[Key],
     group: Addr,
+    meter: &mut Meter,
 ) -> Result<BTreeMap<Addr, (), Global>, AllocError>
     ensures { IfOk result (λ found. numbers_of found.entries
         ≡ sources_of group.bits (facts_of_whole world.now keys.now group.bits)) }
 {
     if is_whole(keys, group) {
-        return world.sources(alloc, group);
+        return world.sources(alloc, group, meter);
     }
     Ok(BTreeMap::new(alloc))
 }
@@ -69,16 +70,17 @@ pub fn touched_sources(
     world: &World,
     touched: &Touched,
     group: Addr,
+    meter: &mut Meter,
 ) -> Result<BTreeMap<Addr, (), Global>, AllocError>
     ensures { IfOk result (λ found. numbers_of found.entries ≡ touched_sources world.now touched.now group.bits) }
 {
     match touched {
         Touched::All => {
-            let found = world.sources(alloc, group)?;
+            let found = world.sources(alloc, group, meter)?;
             Ok(found)
         }
         Touched::Keys(keys) => {
-            let mut found = sources_of_whole(alloc, world, keys.as_slice(), group)?;
+            let mut found = sources_of_whole(alloc, world, keys.as_slice(), group, meter)?;
             gather_named(keys.as_slice(), group, &mut found)?;
             Ok(found)
         }

@@ -33,8 +33,10 @@ fn push_group(
 ) -> Result<(), AllocError>
     ensures { OnOk result (rows.new.items ≡ rows.old.items ++ lines_of_group world.now group.bits) }
 {
-    let star = StarSight::of(world, group, &mut Meter::new());
-    for (source, ()) in world.sources(alloc, group)?.iter() {
+    // No event looks this up.
+    let mut uncounted = Meter::new();
+    let star = StarSight::of(world, group, &mut uncounted);
+    for (source, ()) in world.sources(alloc, group, &mut uncounted)?.iter() {
         push_source(world, &star, *source, rows)?;
     }
     Ok(())
@@ -51,7 +53,8 @@ fn push_source(
     ensures { OnOk result (rows.new.items ≡ rows.old.items
         ++ tree_line star.now.group.bits source.bits (tree_state world.now star.now.group.bits source.bits)) }
 {
-    let sight = SourceSight::of(world, *star, source, &mut Meter::new());
+    let mut uncounted = Meter::new();
+    let sight = SourceSight::of(world, *star, source, &mut uncounted);
     let is_pruned = match sight.tree_state() {
         TreeState::NotJoined => return Ok(()),
         TreeState::Pruned => true,

@@ -1,10 +1,9 @@
 -- The record of a group whose interface is below 120 where it has sources, and after a timer of it has ended.
-use Rattle.std.proofs.Common.{◌≡◌, ℕ, ◌<◌, ◌≤◌, Bool, true, false, ◌==◌, List, None, Result, Ok, Err, IfOk, length, refl, ap, subst, sym, ◌∙◌, arith}
+use Rattle.std.proofs.Common.{◌≡◌, ℕ, ◌<◌, ◌≤◌, List, Result, Ok, Err, IfOk, length, refl, ap, subst, sym, ◌∙◌, arith}
 use Rattle.std.proofs.lemmas.List.{length-map}
-use Rattle.std.specs.Prelude.{if◌then◌else◌, is_some}
 use Rattle.pim_filters.specs.Members.{entries_of, entry_of}
 use Rattle.pim_filters.specs.declared.member.Member.{Member}
-use Rattle.pim_model.specs.Records.{GroupRecord, group_expired, source_expired, Member as Entry}
+use Rattle.pim_model.specs.Records.{GroupRecord, group_expired, Member as Entry}
 use Rattle.pim_laws.proofs.ListLaws.{filter_shorter}
 
 -- the interface of this number is below 120 where there is an entry
@@ -32,16 +31,3 @@ module _ (n : ℕ) where
   group_near now r after is near =
       subst (λ (x : GroupRecord). IsNear n x.members) (sym is)
       (fewer (length (group_expired now r).members) (length r.members) (filter_shorter _ r.members) near)
-
-  source_fewer : (src : ℕ) (r : GroupRecord) (b : Bool) → is_some r.timer ≡ b
-      → length (source_expired src r).members ≤ length r.members
-  unfolding source_expired
-  source_fewer src r true is =
-      rw is (omega (arith, length-map r.members (λ (m : Entry). if m.0 == src then (src, None) else m)))
-  source_fewer src r false is = rw is (filter_shorter _ r.members)
-
-  pub source_near : (src : ℕ) (r after : GroupRecord) → after ≡ source_expired src r → IsNear n r.members
-      → IsNear n after.members
-  source_near src r after is near =
-      subst (λ (x : GroupRecord). IsNear n x.members) (sym is)
-      (fewer (length (source_expired src r).members) (length r.members) (source_fewer src r (is_some r.timer) refl) near)

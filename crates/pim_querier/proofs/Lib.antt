@@ -10,3 +10,4 @@ mod Queried
 mod Reported
 mod Sent
 mod Starting
+pub mod OneSource

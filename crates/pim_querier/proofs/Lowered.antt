@@ -1,128 +1,198 @@
 -- Source records that are lowered one after the other, and all at once.
-use Rattle.std.proofs.Common.{◌≡◌, ◌<◌, ◌+◌, ℕ, Bool, true, false, cond, ◌||◌, ◌==◌, List, [], ◌∷◌, ◌++◌, add-one, drop, drop-cons, get_or, length, map, take, Option, Some, refl, sym, ap, ◌∙◌, arith}
-use Rattle.std.specs.List.{cons_option, filter, filter_map, list_any}
+use Rattle.std.proofs.Common.{◌≡◌, ℕ, Bool, true, false, cond, ◌&&◌, ◌||◌, ◌==◌, List, [], ◌∷◌, fold, map, min, Option, Some, None, option_map, refl, sym, subst, ap, ◌∙◌, arith}
+use Rattle.std.specs.List.{AllByRecursion, cons_option}
 use Rattle.std.specs.List.Sorted.{IsStrictlySortedBy}
-use Rattle.std.specs.Ordering.{is_eq, nat_cmp}
-use Rattle.std.specs.Prelude.{fold, if◌then◌else◌}
+use Rattle.std.specs.Ordering.{is_eq}
+use Rattle.std.specs.Prelude.{if◌then◌else◌}
 use Rattle.std.proofs.lemmas.Bool.Decides.{nat_tests}
-use Rattle.std.proofs.lemmas.List.Folds.{list_any_more}
-use Rattle.pim_filters.specs.Members.{is_named}
+use Rattle.std.specs.declared.cmp.Ordering.TheVariants.{Less}
 use Rattle.pim_ip.specs.declared.addr.Addr.{Addr}
 use Rattle.pim_types.specs.declared.fact.Key.{Key}
 use Rattle.pim_types.specs.declared.fact.SourceRecordRow.{SourceRecordRow}
-use Rattle.pim_types.specs.Keys.{key_cmp, source_in}
+use Rattle.pim_types.specs.Keys.{key_cmp, same_key, source_in, source_key}
+use Rattle.pim_types.proofs.Keys.{equal_keys}
 use Rattle.pim_model.specs.Querier.{lower_sources, lowered}
 use Rattle.pim_model.specs.Records.{is_at_group}
 use Rattle.pim_model.specs.State.{State}
-use Rattle.pim_model.specs.Tables.{Table, change_row, is_among, keys_in}
+use Rattle.pim_model.specs.Tables.{Table, change_row, changed_entry, is_among, keys_in, row_at}
+use Rattle.pim_laws.specs.Laws.{is_under_source}
+use Rattle.pim_laws.proofs.ListLaws.{each_map}
+use Rattle.pim_querier.specs.Changes.{each_lowered, one_lowered, source_lowered}
 use Rattle.pim_querier.specs.Queries.{bits_of}
-use Rattle.pim_querier.specs.Changes.{each_changed, record_changed, records_changed, source_lowered}
-use Rattle.pim_querier.proofs.EachOnce.{both, each_is_changed_once, filter_both}
+use Rattle.pim_querier.proofs.OneSource.{AreSources, same_source}
 
--- ---- one of a walk that passes a test
+-- ---- a row that is read, and written where it was
 
-module _ {X : Type 0} (test : X → Bool) where
-  pub one_passed : (kept whole : List X) (x : X) (left rest : List X) → left ≡ x ∷ rest → test x ≡ false
-      → kept ++ filter test left ≡ whole → kept ++ filter test rest ≡ whole
-  one_passed kept whole x left rest is miss so_far =
-      ap (λ (xs : List X). kept ++ xs) (sym (here (test x) miss) ∙ ap (filter test) (sym is)) ∙ so_far
+above_of : {R : Type 0} (k : Key) (t : Table R) → AllByRecursion (λ q. key_cmp k q ≡ Less) (map (λ e. e.0) t)
+    → AllByRecursion (λ (e : Key × R). same_key k e.0 ≡ false) t
+above_of k [] below = tt
+above_of k (e ∷ t) below = (ap is_eq below.0, above_of k t below.1)
+
+module _ {R : Type 0} (k : Key) where
+  abbrev Apart : Table R → Type 0
+  Apart t = AllByRecursion (λ (e : Key × R). same_key k e.0 ≡ false) t
+
+  unchanged : (c : R → Option R) (t : Table R) → Apart t → change_row c k t ≡ t
+  unfolding change_row changed_entry
+  unchanged c [] apart = refl
+  unchanged c (e ∷ t) apart = rw apart.0 (ap (λ (u : Table R). e ∷ u) (unchanged c t apart.1))
+
+  none_step : (c : R → Option R) (e : Key × R) (t : Table R) (b : Bool) → cond b (Some e.1) (row_at t k) ≡ None
+      → (row_at t k ≡ None → change_row c k t ≡ t)
+      → cons_option (cond b (option_map (λ (r : R). let p : Key × R = (e.0, r) in p) (c e.1)) (Some e)) (change_row c k t)
+      ≡ e ∷ t
+  none_step c e t true none rest = cc
+  none_step c e t false none rest = ap (λ (u : Table R). e ∷ u) (rest none)
+
+  -- where there is none, nothing changes
+  pub none_changed : (c : R → Option R) (t : Table R) → row_at t k ≡ None → change_row c k t ≡ t
+  unfolding change_row changed_entry row_at
+  none_changed c [] none = refl
+  none_changed c (e ∷ t) none = none_step c e t (same_key k e.0) none (none_changed c t)
+
+  module _ (f : R → R) (r : R) where
+    some_step : (e : Key × R) (t : Table R) (b : Bool) → cond b (Some e.1) (row_at t k) ≡ Some r
+        → (b ≡ true → Apart t)
+        → (row_at t k ≡ Some r → change_row (λ _. Some (f r)) k t ≡ change_row (λ x. Some (f x)) k t)
+        → cons_option (cond b (Some (let p : Key × R = (e.0, f r) in p)) (Some e)) (change_row (λ _. Some (f r)) k t)
+        ≡ cons_option (cond b (Some (let p : Key × R = (e.0, f e.1) in p)) (Some e)) (change_row (λ x. Some (f x)) k t)
+    some_step e t true is apart rest =
+        let same : r ≡ e.1 = cc in
+        ap (λ (x : R). let p : Key × R = (e.0, f x) in p ∷ change_row (λ _. Some (f r)) k t) same
+        ∙ ap (λ (u : Table R). (e.0, f e.1) ∷ u)
+        (unchanged (λ _. Some (f r)) t (apart refl) ∙ sym (unchanged (λ x. Some (f x)) t (apart refl)))
+    some_step e t false is apart rest = ap (λ (u : Table R). e ∷ u) (rest is)
+
+    -- a row that is written as it was read
+    pub read_changed : (t : Table R) → IsStrictlySortedBy key_cmp (map (λ e. e.0) t) → row_at t k ≡ Some r
+        → change_row (λ _. Some (f r)) k t ≡ change_row (λ x. Some (f x)) k t
+    unfolding change_row changed_entry row_at IsStrictlySortedBy
+    read_changed [] rise is = refl
+    read_changed (e ∷ t) rise is =
+        some_step e t (same_key k e.0) is
+        (λ same. subst (λ (q : Key). AllByRecursion (λ (x : Key × R). same_key q x.0 ≡ false) t)
+        (sym (equal_keys k e.0 same)) (above_of e.0 t rise.0)) (read_changed t rise.1)
+
+module _ (i g end : ℕ) where
+  abbrev Entry : Type 0
+  Entry = Key × SourceRecordRow
+
+  abbrev low : SourceRecordRow → SourceRecordRow
+  low r = record { end = lowered end r.end }
+
+  abbrev lower_at : Table SourceRecordRow → ℕ → Table SourceRecordRow
+  lower_at t n = change_row (source_lowered end) (source_key i g n) t
+
+  abbrev low_one : ℕ → Entry → Entry
+  low_one n e = if is_at_group i g e.0 && (source_in e.0 == n) then (e.0, low e.1) else e
+
+  abbrev low_all : List ℕ → Entry → Entry
+  low_all ns e = if is_at_group i g e.0 && is_among (source_in e.0) ns then (e.0, low e.1) else e
+
+  one_step : (e : Entry) (t : Table SourceRecordRow) (b c : Bool) → b ≡ c
+      → cons_option (cond b (Some (let p : Entry = (e.0, low e.1) in p)) (Some e)) t
+      ≡ (if c then (e.0, low e.1) else e) ∷ t
+  one_step e t b true is = rw is refl
+  one_step e t b false is = rw is refl
+
+  one_mapped : (n : ℕ) (t : Table SourceRecordRow) → AreSources t → lower_at t n ≡ map (low_one n) t
+  unfolding change_row changed_entry
+  one_mapped n [] under = refl
+  one_mapped n (e ∷ t) under =
+      one_step e (lower_at t n) (same_key (source_key i g n) e.0) (is_at_group i g e.0 && (source_in e.0 == n))
+      (same_source i g n e under.0)
+      ∙ ap (λ (u : Table SourceRecordRow). low_one n e ∷ u) (one_mapped n t under.1)
+
+  twice : (o : Option ℕ) → lowered end (lowered end o) ≡ lowered end o
+  twice None = refl
+  twice (Some n) = ap Some (least n)
     where
-      here : (b : Bool) → b ≡ false → (if b then x ∷ filter test rest else filter test rest) ≡ filter test rest
-      here true e = cc
-      here false e = refl
+      least : (m : ℕ) → min (min m end) end ≡ min m end
+      least m = omega arith
 
--- ---- changes that keep each entry
+  kept_key : (n : ℕ) (e : Entry) (b : Bool) → (if b then (e.0, low e.1) else e).0 ≡ e.0
+  kept_key n e true = refl
+  kept_key n e false = refl
 
-module _ {X : Type 0} (p : X → Bool) (f : X → X) where
-  mapped_step : (b : Bool) (x : X) (xs : List X)
-      → filter_map (λ y. if p y then Some (f y) else Some y) xs ≡ map (λ y. if p y then f y else y) xs
-      → cons_option (if b then Some (f x) else Some x) (filter_map (λ y. if p y then Some (f y) else Some y) xs)
-      ≡ (if b then f x else x) ∷ map (λ y. if p y then f y else y) xs
-  mapped_step true x xs rest = ap (λ (ys : List X). f x ∷ ys) rest
-  mapped_step false x xs rest = ap (λ (ys : List X). x ∷ ys) rest
+  both_step : (ns : List ℕ) (e : Entry) (a b c : Bool)
+      → (let x : Entry = if a && b then (e.0, low e.1) else e in if a && c then (let y : Entry = (x.0, low x.1) in y) else x)
+      ≡ (if a && (b || c) then (e.0, low e.1) else e)
+  both_step ns e true true true = ap (λ (o : Option ℕ). let x : Entry = (e.0, record { end = o }) in x) (twice (e.1).end)
+  both_step ns e true true false = refl
+  both_step ns e true false c = refl
+  both_step ns e false b c = refl
 
-  each_mapped : (xs : List X)
-      → filter_map (λ y. if p y then Some (f y) else Some y) xs ≡ map (λ y. if p y then f y else y) xs
-  each_mapped [] = refl
-  each_mapped (x ∷ xs) = mapped_step (p x) x xs (each_mapped xs)
+  turned : (m n : ℕ) → (m == n) ≡ (n == m)
+  turned m n = grind (arith, nat_tests)
 
-records_in_table : (change : SourceRecordRow → Option SourceRecordRow) (es : Table SourceRecordRow) (s : State)
-    → records_changed change s es ≡ record s { source_records = each_changed change s.source_records es }
-unfolding records_changed record_changed each_changed
-records_in_table change [] s = refl
-records_in_table change (e ∷ es) s = records_in_table change es (record_changed change s e)
+  both_lowered : (n : ℕ) (ns : List ℕ) (e : Entry) → low_all ns (low_one n e) ≡ low_all (n ∷ ns) e
+  unfolding is_among
+  both_lowered n ns e =
+      ap (λ (k : Key). if is_at_group i g k && is_among (source_in k) ns then (let y : Entry = ((low_one n e).0, low (low_one n e).1) in y) else low_one n e)
+      (kept_key n e (is_at_group i g e.0 && (source_in e.0 == n)))
+      ∙ both_step ns e (is_at_group i g e.0) (source_in e.0 == n) (is_among (source_in e.0) ns)
+      ∙ ap (λ (b : Bool). if is_at_group i g e.0 && (b || is_among (source_in e.0) ns) then (let y : Entry = (e.0, low e.1) in y) else e)
+      (turned (source_in e.0) n)
 
-pub one_more_lowered : (end : ℕ) (es : Table SourceRecordRow) (k : ℕ) (e d : Key × SourceRecordRow)
-    (s after whole : State) (row : Option ℕ) → k < length es → e ≡ get_or es k d → row ≡ lowered end (e.1).end
-    → after ≡ record s { source_records = change_row (λ _. Some (record { end = row })) e.0 s.source_records }
-    → fold (record_changed (source_lowered end)) s (drop k es) ≡ whole
-    → fold (record_changed (source_lowered end)) after (drop (k + 1) es) ≡ whole
-unfolding record_changed
-one_more_lowered end es k e d s after whole row inside is less changed so_far =
-    let split : drop k es ≡ e ∷ drop (k + 1) es =
-    drop-cons es k d inside ∙ ap (λ (n : ℕ). get_or es k d ∷ drop n es) (sym (add-one k))
-    ∙ ap (λ (x : Key × SourceRecordRow). x ∷ drop (k + 1) es) (sym is) in
-    ap (λ (t : State). fold (record_changed (source_lowered end)) t (drop (k + 1) es))
-    (changed
-    ∙ ap (λ (o : Option ℕ). let t : State = record s {
-      source_records = change_row (λ _. Some (record { end = o })) e.0 s.source_records;
-    } in t) less)
-    ∙ ap (λ (xs : Table SourceRecordRow). fold (record_changed (source_lowered end)) s xs) (sym split) ∙ so_far
+  all_both : (n : ℕ) (ns : List ℕ) (t : Table SourceRecordRow) → map (low_all ns) (map (low_one n) t) ≡ map (low_all (n ∷ ns)) t
+  all_both n ns [] = refl
+  all_both n ns (e ∷ t) = λ j. both_lowered n ns e j ∷ all_both n ns t j
 
--- ---- the sources as a set
+  still_sources : (n : ℕ) (t : Table SourceRecordRow) → AreSources t → AreSources (map (low_one n) t)
+  still_sources n t under =
+      each_map (λ (e : Entry). is_under_source e ≡ true) (λ (e : Entry). is_under_source e ≡ true) (low_one n)
+      (λ e is. subst (λ (k : Key). is_under_source (k, (low_one n e).1) ≡ true)
+      (sym (kept_key n e (is_at_group i g e.0 && (source_in e.0 == n)))) is) t under
 
-ties : (m n : ℕ) → is_eq (nat_cmp n m) ≡ (m == n)
-ties m n = grind (arith, nat_tests)
+  none_low : (e : Entry) (a : Bool) → e ≡ (if a && false then (e.0, low e.1) else e)
+  none_low e true = refl
+  none_low e false = refl
 
-abbrev holds : ℕ → List Addr → Bool
-holds src set = list_any (λ (a : Addr). is_eq (nat_cmp src a.bits)) set
+  none_mapped : (t : Table SourceRecordRow) → t ≡ map (low_all []) t
+  unfolding is_among
+  none_mapped [] = refl
+  none_mapped (e ∷ t) = λ j. none_low e (is_at_group i g e.0) j ∷ none_mapped t j
 
-pub held_is_named : (src : ℕ) (set : List Addr) → holds src set ≡ is_named src set
-held_is_named src [] = refl
-held_is_named src (a ∷ set) = λ j. ties a.bits src j || held_is_named src set j
+  all_lowered : (ns : List ℕ) (t : Table SourceRecordRow) → AreSources t → fold lower_at t ns ≡ map (low_all ns) t
+  all_lowered [] t under = none_mapped t
+  all_lowered (n ∷ ns) t under =
+      ap (λ (u : Table SourceRecordRow). fold lower_at u ns) (one_mapped n t under)
+      ∙ all_lowered ns (map (low_one n) t) (still_sources n t under) ∙ all_both n ns t
 
-module _ (src : ℕ) (a : Addr) (set more : List Addr)
-    (put : (b : Addr) → holds b.bits more ≡ cond (is_eq (nat_cmp a.bits b.bits)) true (holds b.bits set)) where
-  put_by : (b c : Bool) → cond b true c ≡ (c || b)
-  put_by true true = refl
-  put_by true false = refl
-  put_by false true = refl
-  put_by false false = refl
+  in_table : (s : State) (sources : List Addr)
+      → each_lowered i g end s sources ≡ record s { source_records = fold lower_at s.source_records (bits_of sources) }
+  unfolding each_lowered one_lowered
+  in_table s [] = refl
+  in_table s (a ∷ sources) = in_table (one_lowered i g end s a) sources
 
-  pub one_more_named : (sources : List Addr) (k : ℕ) (d : Addr) → k < length sources → a ≡ get_or sources k d
-      → is_named src set ≡ is_named src (take k sources) → is_named src more ≡ is_named src (take (k + 1) sources)
-  one_more_named sources k d inside is so_far =
-      sym (held_is_named src more) ∙ put (record { bits = src })
-      ∙ put_by (is_eq (nat_cmp a.bits src)) (holds src set)
-      ∙ (λ j. (held_is_named src set ∙ so_far) j || (ties src a.bits ∙ turned src a.bits) j)
-      ∙ ap (λ (x : Addr). is_named src (take k sources) || (x.bits == src)) is
-      ∙ sym (list_any_more (λ (x : Addr). x.bits == src) sources k d inside)
-    where
-      turned : (m n : ℕ) → (m == n) ≡ (n == m)
-      turned m n = grind (arith, nat_tests)
+  pub sources_lowered : (s : State) (sources : List Addr) → AreSources s.source_records
+      → each_lowered i g end s sources ≡ lower_sources s i g (bits_of sources) end
+  unfolding lower_sources
+  sources_lowered s sources under =
+      in_table s sources
+      ∙ ap (λ (t : Table SourceRecordRow). let u : State = record s { source_records = t } in u)
+      (all_lowered (bits_of sources) s.source_records under)
 
-named_by_bits : (src : ℕ) (sources : List Addr) → is_named src sources ≡ is_among src (bits_of sources)
-unfolding is_among
-named_by_bits src [] = refl
-named_by_bits src (a ∷ sources) = ap (λ (b : Bool). (a.bits == src) || b) (named_by_bits src sources)
+  -- the timer of one source, read and written
+  pub lowered_as_read : (s after : State) (a : Addr) (k : Key) (r : SourceRecordRow) (low_end : Option ℕ)
+      → IsStrictlySortedBy key_cmp (keys_in s.source_records)
+      → Some r ≡ row_at s.source_records (source_key i g a.bits) → k ≡ source_key i g a.bits
+      → low_end ≡ lowered end r.end
+      → after ≡ (let t : State = record s {
+        source_records = change_row (λ _. Some (record { end = low_end })) k s.source_records;
+      } in t) → after ≡ one_lowered i g end s a
+  unfolding one_lowered keys_in
+  lowered_as_read s after a k r low_end rise found own less is =
+      let with_rows : Table SourceRecordRow → State = λ t. record s { source_records = t } in
+      is
+      ∙ ap (λ (q : Key). with_rows (change_row (λ _. Some (record { end = low_end })) q s.source_records)) own
+      ∙ ap (λ (o : Option ℕ). with_rows (change_row (λ _. Some (record { end = o })) (source_key i g a.bits) s.source_records))
+      less
+      ∙ ap with_rows (read_changed (source_key i g a.bits) low r s.source_records rise (sym found))
 
-pub all_lowered : (s : State) (i g : ℕ) (sources set : List Addr) (end : ℕ) (es : Table SourceRecordRow)
-    → ((n : ℕ) → is_named n set ≡ is_named n sources)
-    → es ≡ filter (λ e. is_named (source_in e.0) set) (filter (λ e. is_at_group i g e.0) s.source_records)
-    → IsStrictlySortedBy key_cmp (keys_in s.source_records)
-    → records_changed (source_lowered end) s es ≡ lower_sources s i g (bits_of sources) end
-unfolding lower_sources
-all_lowered s i g sources set end es same are rise =
-    let here : Key × SourceRecordRow → Bool = λ e. is_at_group i g e.0 in
-    let named : Key × SourceRecordRow → Bool = λ e. is_among (source_in e.0) (bits_of sources) in
-    let low : Key × SourceRecordRow → Key × SourceRecordRow = λ e. (e.0, record { end = lowered end (e.1).end }) in
-    let with_records : Table SourceRecordRow → State = λ t. record s { source_records = t } in
-    records_in_table (source_lowered end) es s
-    ∙ ap with_records
-    (ap (λ (xs : Table SourceRecordRow). each_changed (source_lowered end) s.source_records xs)
-    (are
-    ∙ ap (λ (q : Key × SourceRecordRow → Bool). filter q (filter here s.source_records))
-    (λ j e. (same (source_in e.0) ∙ named_by_bits (source_in e.0) sources) j)
-    ∙ filter_both here named s.source_records)
-    ∙ each_is_changed_once (source_lowered end) (both here named) s.source_records rise
-    ∙ each_mapped (both here named) low s.source_records)
+  pub none_lowered : (s : State) (a : Addr) → None ≡ row_at s.source_records (source_key i g a.bits)
+      → s ≡ one_lowered i g end s a
+  unfolding one_lowered
+  none_lowered s a none =
+      ap (λ (t : Table SourceRecordRow). let u : State = record s { source_records = t } in u)
+      (sym (none_changed (source_key i g a.bits) (source_lowered end) s.source_records (sym none)))

@@ -130,3 +130,9 @@ on_ok (Err e) p = tt
 pub then_ok : {A E : Type 0} {P Q : Type 0} (r : Result A E) → (P → Q) → OnOk r P → OnOk r Q
 then_ok (Ok a) f p = f p
 then_ok (Err e) f p = tt
+
+-- what is said of one state and of its change is said of both under other names
+pub said_as : (told before now : Taking) (p q : State × List Message) → told ≡ saying before p.1 → before ≡ now → p ≡ q
+    → told ≡ saying now q.1
+said_as told before now p q said turn same =
+    said ∙ ap (λ (t : Taking). saying t p.1) turn ∙ ap (λ (x : State × List Message). saying now x.1) same

@@ -1,6 +1,6 @@
 -- Rows that are changed key by key, and the members of a group's record.
 use Rattle.std.specs.List.{list_any}
-use Rattle.std.specs.Prelude.{Bool, List, None, Option, Some, fold, if◌then◌else◌, map, nat_lt, ℕ, ◌+◌, ◌-◌}
+use Rattle.std.specs.Prelude.{Bool, List, None, Option, Some, fold, if◌then◌else◌, map, nat_lt, not, ℕ, ◌+◌, ◌-◌}
 use Rattle.pim_filters.specs.Members.{entry_of}
 use Rattle.pim_filters.specs.declared.member.Member.{Member}
 use Rattle.igmp_wire.specs.Values.{Record}
@@ -11,7 +11,7 @@ use Rattle.pim_types.specs.declared.fact.SendingRow.{SendingRow}
 use Rattle.pim_types.specs.declared.fact.SourceRecordRow.{SourceRecordRow}
 use Rattle.pim_types.specs.Keys.{source_in, source_key, star_key}
 use Rattle.pim_model.specs.Querier.{group_membership_interval, is_sending, last_member_query_interval, lowered}
-use Rattle.pim_model.specs.Records.{Asked, GroupRecord, apply_record, put_member, record_of}
+use Rattle.pim_model.specs.Records.{Asked, GroupRecord, apply_record, is_at_group, put_member, record_of}
 use Rattle.pim_model.specs.State.{State}
 use Rattle.pim_model.specs.Tables.{Table, change_row, drop_at, has_row, put}
 
@@ -51,6 +51,17 @@ abbrev pub without_empty : Bool → ℕ → ℕ → State → State
 without_empty is_none i g s =
     record s { group_records = (if is_none then drop_at s.group_records (star_key i g) else s.group_records) }
 
+-- a source without an end, where it has a record
+abbrev pub with_excluded : ℕ → ℕ → ℕ → State → State
+with_excluded i g src s =
+    record s { source_records = change_row (λ _. Some (record { end = None })) (source_key i g src) s.source_records }
+
+-- without the record of a source, and without that of the group where no source is left
+abbrev pub without_source : ℕ → ℕ → ℕ → State → State
+without_source i g src s =
+    let left : Table SourceRecordRow = drop_at s.source_records (source_key i g src) in
+    without_empty (not (list_any (λ e. is_at_group i g e.0) left)) i g (record s { source_records = left })
+
 -- without the repeats of what has no sendings, and of what has no record
 abbrev pub without_source_repeat : ℕ → ℕ → State → State
 without_source_repeat i g s = record s {
@@ -68,12 +79,14 @@ without_group_repeat i g s = record s {
 abbrev pub source_lowered : ℕ → SourceRecordRow → Option SourceRecordRow
 source_lowered end r = Some (record { end = lowered end r.end })
 
--- the source records under these entries' keys changed, one after the other
-unfoldable pub record_changed : (SourceRecordRow → Option SourceRecordRow) → State → Key × SourceRecordRow → State
-record_changed change s e = record s { source_records = change_row (λ _. change e.1) e.0 s.source_records }
+-- the timer of a source of a group lowered to an end, where it has a record
+unfoldable pub one_lowered : ℕ → ℕ → ℕ → State → Addr → State
+one_lowered i g end s a =
+    record s { source_records = change_row (source_lowered end) (source_key i g a.bits) s.source_records }
 
-unfoldable pub records_changed : (SourceRecordRow → Option SourceRecordRow) → State → Table SourceRecordRow → State
-records_changed change s entries = fold (record_changed change) s entries
+-- those of these sources, one after the other
+unfoldable pub each_lowered : ℕ → ℕ → ℕ → State → List Addr → State
+each_lowered i g end s sources = fold (one_lowered i g end) s sources
 
 -- these sources of a group to be named in so many queries, one after the other
 unfoldable pub sending_put : ℕ → ℕ → SendingRow → State → Addr → State

@@ -33,7 +33,7 @@ fn query_group(
         next: world.present() + last_member_query_interval(world),
         left: u32::from(robustness(world, iface)).saturating_sub(1),
     };
-    world.lower_group(iface, group, query_end(world, iface))?;
+    world.lower_group(iface, group, query_end(world, iface), &mut turn.meter)?;
     world
         .membership_mut()
         .set_group_repeat(iface, group, Some(repeat))?;
@@ -103,7 +103,7 @@ fn query_sources(
     let row = SendingRow {
         left: u32::from(robustness(world, iface)),
     };
-    lower_sources(world, turn.alloc, iface, group, &sources, end)?;
+    lower_sources(world, &mut turn.meter, iface, group, &sources, end)?;
     put_sendings(world, iface, group, &sources, row)?;
     send_sources(world, turn, iface, group)
 }

@@ -63,9 +63,22 @@ pub fn fired(
     ensures messages { OnOk result (turn.new ≡ saying turn.old (fired world.old kind key).1) }
 {
     match kind {
-        TimerKind::GroupRecord => group_record_due(world, turn.alloc, key.iface, key.group),
+        TimerKind::GroupRecord => group_record_due(
+            world,
+            &mut turn.meter,
+            turn.alloc,
+            key.iface,
+            key.group,
+        ),
         TimerKind::SourceRecord => {
-            source_record_due(world, turn.alloc, key.iface, key.group, source_in(key))
+            source_record_due(
+                world,
+                &mut turn.meter,
+                turn.alloc,
+                key.iface,
+                key.group,
+                source_in(key),
+            )
         }
         TimerKind::OtherQuerier => other_querier_gone(world, turn, key.iface),
         TimerKind::GroupRepeat => group_repeat_fired(world, turn, key),

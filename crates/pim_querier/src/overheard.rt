@@ -9,7 +9,7 @@ use crate::intervals::query_end;
 use crate::lowering::lower_sources;
 use igmp_wire::{QueryView, code_value};
 use pim_types::{Addr, IfaceId};
-use pim_world::{Turn, World};
+use pim_world::{Meter, Turn, World};
 use std::alloc::{AllocError, Global};
 
 // The sources that the query names, in its order.
@@ -34,6 +34,7 @@ fn is_lower_querier(world: &World, iface: IfaceId, from: Addr) -> bool
 #[tactic(auto, unfolding(pim_model::specs::Querier::lower_queried))]
 fn lower_queried(
     world: &mut World,
+    meter: &mut Meter,
     alloc: Global,
     iface: IfaceId,
     query: &QueryView<'_>,
@@ -47,9 +48,9 @@ fn lower_queried(
     let end = query_end(world, iface);
     let sources = sources_of(alloc, query)?;
     if sources.is_empty() {
-        return world.lower_group(iface, group, end);
+        return world.lower_group(iface, group, end, meter);
     }
-    lower_sources(world, alloc, iface, group, &sources, end)
+    lower_sources(world, meter, iface, group, &sources, end)
 }
 
 // Takes the router that sent the query for the querier.
@@ -77,5 +78,5 @@ pub fn query_seen(
     if is_lower_querier(world, iface, from) {
         elect(world, iface, query)?;
     }
-    lower_queried(world, turn.alloc, iface, query)
+    lower_queried(world, &mut turn.meter, turn.alloc, iface, query)
 }

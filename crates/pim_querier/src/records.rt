@@ -1,16 +1,17 @@
 //! The record of a group, and what the ends of its timers change (RFC 3376, sections 6.2, 6.3 and 6.5).
+ghost use Rattle.std.specs.List.{list_any};
 ghost use Rattle.std.specs.Prelude.{◌≡◌, ◌<◌, None, IfOk, OnOk, filter, length, not};
 ghost use Rattle.pim_filters.specs.Members.{IsAscending, entries_of};
 ghost use Rattle.pim_model.specs.Querier.{group_record_due, source_record_due};
-ghost use Rattle.pim_model.specs.Records.{record_of, with_members, with_record, with_repeats_of_rows};
+ghost use Rattle.pim_model.specs.Records.{is_at_group, record_of, with_members, with_record, with_repeats_of_rows};
 ghost use Rattle.pim_model.specs.Tables.{has_row};
-ghost use Rattle.pim_querier.specs.Changes.{members_put, sendings_changed, without_empty, without_group_repeat, without_source_repeat};
+ghost use Rattle.pim_querier.specs.Changes.{members_put, sendings_changed, with_excluded, without_empty, without_group_repeat, without_source, without_source_repeat};
 
 use crate::sendings::{sendings_at, source_in};
 use pim_filters::{GroupRecord, Member};
 use pim_types::fact::{GroupRecordRow, SendingRow, SourceRecordRow};
 use pim_types::{Addr, IfaceId, Key};
-use pim_world::World;
+use pim_world::{Meter, World};
 use std::alloc::{AllocError, Global};
 
 // ---- the sources of a record
@@ -44,6 +45,7 @@ fn members_at(
 #[tactic(auto, unfolding(crate::specs::Changes::members_put, crate::specs::Changes::member_put, pim_model::specs::Tables::set_row))]
 fn put_members(
     world: &mut World,
+    meter: &mut Meter,
     iface: IfaceId,
     group: Addr,
     members: &[Member],
@@ -55,17 +57,19 @@ fn put_members(
         let row = SourceRecordRow { end: member.end };
         world
             .membership_mut()
-            .set_source_record(iface, group, member.source, Some(row))?;
+            .set_source_record(iface, group, member.source, Some(row), meter)?;
     }
     Ok(())
 }
 
 // Takes the group's record away, where it is none.
-fn drop_empty(world: &mut World, iface: IfaceId, group: Addr, is_none: bool)
+fn drop_empty(world: &mut World, meter: &mut Meter, iface: IfaceId, group: Addr, is_none: bool)
     ensures { world.new ≡ without_empty is_none iface.number group.bits world.old }
 {
     if is_none {
-        world.membership_mut().remove_group_record(iface, group);
+        world
+            .membership_mut()
+            .remove_group_record(iface, group, meter);
     }
 }
 
@@ -138,6 +142,7 @@ fn drop_repeats(
 // INCLUDE.
 fn set_members(
     world: &mut World,
+    meter: &mut Meter,
     alloc: Global,
     iface: IfaceId,
     group: Addr,
@@ -146,9 +151,11 @@ fn set_members(
     requires { 0 < length known.now.members → iface.number < 120 }
     ensures { OnOk result (world.new ≡ with_members world.old iface.number group.bits known.now) }
 {
-    drop_empty(world, iface, group, known.is_no_record());
-    world.membership_mut().drop_source_records(iface, group);
-    put_members(world, iface, group, known.members())?;
+    drop_empty(world, meter, iface, group, known.is_no_record());
+    world
+        .membership_mut()
+        .drop_source_records(iface, group, meter);
+    put_members(world, meter, iface, group, known.members())?;
     drop_repeats(world, alloc, iface, group)
 }
 
@@ -171,6 +178,7 @@ pub fn record_of(
 #[tactic(auto, unfolding(pim_model::specs::Records::with_record, pim_model::specs::Tables::set_row))]
 pub fn set_record(
     world: &mut World,
+    meter: &mut Meter,
     alloc: Global,
     iface: IfaceId,
     group: Addr,
@@ -182,8 +190,8 @@ pub fn set_record(
     let row = GroupRecordRow { end: known.timer() };
     world
         .membership_mut()
-        .set_group_record(iface, group, Some(row))?;
-    set_members(world, alloc, iface, group, known)
+        .set_group_record(iface, group, Some(row), meter)?;
+    set_members(world, meter, alloc, iface, group, known)
 }
 
 // ---- the ends of its timers
@@ -192,6 +200,7 @@ pub fn set_record(
 #[tactic(auto, unfolding(pim_model::specs::Querier::group_record_due))]
 pub fn group_record_due(
     world: &mut World,
+    meter: &mut Meter,
     alloc: Global,
     iface: IfaceId,
     group: Addr,
@@ -202,15 +211,75 @@ pub fn group_record_due(
     known.group_expired(world.present());
     world
         .membership_mut()
-        .change_group_record(iface, group, GroupRecordRow { end: None })?;
-    set_members(world, alloc, iface, group, &known)
+        .change_group_record(iface, group, GroupRecordRow { end: None }, meter)?;
+    set_members(world, meter, alloc, iface, group, &known)
+}
+
+// Whether a source of the group has a record on the interface.
+fn has_sources(world: &World, iface: IfaceId, group: Addr) -> bool
+    ensures { result ≡ list_any (λ e. is_at_group iface.number group.bits e.0) world.now.source_records }
+{
+    world
+        .membership()
+        .source_records_at(iface, group)
+        .next()
+        .is_some()
+}
+
+// Takes the source's record away, and that of the group with the last of them.
+fn drop_source(world: &mut World, meter: &mut Meter, iface: IfaceId, group: Addr, source: Addr)
+    ensures { world.new ≡ without_source iface.number group.bits source.bits world.old }
+{
+    world
+        .membership_mut()
+        .remove_source_record(iface, group, source, meter);
+    let is_none = !has_sources(world, iface, group);
+    drop_empty(world, meter, iface, group, is_none);
+}
+
+// The source's packets are refused from now on, where it has a record.
+#[tactic(auto, unfolding(crate::specs::Changes::with_excluded))]
+fn exclude_source(
+    world: &mut World,
+    meter: &mut Meter,
+    iface: IfaceId,
+    group: Addr,
+    source: Addr,
+) -> Result<(), AllocError>
+    ensures { OnOk result (world.new ≡ with_excluded iface.number group.bits source.bits world.old) }
+{
+    let key = Key::source(iface, group, source);
+    world
+        .membership_mut()
+        .change_source_record(key, SourceRecordRow { end: None }, meter)
+}
+
+// Changes the records as the end of the source's timer does; what is repeated of it is still to end.
+fn end_source(
+    world: &mut World,
+    meter: &mut Meter,
+    iface: IfaceId,
+    group: Addr,
+    source: Addr,
+) -> Result<(), AllocError>
+    ensures { OnOk result (with_repeats_of_rows world.new iface.number group.bits
+        ≡ source_record_due world.old iface.number group.bits source.bits) }
+{
+    // They tell that each source has one record, under its own key.
+    world.membership().recall_rising_source_records();
+    world.membership().recall_keyed_source_records();
+    if world.group_end(iface, group).is_some() {
+        return exclude_source(world, meter, iface, group, source);
+    }
+    drop_source(world, meter, iface, group, source);
+    Ok(())
 }
 
 /// The source's timer ended: in INCLUDE the source goes, in EXCLUDE its packets are refused from now on (RFC 3376,
-/// section 6.3).
-#[tactic(auto, unfolding(pim_model::specs::Querier::source_record_due))]
+/// section 6.3). The records of other sources aren't looked at.
 pub fn source_record_due(
     world: &mut World,
+    meter: &mut Meter,
     alloc: Global,
     iface: IfaceId,
     group: Addr,
@@ -218,7 +287,6 @@ pub fn source_record_due(
 ) -> Result<(), AllocError>
     ensures { OnOk result (world.new ≡ source_record_due world.old iface.number group.bits source.bits) }
 {
-    let mut known = record_of(world, alloc, iface, group)?;
-    known.source_expired(source);
-    set_members(world, alloc, iface, group, &known)
+    end_source(world, meter, iface, group, source)?;
+    drop_repeats(world, alloc, iface, group)
 }

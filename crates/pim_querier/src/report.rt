@@ -13,7 +13,7 @@ use crate::records::{record_of, set_record};
 use igmp_wire::{RecordType, RecordView, ReportView};
 use pim_filters::Asking;
 use pim_types::{Addr, IfaceId};
-use pim_world::{Turn, World};
+use pim_world::{Meter, Turn, World};
 use std::alloc::{AllocError, Global};
 
 // The sources that the group record names, in its order.
@@ -31,6 +31,7 @@ fn sources_of(alloc: Global, group_record: &RecordView<'_>) -> Result<Vec<Addr>,
 // Interval] (RFC 3376, sections 6.4.1 and 6.4.2); the queries that are asked for.
 fn apply_record(
     world: &mut World,
+    meter: &mut Meter,
     alloc: Global,
     iface: IfaceId,
     group_record: &RecordView<'_>,
@@ -46,7 +47,7 @@ fn apply_record(
     let mut known = record_of(world, alloc, iface, group)?;
     let mut asked = Asking::new();
     known.apply(group_record.record_type(), &sources, full, &mut asked)?;
-    set_record(world, alloc, iface, group, &known)?;
+    set_record(world, meter, alloc, iface, group, &known)?;
     Ok(asked)
 }
 
@@ -63,7 +64,7 @@ fn record_seen(
         ≡ saying turn.old (record_seen iface.number world.old group_record.now).1) }
 {
     let queries = is_querier(world, iface);
-    let asked = apply_record(world, turn.alloc, iface, group_record)?;
+    let asked = apply_record(world, &mut turn.meter, turn.alloc, iface, group_record)?;
     if !queries {
         return Ok(());
     }

@@ -10,12 +10,16 @@ use pim_macros::{SourceSight, StarSight};
 use pim_opening::{GroupOpening, Opening, SourceOpening};
 use pim_types::fact::{RegisterRow, RegisterState};
 use pim_types::{Addr, IfaceId, Key};
-use pim_world::{Turn, World};
+use pim_world::{Meter, Turn, World};
 use std::alloc::AllocError;
 
 /// Settles the register of one source: NoInfo becomes Join where CouldRegister(S,G) holds, any state NoInfo where it
 /// ceases. The sight is true of the state before, and then of the state after. An error is want of memory.
-pub fn settle_register(world: &mut World, sight: &mut SourceSight) -> Result<(), AllocError>
+pub fn settle_register(
+    world: &mut World,
+    meter: &mut Meter,
+    sight: &mut SourceSight,
+) -> Result<(), AllocError>
     requires { IsSourceSight world.old sight.old }
     ensures state { OnOk result (world.new
         ≡ settle_register world.old (source_key 0 sight.old.star.group.bits sight.old.source.bits)) }
@@ -25,7 +29,7 @@ pub fn settle_register(world: &mut World, sight: &mut SourceSight) -> Result<(),
 {
     let (group, source) = (sight.star.group, sight.source);
     if !sight.could_register() {
-        world.store_mut().set_register(group, source, None)?;
+        world.store_mut().set_register(group, source, None, meter)?;
         *sight = sight.with_tunnel(false);
         return Ok(());
     }
@@ -36,7 +40,9 @@ pub fn settle_register(world: &mut World, sight: &mut SourceSight) -> Result<(),
     let row = RegisterRow {
         state: RegisterState::Join,
     };
-    world.store_mut().set_register(group, source, Some(row))?;
+    world
+        .store_mut()
+        .set_register(group, source, Some(row), meter)?;
     *sight = sight.with_tunnel(true);
     Ok(())
 }
@@ -54,7 +60,7 @@ fn settle_source(
     ensures silent { turn.new ≡ turn.old }
 {
     let mut sight = SourceSight::of(world, *star, source, &mut turn.meter);
-    settle_register(world, &mut sight)
+    settle_register(world, &mut turn.meter, &mut sight)
 }
 
 // These sources of a group, one after the other.

@@ -11,7 +11,7 @@ ghost use Rattle.pim_world.specs.Turns.{saying};
 
 use pim_types::fact::{RegisterRow, RegisterState, SourceRow};
 use pim_types::{Addr, Key};
-use pim_world::{Turn, World};
+use pim_world::{Meter, Turn, World};
 use std::alloc::AllocError;
 
 // Register_Probe_Time (RFC 7761, section 4.11), in ms.
@@ -70,12 +70,12 @@ pub fn fired(world: &mut World, turn: &mut Turn, key: Key) -> Result<(), AllocEr
     };
     world
         .store_mut()
-        .change_register(key, RegisterRow { state })
+        .change_register(key, RegisterRow { state }, &mut turn.meter)
 }
 
 /// What the end of KAT(S,G) changes: the source's row goes, unless SPTbit(S,G) is set. An error is want of memory.
 #[tactic(auto, unfolding(pim_model::specs::Firing::fired, pim_model::specs::Firing::fire_row, pim_model::specs::Firing::keepalive_due))]
-pub fn keepalive_due(world: &mut World, key: Key) -> Result<(), AllocError>
+pub fn keepalive_due(world: &mut World, meter: &mut Meter, key: Key) -> Result<(), AllocError>
     ensures { OnOk result (world.new ≡ (fired world.old TimerKind.Keepalive key).0) }
 {
     let Some(row) = world.store().source(key) else {
@@ -85,5 +85,5 @@ pub fn keepalive_due(world: &mut World, key: Key) -> Result<(), AllocError>
         keepalive: None,
         ..row
     });
-    world.store_mut().change_source(key, left)
+    world.store_mut().change_source(key, left, meter)
 }

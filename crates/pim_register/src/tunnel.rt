@@ -12,7 +12,7 @@ use pim_mrib::Mrib;
 use pim_neighbours::delay_in;
 use pim_types::fact::{RegisterRow, RegisterState};
 use pim_types::{Addr, IfaceId, Key, RpRange};
-use pim_world::{Turn, World};
+use pim_world::{Meter, Turn, World};
 use std::alloc::AllocError;
 
 // 0.5 to 1.5 times Register_Suppression_Time, less Register_Probe_Time (RFC 7761, section 4.4.1), in ms.
@@ -44,7 +44,7 @@ fn stopped(row: RegisterRow, end: u64) -> RegisterRow
 }
 
 // Lets a register, if there is one, wait until the end, in ms, where it doesn't wait already.
-fn stop(world: &mut World, key: Key, end: u64) -> Result<(), AllocError>
+fn stop(world: &mut World, meter: &mut Meter, key: Key, end: u64) -> Result<(), AllocError>
     ensures { OnOk result (world.new
         ≡ record world.old { registers = change_row (stopping end) key world.old.registers }) }
 {
@@ -53,16 +53,18 @@ fn stop(world: &mut World, key: Key, end: u64) -> Result<(), AllocError>
     let Some(row) = world.store().register(key) else {
         return Ok(());
     };
-    world.store_mut().change_register(key, stopped(row, end))
+    world
+        .store_mut()
+        .change_register(key, stopped(row, end), meter)
 }
 
 // Lets these registers wait.
-fn stop_all(world: &mut World, keys: &[Key], end: u64) -> Result<(), AllocError>
+fn stop_all(world: &mut World, meter: &mut Meter, keys: &[Key], end: u64) -> Result<(), AllocError>
     ensures { OnOk result (world.new
         ≡ record world.old { registers = all_changed (stopping end) world.old.registers keys.now }) }
 {
     for key in keys {
-        stop(world, *key, end)?;
+        stop(world, meter, *key, end)?;
     }
     Ok(())
 }
@@ -91,9 +93,14 @@ pub fn stop_seen(
     let end = world.present() + delay_in(LEAST_SUPPRESSION, MOST_SUPPRESSION, turn.draw);
     if is_any(source) {
         let keys = keys_of(world, turn, group)?;
-        return stop_all(world, &keys, end);
+        return stop_all(world, &mut turn.meter, &keys, end);
     }
-    stop(world, Key::source(IfaceId::NONE, group, source), end)
+    stop(
+        world,
+        &mut turn.meter,
+        Key::source(IfaceId::NONE, group, source),
+        end,
+    )
 }
 
 // Whether they aren't the same RP, nor both none.
@@ -125,7 +132,7 @@ fn keys_with_new_rp(world: &World, turn: &mut Turn, next: &Mrib) -> Result<Vec<K
 }
 
 // Lets these registers begin anew.
-fn join_all(world: &mut World, keys: &[Key]) -> Result<(), AllocError>
+fn join_all(world: &mut World, meter: &mut Meter, keys: &[Key]) -> Result<(), AllocError>
     ensures { OnOk result (world.new
         ≡ record world.old { registers = all_changed joining world.old.registers keys.now }) }
 {
@@ -133,7 +140,7 @@ fn join_all(world: &mut World, keys: &[Key]) -> Result<(), AllocError>
         let row = RegisterRow {
             state: RegisterState::Join,
         };
-        world.store_mut().change_register(*key, row)?;
+        world.store_mut().change_register(*key, row, meter)?;
     }
     Ok(())
 }
@@ -158,5 +165,5 @@ pub fn rps_replaced(
     }
     let keys = keys_with_new_rp(world, turn, &next)?;
     world.take_ranges(next);
-    join_all(world, &keys)
+    join_all(world, &mut turn.meter, &keys)
 }

@@ -1,5 +1,5 @@
 -- What events cost, one after the other.
-use Rattle.std.proofs.Common.{◌≡◌, ◌≤◌, ◌<◌, ◌+◌, ◌*◌, ℕ, true, List, [], ◌∷◌, ◌++◌, Result, Ok, Err, OnOk, length, take, take_all, get_or, refl, ap, subst, sym, ◌∙◌, arith, add-one}
+use Rattle.std.proofs.Common.{◌≡◌, ◌≤◌, ◌<◌, ◌+◌, ◌*◌, ℕ, Bool, true, List, [], ◌∷◌, ◌++◌, Result, Ok, Err, OnOk, length, take, take_all, get_or, refl, ap, subst, sym, ◌∙◌, arith, add-one}
 use Rattle.std.proofs.Math.Seq.{take-suc}
 use Rattle.pim_types.specs.declared.event.Event.{Event}
 use Rattle.pim_model.specs.Plain.{IsPlainEvent}
@@ -27,6 +27,14 @@ is_cheap s rest e probes touched plain costs = record {
       ≤ length (event_reach s e) = event_names_few s (settled_is_lawful s rest.settled) e kept in
       omega (arith, few, costs);
 }
+
+-- a packet that its row decides, and whose source has a fact
+pub plain_cheap : {A E : Type 0} (r : Result A E) (s : State) → IsAtRest s → (e : Event) (before after touched : ℕ)
+    {known : Bool} → OnOk r (known ≡ true → after ≡ before) → known ≡ true → IsWithinPath before
+    → touched ≤ 2 * length (event_named s e) → OnOk r (IsCheap s e after touched)
+plain_cheap (Ok x) s rest e before after touched kept known within costs =
+    is_cheap s rest e after touched (λ _. subst IsWithinPath (sym (kept known)) within) costs
+plain_cheap (Err fault) s rest e before after touched kept known within costs = tt
 
 -- of a source whose row stands in the cache
 pub visited_within : (probes before nodes : ℕ) → probes ≡ raised before nodes → before ≡ 0 → 1 ≤ nodes → nodes ≤ 66

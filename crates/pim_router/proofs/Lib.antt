@@ -14,6 +14,7 @@ mod Rows
 mod Runs
 mod Sending
 mod Settling
+mod SourceEnds
 mod Taking
 mod Packets
 mod Plans

@@ -45,7 +45,8 @@ use Rattle.pim_opening.specs.Covers.{Concerns, Covers, IsWithin, NewAreNamed}
 use Rattle.pim_opening.specs.Openings.{has_facts}
 use Rattle.pim_neighbours.specs.Refreshed.{is_refreshed}
 use Rattle.pim_ready.specs.Ready.{IsLawful, Rises}
-use Rattle.pim_router.specs.Ends.{touched_by_end}
+use Rattle.pim_router.specs.Ends.{has_other_sources, keeps_group, touched_by_end, touched_by_source}
+use Rattle.pim_router.proofs.SourceEnds.{source_end_touches}
 use Rattle.pim_model.specs.Full.{reported_groups, reported_sources}
 use Rattle.pim_laws.proofs.ListLaws.{each_of_list}
 use Rattle.pim_laws.specs.Laws.{is_under_source}
@@ -367,10 +368,25 @@ module _ (s : State) (lawful : IsLawful s) (e : Ending) where
             (ended_leaves_facts.passed (names_source g src) there);
       }
 
-  pub end_covered : Covers (touched_by_end e.timer.kind e.timer.key) s ended
+  -- of a source's timer the source alone, where the row of its group stays
+  source_concerns : e.timer.kind ≡ TimerKind.SourceRecord → Concerns (touched_by_source s e.timer.key ∷ []) s ended
+  unfolding touched_by_source keeps_group has_other_sources fired
+  source_concerns is =
+      let keys : List Key = touched_by_source s e.timer.key ∷ [] in
+      record {
+        agrees = agrees_then (touching keys) s opened ended
+            (widened [] keys s opened refl (present_touches_none s e.end))
+            (subst (λ (kind : TimerKind). AgreesBut (touching keys) opened (fired opened kind e.timer.key).0) (sym is)
+            (source_end_touches opened lawful.ordered.source_records lawful.firable.source_records e.timer.key));
+        named = λ g src there. or_left (has_facts s g src) (list_any (names_source g src) keys)
+            (ended_leaves_facts.passed (names_source g src) there);
+      }
+
+  pub end_covered : Covers (touched_by_end s e.timer.kind e.timer.key) s ended
   end_covered = go e.timer.kind refl
     where
-      go : (kind : TimerKind) → e.timer.kind ≡ kind → Covers (touched_by_end kind e.timer.key) s ended
+      go : (kind : TimerKind) → e.timer.kind ≡ kind → Covers (touched_by_end s kind e.timer.key) s ended
       go TimerKind.Neighbour is = within_so s ended ended_leaves_facts
+      go TimerKind.SourceRecord is = source_concerns is
       go _ is = subst (λ (kind : TimerKind). Concerns (touched_by kind e.timer.key) s ended) is
           (end_concerns (ap isnt_neighbour is))

@@ -1,8 +1,13 @@
 -- The ends of timers, as the router takes them.
-use Rattle.std.specs.Prelude.{ℕ}
+use Rattle.std.specs.List.{list_any}
+use Rattle.std.specs.Prelude.{Bool, [], if◌then◌else◌, is_some, not, ℕ, ◌&&◌, ◌==◌, ◌∷◌, ◌||◌}
 use Rattle.pim_types.specs.declared.fact.Key.{Key}
 use Rattle.pim_types.specs.declared.timer.Timer.{Timer}
 use Rattle.pim_types.specs.declared.timer.TimerKind.{TimerKind}
+use Rattle.pim_types.specs.Keys.{group_in, iface_in, source_in, source_key, star_key}
+use Rattle.pim_model.specs.Querier.{group_end}
+use Rattle.pim_model.specs.Records.{is_at_group}
+use Rattle.pim_model.specs.State.{State}
 use Rattle.pim_model.specs.Timers.{Ending}
 use Rattle.pim_locality.specs.Touches.{touched_by}
 use Rattle.pim_world.specs.declared.touched.Touched.{Touched}
@@ -10,7 +15,22 @@ use Rattle.pim_world.specs.declared.touched.Touched.{Touched}
 abbrev pub ending_of : ℕ × Timer → Ending
 ending_of due = record { end = due.0; timer = due.1 }
 
+-- the group's record on the interface has a source beside this one
+unfoldable pub has_other_sources : State → ℕ → ℕ → ℕ → Bool
+has_other_sources s i g src = list_any (λ e. is_at_group i g e.0 && not (source_in e.0 == src)) s.source_records
+
+-- the group's own row stays as it is where the timer of this source ends: in EXCLUDE, or where another source is left
+unfoldable pub keeps_group : State → ℕ → ℕ → ℕ → Bool
+keeps_group s i g src = is_some (group_end s i g) || has_other_sources s i g src
+
+-- so the end of a source's timer touches the source alone, or all of its group
+unfoldable pub touched_by_source : State → Key → Key
+touched_by_source s k =
+    if keeps_group s (iface_in k) (group_in k) (source_in k) then source_key 0 (group_in k) (source_in k)
+    else star_key 0 (group_in k)
+
 -- the keys that a timer's end touches; that of a neighbour is for all
-abbrev pub touched_by_end : TimerKind → Key → Touched
-touched_by_end TimerKind.Neighbour k = Touched.All
-touched_by_end kind k = Touched.Keys (touched_by kind k)
+abbrev pub touched_by_end : State → TimerKind → Key → Touched
+touched_by_end s TimerKind.Neighbour k = Touched.All
+touched_by_end s TimerKind.SourceRecord k = Touched.Keys (touched_by_source s k ∷ [])
+touched_by_end s kind k = Touched.Keys (touched_by kind k)

@@ -154,7 +154,7 @@ fn apply_without_packet(
     match accepted {
         Accepted::Up { iface } => go_up(world, turn, *iface),
         Accepted::Down { iface } => {
-            world.set_down(*iface);
+            world.set_down(*iface, &mut turn.meter);
             Ok(())
         }
         Accepted::Routes { routes } => world.replace_routes(routes.as_slice()),

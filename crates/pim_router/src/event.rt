@@ -229,7 +229,7 @@ fn take_data(
     ensures fault { IsOkUnless result Fault.Memory }
 {
     match by_row(cache, iface, packet, meter) {
-        Some(forward) => take_plain(alloc, world, packet, forward),
+        Some(forward) => take_plain(alloc, world, packet, forward, meter),
         None => take_turn(alloc, world, cache, event, accepted, meter),
     }
 }

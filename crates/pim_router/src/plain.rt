@@ -1,37 +1,41 @@
 //! A packet of data that the row of its source decides.
-ghost use Rattle.std.specs.Prelude.{◌≡◌, IfOk, IsOkUnless, OnOk};
+ghost use Rattle.std.specs.Prelude.{◌≡◌, IfOk, IsOkUnless, OnOk, true};
 ghost use Rattle.pim_cached.specs.Decided.{plainly_taken};
 ghost use Rattle.pim_ip.specs.declared.fault.Fault.{Fault};
 ghost use Rattle.pim_model.specs.Cache.{Plain};
+ghost use Rattle.pim_model.specs.Plain.{fact_key};
 ghost use Rattle.pim_model.specs.Step.{outcome_of};
+ghost use Rattle.pim_model.specs.Tables.{has_row};
 ghost use Rattle.pim_router.specs.Plainly.{Forwards};
 
 use pim_data::copies;
 use pim_ip::Ipv4View;
 use pim_mfc::Forward;
 use pim_types::{Fault, Outcome, Series, Verdict};
-use pim_world::World;
+use pim_world::{Meter, World};
 use std::alloc::Global;
 
 /// Takes a packet as its row says: KAT(S,G) is set or not, and copies leave on links. Nothing is looked up, opened,
-/// settled or told.
+/// settled or told, where the source has a row.
 #[tactic(auto, unfolding(pim_cached::specs::Decided::plainly_taken, pim_cached::specs::Decided::kept_if))]
 pub(crate) fn take_plain(
     alloc: Global,
     world: &mut World,
     packet: &Ipv4View<'_>,
     forward: Forward,
+    meter: &mut Meter,
 ) -> Result<Outcome, Fault>
     ensures outcome { IfOk result (λ outcome. (how : Plain) → Forwards forward how
         → outcome ≡ outcome_of (plainly_taken world.old packet.now how)) }
     ensures state { OnOk result ((how : Plain) → Forwards forward how
         → world.new ≡ (plainly_taken world.old packet.now how).state) }
+    ensures kept { OnOk result (has_row world.old.sources (fact_key packet.now) ≡ true → meter.new ≡ meter.old) }
     ensures fault { IsOkUnless result Fault.Memory }
 {
     let olist = forward.olist.without_tunnel();
     let copies = copies(world, alloc, packet, olist)?;
     if forward.sets_keepalive {
-        world.keep_alive(packet.destination(), packet.source())?;
+        world.keep_alive(packet.destination(), packet.source(), meter)?;
     }
     let count = copies.len() as u32;
     Ok(Outcome {

@@ -59,7 +59,7 @@ fn follow_source(
 {
     let star = StarSight::of(world, group.group, &mut turn.meter);
     let mut sight = SourceSight::of(world, star, opened.source, &mut turn.meter);
-    pim_register::settle_register(world, &mut sight)?;
+    pim_register::settle_register(world, &mut turn.meter, &mut sight)?;
     pim_asserts::clear_alone(world, turn, group, opened, &mut sight)?;
     let names = named(world, turn, before)?;
     pim_upstream::changed_alone(world, turn, group, opened, &sight)?;

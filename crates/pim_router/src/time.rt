@@ -16,14 +16,14 @@ ghost use Rattle.pim_model.specs.Firing.{fire_all, fire_instant, fire_once, fire
 ghost use Rattle.pim_model.specs.Step.{advanced, outcome_of};
 ghost use Rattle.pim_model.specs.Timers.{next_due};
 ghost use Rattle.pim_ready.specs.Ready.{IsLawful};
-ghost use Rattle.pim_router.specs.Ends.{ending_of, touched_by_end};
+ghost use Rattle.pim_router.specs.Ends.{ending_of, has_other_sources, keeps_group, touched_by_end, touched_by_source};
 ghost use Rattle.pim_tables.specs.Ends.{due_of};
 
 use crate::settle::settle;
 use pim_fanout::{Before, Cache, SourceName};
 use pim_messages::Outbox;
 use pim_opening::Opening;
-use pim_types::{Emission, Fault, Key, Outcome, Series, Timer, TimerKind, Verdict};
+use pim_types::{Addr, Emission, Fault, IfaceId, Key, Outcome, Series, Timer, TimerKind, Verdict};
 use pim_world::{Touched, Turn, World};
 use std::alloc::{AllocError, Global};
 
@@ -35,9 +35,43 @@ fn next_due(world: &World, moment: u64) -> Option<(u64, Timer)>
     if due.0 <= moment { Some(due) } else { None }
 }
 
+// Whether the group's record on the interface has a source beside this one.
+#[tactic(auto, unfolding(crate::specs::Ends::has_other_sources))]
+fn has_other_sources(world: &World, iface: IfaceId, group: Addr, source: Addr) -> bool
+    ensures { result ≡ has_other_sources world.now iface.number group.bits source.bits }
+{
+    for (key, _) in world.membership().source_records_at(iface, group) {
+        if key.source.unwrap_or(Addr::NONE) != source {
+            return true;
+        }
+    }
+    false
+}
+
+// Whether the group's own row stays as it is where the timer of this source ends.
+#[tactic(auto, unfolding(crate::specs::Ends::keeps_group))]
+fn keeps_group(world: &World, iface: IfaceId, group: Addr, source: Addr) -> bool
+    ensures { result ≡ keeps_group world.now iface.number group.bits source.bits }
+{
+    world.group_end(iface, group).is_some() || has_other_sources(world, iface, group, source)
+}
+
+// The key that the end of a source's timer touches: that of the source, or of its group where no other is left.
+#[tactic(auto, unfolding(crate::specs::Ends::touched_by_source))]
+fn touched_by_source(world: &World, key: Key) -> Key
+    ensures { result ≡ touched_by_source world.now key }
+{
+    let source = key.source.unwrap_or(Addr::NONE);
+    if keeps_group(world, key.iface, key.group, source) {
+        Key::source(IfaceId::NONE, key.group, source)
+    } else {
+        Key::group(key.group)
+    }
+}
+
 // The keys that the end of a timer touches.
-fn touched_by_end(alloc: Global, timer: Timer) -> Result<Touched, AllocError>
-    ensures { IfOk result (λ touched. touched ≡ touched_by_end timer.kind timer.key) }
+fn touched_by_end(world: &World, alloc: Global, timer: Timer) -> Result<Touched, AllocError>
+    ensures { IfOk result (λ touched. touched ≡ touched_by_end world.now timer.kind timer.key) }
 {
     let key = match timer.kind {
         TimerKind::Neighbour => return Ok(Touched::All),
@@ -46,7 +80,8 @@ fn touched_by_end(alloc: Global, timer: Timer) -> Result<Touched, AllocError>
         | TimerKind::Assert
         | TimerKind::Keepalive
         | TimerKind::Register => timer.key,
-        TimerKind::GroupRecord | TimerKind::SourceRecord => Key::group(timer.key.group),
+        TimerKind::GroupRecord => Key::group(timer.key.group),
+        TimerKind::SourceRecord => touched_by_source(world, timer.key),
         TimerKind::Hello
         | TimerKind::Override
         | TimerKind::Join
@@ -72,7 +107,7 @@ fn fired(world: &mut World, turn: &mut Turn, timer: Timer) -> Result<(), AllocEr
             pim_downstream::fired(world, turn, kind, key)
         }
         TimerKind::Assert => pim_asserts::fired(world, turn, key),
-        TimerKind::Keepalive => pim_register::keepalive_due(world, key),
+        TimerKind::Keepalive => pim_register::keepalive_due(world, &mut turn.meter, key),
         TimerKind::Register => pim_register::fired(world, turn, key),
         TimerKind::Override => pim_rpt::fired(world, turn, key),
         TimerKind::Join => pim_upstream::fired(world, turn, key),
@@ -104,7 +139,7 @@ fn fire_world(
     ensures draw { OnOk result (turn.new.draw ≡ turn.old.draw) }
     ensures fault { IsOkUnless result Fault.Memory }
 {
-    let touched = touched_by_end(turn.alloc, due.1)?;
+    let touched = touched_by_end(world, turn.alloc, due.1)?;
     let opening = Opening::of(world, turn, &touched)?;
     let before = Before::of(world, turn, &touched)?;
     world.set_present(due.0);

@@ -32,6 +32,6 @@ pub fn fired(world: &mut World, turn: &mut Turn, key: Key) -> Result<(), AllocEr
     let source = key.source.unwrap_or(Addr::NONE);
     let upstream = rpf_rpt(world, turn, key.group, source);
     say(turn, upstream, key.group, &[entry(source)], &[])?;
-    world.store_mut().drop_override_timer(key);
+    world.store_mut().drop_override_timer(key, &mut turn.meter);
     Ok(())
 }

@@ -1,16 +1,14 @@
 -- How many nodes a look-up visits.
-use Rattle.std.proofs.Common.{Box, ◌≡◌, ◌≢◌, ℕ, ◌+◌, ◌≤◌, Bool, true, false, ◌&&◌, ◌||◌, if◌then◌else◌, List, [], ◌∷◌, map, Option, Some, None, cond, count_by, is_some, nat_le, refl, sym, ap, ◌∙◌, add-zero, arith}
+use Rattle.std.proofs.Common.{Box, ◌≡◌, ◌≢◌, ℕ, ◌+◌, ◌≤◌, Bool, true, false, ◌&&◌, ◌||◌, if◌then◌else◌, List, [], ◌∷◌, map, Option, Some, None, cond, is_some, refl, sym, ap, ◌∙◌, add-zero, arith}
 use Rattle.std.proofs.lemmas.List.Folds.{list_any-append}
-use Rattle.std.proofs.lemmas.List.Sums.{sum_by-cons}
 use Rattle.std.specs.Box.{box_value}
-use Rattle.std.specs.List.{AllByRecursion, filter, list_any, range_with_len}
+use Rattle.std.specs.List.{AllByRecursion, filter, list_any}
 use Rattle.std.specs.Option.{unwrap_or}
 use Rattle.pim_ip.specs.declared.addr.Addr.{Addr}
 use Rattle.pim_ip.specs.declared.addr.Prefix.{Prefix}
-use Rattle.pim_ip.specs.Prefixes.{contains}
-use Rattle.pim_trie.specs.Entries.{is_canonical, nodes_along, nodes_to, passes}
+use Rattle.pim_trie.specs.Entries.{is_canonical, nodes_along, nodes_to}
 use Rattle.pim_trie.specs.Meter.{raised}
-use Rattle.pim_trie.proofs.Counts.{prefix_at_most}
+use Rattle.pim_trie.proofs.Counts.{along_more, along_same, none_along, prefix_at_most}
 use Rattle.pim_types.specs.declared.fact.Key.{Key}
 use Rattle.pim_types.specs.Keys.{group_in, is_of_group, key_of, source_in}
 use Rattle.pim_model.specs.Tables.{Table, keys_in}
@@ -30,29 +28,11 @@ SamePrefixes es fs = (test : Prefix → Bool) → list_any (λ e. test e.0) es �
 
 pub nodes_same : {V W : Type 0} (es : List (Prefix × V)) (fs : List (Prefix × W)) → SamePrefixes es fs → (p : Prefix)
     → nodes_to es p ≡ nodes_to fs p
-unfolding nodes_to nodes_along passes
-nodes_same es fs same p = λ i.
-    if is_canonical p then count_by (λ length. same (λ q. nat_le length q.length
-    && contains (record { address = q.address; length = length }) p.address.bits) i) (range_with_len 0 (p.length + 1))
-    else 0
+unfolding nodes_to
+nodes_same es fs same p =
+    λ i. if is_canonical p then along_same es fs same p.address.bits p.length i else 0
 
 -- ---- more prefixes, as many nodes at least
-
-counted_more : {X : Type 0} (p q : X → Bool) → ((x : X) → p x ≡ true → q x ≡ true) → (xs : List X)
-    → count_by p xs ≤ count_by q xs
-counted_more p q more [] = omega arith
-counted_more p q more (x ∷ xs) =
-    omega (
-      arith,
-      sum_by-cons (λ x. cond (p x) 1 0) x xs,
-      sum_by-cons (λ x. cond (q x) 1 0) x xs,
-      one (p x) (q x) (more x),
-      counted_more p q more xs,
-    )
-  where
-    one : (b c : Bool) → (b ≡ true → c ≡ true) → cond b 1 0 ≤ cond c 1 0
-    one true c also = rw (also refl) (omega arith)
-    one false c also = omega arith
 
 abbrev pub MorePrefixes : {V W : Type 0} → List (Prefix × V) → List (Prefix × W) → Type 0
 MorePrefixes es fs =
@@ -60,22 +40,16 @@ MorePrefixes es fs =
 
 nodes_more : {V W : Type 0} (es : List (Prefix × V)) (fs : List (Prefix × W)) → MorePrefixes es fs → (p : Prefix)
     → nodes_to es p ≤ nodes_to fs p
-unfolding nodes_to nodes_along passes
+unfolding nodes_to
 nodes_more es fs more p = by (is_canonical p)
   where
-    along : nodes_along es p.address.bits p.length ≤ nodes_along fs p.address.bits p.length
-    along =
-        counted_more (passes es p.address.bits) (passes fs p.address.bits)
-        (λ length. more (λ q. nat_le length q.length
-        && contains (record { address = q.address; length = length }) p.address.bits)) (range_with_len 0 (p.length + 1))
-
     by : (b : Bool) → cond b (nodes_along es p.address.bits p.length) 0 ≤ cond b (nodes_along fs p.address.bits p.length) 0
-    by true = along
+    by true = along_more es fs more p.address.bits p.length
     by false = omega arith
 
 pub none_visited : (V : Type 0) (a : ℕ) → nodes_to {V = V} [] (host_of a) ≡ 0
-unfolding nodes_to nodes_along passes
-none_visited V a = rw (host_canonical a) refl
+unfolding nodes_to
+none_visited V a = rw (host_canonical a) (none_along V a 32)
 
 -- ---- two look-ups
 
@@ -228,6 +202,10 @@ sources_visited es whole g p named o is s =
 
 module _ {V A : Type 0} (es : GroupList V A) (whole : IsGroups es) (group : Addr) (p : Prefix) (named : p ≡ host_of group.bits)
   where
+    pub star_visited : nodes_to es p ≡ nodes_visited (keys_in (table_of es)) group None
+    unfolding nodes_visited
+    star_visited = groups_visited es whole group.bits p named
+
     pub absent_visited : None ≡ at_prefix p es → (source : Option Addr)
         → nodes_to es p ≡ nodes_visited (keys_in (table_of es)) group source
     unfolding nodes_visited

@@ -112,12 +112,13 @@ impl<V> SourceTrie<V> {
         }
     }
 
-    /// The entries of the group: (*,G) first, and then its sources ascending.
-    pub fn walk(&self, group: Addr) -> Entries<'_, V>
-        ensures { result ≡ filter (λ e. is_of_group group.bits e.0) self.now }
+    /// The entries of the group: (*,G) first, and then its sources ascending. The meter rises by the nodes that lead to
+    /// the group; a walk down from there looks nothing up.
+    pub fn walk(&self, group: Addr, meter: &mut Meter) -> Entries<'_, V>
+        ensures entries { result ≡ filter (λ e. is_of_group group.bits e.0) self.now }
+        ensures visited { meter.new ≡ raised meter.old (nodes_visited (keys_in self.now) group None) }
     {
-        let mut uncounted = Meter::new();
-        let Some(found) = self.groups.get(host(group), &mut uncounted) else {
+        let Some(found) = self.groups.get(host(group), meter) else {
             return Entries::none(group);
         };
         Entries::of(group, found)

@@ -1,3 +1,4 @@
+mod Alike
 mod Dropped
 mod Empty
 mod Fitting

@@ -5,8 +5,8 @@ use Rattle.pim_ip.specs.declared.addr.Addr.{Addr}
 use Rattle.pim_ifset.specs.Members.{has}
 use Rattle.pim_types.specs.declared.fact.Key.{Key}
 use Rattle.pim_types.specs.Keys.{iface_in, key_of, same_key}
-use Rattle.pim_model.specs.Tables.{Table, has_row, row_at, same_bool}
-use Rattle.pim_source_trie.specs.Entries.{entry_key}
+use Rattle.pim_model.specs.Tables.{Table, has_row, keys_in, row_at, same_bool}
+use Rattle.pim_source_trie.specs.Entries.{entry_key, nodes_visited, raised}
 use Rattle.pim_store.specs.declared.marks.Mark.{Mark}
 use Rattle.pim_store.specs.declared.marks.Mark.TheVariants.{Joined, Branched, Pruned, Lost, Won, HasJoinTimer, HasOverrideTimer, HasSource, HasRegister}
 use Rattle.pim_store.specs.declared.marks.Marks.{Marks}
@@ -106,6 +106,11 @@ pub record IsEntry (k : Key) (m : Marks) : Type 0 where
 abbrev pub AreEntries : Table Marks → Type 0
 AreEntries t = (k : Key) (m : Marks) → row_at t k ≡ Some m → IsEntry k m
 
+-- the marks under a key of a group or a source were looked up: the meter counts the nodes that lead there
+pub record AreLookedUp (marks : Table Marks) (k : Key) (old new : ℕ) : Type 0 where
+  pub entries : AreEntries marks
+  pub visited : new ≡ raised old (nodes_visited (keys_in marks) k.group k.source)
+
 -- a value is written for a group or a source, or taken away where nothing is marked
 abbrev pub Writes : (before after : Table Marks) → Key → Marks → Type 0
 Writes before after k m =
@@ -134,6 +139,10 @@ module _ {R : Type 0} (tells : Mark → Bool) (says : Mark → R → Bool) where
   -- nothing is said where there is no row
   abbrev pub row_says : Mark → Option R → Bool
   row_says x row = option_map_or (says x) row false
+
+  -- a row says of each mark that it tells what another row says
+  abbrev pub SaysAlike : R → R → Type 0
+  SaysAlike row before = (x : Mark) → tells x ≡ true → says x row ≡ says x before
 
   -- the marks that the row under a key tells are as it says, and no other one changed
   abbrev pub SetsMarks : (before after : Table Marks) → Key → Option R → Type 0

@@ -4,7 +4,7 @@ ghost use Rattle.std.specs.List.Sorted.{IsStrictlySortedBy};
 ghost use Rattle.pim_model.specs.Tables.{ascending, has_row, keys_in, row_at};
 ghost use Rattle.pim_types.specs.Keys.{group_in, is_of_group, key_cmp};
 ghost use Rattle.pim_source_trie.specs.Entries.{entry_key, nodes_visited, raised};
-ghost use Rattle.pim_store.specs.Said.{AreEntries, SetsMarks, Writes, is_about, row_says, said, seen, source_bits, tunnel_in};
+ghost use Rattle.pim_store.specs.Said.{AreEntries, AreLookedUp, SetsMarks, Writes, is_about, row_says, said, seen, source_bits, tunnel_in};
 ghost use Rattle.pim_store.specs.declared.marks.Mark.{Mark as MarkValue};
 
 use crate::marks::{Mark, Marks};
@@ -79,8 +79,9 @@ impl Index {
     }
 
     // The entries of a group, by rising key.
-    pub(crate) fn walk(&self, group: Addr) -> Entries<'_, Marks>
+    pub(crate) fn walk(&self, group: Addr, meter: &mut Meter) -> Entries<'_, Marks>
         ensures entries { result ≡ filter (λ e. is_of_group group.bits e.0) self.now }
+        ensures visited { meter.new ≡ raised meter.old (nodes_visited (keys_in self.now) group None) }
 
         // Of every index.
         ensures ascending { IsStrictlySortedBy key_cmp (keys_in self.now) }
@@ -88,7 +89,7 @@ impl Index {
     {
         // It tells that the keys rise.
         let _ = self.entries.is_empty();
-        self.entries.walk(group)
+        self.entries.walk(group, meter)
     }
 
     // The marks of (*,G), where `source` is `None`, or of a source of the group.
@@ -138,21 +139,28 @@ impl Index {
     }
 
     // Marks what the row says. An error is want of memory, and then nothing has changed.
-    pub(crate) fn mark<R: TellsMarks>(&mut self, key: Key, row: R) -> Result<(), AllocError>
+    pub(crate) fn mark<R: TellsMarks>(
+        &mut self,
+        key: Key,
+        row: R,
+        meter: &mut Meter,
+    ) -> Result<(), AllocError>
         requires { IsTrue (R.fits key) }
         ensures ok { OnOk result (SetsMarks R.tells R.says self.old self.new key (Some row)) }
         ensures err { OnErr result (self.new ≡ self.old) }
+        ensures visited { AreLookedUp self.old key meter.old meter.new }
     {
-        let marks = self.get(key.group, key.source, &mut Meter::new());
+        let marks = self.get(key.group, key.source, meter);
         self.write(key.group, key.source, marked(marks, key, Some(row)))
     }
 
     // Takes the marks away that a row under the key made; it takes no memory.
-    pub(crate) fn unmark<R: TellsMarks>(&mut self, key: Key)
+    pub(crate) fn unmark<R: TellsMarks>(&mut self, key: Key, meter: &mut Meter)
         requires { IsTrue (R.fits key) }
-        ensures { SetsMarks R.tells R.says self.old self.new key None }
+        ensures marks { SetsMarks R.tells R.says self.old self.new key None }
+        ensures visited { AreLookedUp self.old key meter.old meter.new }
     {
-        let marks = self.get(key.group, key.source, &mut Meter::new());
+        let marks = self.get(key.group, key.source, meter);
         // Where it fails there are no marks.
         let _ = self.write(key.group, key.source, marked::<R>(marks, key, None));
     }

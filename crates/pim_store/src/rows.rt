@@ -1,12 +1,13 @@
 //! A table's rows, changed with the marks that they tell.
-ghost use Rattle.std.specs.Prelude.{◌≡◌, ◌&&◌, ℕ, Some, IsTrue, OnErr, OnOk, true};
-ghost use Rattle.pim_model.specs.Tables.{change_row, drop_at, drop_where, put, set_row};
+ghost use Rattle.std.specs.Prelude.{◌≡◌, ◌&&◌, ℕ, None, Some, IsTrue, OnErr, OnOk, false, true};
+ghost use Rattle.pim_model.specs.Tables.{change_row, drop_at, drop_where, put, row_at, set_row};
 ghost use Rattle.pim_types.specs.Keys.{is_on};
-ghost use Rattle.pim_store.specs.Said.{IsTold, KeepsOtherMarks, SetsMarks, is_about, row_says};
+ghost use Rattle.pim_store.specs.Said.{AreLookedUp, IsTold, KeepsOtherMarks, SaysAlike, SetsMarks, is_about, row_says};
 ghost use Rattle.pim_store.specs.declared.marks.Mark.{Mark as MarkValue};
 
 use crate::index::Index;
 use crate::telling::TellsMarks;
+use pim_source_trie::Meter;
 use pim_tables::{Timed, Wheel};
 use pim_types::{IfaceId, Key};
 use std::alloc::AllocError;
@@ -14,8 +15,10 @@ use std::alloc::AllocError;
 // Whether the row says what the one before says, if there was one.
 fn says_alike<R: TellsMarks>(key: Key, before: Option<R>, row: R) -> bool
     requires { IsTrue (R.fits key) }
-    ensures { IsTrue result → (x : MarkValue) (i : ℕ) → (R.tells x && is_about x i key) ≡ true
+    ensures alike { IsTrue result → (x : MarkValue) (i : ℕ) → (R.tells x && is_about x i key) ≡ true
         → row_says R.tells R.says x (Some row) ≡ row_says R.tells R.says x before }
+    ensures all { (other : R) → before ≡ Some other → SaysAlike R.tells R.says row other → result ≡ true }
+    ensures absent { before ≡ None → result ≡ false }
 {
     let Some(before) = before else {
         return false;
@@ -31,22 +34,26 @@ fn says_alike<R: TellsMarks>(key: Key, before: Option<R>, row: R) -> bool
 }
 
 // Marks what the row says, unless it says what the one that is there says. An error is want of memory, and then
-// nothing has changed.
+// nothing has changed. The meter rises by the nodes that lead to the marks, where they are looked up.
 fn mark_row<R: TellsMarks>(
     rows: &Timed<R, Wheel>,
     index: &mut Index,
     key: Key,
     row: R,
+    meter: &mut Meter,
 ) -> Result<(), AllocError>
     requires fits { IsTrue (R.fits key) }
     requires told { IsTold R.tells R.says R.fits index.old rows.now }
     ensures ok { OnOk result (SetsMarks R.tells R.says index.old index.new key (Some row)) }
     ensures err { OnErr result (index.new ≡ index.old) }
+    ensures alike { (before : R) → row_at rows.now key ≡ Some before → SaysAlike R.tells R.says row before
+        → meter.new ≡ meter.old }
+    ensures new { row_at rows.now key ≡ None → AreLookedUp index.old key meter.old meter.new }
 {
     if says_alike(key, rows.get(key), row) {
         return Ok(());
     }
-    index.mark(key, row)
+    index.mark(key, row, meter)
 }
 
 // Puts the row under the key, in place of one that is there. An error is want of memory.
@@ -55,33 +62,43 @@ pub(crate) fn put_row<R: TellsMarks>(
     index: &mut Index,
     key: Key,
     row: R,
+    meter: &mut Meter,
 ) -> Result<(), AllocError>
     requires fits { IsTrue (R.fits key) }
     requires told { IsTold R.tells R.says R.fits index.old rows.old }
     ensures put { OnOk result (rows.new ≡ put rows.old key row) }
     ensures told { IsTold R.tells R.says R.fits index.new rows.new }
     ensures others { KeepsOtherMarks R.tells index.old index.new }
+    ensures alike { OnOk result ((before : R) → row_at rows.old key ≡ Some before → SaysAlike R.tells R.says row before
+        → meter.new ≡ meter.old) }
+    ensures new { OnOk result (row_at rows.old key ≡ None → AreLookedUp index.old key meter.old meter.new) }
 {
-    mark_row(rows, index, key, row)?;
+    mark_row(rows, index, key, row, meter)?;
     if let Err(refused) = rows.put(key, row) {
         // The row that was there may be marked otherwise now: it goes.
         rows.remove(key);
-        index.unmark::<R>(key);
+        index.unmark::<R>(key, meter);
         return Err(refused);
     }
     Ok(())
 }
 
 // Takes the row under the key away.
-pub(crate) fn remove_row<R: TellsMarks>(rows: &mut Timed<R, Wheel>, index: &mut Index, key: Key)
+pub(crate) fn remove_row<R: TellsMarks>(
+    rows: &mut Timed<R, Wheel>,
+    index: &mut Index,
+    key: Key,
+    meter: &mut Meter,
+)
     requires fits { IsTrue (R.fits key) }
     requires told { IsTold R.tells R.says R.fits index.old rows.old }
     ensures removed { rows.new ≡ drop_at rows.old key }
     ensures told { IsTold R.tells R.says R.fits index.new rows.new }
     ensures others { KeepsOtherMarks R.tells index.old index.new }
+    ensures visited { AreLookedUp index.old key meter.old meter.new }
 {
     rows.remove(key);
-    index.unmark::<R>(key);
+    index.unmark::<R>(key, meter);
 }
 
 // Puts the row under the key, or takes away the one that is there. An error is want of memory.
@@ -91,17 +108,21 @@ pub(crate) fn set_row<R: TellsMarks>(
     index: &mut Index,
     key: Key,
     row: Option<R>,
+    meter: &mut Meter,
 ) -> Result<(), AllocError>
     requires fits { IsTrue (R.fits key) }
     requires told { IsTold R.tells R.says R.fits index.old rows.old }
     ensures set { OnOk result (rows.new ≡ set_row rows.old key row) }
     ensures told { IsTold R.tells R.says R.fits index.new rows.new }
     ensures others { KeepsOtherMarks R.tells index.old index.new }
+    ensures alike { OnOk result ((after before : R) → row ≡ Some after → row_at rows.old key ≡ Some before
+        → SaysAlike R.tells R.says after before → meter.new ≡ meter.old) }
+    ensures new { OnOk result (row_at rows.old key ≡ None → AreLookedUp index.old key meter.old meter.new) }
 {
     match row {
-        Some(row) => put_row(rows, index, key, row),
+        Some(row) => put_row(rows, index, key, row, meter),
         None => {
-            remove_row(rows, index, key);
+            remove_row(rows, index, key, meter);
             Ok(())
         }
     }
@@ -113,6 +134,7 @@ pub(crate) fn change_row<R: TellsMarks>(
     index: &mut Index,
     key: Key,
     row: Option<R>,
+    meter: &mut Meter,
 ) -> Result<(), AllocError>
     requires { IsTold R.tells R.says R.fits index.old rows.old }
     ensures changed { OnOk result (rows.new ≡ change_row (λ before. row) key rows.old) }
@@ -124,30 +146,40 @@ pub(crate) fn change_row<R: TellsMarks>(
     if !rows.contains(key) {
         return Ok(());
     }
-    set_row(rows, index, key, row)
+    set_row(rows, index, key, row, meter)
 }
 
 // Takes the row under the key away, if there is one.
-pub(crate) fn drop_row<R: TellsMarks>(rows: &mut Timed<R, Wheel>, index: &mut Index, key: Key)
+pub(crate) fn drop_row<R: TellsMarks>(
+    rows: &mut Timed<R, Wheel>,
+    index: &mut Index,
+    key: Key,
+    meter: &mut Meter,
+)
     requires { IsTold R.tells R.says R.fits index.old rows.old }
     ensures dropped { rows.new ≡ drop_at rows.old key }
     ensures told { IsTold R.tells R.says R.fits index.new rows.new }
     ensures others { KeepsOtherMarks R.tells index.old index.new }
 {
     if rows.contains(key) {
-        remove_row(rows, index, key);
+        remove_row(rows, index, key, meter);
     }
 }
 
 // Takes the marks away that the interface's rows made.
-fn unmark_on<R: TellsMarks>(rows: &Timed<R, Wheel>, index: &mut Index, iface: IfaceId)
+fn unmark_on<R: TellsMarks>(
+    rows: &Timed<R, Wheel>,
+    index: &mut Index,
+    iface: IfaceId,
+    meter: &mut Meter,
+)
     requires { IsTold R.tells R.says R.fits index.old rows.now }
     ensures told { IsTold R.tells R.says R.fits index.new (drop_where (is_on iface.number) rows.now) }
     ensures others { KeepsOtherMarks R.tells index.old index.new }
 {
     for (key, _) in rows.iter() {
         if key.iface == iface {
-            index.unmark::<R>(*key);
+            index.unmark::<R>(*key, meter);
         }
     }
 }
@@ -157,12 +189,13 @@ pub(crate) fn drop_rows_on<R: TellsMarks>(
     rows: &mut Timed<R, Wheel>,
     index: &mut Index,
     iface: IfaceId,
+    meter: &mut Meter,
 )
     requires { IsTold R.tells R.says R.fits index.old rows.old }
     ensures dropped { rows.new ≡ drop_where (is_on iface.number) rows.old }
     ensures told { IsTold R.tells R.says R.fits index.new rows.new }
     ensures others { KeepsOtherMarks R.tells index.old index.new }
 {
-    unmark_on(rows, index, iface);
+    unmark_on(rows, index, iface, meter);
     rows.drop_on(iface);
 }

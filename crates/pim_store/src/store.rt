@@ -1,5 +1,5 @@
 //! The PIM facts.
-ghost use Rattle.std.specs.Prelude.{◌≡◌, ◌<◌, ◌≤◌, ◌+◌, ◌^◌, ◌==◌, ◌++◌, ◌&&◌, ℕ, None, Some, IsTrue, IfOk, OnOk, false, filter, nat_lt, not, option_map, true};
+ghost use Rattle.std.specs.Prelude.{◌≡◌, ◌<◌, ◌≤◌, ◌+◌, ◌^◌, ◌==◌, ◌++◌, ◌&&◌, ℕ, None, Some, IsSome, IsTrue, IfOk, OnOk, false, filter, nat_lt, not, option_map, true};
 ghost use Rattle.std.specs.List.{list_all, list_any};
 ghost use Rattle.pim_ifset.specs.Members.{has};
 ghost use Rattle.pim_model.specs.Clearing.{first_by};
@@ -31,7 +31,8 @@ use std::collections::btree_map::Iter;
 use std::marker::Model;
 
 /// The PIM facts of the router. After want of memory in a call that changes them nothing is promised of what they
-/// are, but that all that is told of them is true.
+/// are, but that all that is told of them is true. What changes them raises the meter by the nodes that lead to the marks of
+/// a group or a source, wherever a row comes or goes there, or says something else than the one before.
 pub struct Store {
     downstream: Timed<DownstreamRow, Wheel>,
     asserts: Timed<AssertRow, Wheel>,
@@ -179,11 +180,16 @@ impl Store {
     }
 
     /// Puts this downstream state under the key, or takes away the one that is there. An error is want of memory.
-    pub fn set_downstream(&mut self, key: Key, row: Option<DownstreamRow>) -> Result<(), AllocError>
+    pub fn set_downstream(
+        &mut self,
+        key: Key,
+        row: Option<DownstreamRow>,
+        meter: &mut Meter,
+    ) -> Result<(), AllocError>
         requires { key.iface.number < 120 }
         ensures { OnOk result (self.new ≡ record self.old { downstream = set_row self.old.downstream key row }) }
     {
-        set_row(&mut self.downstream, &mut self.index, key, row)
+        set_row(&mut self.downstream, &mut self.index, key, row, meter)
     }
 
     /// Gives (*,G), where `source` is `None`, or (S,G) this assert on the interface, or takes its assert away. An
@@ -194,6 +200,7 @@ impl Store {
         group: Addr,
         source: Option<Addr>,
         row: Option<AssertRow>,
+        meter: &mut Meter,
     ) -> Result<(), AllocError>
         requires { iface.number < 120 }
         ensures { OnOk result (self.new ≡ record self.old {
@@ -206,7 +213,7 @@ impl Store {
             source,
             rpt: false,
         };
-        set_row(&mut self.asserts, &mut self.index, key, row)
+        set_row(&mut self.asserts, &mut self.index, key, row, meter)
     }
 
     /// Sets the Join timer of (*,G), where `source` is `None`, or of (S,G), or takes it away. An error is want of
@@ -216,6 +223,7 @@ impl Store {
         group: Addr,
         source: Option<Addr>,
         row: Option<JoinTimerRow>,
+        meter: &mut Meter,
     ) -> Result<(), AllocError>
         ensures { OnOk result (self.new ≡ record self.old {
           join_timers = set_row self.old.join_timers (fact_key 0 group source false) row;
@@ -227,7 +235,7 @@ impl Store {
             source,
             rpt: false,
         };
-        set_row(&mut self.join_timers, &mut self.index, key, row)
+        set_row(&mut self.join_timers, &mut self.index, key, row, meter)
     }
 
     /// Sets the override timer of (S,G,rpt), or takes it away. An error is want of memory.
@@ -236,28 +244,33 @@ impl Store {
         group: Addr,
         source: Addr,
         row: Option<OverrideTimerRow>,
+        meter: &mut Meter,
     ) -> Result<(), AllocError>
         ensures { OnOk result (self.new ≡ record self.old {
           override_timers = set_row self.old.override_timers (rpt_key 0 group.bits source.bits) row;
         }) }
     {
         let key = Key::source_rpt(IfaceId::NONE, group, source);
-        set_row(&mut self.override_timers, &mut self.index, key, row)
+        set_row(&mut self.override_timers, &mut self.index, key, row, meter)
     }
 
-    /// Gives the source of the group this row, or takes its row away. An error is want of memory.
+    /// Gives the source of the group this row, or takes its row away. An error is want of memory. The meter stays where
+    /// another row takes the place of one.
     pub fn set_source(
         &mut self,
         group: Addr,
         source: Addr,
         row: Option<SourceRow>,
+        meter: &mut Meter,
     ) -> Result<(), AllocError>
-        ensures { OnOk result (self.new ≡ record self.old {
+        ensures set { OnOk result (self.new ≡ record self.old {
           sources = set_row self.old.sources (source_key 0 group.bits source.bits) row;
         }) }
+        ensures kept { OnOk result (IsSome row → IsTrue (has_row self.old.sources (source_key 0 group.bits source.bits))
+            → meter.new ≡ meter.old) }
     {
         let key = Key::source(IfaceId::NONE, group, source);
-        set_row(&mut self.sources, &mut self.index, key, row)
+        set_row(&mut self.sources, &mut self.index, key, row, meter)
     }
 
     /// Gives the source of the group this register, or takes its register away. An error is want of memory.
@@ -266,78 +279,115 @@ impl Store {
         group: Addr,
         source: Addr,
         row: Option<RegisterRow>,
+        meter: &mut Meter,
     ) -> Result<(), AllocError>
         ensures { OnOk result (self.new ≡ record self.old {
           registers = set_row self.old.registers (source_key 0 group.bits source.bits) row;
         }) }
     {
         let key = Key::source(IfaceId::NONE, group, source);
-        set_row(&mut self.registers, &mut self.index, key, row)
+        set_row(&mut self.registers, &mut self.index, key, row, meter)
     }
 
     /// Where there is a downstream state under the key, puts this one in its place. An error is want of memory.
-    pub fn change_downstream(&mut self, key: Key, row: DownstreamRow) -> Result<(), AllocError>
+    pub fn change_downstream(
+        &mut self,
+        key: Key,
+        row: DownstreamRow,
+        meter: &mut Meter,
+    ) -> Result<(), AllocError>
         ensures { OnOk result (self.new
             ≡ record self.old { downstream = change_row (λ before. Some row) key self.old.downstream }) }
     {
-        change_row(&mut self.downstream, &mut self.index, key, Some(row))
+        change_row(&mut self.downstream, &mut self.index, key, Some(row), meter)
     }
 
     /// Takes the downstream state under the key away, if there is one.
-    pub fn drop_downstream(&mut self, key: Key)
+    pub fn drop_downstream(&mut self, key: Key, meter: &mut Meter)
         ensures { self.new ≡ record self.old { downstream = drop_at self.old.downstream key } }
     {
-        drop_row(&mut self.downstream, &mut self.index, key);
+        drop_row(&mut self.downstream, &mut self.index, key, meter);
     }
 
     /// Where there is an assert under the key, puts this one in its place. An error is want of memory.
-    pub fn change_assert(&mut self, key: Key, row: AssertRow) -> Result<(), AllocError>
+    pub fn change_assert(
+        &mut self,
+        key: Key,
+        row: AssertRow,
+        meter: &mut Meter,
+    ) -> Result<(), AllocError>
         ensures { OnOk result (self.new
             ≡ record self.old { asserts = change_row (λ before. Some row) key self.old.asserts }) }
     {
-        change_row(&mut self.asserts, &mut self.index, key, Some(row))
+        change_row(&mut self.asserts, &mut self.index, key, Some(row), meter)
     }
 
     /// Takes the assert under the key away, if there is one.
-    pub fn drop_assert(&mut self, key: Key)
+    pub fn drop_assert(&mut self, key: Key, meter: &mut Meter)
         ensures { self.new ≡ record self.old { asserts = drop_at self.old.asserts key } }
     {
-        drop_row(&mut self.asserts, &mut self.index, key);
+        drop_row(&mut self.asserts, &mut self.index, key, meter);
     }
 
     /// Where there is a source under the key, gives it this row, or takes its row away. An error is want of memory.
-    pub fn change_source(&mut self, key: Key, row: Option<SourceRow>) -> Result<(), AllocError>
+    pub fn change_source(
+        &mut self,
+        key: Key,
+        row: Option<SourceRow>,
+        meter: &mut Meter,
+    ) -> Result<(), AllocError>
         ensures { OnOk result (self.new
             ≡ record self.old { sources = change_row (λ before. row) key self.old.sources }) }
     {
-        change_row(&mut self.sources, &mut self.index, key, row)
+        change_row(&mut self.sources, &mut self.index, key, row, meter)
     }
 
     /// Where there is a register under the key, puts this one in its place. An error is want of memory.
-    pub fn change_register(&mut self, key: Key, row: RegisterRow) -> Result<(), AllocError>
+    pub fn change_register(
+        &mut self,
+        key: Key,
+        row: RegisterRow,
+        meter: &mut Meter,
+    ) -> Result<(), AllocError>
         ensures { OnOk result (self.new
             ≡ record self.old { registers = change_row (λ before. Some row) key self.old.registers }) }
     {
-        change_row(&mut self.registers, &mut self.index, key, Some(row))
+        change_row(&mut self.registers, &mut self.index, key, Some(row), meter)
     }
 
     /// Where there is a Join timer under the key, puts this one in its place. An error is want of memory.
-    pub fn change_join_timer(&mut self, key: Key, row: JoinTimerRow) -> Result<(), AllocError>
+    pub fn change_join_timer(
+        &mut self,
+        key: Key,
+        row: JoinTimerRow,
+        meter: &mut Meter,
+    ) -> Result<(), AllocError>
         ensures { OnOk result (self.new
             ≡ record self.old { join_timers = change_row (λ before. Some row) key self.old.join_timers }) }
     {
-        change_row(&mut self.join_timers, &mut self.index, key, Some(row))
+        change_row(
+            &mut self.join_timers,
+            &mut self.index,
+            key,
+            Some(row),
+            meter,
+        )
     }
 
     /// Takes the override timer under the key away, if there is one.
-    pub fn drop_override_timer(&mut self, key: Key)
+    pub fn drop_override_timer(&mut self, key: Key, meter: &mut Meter)
         ensures { self.new ≡ record self.old { override_timers = drop_at self.old.override_timers key } }
     {
-        drop_row(&mut self.override_timers, &mut self.index, key);
+        drop_row(&mut self.override_timers, &mut self.index, key, meter);
     }
 
     /// Lowers the Join timer under the key, if there is one, to this end, in ms. An error is want of memory.
-    pub fn lower_join_timer(&mut self, key: Key, end: u64) -> Result<(), AllocError>
+    pub fn lower_join_timer(
+        &mut self,
+        key: Key,
+        end: u64,
+        meter: &mut Meter,
+    ) -> Result<(), AllocError>
         ensures { OnOk result (self.new
             ≡ record self.old { join_timers = change_row (lowered end) key self.old.join_timers }) }
     {
@@ -349,22 +399,22 @@ impl Store {
         let lowered = JoinTimerRow {
             end: row.end.min(end),
         };
-        put_row(&mut self.join_timers, &mut self.index, key, lowered)
+        put_row(&mut self.join_timers, &mut self.index, key, lowered, meter)
     }
 
     /// Ends the lost asserts under these keys.
-    pub fn end_losses(&mut self, keys: &[Key])
+    pub fn end_losses(&mut self, keys: &[Key], meter: &mut Meter)
         ensures { self.new ≡ record self.old {
           asserts = filter (λ e. not (is_loser (Some e.1) && is_named keys.now e.0)) self.old.asserts;
         } }
     {
         for key in keys {
-            self.end_loss(*key);
+            self.end_loss(*key, meter);
         }
     }
 
     // Ends the assert under the key, if it is lost.
-    fn end_loss(&mut self, key: Key)
+    fn end_loss(&mut self, key: Key, meter: &mut Meter)
         ensures { self.new ≡ record self.old {
           asserts = filter (λ e. not (is_loser (Some e.1) && same_key e.0 key)) self.old.asserts;
         } }
@@ -372,19 +422,19 @@ impl Store {
         // The key stands once.
         self.asserts.recall_rising();
         if row_says(self.asserts.get(key), Mark::Lost) {
-            remove_row(&mut self.asserts, &mut self.index, key);
+            remove_row(&mut self.asserts, &mut self.index, key, meter);
         }
     }
 
     /// Takes the downstream states and the asserts of the interface away.
-    pub fn drop_on(&mut self, iface: IfaceId)
+    pub fn drop_on(&mut self, iface: IfaceId, meter: &mut Meter)
         ensures { self.new ≡ record self.old {
           downstream = drop_where (is_on iface.number) self.old.downstream;
           asserts = drop_where (is_on iface.number) self.old.asserts;
         } }
     {
-        drop_rows_on(&mut self.downstream, &mut self.index, iface);
-        drop_rows_on(&mut self.asserts, &mut self.index, iface);
+        drop_rows_on(&mut self.downstream, &mut self.index, iface, meter);
+        drop_rows_on(&mut self.asserts, &mut self.index, iface, meter);
     }
 
     /// The groups with any fact, ascending.
@@ -394,11 +444,12 @@ impl Store {
         self.index.groups()
     }
 
-    /// The sources of the group with any fact, ascending.
-    pub fn sources_of(&self, group: Addr) -> Sources<'_>
-        ensures { result ≡ sources_of group.bits (stored_keys self.now) }
+    /// The sources of the group with any fact, ascending. The meter rises by the nodes that lead to the group.
+    pub fn sources_of(&self, group: Addr, meter: &mut Meter) -> Sources<'_>
+        ensures sources { result ≡ sources_of group.bits (stored_keys self.now) }
+        ensures visited { meter.new ≡ raised meter.old (nodes_visited (stored_keys self.now) group None) }
     {
-        Sources::among(self.index.walk(group))
+        Sources::among(self.index.walk(group, meter))
     }
 
     /// The keys of the (S,G,rpt) downstream states of the group on the interface, ascending by source. No state of

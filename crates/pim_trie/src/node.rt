@@ -8,7 +8,7 @@ ghost use Rattle.pim_trie.specs.Nodes.{way_to};
 use pim_ip::{Addr, Prefix};
 
 // A node stands for its prefix: it holds the value of that prefix, if there is one, and links the
-// nodes for the two prefixes that have one bit more.
+// next nodes within it. A node with no value links two.
 #[derive(Drop)]
 pub(crate) struct Node<V> {
     pub(crate) prefix: Prefix,
@@ -44,15 +44,16 @@ pub(crate) fn first_bits(prefix: Prefix, depth: u32) -> Prefix
 
 impl<V> Node<V> {
     ghost use Rattle.pim_trie.specs.Lends.{lends_value};
-    ghost use Rattle.pim_trie.specs.Nodes.{link_of, with_link, is_idle, entry_of};
+    ghost use Rattle.pim_trie.specs.Nodes.{link_of, with_link, is_needed, entry_of};
+    ghost use Rattle.std.specs.Option.{option_or};
 
-    // A node with no value and no children.
-    pub(crate) fn new(prefix: Prefix) -> Self
-        ensures { result ≡ record { prefix = prefix; value = None; left = None; right = None } }
+    // A node with no children.
+    pub(crate) fn new(prefix: Prefix, value: Option<V>) -> Self
+        ensures { result ≡ record { prefix = prefix; value = value; left = None; right = None } }
     {
         Node {
             prefix,
-            value: None,
+            value,
             left: None,
             right: None,
         }
@@ -95,10 +96,17 @@ impl<V> Node<V> {
         }
     }
 
-    // Whether the node holds no value and leads nowhere.
-    pub(crate) fn is_idle(&self) -> bool
-        ensures { result ≡ is_idle self.now }
+    // Whether the node has a value, or two children.
+    pub(crate) fn is_needed(&self) -> bool
+        ensures { result ≡ is_needed self.now }
     {
-        self.value.is_none() && self.left.is_none() && self.right.is_none()
+        self.value.is_some() || (self.left.is_some() && self.right.is_some())
+    }
+
+    // The child of a node that has one at most.
+    pub(crate) fn only_child(&self) -> Option<usize>
+        ensures { result ≡ option_or (self.now).left (self.now).right }
+    {
+        self.left.or(self.right)
     }
 }

@@ -1,16 +1,14 @@
-//! Look-ups and changes of the nodes behind a link, one level after another.
-#![tactic(auto, unfolding(crate::specs::Nodes::tree_at, crate::specs::Nodes::IsHeld))]
-
-ghost use Rattle.std.specs.Prelude.{◌≡◌, ◌+◌, ◌-◌, ◌≤◌, [], Some, None, IsSome, IsOk, OnOk, option_map, filter};
+//! Look-ups and changes of the nodes behind a link, one node after another.
+ghost use Rattle.std.specs.Prelude.{◌≡◌, ◌+◌, ◌-◌, ◌≤◌, ◌<◌, ℕ, [], Some, None, IsSome, IsOk, OnOk, option_map, filter};
 ghost use Rattle.std.specs.Option.{option_to_list};
 ghost use Rattle.std.specs.Borrow.{sem};
 ghost use Rattle.pim_trie.specs.Lends.{lends_value_at, value_at};
 ghost use Rattle.std.specs.Iterator.{YieldsFirstBy};
 ghost use Rattle.slab.specs.Slab.{ContainsKey, HasRoomFor};
-ghost use Rattle.pim_trie.specs.Tree.{address_path, path_of, named_entry, find, put, cut, visits, deepest, part_at};
+ghost use Rattle.pim_trie.specs.Tree.{Tree, common, address_path, prefix_of, path_of, named_entry, find, put, cut, visits, deepest};
 ghost use Rattle.pim_trie.specs.Entries.{entry_seen, is_under};
 ghost use Rattle.pim_trie.specs.Meter.{raised};
-ghost use Rattle.pim_trie.specs.Nodes.{way_to, way_on, link_at, tree_at, opened, IsHeld, HasRoomForSome, Rebuilds, Prunes, IsPending, pending_entries, entries_of};
+ghost use Rattle.pim_trie.specs.Nodes.{way_to, way_on, IsHeld, Held, Leads, Locates, LeavesAt, HasRoomToPut, Rebuilds, Prunes, IsPending, pending_entries, entries_of};
 
 use crate::meter::Meter;
 use crate::node::{Node, first_bits, next_bit};
@@ -18,6 +16,38 @@ use crate::pending::Pending;
 use pim_ip::{Addr, Prefix};
 use slab::Slab;
 use std::alloc::AllocError;
+
+// The first node on the way of the prefix that has as many bits as it or more, if it lies in the
+// prefix.
+fn reach<V>(
+    nodes: &Slab<Node<V>>,
+    root: Option<usize>,
+    prefix: Prefix,
+    meter: &mut Meter,
+) -> Option<usize>
+    requires whole { prefix.length ≤ 32 }
+    requires held { IsHeld nodes.now [] root }
+    ensures leads { (t : Tree V) → Held nodes.now [] root t → Leads nodes.now root (path_of prefix) t result }
+    ensures visited { (t : Tree V) → Held nodes.now [] root t
+        → meter.new ≡ raised meter.old (visits t (path_of prefix)) }
+{
+    let mut link = root;
+    while let Some(key) = link {
+        meter.visit();
+        let node = &nodes[key];
+        if node.prefix.length >= prefix.length {
+            if !prefix.contains(node.prefix.address) {
+                return None;
+            }
+            break;
+        }
+        if !node.prefix.contains(prefix.address) {
+            return None;
+        }
+        link = node.child(next_bit(prefix.address, node.prefix.length));
+    }
+    link
+}
 
 // The node of the prefix.
 pub(crate) fn locate<V>(
@@ -27,24 +57,16 @@ pub(crate) fn locate<V>(
     meter: &mut Meter,
 ) -> Option<usize>
     requires whole { prefix.length ≤ 32 }
-    requires held { IsHeld 33 nodes.now [] root }
-    ensures held { IsHeld (33 - prefix.length) nodes.now (path_of prefix) result }
-    ensures linked { result ≡ link_at nodes.now root (path_of prefix) }
-    ensures tree { tree_at (33 - prefix.length) nodes.now result
-        ≡ part_at (tree_at 33 nodes.now root) (path_of prefix) }
-    ensures visited { meter.new ≡ raised meter.old (visits (tree_at 33 nodes.now root) (path_of prefix)) }
+    requires held { IsHeld nodes.now [] root }
+    ensures located { (t : Tree V) → Held nodes.now [] root t → Locates nodes.now root (path_of prefix) t result }
+    ensures visited { (t : Tree V) → Held nodes.now [] root t
+        → meter.new ≡ raised meter.old (visits t (path_of prefix)) }
 {
-    let mut link = root;
-    let mut depth = 0;
-    while let Some(key) = link {
-        meter.visit();
-        if depth == prefix.length {
-            break;
-        }
-        link = nodes[key].child(next_bit(prefix.address, depth));
-        depth += 1;
+    let key = reach(nodes, root, prefix, meter)?;
+    if nodes[key].prefix.length != prefix.length {
+        return None;
     }
-    link
+    Some(key)
 }
 
 // The value of the node at the key, for writing.
@@ -62,7 +84,7 @@ pub(crate) fn part_under<V>(
     root: Option<usize>,
     prefix: Prefix,
 ) -> Option<usize>
-    requires { IsHeld 33 nodes.now [] root }
+    requires { IsHeld nodes.now [] root }
     ensures pending { IsPending nodes.now (option_to_list result) }
     ensures entries { pending_entries nodes.now (option_to_list result)
         ≡ filter (is_under prefix) (entries_of nodes.now root) }
@@ -70,7 +92,7 @@ pub(crate) fn part_under<V>(
     if prefix.length > 32 {
         return None;
     }
-    locate(nodes, root, prefix, &mut Meter::new())
+    reach(nodes, root, prefix, &mut Meter::new())
 }
 
 // The last value on the way of the address, and its prefix.
@@ -80,23 +102,25 @@ pub(crate) fn longest<'a, V>(
     address: Addr,
     meter: &mut Meter,
 ) -> Option<(Prefix, &'a V)>
-    requires { IsHeld 33 nodes.now [] root }
-    ensures value { option_map entry_seen result
-        ≡ option_map named_entry (deepest (tree_at 33 nodes.now root) (address_path address.bits)) }
-    ensures visited { meter.new ≡ raised meter.old (visits (tree_at 33 nodes.now root) (address_path address.bits)) }
+    requires { IsHeld nodes.now [] root }
+    ensures value { (t : Tree V) → Held nodes.now [] root t → option_map entry_seen result
+        ≡ option_map named_entry (deepest t (address_path address.bits)) }
+    ensures visited { (t : Tree V) → Held nodes.now [] root t
+        → meter.new ≡ raised meter.old (visits t (address_path address.bits)) }
 {
     let mut best = None;
     let mut link = root;
-    let mut depth = 0;
     while let Some(key) = link {
         meter.visit();
         let node = &nodes[key];
-        best = node.entry().or(best);
-        if depth == 32 {
+        if !node.prefix.contains(address) {
             break;
         }
-        link = node.child(next_bit(address, depth));
-        depth += 1;
+        best = node.entry().or(best);
+        if node.prefix.length == 32 {
+            break;
+        }
+        link = node.child(next_bit(address, node.prefix.length));
     }
     best
 }
@@ -121,44 +145,76 @@ pub(crate) fn next_entry<'a, V>(
     None
 }
 
-// Makes room for the nodes that the way of the prefix lacks.
+// Makes room for the two nodes that a new value may want.
 pub(crate) fn make_room<V>(
     nodes: &mut Slab<Node<V>>,
     root: Option<usize>,
     prefix: Prefix,
 ) -> Result<(), AllocError>
     requires whole { prefix.length ≤ 32 }
-    requires held { IsHeld 33 nodes.old [] root }
-    ensures room { OnOk result (HasRoomForSome nodes.new
-        (prefix.length + 1 - visits (tree_at 33 nodes.old root) (path_of prefix))) }
-    ensures overwrites { IsSome (find (tree_at 33 nodes.old root) (path_of prefix)) → IsOk result }
+    requires held { IsHeld nodes.old [] root }
+    ensures room { OnOk result ((t : Tree V) → Held nodes.old [] root t → find t (path_of prefix) ≡ None
+        → HasRoomFor nodes.new 2) }
+    ensures overwrites { (t : Tree V) → Held nodes.old [] root t → IsSome (find t (path_of prefix)) → IsOk result }
     ensures kept { nodes.new ≡ record nodes.old { capacity = nodes.new.capacity } }
 {
-    if prefix.length as usize + 1 <= nodes.capacity() - nodes.len() {
+    if nodes.capacity() - nodes.len() >= 2 {
         return Ok(());
     }
-    let mut walked = Meter::new();
-    locate(nodes, root, prefix, &mut walked);
-    let missing = u64::from(prefix.length) + 1 - walked.count();
-    if missing == 0 {
-        return Ok(());
+    if let Some(key) = locate(nodes, root, prefix, &mut Meter::new()) {
+        if nodes[key].value.is_some() {
+            return Ok(());
+        }
     }
-    nodes.reserve(missing as usize)
+    nodes.reserve(2)
 }
 
-// The node for the first `depth` bits of the prefix, made where the link leads to none.
-fn open<V>(nodes: &mut Slab<Node<V>>, link: Option<usize>, prefix: Prefix, depth: u32) -> usize
-    requires within { depth ≤ 32 }
-    requires held { IsHeld (33 - depth) nodes.old (way_to prefix depth) link }
-    requires room { link ≡ None → HasRoomFor nodes.old 1 }
-    ensures built { Rebuilds (33 - depth) (way_to prefix depth) nodes.old nodes.new link (Some result)
-        (opened (tree_at (33 - depth) nodes.old link)) }
-    ensures capacity { nodes.new.capacity ≡ nodes.old.capacity }
+// How many bits the two prefixes share, where they share the first `depth`.
+fn shared(p: Prefix, q: Prefix, depth: u32) -> u32
+    requires whole { (p.length ≤ 32) × (q.length ≤ 32) }
+    requires within { (depth ≤ p.length) × (depth ≤ q.length) }
+    ensures { result ≡ depth + common (way_on p depth) (way_on q depth) }
 {
-    match link {
-        Some(key) => key,
-        None => nodes.insert_reserved(Node::new(first_bits(prefix, depth))),
+    let mut shared = depth;
+    while shared < p.length && shared < q.length {
+        if next_bit(p.address, shared) != next_bit(q.address, shared) {
+            return shared;
+        }
+        shared += 1;
     }
+    shared
+}
+
+// Puts the value at the prefix above a node, which is in it or shares its first bits: then a node
+// for these links both. Says which node is above now.
+fn put_above<V>(
+    nodes: &mut Slab<Node<V>>,
+    key: usize,
+    prefix: Prefix,
+    shared: u32,
+    value: V,
+) -> usize
+    requires whole { prefix.length ≤ 32 }
+    requires canonical { prefix_of (path_of prefix) ≡ prefix }
+    requires within { shared ≤ prefix.length }
+    requires below { shared < 32 }
+    requires there { ContainsKey nodes.old key }
+    requires room { HasRoomFor nodes.old 2 }
+    ensures { (depth : ℕ) (t : Tree V) → Held nodes.old (way_to prefix depth) (Some key) t
+        → LeavesAt nodes.old key prefix depth shared
+        → Rebuilds (way_to prefix depth) nodes.old nodes.new t (put t (way_on prefix depth) value) (Some result) }
+{
+    let side = next_bit(nodes[key].prefix.address, shared);
+    if shared == prefix.length {
+        let mut node = Node::new(prefix, Some(value));
+        node.set_child(side, Some(key));
+        return nodes.insert_reserved(node);
+    }
+    let leaf = nodes.insert_reserved(Node::new(prefix, Some(value)));
+    let mut fork = Node::new(first_bits(prefix, shared), None);
+    fork.set_child(side, Some(key));
+    fork.set_child(!side, Some(leaf));
+    nodes.insert_reserved(fork)
 }
 
 // Puts the value at the prefix, and says which node stands behind the link then, and the value
@@ -172,21 +228,28 @@ pub(crate) fn insert<V>(
 ) -> (usize, Option<V>)
     requires within { depth ≤ prefix.length }
     requires whole { prefix.length ≤ 32 }
-    requires held { IsHeld (33 - depth) nodes.old (way_to prefix depth) link }
-    requires room { HasRoomForSome nodes.old
-        (prefix.length + 1 - depth - visits (tree_at (33 - depth) nodes.old link) (way_on prefix depth)) }
-    ensures built { Rebuilds (33 - depth) (way_to prefix depth) nodes.old nodes.new link (Some result.0)
-        (put (tree_at (33 - depth) nodes.old link) (way_on prefix depth) value) }
-    ensures replaced { result.1 ≡ find (tree_at (33 - depth) nodes.old link) (way_on prefix depth) }
+    requires canonical { prefix_of (path_of prefix) ≡ prefix }
+    requires room { HasRoomToPut nodes.old (way_to prefix depth) (way_on prefix depth) link }
+    ensures built { (t : Tree V) → Held nodes.old (way_to prefix depth) link t
+        → Rebuilds (way_to prefix depth) nodes.old nodes.new t (put t (way_on prefix depth) value) (Some result.0) }
+    ensures replaced { (t : Tree V) → Held nodes.old (way_to prefix depth) link t
+        → result.1 ≡ find t (way_on prefix depth) }
 {
-    let key = open(nodes, link, prefix, depth);
-    if depth == prefix.length {
+    let Some(key) = link else {
+        return (nodes.insert_reserved(Node::new(prefix, Some(value))), None);
+    };
+    let own = nodes[key].prefix;
+    let shared = shared(own, prefix, depth);
+    if shared < own.length {
+        return (put_above(nodes, key, prefix, shared, value), None);
+    }
+    if shared == prefix.length {
         let node = &mut nodes[key];
         return (key, node.value.replace(value));
     }
-    let bit = next_bit(prefix.address, depth);
+    let bit = next_bit(prefix.address, shared);
     let child = nodes[key].child(bit);
-    let (child, replaced) = insert(nodes, child, prefix, depth + 1, value);
+    let (child, replaced) = insert(nodes, child, prefix, shared + 1, value);
     nodes[key].set_child(bit, Some(child));
     (key, replaced)
 }
@@ -201,34 +264,44 @@ pub(crate) fn remove<V: Drop>(
 ) -> (Option<usize>, Option<V>)
     requires within { depth ≤ prefix.length }
     requires whole { prefix.length ≤ 32 }
-    requires held { IsHeld (33 - depth) nodes.old (way_to prefix depth) link }
-    ensures built { Rebuilds (33 - depth) (way_to prefix depth) nodes.old nodes.new link result.0
-        (cut (tree_at (33 - depth) nodes.old link) (way_on prefix depth)) }
-    ensures removed { result.1 ≡ find (tree_at (33 - depth) nodes.old link) (way_on prefix depth) }
+    requires held { IsHeld nodes.old (way_to prefix depth) link }
+    ensures built { (t : Tree V) → Held nodes.old (way_to prefix depth) link t
+        → Rebuilds (way_to prefix depth) nodes.old nodes.new t (cut t (way_on prefix depth)) result.0 }
+    ensures removed { (t : Tree V) → Held nodes.old (way_to prefix depth) link t
+        → result.1 ≡ find t (way_on prefix depth) }
 {
     let Some(key) = link else {
         return (None, None);
     };
-    if depth == prefix.length {
+    let own = nodes[key].prefix;
+    if own.length > prefix.length {
+        return (link, None);
+    }
+    if !own.contains(prefix.address) {
+        return (link, None);
+    }
+    if own.length == prefix.length {
         let node = &mut nodes[key];
         let removed = node.value.take();
         return (prune(nodes, key), removed);
     }
-    let bit = next_bit(prefix.address, depth);
+    let bit = next_bit(prefix.address, own.length);
     let child = nodes[key].child(bit);
-    let (child, removed) = remove(nodes, child, prefix, depth + 1);
+    let (child, removed) = remove(nodes, child, prefix, own.length + 1);
     nodes[key].set_child(bit, child);
     (prune(nodes, key), removed)
 }
 
-// Takes the node out if it holds no value and leads nowhere, and says which node is left.
+// Takes the node out if it holds no value and does not link two, and says which node is left.
 fn prune<V: Drop>(nodes: &mut Slab<Node<V>>, key: usize) -> Option<usize>
     requires { ContainsKey nodes.old key }
     ensures { Prunes nodes.old nodes.new key result }
 {
-    if !nodes[key].is_idle() {
+    let node = &nodes[key];
+    if node.is_needed() {
         return Some(key);
     }
+    let next = node.only_child();
     nodes.remove(key);
-    None
+    next
 }

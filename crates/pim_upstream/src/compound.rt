@@ -33,7 +33,7 @@ pub(crate) fn pruned_with_star(
     ensures most { IfOk result (λ pruned. length pruned.items ≤ 160) }
     ensures silent { turn.new ≡ turn.old }
 {
-    let sources = world.sources(turn.alloc, star.group)?;
+    let sources = world.sources(turn.alloc, star.group, &mut turn.meter)?;
     let mut pruned = Vec::new(turn.alloc);
     let mut room = MOST_PRUNED;
     for (source, ()) in sources.iter() {

@@ -36,5 +36,5 @@ pub fn fired(world: &mut World, turn: &mut Turn, key: Key) -> Result<(), AllocEr
     let end = world.periodic_end();
     world
         .store_mut()
-        .change_join_timer(key, JoinTimerRow { end })
+        .change_join_timer(key, JoinTimerRow { end }, &mut turn.meter)
 }

@@ -305,5 +305,5 @@ pub fn seen(
         &mut moves,
     )?;
     hear_prunes(world, turn, hop, overriding, &named.pruned, &mut moves)?;
-    move_timers(world, &moves)
+    move_timers(world, &mut turn.meter, &moves)
 }

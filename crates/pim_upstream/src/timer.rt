@@ -12,7 +12,7 @@ ghost use Rattle.pim_telling.specs.Changes.{change_of};
 use pim_telling::Change;
 use pim_types::fact::{JoinTimerRow, OverrideTimerRow};
 use pim_types::{Addr, IfaceId, Key};
-use pim_world::World;
+use pim_world::{Meter, World};
 use std::alloc::AllocError;
 
 /// What becomes of the Join timer of (*,G), without a source, or of (S,G), or of the override timer of (S,G,rpt); ends
@@ -73,6 +73,7 @@ fn join_timer(world: &World, group: Addr, source: Option<Addr>) -> Option<JoinTi
 #[tactic(auto, unfolding(pim_model::specs::Upstream::with_join_timer, pim_model::specs::Upstream::moved_join_timer, pim_telling::specs::Changes::change_of))]
 fn move_join_timer(
     world: &mut World,
+    meter: &mut Meter,
     group: Addr,
     source: Option<Addr>,
     change: Change,
@@ -82,15 +83,15 @@ fn move_join_timer(
 {
     match change {
         Change::Keep => Ok(()),
-        Change::Cancel => world.store_mut().set_join_timer(group, source, None),
+        Change::Cancel => world.store_mut().set_join_timer(group, source, None, meter),
         Change::SetTo(end) => world
             .store_mut()
-            .set_join_timer(group, source, Some(JoinTimerRow { end })),
+            .set_join_timer(group, source, Some(JoinTimerRow { end }), meter),
         Change::LowerTo(end) => {
             let end = lowered_end(join_timer(world, group, source).map(|row| row.end), end);
             world
                 .store_mut()
-                .set_join_timer(group, source, Some(JoinTimerRow { end }))
+                .set_join_timer(group, source, Some(JoinTimerRow { end }), meter)
         }
     }
 }
@@ -99,6 +100,7 @@ fn move_join_timer(
 #[tactic(auto, unfolding(pim_model::specs::Upstream::with_override_timer, pim_model::specs::Upstream::moved_override_timer, pim_telling::specs::Changes::change_of))]
 fn move_override_timer(
     world: &mut World,
+    meter: &mut Meter,
     group: Addr,
     source: Addr,
     change: Change,
@@ -108,50 +110,58 @@ fn move_override_timer(
 {
     match change {
         Change::Keep => Ok(()),
-        Change::Cancel => world.store_mut().set_override_timer(group, source, None),
+        Change::Cancel => world
+            .store_mut()
+            .set_override_timer(group, source, None, meter),
         Change::SetTo(end) => {
             world
                 .store_mut()
-                .set_override_timer(group, source, Some(OverrideTimerRow { end }))
+                .set_override_timer(group, source, Some(OverrideTimerRow { end }), meter)
         }
         Change::LowerTo(end) => {
             let key = Key::source_rpt(IfaceId::NONE, group, source);
             let end = lowered_end(world.store().override_timer(key).map(|row| row.end), end);
             world
                 .store_mut()
-                .set_override_timer(group, source, Some(OverrideTimerRow { end }))
+                .set_override_timer(group, source, Some(OverrideTimerRow { end }), meter)
         }
     }
 }
 
 // Moves a timer.
 #[tactic(auto, unfolding(crate::specs::Timers::after_move, pim_model::specs::Seen::raise_join_timer, pim_model::specs::Seen::lower_join_timer))]
-fn move_timer(world: &mut World, moved: TimerMove) -> Result<(), AllocError>
+fn move_timer(world: &mut World, meter: &mut Meter, moved: TimerMove) -> Result<(), AllocError>
     ensures { OnOk result (world.new ≡ after_move world.old moved) }
 {
     match moved {
-        TimerMove::Join(group, source, change) => move_join_timer(world, group, source, change),
+        TimerMove::Join(group, source, change) => {
+            move_join_timer(world, meter, group, source, change)
+        }
         TimerMove::Override(group, source, change) => {
-            move_override_timer(world, group, source, change)
+            move_override_timer(world, meter, group, source, change)
         }
         TimerMove::RaiseJoin(group, source, end) => {
             let row = raised(join_timer(world, group, source), end);
-            world.store_mut().set_join_timer(group, source, row)
+            world.store_mut().set_join_timer(group, source, row, meter)
         }
         TimerMove::LowerJoin(group, source, end) => {
             let row = lowered(join_timer(world, group, source), end);
-            world.store_mut().set_join_timer(group, source, row)
+            world.store_mut().set_join_timer(group, source, row, meter)
         }
     }
 }
 
 /// Moves these timers, one after the other.
 #[tactic(auto, unfolding(crate::specs::Timers::after_moves))]
-pub(crate) fn move_timers(world: &mut World, moves: &[TimerMove]) -> Result<(), AllocError>
+pub(crate) fn move_timers(
+    world: &mut World,
+    meter: &mut Meter,
+    moves: &[TimerMove],
+) -> Result<(), AllocError>
     ensures { OnOk result (world.new ≡ after_moves world.old moves.now) }
 {
     for moved in moves {
-        move_timer(world, *moved)?;
+        move_timer(world, meter, *moved)?;
     }
     Ok(())
 }

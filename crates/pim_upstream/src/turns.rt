@@ -182,7 +182,7 @@ pub fn changed(world: &mut World, turn: &mut Turn, opening: &Opening) -> Result<
 {
     let mut moves = Vec::new(turn.alloc);
     tell_groups(world, turn, opening.groups(), &mut moves)?;
-    move_timers(world, moves.as_slice())
+    move_timers(world, &mut turn.meter, moves.as_slice())
 }
 
 /// The same where one source alone was opened, by its sight of the state as the change left it.
@@ -205,5 +205,5 @@ pub fn changed_alone(
     let mut moves = Vec::new(turn.alloc);
     tell_star(world, turn, &sight.star, group.star, &mut moves)?;
     tell_seen(world, turn, sight, opened, &mut moves)?;
-    move_timers(world, moves.as_slice())
+    move_timers(world, &mut turn.meter, moves.as_slice())
 }

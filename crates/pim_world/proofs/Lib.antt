@@ -1,6 +1,6 @@
 pub mod Accepted
 mod Elected
-mod FirstFound
+pub mod FirstFound
 pub mod Gathered
 pub mod Gathering
 pub mod GatheredSources

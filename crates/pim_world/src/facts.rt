@@ -1,14 +1,15 @@
 //! What the machines change of sources: the keepalive timer, and the SPTbit.
-ghost use Rattle.std.specs.Prelude.{◌≡◌, OnOk, option_and_then};
+ghost use Rattle.std.specs.Prelude.{◌≡◌, IsTrue, OnOk, option_and_then};
 ghost use Rattle.pim_model.specs.Asserts.{with_spt_bit};
 ghost use Rattle.pim_model.specs.Registers.{with_keepalive};
 ghost use Rattle.pim_model.specs.Sets.{spt_bit};
-ghost use Rattle.pim_model.specs.Tables.{row_at};
+ghost use Rattle.pim_model.specs.Tables.{has_row, row_at};
 ghost use Rattle.pim_store.specs.PimTables.{AreKeyed, pim_tables};
 ghost use Rattle.pim_types.specs.Keys.{source_key};
 ghost use Rattle.pim_types.specs.declared.fact.SourceRow.{SourceRow as Row};
 
 use crate::world::World;
+use pim_trie::Meter;
 use pim_types::fact::SourceRow;
 use pim_types::{Addr, IfaceId, Key};
 use std::alloc::AllocError;
@@ -33,16 +34,23 @@ impl World {
         row.is_some_and(|row| row.spt)
     }
 
-    /// KAT(S,G) runs for its whole period from now on.
+    /// KAT(S,G) runs for its whole period from now on. The meter stays where the source has a row.
     #[tactic(auto, unfolding(pim_model::specs::Registers::with_keepalive, pim_model::specs::Tables::set_row))]
-    pub fn keep_alive(&mut self, group: Addr, source: Addr) -> Result<(), AllocError>
-        ensures { OnOk result (self.new ≡ with_keepalive self.old group.bits source.bits) }
+    pub fn keep_alive(
+        &mut self,
+        group: Addr,
+        source: Addr,
+        meter: &mut Meter,
+    ) -> Result<(), AllocError>
+        ensures state { OnOk result (self.new ≡ with_keepalive self.old group.bits source.bits) }
+        ensures kept { OnOk result (IsTrue (has_row self.old.sources (source_key 0 group.bits source.bits))
+            → meter.new ≡ meter.old) }
     {
         let row = SourceRow {
             keepalive: Some(self.present() + KEEPALIVE_PERIOD),
             spt: self.spt_bit(group, source),
         };
-        self.store.set_source(group, source, Some(row))
+        self.store.set_source(group, source, Some(row), meter)
     }
 
     // When KAT(S,G) ends, if it runs, in ms.
@@ -56,13 +64,18 @@ impl World {
 
     /// Sets SPTbit(S,G).
     #[tactic(auto, unfolding(pim_model::specs::Asserts::with_spt_bit, pim_model::specs::Tables::set_row))]
-    pub fn set_spt_bit(&mut self, group: Addr, source: Addr) -> Result<(), AllocError>
+    pub fn set_spt_bit(
+        &mut self,
+        group: Addr,
+        source: Addr,
+        meter: &mut Meter,
+    ) -> Result<(), AllocError>
         ensures { OnOk result (self.new ≡ with_spt_bit self.old group.bits source.bits) }
     {
         let row = SourceRow {
             keepalive: self.keepalive_end(group, source),
             spt: true,
         };
-        self.store.set_source(group, source, Some(row))
+        self.store.set_source(group, source, Some(row), meter)
     }
 }

@@ -17,6 +17,7 @@ pub mod turn;
 pub mod unicast;
 pub mod world;
 
+pub use pim_trie::Meter;
 pub use routes::test_rps;
 pub use touched::Touched;
 pub use turn::Turn;

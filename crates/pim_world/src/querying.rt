@@ -6,6 +6,7 @@ ghost use Rattle.pim_model.specs.Tables.{drop_where, has_row, put};
 ghost use Rattle.pim_types.specs.Keys.{iface_key, is_on, star_key};
 
 use crate::world::World;
+use pim_trie::Meter;
 use pim_types::fact::{GroupRecordRow, QuerierRole, QuerierRow};
 use pim_types::{Addr, IfaceId};
 use std::alloc::AllocError;
@@ -109,7 +110,13 @@ impl World {
 
     /// Lowers the group's timer on the interface to this end, in ms, where it runs and ends later.
     #[tactic(auto, unfolding(pim_model::specs::Querier::lower_group))]
-    pub fn lower_group(&mut self, iface: IfaceId, group: Addr, end: u64) -> Result<(), AllocError>
+    pub fn lower_group(
+        &mut self,
+        iface: IfaceId,
+        group: Addr,
+        end: u64,
+        meter: &mut Meter,
+    ) -> Result<(), AllocError>
         ensures { OnOk result (self.new ≡ lower_group self.old iface.number group.bits end) }
     {
         let Some(row) = self.membership.group_record(iface, group) else {
@@ -118,7 +125,8 @@ impl World {
         let lowered = GroupRecordRow {
             end: lowered(row.end, end),
         };
-        self.membership.change_group_record(iface, group, lowered)
+        self.membership
+            .change_group_record(iface, group, lowered, meter)
     }
 
     /// Whether a source of the group has sendings left on the interface.

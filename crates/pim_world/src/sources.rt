@@ -21,11 +21,12 @@ impl World {
         &self,
         alloc: Global,
         group: Addr,
+        meter: &mut Meter,
     ) -> Result<BTreeMap<Addr, (), Global>, AllocError>
         ensures { IfOk result (λ found. numbers_of found.entries ≡ sources_of group.bits (fact_keys self.now)) }
     {
-        let mut found = self.membership.sources_of(alloc, group)?;
-        gather_all(self.store.sources_of(group), &mut found)?;
+        let mut found = self.membership.sources_of(alloc, group, meter)?;
+        gather_all(self.store.sources_of(group, meter), &mut found)?;
         Ok(found)
     }
 

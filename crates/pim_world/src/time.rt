@@ -12,6 +12,7 @@ ghost use Rattle.pim_tables.specs.Ends.{due_of};
 use crate::members::with_member;
 use crate::world::World;
 use pim_tables::earlier;
+use pim_trie::Meter;
 use pim_types::fact::InterfaceRow;
 use pim_types::{IfaceId, Key, Timer};
 use std::alloc::AllocError;
@@ -49,13 +50,13 @@ impl World {
 
     /// Makes the interface down: all that is known on it goes. Without neighbours there the router is the DR.
     #[tactic(auto, unfolding(pim_model::specs::Step::iface_down))]
-    pub fn set_down(&mut self, iface: IfaceId)
+    pub fn set_down(&mut self, iface: IfaceId, meter: &mut Meter)
         ensures { self.new ≡ iface_down self.old iface.number }
     {
         self.interfaces.set_down(iface);
         self.neighbours.drop_on(iface);
-        self.membership.drop_on(iface);
-        self.store.drop_on(iface);
+        self.membership.drop_on(iface, meter);
+        self.store.drop_on(iface, meter);
         self.dr = with_member(self.dr, iface, true);
     }
 

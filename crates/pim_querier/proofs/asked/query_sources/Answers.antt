@@ -5,7 +5,7 @@ use Rattle.pim_model.specs.Querier.{lower_sources}
 use Rattle.pim_querier.specs.Changes.{sendings_put}
 use Rattle.pim_querier.specs.Queries.{bits_of}
 use Rattle.pim_querier.proofs.Queried.{none_queried, sources_queried}
-use Rattle.pim_querier.proofs.Starting.{nothing_said, then_ok}
+use Rattle.pim_querier.proofs.Starting.{nothing_said, said_as, then_ok}
 use Rattle.pim_querier.proofs.asked.query_sources.Goals as goal
 
 pub returns-then-is_empty-clause-state : goal.returns-then-is_empty-clause-state
@@ -45,8 +45,7 @@ returns-clause-messages c =
     let i = c.args.iface.number in
     let g = c.args.group.bits in
     then_ok c.send_sources.result
-    (λ e. e
-    ∙ ap (λ p. saying c.args.turn.now p.1)
+    (λ e. said_as _ _ _ _ _ e c.turn.view_is
     (sources_queried i g c.args.world.now c.lower_sources.new.world c.put_sendings.new.world (bits_of c.args.asked.now)
     c.in_ok-sources.sources.items c.query_end-end.result c.from.result c.query_end-end.ensures
     (c.from.ensures ∙ c.robustness.ensures.value) c.in_ok-sources.ensures (ap (λ n. n == 0) (omega (arith, c.in_ok-sources.sources.ok.0)) ∙ sym c.is_empty.ensures ∙ c.if-is_empty.false)

@@ -1,7 +1,6 @@
 use Rattle.std.proofs.Common.{Ok, ap, ◌∙◌}
 use Rattle.pim_fanout.specs.Refreshing.{touches}
-use Rattle.pim_router.proofs.Costs.{cheap_turn, is_cheap, untouched}
-use Rattle.pim_router.proofs.Instants.{on_ok}
+use Rattle.pim_router.proofs.Costs.{cheap_turn, plain_cheap, untouched}
 use Rattle.pim_router.proofs.Plainly.{answered_by_row, its_packet, not_plain, plain_outcome, plain_rows, plain_state}
 use Rattle.pim_router.proofs.event.take_data.Goals as goal
 
@@ -31,12 +30,12 @@ returns-in-Some-clause-shown c =
 
 pub returns-in-Some-clause-cheap : goal.returns-in-Some-clause-cheap
 returns-in-Some-clause-cheap c =
-    on_ok c.take_plain.result
-    (is_cheap c.args.world.now c.requires.rest c.args.event.now c.by_row.new.meter (touches c.args.cache.now)
-    (λ _. c.by_row.ensures.visited c.requires.unvisited
-    (answered_by_row c.args.cache.now.mfc c.args.world.now c.args.iface c.args.packet.now c.requires.shown
-    c.requires.below c.in-Some.forward c.by_row.result c.in-Some.is c.by_row.ensures.decided).row)
-    (untouched (touches c.args.cache.now) c.args.world.now c.args.event.now c.requires.uncounted))
+    let answered = answered_by_row c.args.cache.now.mfc c.args.world.now c.args.iface c.args.packet.now
+    c.requires.shown c.requires.below c.in-Some.forward c.by_row.result c.in-Some.is c.by_row.ensures.decided in
+    plain_cheap c.take_plain.result c.args.world.now c.requires.rest c.args.event.now c.by_row.new.meter
+    c.take_plain.new.meter (touches c.args.cache.now) c.take_plain.ensures.kept answered.known
+    (c.by_row.ensures.visited c.requires.unvisited answered.row)
+    (untouched (touches c.args.cache.now) c.args.world.now c.args.event.now c.requires.uncounted)
 
 pub returns-in-None-clause-cheap : goal.returns-in-None-clause-cheap
 returns-in-None-clause-cheap c =

@@ -8,6 +8,7 @@ use Rattle.pim_router.proofs.time.fired.Goals as goal
 pub returns-in-Keepalive-clause-messages : goal.returns-in-Keepalive-clause-messages
 returns-in-Keepalive-clause-messages c =
     on_ok c.keepalive_due.result
-    (subst (λ (kind : TimerKind). c.args.turn.now
+    (c.turn.view_is
+    ∙ subst (λ (kind : TimerKind). c.args.turn.now
     ≡ saying c.args.turn.now (fired c.args.world.now kind c.args.timer.key).1) (sym c.in-Keepalive.is)
     (says_nothing c.args.world.now c.args.timer.key c.args.turn.now))

@@ -9,7 +9,7 @@ returns-in-Err-clause-told g c =
     told_after g.R.TellsMarks.tells g.R.TellsMarks.says g.R.TellsMarks.fits c.args.key _ _ c.requires.told None _ _
     c.requires.fits
     (marks_again g.R.TellsMarks.tells g.R.TellsMarks.says c.args.key (Some c.args.row) None _ _ _
-    c.in_ok-mark_row.ensures.ok c.unmark.ensures)
+    c.in_ok-mark_row.ensures.ok c.unmark.ensures.marks)
     (found_dropped c.args.key _ _
     (c.remove.ensures ∙ ap (λ t. drop_at t c.args.key) c.in-Err.ensures.err
     ∙ left_is_dropped c.args.key g.R.Ends.kinds.1 c.args.rows.now))

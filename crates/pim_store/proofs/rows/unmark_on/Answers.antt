@@ -17,7 +17,7 @@ pub loop-key-preserved-then-eq : goal.loop-key-preserved-then-eq
 loop-key-preserved-then-eq g c =
     unmarked_here g.R.TellsMarks.tells g.R.TellsMarks.says g.R.TellsMarks.fits c.args.iface.number _ _ c.args.rows.now
     c.loop-key.key-iterator c.next.new.self c.in-Some.key.now c.in-Some.field-0-1.now c.loop-key.invariant
-    c.in-Some.ensures.steps _ (sym c.if-eq.ensures) c.unmark.ensures
+    c.in-Some.ensures.steps _ (sym c.if-eq.ensures) c.unmark.ensures.marks
 
 pub loop-key-preserved : goal.loop-key-preserved
 loop-key-preserved g c =

@@ -19,7 +19,7 @@ loop-source-init c =
       pruned = ap (λ es. es ++ first 160 (numbers_of c.into_iter-source-iterator.result)) c.new-pruned.ensures.items
           ∙ ap (first 160) all;
       counted = ap (λ (es : List Entry). length es + 160) c.new-pruned.ensures.items;
-      silent = search rules;
+      silent = c.turn.view_is;
     }
 
 pub loop-source-preserved-then-is_pruned : goal.loop-source-preserved-then-is_pruned

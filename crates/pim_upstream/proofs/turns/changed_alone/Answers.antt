@@ -52,7 +52,7 @@ returns-clause-messages c =
     c.in_ok-tell_star.ensures.timers a
     ∙ ap (λ (ms : List TimerMove). with_join_timer (after_moves a ms) (star_key 0 g) star.timer) c.new-moves.ensures.items in
     on_ok_weaker c.move_timers.result
-    (λ e. c.in_ok-tell_seen.ensures.messages a
+    (λ e. c.turn-2.view_is ∙ c.in_ok-tell_seen.ensures.messages a
     ∙ ap (λ d. saying c.tell_star.new.turn (source_step a d g (after_moves a c.tell_star.new.moves.items) o).1) draw
     ∙ ap (λ (u : State). saying c.tell_star.new.turn (source_step a w g u o).1) moved
     ∙ ap (λ (z : Taking). saying z (source_step a w g first o).1) c.in_ok-tell_star.ensures.messages

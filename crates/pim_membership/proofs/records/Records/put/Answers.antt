@@ -18,7 +18,7 @@ invariant_of-self-in-Err g c =
     c.record_key-key.ensures
     (c.remove.ensures ∙ ap (λ t. drop_at t c.record_key-key.result) c.in-Err.ensures.err
     ∙ left_is_dropped c.record_key-key.result g.R.Ends.kinds.1 c.self.inside.rows)
-    c.in_ok-relist.ensures.ok c.unlist.ensures
+    c.in_ok-relist.ensures.ok c.unlist.ensures.listed
 
 pub invariant_of-self-in_default : goal.invariant_of-self-in_default
 invariant_of-self-in_default g c =

@@ -1,3 +1,5 @@
+use Rattle.std.proofs.Common.{refl}
+use Rattle.pim_store.proofs.Alike.{kept_there}
 use Rattle.pim_store.proofs.Indexed.{after_sources}
 use Rattle.pim_store.proofs.store.Store.set_source.Goals as goal
 
@@ -6,3 +8,9 @@ set_row-requires-clause-told c = c.self.invariant.sources
 
 pub invariant_of-self : goal.invariant_of-self
 invariant_of-self c = after_sources c.self.invariant c.set_row.ensures.others c.set_row.ensures.told
+
+pub returns-clause-kept : goal.returns-clause-kept
+returns-clause-kept c =
+    rw (← c.self.view_is)
+    (kept_there c.set_row.result c.self.inside.sources _ _ c.args.row _ c.source-key.ensures
+    (λ x after before told. refl) c.set_row.ensures.alike)

@@ -10,4 +10,4 @@ unfolding membership_keys stored_keys
 returns c = rw (← c.self.view_is)
     (facts_in_order _ c.args.group.bits (numbers_of c.in_ok-found.found.entries) _ c.in_ok-found.ensures
     (c.in_ok-gather_all.ensures
-    ∙ ap (λ ns. gathered ns (numbers_of c.in_ok-found.found.entries)) c.sources_of-2.ensures))
+    ∙ ap (λ ns. gathered ns (numbers_of c.in_ok-found.found.entries)) c.sources_of-2.ensures.sources))

@@ -1,0 +1,7 @@
+use Rattle.std.proofs.Common.{rules}
+use Rattle.pim_router.proofs.SourceEnds.{others_by_walk}
+use Rattle.pim_router.proofs.time.has_other_sources.Goals as goal
+
+pub loop-key-init : goal.loop-key-init
+loop-key-init c =
+    others_by_walk c.args.world.now c.args.iface.number c.args.group.bits c.args.source.bits _ (search rules)

@@ -1,0 +1,87 @@
+-- A row that says what the one before says: nothing is looked up then.
+use Rattle.std.proofs.Common.{◌≡◌, ◌==◌, ◌&&◌, ◌||◌, ℕ, Bool, true, false, not, Option, Some, None, Result, Ok, Err, OnOk, is_some, refl, sym, ap, ◌∙◌, arith}
+use Rattle.std.specs.Prelude.{IsSome, IsTrue}
+use Rattle.std.proofs.lemmas.Bool.Decides.{nat_tests}
+use Rattle.std.specs.Bool.{beq}
+use Rattle.pim_types.specs.declared.fact.Key.{Key}
+use Rattle.pim_model.specs.Tables.{Table, has_row, row_at}
+use Rattle.pim_store.specs.Said.{SaysAlike, is_about, is_set_by}
+use Rattle.pim_store.specs.Telling.{is_second, is_set_by_either}
+use Rattle.pim_store.specs.declared.marks.Mark.{Mark}
+use Rattle.pim_store.specs.declared.marks.Mark.TheVariants.{Joined, Branched, Pruned, Lost, Won, HasJoinTimer, HasOverrideTimer, HasSource, HasRegister}
+
+-- ---- the marks that a row tells
+
+same_number : (n : ℕ) → (n == n) ≡ true
+same_number n = grind (arith, nat_tests)
+
+set_by_itself : (x : Mark) (n : ℕ) → is_set_by x n x n ≡ true
+set_by_itself Joined n = same_number n
+set_by_itself Branched n = same_number n
+set_by_itself Pruned n = same_number n
+set_by_itself Lost n = same_number n
+set_by_itself Won n = same_number n
+set_by_itself HasJoinTimer n = refl
+set_by_itself HasOverrideTimer n = refl
+set_by_itself HasSource n = refl
+set_by_itself HasRegister n = refl
+
+module _ (tells : Mark → Bool) (k : Key) (n : ℕ) (marks : Mark × Option Mark)
+    (told : (x : Mark) (i : ℕ) → (tells x && is_about x i k) ≡ is_set_by_either marks n x i)
+  where
+    left : (a b : Bool) → (a && b) ≡ true → a ≡ true
+    left true b e = refl
+    left false b e = cc
+
+    either : (a : Bool) → (a || true) ≡ true
+    either true = refl
+    either false = refl
+
+    pub first_told : tells marks.0 ≡ true
+    first_told =
+        left (tells marks.0) (is_about marks.0 n k)
+        (told marks.0 n ∙ ap (λ (b : Bool). b || is_second marks.1 n marks.0 n) (set_by_itself marks.0 n))
+
+    pub second_told : (x : Mark) → marks.1 ≡ Some x → tells x ≡ true
+    second_told x is =
+        left (tells x) (is_about x n k)
+        (told x n
+        ∙ ap (λ (o : Option Mark). is_set_by marks.0 n x n || is_second o n x n) is
+        ∙ ap (λ (b : Bool). is_set_by marks.0 n x n || b) (set_by_itself x n)
+        ∙ either (is_set_by marks.0 n x n))
+
+-- ---- tests
+
+pub tested : (a b : Bool) → a ≡ b → beq a b ≡ true
+tested true true e = refl
+tested true false e = cc
+tested false true e = cc
+tested false false e = refl
+
+pub apart : (a b : Bool) → not (beq a b) ≡ true → a ≡ b → ⊥
+apart true true e same = cc
+apart true false e same = cc
+apart false true e same = cc
+apart false false e same = cc
+
+pub some_alike : {R : Type 0} (before : Option R) (a b : R) → before ≡ Some a → before ≡ Some b → a ≡ b
+some_alike None a b one two = cc
+some_alike (Some r) a b one two = cc
+
+-- ---- rows that say no more than that they are there
+
+-- one that takes the place of another leaves the meter as it was
+pub kept_there : {R A E : Type 0} {tells : Mark → Bool} {says : Mark → R → Bool} (r : Result A E) (t : Table R) (k q : Key)
+    (row : Option R) (P : Type 0) → k ≡ q
+    → ((x : Mark) (after before : R) → tells x ≡ true → says x after ≡ says x before)
+    → OnOk r ((after before : R) → row ≡ Some after → row_at t k ≡ Some before → SaysAlike tells says after before → P)
+    → OnOk r (IsSome row → IsTrue (has_row t q) → P)
+unfolding has_row
+kept_there {R} (Ok a) t k q row P named alike kept = go row (row_at t q) refl refl
+  where
+    go : (o p : Option R) → row ≡ o → row_at t q ≡ p → IsSome o → IsTrue (is_some p) → P
+    go None p is at some there = cc
+    go (Some after) None is at some there = cc
+    go (Some after) (Some before) is at some there =
+        kept after before is (ap (row_at t) named ∙ at) (λ x told. alike x after before told)
+kept_there (Err e) t k q row P named alike kept = tt
