@@ -1,1 +1,2 @@
 pub mod Interfaces
+pub mod Subnets

@@ -8,13 +8,13 @@ ghost use Rattle.pim_tables.specs.Ends.{due_of};
 ghost use Rattle.pim_types.specs.declared.timer.TimerKind.{TimerKind as Kind};
 ghost use Rattle.pim_model.specs.Tables.{change_row, drop_where, has_row, put, row_at};
 ghost use Rattle.pim_types.specs.Keys.{iface_key, is_on};
-ghost use Rattle.pim_model.specs.Unicast.{is_on_link_among, link_among};
+ghost use Rattle.pim_model.specs.Unicast.{link_among};
 ghost use Rattle.pim_ifaces.specs.Interfaces.{interfaces_test};
 ghost use Rattle.pim_model.specs.Writing.{hellos_paid};
 
-use crate::limits::{MOST_INTERFACES, subnet};
-use arrayvec::ArrayVec;
-use pim_tables::{Timed, Wheel};
+use crate::configured::Configured;
+use crate::limits::MOST_INTERFACES;
+use pim_tables::{Ring, Timed};
 use pim_types::fact::InterfaceRow;
 use pim_types::{Addr, IfaceId, InterfaceConfig, Key, Timer};
 use std::alloc::{AllocError, Global};
@@ -22,8 +22,8 @@ use std::marker::Model;
 
 /// The configured interfaces, and the rows of those that are up.
 pub struct Interfaces {
-    configured: ArrayVec<InterfaceConfig, MOST_INTERFACES>,
-    rows: Timed<InterfaceRow, Wheel>,
+    configured: Configured,
+    rows: Timed<InterfaceRow, Ring>,
 }
 
 // Written out, so that it is proved once (docs/PROOF_NOTES.md, Drops).
@@ -42,9 +42,9 @@ impl Model for Interfaces {
 
     ghost Value = { InterfaceTable };
 
-    ghost view = { λ a. record { configured = a.configured.items; rows = a.rows } };
+    ghost view = { λ a. record { configured = a.configured; rows = a.rows } };
 
-    ghost invariant = { λ a. IsHeld a.configured.items a.rows };
+    ghost invariant = { λ a. IsHeld a.configured a.rows };
 }
 
 impl Interfaces {
@@ -54,8 +54,8 @@ impl Interfaces {
         ensures { IfOk result (λ made. made ≡ record { configured = configured.now; rows = [] }) }
     {
         Ok(Interfaces {
-            configured: held(configured),
-            rows: Timed::new(alloc, Wheel::new(alloc)?),
+            configured: Configured::new(configured),
+            rows: Timed::new(alloc, Ring::new(alloc)?),
         })
     }
 
@@ -64,14 +64,14 @@ impl Interfaces {
         ensures count { result ≡ length self.now.configured }
         ensures within { result ≤ MOST_INTERFACES }
     {
-        self.configured.len() as u32
+        self.configured().len() as u32
     }
 
     /// At most 120 interfaces are configured, so an interface that is has a number below 120. It does nothing.
     pub fn recall_few(&self)
         ensures { length self.now.configured ≤ MOST_INTERFACES }
     {
-        let _ = self.configured.as_slice().len();
+        let _ = &self.configured;
     }
 
     /// The configured interfaces, by their numbers.
@@ -129,24 +129,15 @@ impl Interfaces {
         ensures first { option_map (λ i. i.number) result ≡ link_among self.now.configured self.now.rows address.bits }
         ensures configured { IfSome result (λ i. i.number < length self.now.configured) }
     {
-        for number in 0..self.count() {
-            let iface = IfaceId { number };
-            if self.is_on_link(iface, address) {
+        for (number, subnet) in self.configured.subnets().iter().enumerate() {
+            let iface = IfaceId {
+                number: number as u32,
+            };
+            if subnet.has(address) && self.is_up(iface) {
                 return Some(iface);
             }
         }
         None
-    }
-
-    // Whether the interface is up and the address lies in its subnet.
-    #[tactic(auto, unfolding(pim_model::specs::Unicast::is_on_link_among))]
-    fn is_on_link(&self, iface: IfaceId, address: Addr) -> bool
-        ensures { result ≡ is_on_link_among self.now.configured self.now.rows address.bits iface.number }
-    {
-        match self.config(iface) {
-            Some(interface) => subnet(interface).contains(address) && self.is_up(iface),
-            None => false,
-        }
     }
 
     /// On which interface the Hello timer ends first, and when, in ms: the least end by its moment and its key.
@@ -218,16 +209,4 @@ impl Interfaces {
         };
         self.rows.change(key, paid)
     }
-}
-
-// The same, held in place.
-fn held(configured: &[InterfaceConfig]) -> ArrayVec<InterfaceConfig, MOST_INTERFACES>
-    requires { length configured.now ≤ MOST_INTERFACES }
-    ensures { result.items ≡ configured.now }
-{
-    let mut held = ArrayVec::new();
-    for interface in configured {
-        held.push(*interface);
-    }
-    held
 }

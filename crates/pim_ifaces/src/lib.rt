@@ -1,6 +1,7 @@
 //! The configured interfaces of a router, and the rows of those that are up.
 #![tactic(auto)]
 
+mod configured;
 pub mod interfaces;
 pub mod limits;
 

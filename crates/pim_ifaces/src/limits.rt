@@ -103,7 +103,7 @@ fn overlaps(a: InterfaceConfig, b: InterfaceConfig) -> bool
 }
 
 // The subnet of an interface. The address in it is the router's own.
-pub(crate) fn subnet(interface: InterfaceConfig) -> Prefix
+fn subnet(interface: InterfaceConfig) -> Prefix
     ensures { result ≡ subnet interface }
 {
     Prefix {

@@ -19,7 +19,7 @@ use crate::index::Index;
 use crate::listed::Listed;
 use pim_ip::Addr;
 use pim_source_trie::Meter;
-use pim_tables::{Ends, RowsOf, Timed, Wheel};
+use pim_tables::{Ends, Ring, RowsOf, Timed};
 use pim_types::fact::{GroupRecordRow, SourceRecordRow};
 use pim_types::{IfaceId, Key, Timer};
 use std::alloc::{AllocError, Global};
@@ -62,7 +62,7 @@ impl Record for SourceRecordRow {
 
 // The records of one kind.
 pub(crate) struct Records<R: Record> {
-    rows: Timed<R, Wheel>,
+    rows: Timed<R, Ring>,
     index: Index,
 }
 
@@ -92,7 +92,7 @@ impl<R: Record> Records<R> {
         ensures { IfOk result (λ records. records ≡ []) }
     {
         Ok(Records {
-            rows: Timed::new(alloc, Wheel::new(alloc)?),
+            rows: Timed::new(alloc, Ring::new(alloc)?),
             index: Index::new(alloc),
         })
     }
@@ -351,7 +351,7 @@ fn record_key(iface: IfaceId, group: Addr, source: Option<Addr>) -> Key
 // Lists the interface as the row under the key has it, unless the one that is there has it so. An error is want of
 // memory, and then nothing has changed.
 fn relist<R: Record>(
-    rows: &Timed<R, Wheel>,
+    rows: &Timed<R, Ring>,
     index: &mut Index,
     key: Key,
     row: R,

@@ -13,7 +13,7 @@ ghost use Rattle.pim_types.specs.declared.timer.TimerKind.{TimerKind as Kind};
 ghost use Rattle.pim_types.specs.Keys.{is_on, key_cmp, neighbour_key};
 
 use crate::delays::{Delays, delay_in};
-use pim_tables::{RowsOf, Timed, Wheel};
+use pim_tables::{Ring, RowsOf, Timed};
 use pim_types::fact::NeighbourRow;
 use pim_types::{Addr, Hop, IfaceId, InterfaceConfig, Key, Path, Timer};
 use pim_wire::{DEFAULT_HOLDTIME, HOLDTIME_FOREVER, Hello};
@@ -41,7 +41,7 @@ fn is_same_priority(first: Option<u32>, second: Option<u32>) -> bool
 /// The PIM neighbours on all interfaces, each as its last Hello said.
 #[derive(Drop)]
 pub struct Neighbours {
-    rows: Timed<NeighbourRow, Wheel>,
+    rows: Timed<NeighbourRow, Ring>,
 }
 
 impl Model for Neighbours {
@@ -90,7 +90,7 @@ impl Neighbours {
         ensures { IfOk result (λ made. made ≡ []) }
     {
         Ok(Neighbours {
-            rows: Timed::new(alloc, Wheel::new(alloc)?),
+            rows: Timed::new(alloc, Ring::new(alloc)?),
         })
     }
 

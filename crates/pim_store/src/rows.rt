@@ -8,7 +8,7 @@ ghost use Rattle.pim_store.specs.declared.marks.Mark.{Mark as MarkValue};
 use crate::index::Index;
 use crate::telling::TellsMarks;
 use pim_source_trie::Meter;
-use pim_tables::{Timed, Wheel};
+use pim_tables::{Ring, Timed};
 use pim_types::{IfaceId, Key};
 use std::alloc::AllocError;
 
@@ -36,7 +36,7 @@ fn says_alike<R: TellsMarks>(key: Key, before: Option<R>, row: R) -> bool
 // Marks what the row says, unless it says what the one that is there says. An error is want of memory, and then
 // nothing has changed. The meter rises by the nodes that lead to the marks, where they are looked up.
 fn mark_row<R: TellsMarks>(
-    rows: &Timed<R, Wheel>,
+    rows: &Timed<R, Ring>,
     index: &mut Index,
     key: Key,
     row: R,
@@ -58,7 +58,7 @@ fn mark_row<R: TellsMarks>(
 
 // Puts the row under the key, in place of one that is there. An error is want of memory.
 pub(crate) fn put_row<R: TellsMarks>(
-    rows: &mut Timed<R, Wheel>,
+    rows: &mut Timed<R, Ring>,
     index: &mut Index,
     key: Key,
     row: R,
@@ -85,7 +85,7 @@ pub(crate) fn put_row<R: TellsMarks>(
 
 // Takes the row under the key away.
 pub(crate) fn remove_row<R: TellsMarks>(
-    rows: &mut Timed<R, Wheel>,
+    rows: &mut Timed<R, Ring>,
     index: &mut Index,
     key: Key,
     meter: &mut Meter,
@@ -104,7 +104,7 @@ pub(crate) fn remove_row<R: TellsMarks>(
 // Puts the row under the key, or takes away the one that is there. An error is want of memory.
 #[tactic(auto, unfolding(pim_model::specs::Tables::set_row))]
 pub(crate) fn set_row<R: TellsMarks>(
-    rows: &mut Timed<R, Wheel>,
+    rows: &mut Timed<R, Ring>,
     index: &mut Index,
     key: Key,
     row: Option<R>,
@@ -130,7 +130,7 @@ pub(crate) fn set_row<R: TellsMarks>(
 
 // Where there is a row under the key, puts this one in its place, or takes it away. An error is want of memory.
 pub(crate) fn change_row<R: TellsMarks>(
-    rows: &mut Timed<R, Wheel>,
+    rows: &mut Timed<R, Ring>,
     index: &mut Index,
     key: Key,
     row: Option<R>,
@@ -151,7 +151,7 @@ pub(crate) fn change_row<R: TellsMarks>(
 
 // Takes the row under the key away, if there is one.
 pub(crate) fn drop_row<R: TellsMarks>(
-    rows: &mut Timed<R, Wheel>,
+    rows: &mut Timed<R, Ring>,
     index: &mut Index,
     key: Key,
     meter: &mut Meter,
@@ -168,7 +168,7 @@ pub(crate) fn drop_row<R: TellsMarks>(
 
 // Takes the marks away that the interface's rows made.
 fn unmark_on<R: TellsMarks>(
-    rows: &Timed<R, Wheel>,
+    rows: &Timed<R, Ring>,
     index: &mut Index,
     iface: IfaceId,
     meter: &mut Meter,
@@ -186,7 +186,7 @@ fn unmark_on<R: TellsMarks>(
 
 // Takes the interface's rows away.
 pub(crate) fn drop_rows_on<R: TellsMarks>(
-    rows: &mut Timed<R, Wheel>,
+    rows: &mut Timed<R, Ring>,
     index: &mut Index,
     iface: IfaceId,
     meter: &mut Meter,

@@ -20,7 +20,7 @@ use crate::rows::{change_row, drop_row, drop_rows_on, put_row, remove_row, set_r
 use crate::walks::Sources;
 use pim_ip::Addr;
 use pim_source_trie::{Groups, Meter};
-use pim_tables::{GroupRows, RptKeys, Timed, Wheel, earlier};
+use pim_tables::{GroupRows, Ring, RptKeys, Timed, earlier};
 use pim_types::fact::{
     AssertRow, DownstreamRow, JoinTimerRow, OverrideTimerRow, RegisterRow, SourceRow,
 };
@@ -34,12 +34,12 @@ use std::marker::Model;
 /// are, but that all that is told of them is true. What changes them raises the meter by the nodes that lead to the marks of
 /// a group or a source, wherever a row comes or goes there, or says something else than the one before.
 pub struct Store {
-    downstream: Timed<DownstreamRow, Wheel>,
-    asserts: Timed<AssertRow, Wheel>,
-    join_timers: Timed<JoinTimerRow, Wheel>,
-    override_timers: Timed<OverrideTimerRow, Wheel>,
-    sources: Timed<SourceRow, Wheel>,
-    registers: Timed<RegisterRow, Wheel>,
+    downstream: Timed<DownstreamRow, Ring>,
+    asserts: Timed<AssertRow, Ring>,
+    join_timers: Timed<JoinTimerRow, Ring>,
+    override_timers: Timed<OverrideTimerRow, Ring>,
+    sources: Timed<SourceRow, Ring>,
+    registers: Timed<RegisterRow, Ring>,
     index: Index,
 }
 
@@ -76,12 +76,12 @@ impl Store {
         ensures { IfOk result (λ store. store ≡ no_facts) }
     {
         Ok(Store {
-            downstream: Timed::new(alloc, Wheel::new(alloc)?),
-            asserts: Timed::new(alloc, Wheel::new(alloc)?),
-            join_timers: Timed::new(alloc, Wheel::new(alloc)?),
-            override_timers: Timed::new(alloc, Wheel::new(alloc)?),
-            sources: Timed::new(alloc, Wheel::new(alloc)?),
-            registers: Timed::new(alloc, Wheel::new(alloc)?),
+            downstream: Timed::new(alloc, Ring::new(alloc)?),
+            asserts: Timed::new(alloc, Ring::new(alloc)?),
+            join_timers: Timed::new(alloc, Ring::new(alloc)?),
+            override_timers: Timed::new(alloc, Ring::new(alloc)?),
+            sources: Timed::new(alloc, Ring::new(alloc)?),
+            registers: Timed::new(alloc, Ring::new(alloc)?),
             index: Index::new(alloc),
         })
     }

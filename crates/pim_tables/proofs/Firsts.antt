@@ -4,7 +4,6 @@ use Rattle.std.specs.List.{cons_option, AllByRecursion}
 use Rattle.std.specs.List.Sorted.{IsStrictlySortedBy}
 use Rattle.std.specs.Map.{lookup}
 use Rattle.std.specs.BTreeMap.{is_at}
-use Rattle.std.specs.FinMap as map
 use Rattle.std.specs.Ordering.{is_eq, ordering_reverse}
 use Rattle.std.specs.Cmp.{IsStrictWeakOrder}
 use Rattle.std.specs.declared.cmp.Ordering.TheVariants.{Less}
@@ -15,17 +14,18 @@ use Rattle.pim_types.specs.declared.timer.Timer.{Timer}
 use Rattle.pim_types.specs.declared.timer.TimerKind.{TimerKind}
 use Rattle.pim_types.specs.Keys.{key_cmp, same_key}
 use Rattle.pim_types.proofs.Keys.{equal_keys, key_cmp_total, same_key_same}
+use Rattle.pim_timers.specs.Dues.{Due, IsFirst}
 use Rattle.pim_timers.specs.Next.{IsNext}
 use Rattle.pim_timers.specs.Order.{due_cmp}
-use Rattle.pim_timers.specs.Schedule.{Contents}
 use Rattle.pim_timers.proofs.Least.{next_is_one}
+use Rattle.pim_timers.proofs.Together.{first_is_next}
 use Rattle.pim_timers.proofs.Total.{due_cmp_total}
 use Rattle.pim_model.specs.Clearing.{first_by, first_of_both}
 use Rattle.pim_model.specs.Tables.{Table, keys_in, row_at}
 use Rattle.pim_model.specs.Timers.{Ending, ending, ending_cmp, endings, is_ending_first}
 use Rattle.pim_laws.proofs.ListLaws.{each_append}
 use Rattle.pim_tables.specs.Ends.{InStep, Kinds, due_of, end_of, is_second, row_endings, same_kind, second_endings}
-use Rattle.pim_tables.proofs.Steps.{first_end, kind_exact, second_end}
+use Rattle.pim_tables.proofs.Steps.{first_end, kind_exact, same_kind_itself, second_end}
 
 -- ---- the first of a list
 
@@ -206,18 +206,15 @@ module _ {R : Type 0} (kinds : Kinds) (ends : R → Option ℕ × Option ℕ) (r
         → AllByRecursion IsSet (endings kind f rows)
     all_of_kind kind f is = all_listed kind f IsSet rows (each_is kind f is rows (all_found rows sorted))
 
-    same_itself : (kind : TimerKind) → same_kind kind kind ≡ true
-    same_itself kind = grind (arith, nat_tests)
-
     first_set : AllByRecursion IsSet first_ones
-    first_set = all_of_kind kinds.0 first_in (λ r. first_end kinds ends r kinds.0 (same_itself kinds.0))
+    first_set = all_of_kind kinds.0 first_in (λ r. first_end kinds ends r kinds.0 (same_kind_itself kinds.0))
 
     both_set : (second : Option TimerKind) → kinds.1 ≡ second
         → AllByRecursion IsSet (second_endings second second_in rows first_ones)
     both_set None is = first_set
     both_set (Some kind) is =
         each_append IsSet first_ones (endings kind second_in rows) first_set
-        (all_of_kind kind second_in (λ r. second_end kinds ends apart r kind kind is (same_itself kind)))
+        (all_of_kind kind second_in (λ r. second_end kinds ends apart r kind kind is (same_kind_itself kind)))
 
     next_of : (o : Option Ending) → FirstOf IsSet (row_endings kinds ends rows) o
         → IsNext end_at (option_map due_of o)
@@ -237,10 +234,9 @@ module _ {R : Type 0} (kinds : Kinds) (ends : R → Option ℕ × Option ℕ) (r
     unfolding row_endings
     all_set = both_set kinds.1 refl
 
-    -- where timers and rows are in step, what is next is the first of the rows' ends
-    pub next_is_first : (contents : Contents) (next : Option (ℕ × Timer)) → InStep kinds ends contents rows
-        → IsNext (map.get contents) next
+    -- where the queue and the rows are in step, its first is the first of the rows' ends
+    pub next_is_first : (holds : Due → Bool) (next : Option Due) → InStep kinds ends holds rows → IsFirst holds next
         → next ≡ option_map due_of (first_by is_ending_first (row_endings kinds ends rows))
-    next_is_first contents next step is =
-        next_is_one end_at next _ (subst (λ (f : Timer → Option ℕ). IsNext f next) (λ i t. step t i) is)
+    next_is_first holds next step is =
+        next_is_one end_at next _ (first_is_next end_at holds next step is)
         (next_of _ (first_of IsSet (row_endings kinds ends rows) all_set))

@@ -157,6 +157,14 @@ impl<R: Copy> Facts<R> {
         self.rows.remove(&key);
     }
 
+    // Takes the fact under the key away, and gives it.
+    pub(crate) fn take(&mut self, key: Key) -> Option<R>
+        ensures taken { result ≡ row_at self.old key }
+        ensures left { self.new ≡ drop_at self.old key }
+    {
+        self.rows.remove(&key)
+    }
+
     /// Puts the fact under the key, or takes away the one that is there.
     pub fn set(&mut self, key: Key, row: Option<R>) -> Result<(), AllocError>
         ensures ok { OnOk result (self.new ≡ set_row self.old key row) }

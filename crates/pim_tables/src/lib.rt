@@ -17,6 +17,6 @@ pub use facts::Facts;
 pub use first::earlier;
 pub use group_rows::{GroupRows, RptKeys};
 pub use named::is_named;
-pub use pim_timers::Wheel;
+pub use pim_timers::Ring;
 pub use rows_of::RowsOf;
 pub use timed::Timed;

@@ -1,16 +1,15 @@
-//! A table whose rows end. The timers of the ends are kept beside the rows, so that no caller sets one.
-ghost use Rattle.std.specs.Prelude.{◌≡◌, ◌==◌, ◌++◌, ◌↔◌, ◌&&◌, [], filter, length, IsTrue, IfSome, OnOk, OnErr, Option, Some, None, cond, option_map};
-ghost use Rattle.std.specs.FinMap as map;
+//! A table whose rows end. A queue of the ends that the rows know stands beside them, so that no caller sets a timer.
+ghost use Rattle.std.specs.Prelude.{◌≡◌, ◌==◌, ◌++◌, ◌↔◌, ◌&&◌, ◌||◌, ℕ, [], false, filter, length, not, IsTrue, IfSome, OnOk, OnErr, Option, Some, None, cond, option_map};
 ghost use Rattle.std.specs.List.{list_any};
 ghost use Rattle.std.specs.List.Sorted.{IsStrictlySortedBy};
 ghost use Rattle.pim_model.specs.Clearing.{first_by};
 ghost use Rattle.pim_model.specs.Records.{is_at_group};
 ghost use Rattle.pim_model.specs.Tables.{keys_in, row_at, has_row, put, drop_at, drop_where, set_row, change_row, rows_on};
 ghost use Rattle.pim_model.specs.Timers.{is_ending_first};
-ghost use Rattle.pim_timers.specs.Ends.{same_timer};
-ghost use Rattle.pim_types.specs.declared.timer.Timer.{Timer as TimerValue};
+ghost use Rattle.pim_timers.specs.Dues.{Due};
+ghost use Rattle.pim_timers.specs.Ends.{ends_at, same_timer};
 ghost use Rattle.pim_types.specs.Keys.{group_in, is_of_group, key_cmp, is_on};
-ghost use Rattle.pim_tables.specs.Ends.{InStep, KeepsOthers, SetsRow, due_of, left_at, row_endings};
+ghost use Rattle.pim_tables.specs.Ends.{HasEither, InStep, KeepsOthers, KnowsRow, SetsRow, due_of, ends_under, is_end, left_at, row_endings};
 ghost use Rattle.pim_tables.specs.RowsOf.{first_key};
 
 use crate::ends::Ends;
@@ -18,7 +17,7 @@ use crate::facts::Facts;
 use crate::group_rows::{GroupRows, RptKeys};
 use crate::rows_of::RowsOf;
 use pim_ip::Addr;
-use pim_timers::Timers;
+use pim_timers::Queue;
 use pim_types::{IfaceId, Key, Timer};
 use std::alloc::{AllocError, Global};
 use std::collections::BTreeSet;
@@ -26,19 +25,19 @@ use std::collections::btree_map::Iter;
 use std::marker::Model;
 
 /// The facts of one kind, which end.
-pub struct Timed<R: Ends, T: Timers> {
+pub struct Timed<R: Ends, Q: Queue> {
     rows: Facts<R>,
-    timers: T,
+    queue: Q,
 }
 
 // Written out, so that it is proved once (docs/PROOF_NOTES.md, Drops).
-impl<R: Ends + Drop, T: Timers + Drop> Drop for Timed<R, T> {
+impl<R: Ends + Drop, Q: Queue + Drop> Drop for Timed<R, Q> {
     fn drop(self) {
-        let Timed { rows: _, timers: _ } = self;
+        let Timed { rows: _, queue: _ } = self;
     }
 }
 
-impl<R: Ends, T: Timers> Model for Timed<R, T> {
+impl<R: Ends, Q: Queue> Model for Timed<R, Q> {
     ghost use Rattle.pim_model.specs.Tables.{Table};
     ghost use Rattle.pim_tables.specs.Ends.{InStep};
 
@@ -46,87 +45,140 @@ impl<R: Ends, T: Timers> Model for Timed<R, T> {
 
     ghost view = { λ a. a.rows };
 
-    ghost invariant = { λ a. InStep R.kinds R.ends (T.contents a.timers) a.rows };
+    ghost invariant = { λ a. InStep R.kinds R.ends (Q.holds a.queue) a.rows };
 }
 
-// Sets the timer to the end (ms), or takes it out where there is none.
-fn set_end<T: Timers>(timers: &mut T, timer: Timer, end: Option<u64>) -> Result<(), AllocError>
-    ensures ok { OnOk result ((t : TimerValue)
-        → map.get (T.contents timers.new) t ≡ cond (same_timer t timer) end (map.get (T.contents timers.old) t)) }
-    ensures err { OnErr result (T.contents timers.new ≡ T.contents timers.old) }
+// The ends of a row, if there is one.
+fn ends_of<R: Ends>(row: Option<R>) -> (Option<u64>, Option<u64>)
+    ensures { result ≡ ends_under R.ends row }
 {
-    match end {
-        Some(end) => timers.set(timer, end)?,
-        None => timers.cancel(timer),
+    match row {
+        Some(row) => row.ends(),
+        None => (None, None),
+    }
+}
+
+// Moves the end of a timer (ms) from the one that is known to another; where they are one, nothing is written. An
+// error is want of memory, and changes nothing.
+fn move_end<Q: Queue>(
+    queue: &mut Q,
+    timer: Timer,
+    from: Option<u64>,
+    to: Option<u64>,
+) -> Result<(), AllocError>
+    requires { (moment : ℕ) → Q.holds queue.old (moment, timer) ≡ ends_at from moment }
+    ensures ok { OnOk result ((d : Due) → Q.holds queue.new d
+        ≡ cond (same_timer d.1 timer) (ends_at to d.0) (Q.holds queue.old d)) }
+    ensures err { OnErr result ((d : Due) → Q.holds queue.new d ≡ Q.holds queue.old d) }
+{
+    if from == to {
+        return Ok(());
+    }
+    add_end(queue, timer, to)?;
+    drop_end(queue, timer, from);
+    Ok(())
+}
+
+// Puts the end of a timer (ms) in, where there is one. An error is want of memory, and changes nothing.
+fn add_end<Q: Queue>(queue: &mut Q, timer: Timer, end: Option<u64>) -> Result<(), AllocError>
+    ensures ok { OnOk result ((d : Due) → Q.holds queue.new d
+        ≡ ((ends_at end d.0 && same_timer d.1 timer) || Q.holds queue.old d)) }
+    ensures err { OnErr result ((d : Due) → Q.holds queue.new d ≡ Q.holds queue.old d) }
+{
+    if let Some(moment) = end {
+        queue.insert((moment, timer))?;
     }
     Ok(())
 }
 
-// Sets the timers of the row under the key. An error is want of memory; the timer of a row with one end is then as it
-// was.
-fn set_ends<R: Ends, T: Timers>(timers: &mut T, key: Key, row: R) -> Result<(), AllocError>
-    ensures ok { OnOk result (SetsRow R.kinds R.ends (T.contents timers.old) (T.contents timers.new) key (Some row)) }
-    ensures err { OnErr result (KeepsOthers R.kinds (T.contents timers.old) (T.contents timers.new) key) }
-    ensures kept { R.kinds.1 ≡ None → OnErr result (T.contents timers.new ≡ T.contents timers.old) }
+// Takes the end of a timer (ms) out, where there is one.
+fn drop_end<Q: Queue>(queue: &mut Q, timer: Timer, end: Option<u64>)
+    ensures { (d : Due) → Q.holds queue.new d
+        ≡ (not (ends_at end d.0 && same_timer d.1 timer) && Q.holds queue.old d) }
 {
-    let kinds = R::kinds();
-    let ends = row.ends();
-    set_end(timers, Timer { kind: kinds.0, key }, ends.0)?;
-    if let Some(kind) = kinds.1 {
-        set_end(timers, Timer { kind, key }, ends.1)?;
-    }
-    Ok(())
-}
-
-// Takes the timers of the row under the key out.
-fn cancel_ends<R: Ends, T: Timers>(timers: &mut T, key: Key)
-    ensures { SetsRow R.kinds R.ends (T.contents timers.old) (T.contents timers.new) key None }
-{
-    let kinds = R::kinds();
-    timers.cancel(Timer { kind: kinds.0, key });
-    if let Some(kind) = kinds.1 {
-        timers.cancel(Timer { kind, key });
+    if let Some(moment) = end {
+        queue.remove((moment, timer));
     }
 }
 
-// Sets the timers of the row, and then puts it under the key. An error is want of memory.
-fn put_in_step<R: Ends, T: Timers>(
-    rows: &mut Facts<R>,
-    timers: &mut T,
+// Moves the ends of the row under the key from those that are known to those of another row. An error is want of
+// memory; the end of a row with one is then as it was, and of two each is where it was or where it goes.
+fn move_ends<R: Ends, Q: Queue>(
+    queue: &mut Q,
     key: Key,
+    before: Option<R>,
     row: R,
 ) -> Result<(), AllocError>
-    requires { InStep R.kinds R.ends (T.contents timers.old) rows.old }
+    requires { KnowsRow R.kinds R.ends (Q.holds queue.old) key before }
+    ensures ok { OnOk result (SetsRow R.kinds R.ends (Q.holds queue.old) (Q.holds queue.new) key (Some row)) }
+    ensures others { OnErr result (KeepsOthers R.kinds (Q.holds queue.old) (Q.holds queue.new) key) }
+    ensures either { OnErr result (HasEither R.kinds R.ends (Q.holds queue.new) key before (Some row)) }
+    ensures kept { R.kinds.1 ≡ None → OnErr result ((d : Due) → Q.holds queue.new d ≡ Q.holds queue.old d) }
+{
+    let kinds = R::kinds();
+    let from = ends_of(before);
+    let to = row.ends();
+    move_end(queue, Timer { kind: kinds.0, key }, from.0, to.0)?;
+    if let Some(kind) = kinds.1 {
+        move_end(queue, Timer { kind, key }, from.1, to.1)?;
+    }
+    Ok(())
+}
+
+// Takes the ends of a row under the key out, if there is one.
+fn drop_ends<R: Ends, Q: Queue>(queue: &mut Q, key: Key, row: Option<R>)
+    ensures { (d : Due) → Q.holds queue.new d ≡ (not (is_end R.kinds R.ends key row d) && Q.holds queue.old d) }
+{
+    let kinds = R::kinds();
+    let ends = ends_of(row);
+    drop_end(queue, Timer { kind: kinds.0, key }, ends.0);
+    if let Some(kind) = kinds.1 {
+        drop_end(queue, Timer { kind, key }, ends.1);
+    }
+}
+
+// Moves the ends of the row that was under the key, if there was one, to those of this one, and then puts it there. An
+// error is want of memory.
+fn put_in_step<R: Ends, Q: Queue>(
+    rows: &mut Facts<R>,
+    queue: &mut Q,
+    key: Key,
+    before: Option<R>,
+    row: R,
+) -> Result<(), AllocError>
+    requires before { before ≡ row_at rows.old key }
+    requires in_step { InStep R.kinds R.ends (Q.holds queue.old) rows.old }
     ensures ok { OnOk result (rows.new ≡ put rows.old key row) }
     ensures err { OnErr result (rows.new ≡ left_at R.kinds.1 rows.old key) }
-    ensures in_step { InStep R.kinds R.ends (T.contents timers.new) rows.new }
+    ensures in_step { InStep R.kinds R.ends (Q.holds queue.new) rows.new }
 {
-    if let Err(refused) = set_ends(timers, key, row) {
+    if let Err(refused) = move_ends(queue, key, before, row) {
         if R::kinds().1.is_none() {
             return Err(refused);
         }
-        // The first of the two may be set by now, and can't be set back without memory.
+        // The first of the two may be moved by now, and can't be moved back without memory.
         rows.remove(key);
-        cancel_ends::<R, T>(timers, key);
+        drop_ends(queue, key, before);
+        drop_ends(queue, key, Some(row));
         return Err(refused);
     }
     if let Err(refused) = rows.put(key, row) {
         // No row is under the key, since only a further one wants memory.
-        cancel_ends::<R, T>(timers, key);
+        drop_ends(queue, key, Some(row));
         return Err(refused);
     }
     Ok(())
 }
 
-impl<R: Ends, T: Timers> Timed<R, T> {
-    /// No facts, beside timers of which none is set.
-    pub fn new(alloc: Global, timers: T) -> Self
-        requires { T.contents timers ≡ map.empty }
+impl<R: Ends, Q: Queue> Timed<R, Q> {
+    /// No facts, beside a queue that holds nothing.
+    pub fn new(alloc: Global, queue: Q) -> Self
+        requires { (d : Due) → Q.holds queue d ≡ false }
         ensures { result ≡ [] }
     {
         Timed {
             rows: Facts::new(alloc),
-            timers,
+            queue,
         }
     }
 
@@ -230,9 +282,9 @@ impl<R: Ends, T: Timers> Timed<R, T> {
     pub fn next(&self) -> Option<(u64, Timer)>
         ensures { result ≡ option_map due_of (first_by is_ending_first (row_endings R.kinds R.ends self.now)) }
     {
-        // A key stands once, so that the timers are all the ends.
+        // A key stands once, so that the queue holds all the ends.
         self.rows.recall_rising();
-        self.timers.next()
+        self.queue.first()
     }
 
     /// Puts the fact under the key, in place of one that is there. An error is want of memory: facts with one
@@ -241,15 +293,16 @@ impl<R: Ends, T: Timers> Timed<R, T> {
         ensures ok { OnOk result (self.new ≡ put self.old key row) }
         ensures err { OnErr result (self.new ≡ left_at R.kinds.1 self.old key) }
     {
-        put_in_step(&mut self.rows, &mut self.timers, key, row)
+        let before = self.rows.get(key);
+        put_in_step(&mut self.rows, &mut self.queue, key, before, row)
     }
 
     /// Takes the fact under the key away.
     pub fn remove(&mut self, key: Key)
         ensures { self.new ≡ drop_at self.old key }
     {
-        self.rows.remove(key);
-        cancel_ends::<R, T>(&mut self.timers, key);
+        let before = self.rows.take(key);
+        drop_ends(&mut self.queue, key, before);
     }
 
     /// Puts the fact under the key, or takes away the one that is there. An error is want of memory, and leaves
@@ -277,9 +330,10 @@ impl<R: Ends, T: Timers> Timed<R, T> {
         ensures err { OnErr result (self.new ≡ left_at R.kinds.1 self.old key) }
     {
         // What is put under a key that is there stands in its place.
-        self.recall_rising();
-        if self.contains(key) {
-            self.put(key, row)?;
+        self.rows.recall_rising();
+        let before = self.rows.get(key);
+        if before.is_some() {
+            put_in_step(&mut self.rows, &mut self.queue, key, before, row)?;
         }
         Ok(())
     }

@@ -47,7 +47,7 @@ other m n t u apart = same_due_by m n t u ∙ ap (λ b. (m == n) && b) apart ∙
 
 -- one timer, and all others
 by_timer : (c : Contents) (h : Due → Bool) (x : Timer) → ((m : ℕ) → h (m, x) ≡ ends_at (map.get c x) m)
-    → ((m : ℕ) (t : Timer) → same_timer t x ≡ false → h (m, t) ≡ ends_at (map.get c t) m) → AreTogether c h
+    → ((m : ℕ) (t : Timer) → same_timer t x ≡ false → h (m, t) ≡ ends_at (map.get c t) m) → AreTogether (map.get c) h
 by_timer c h x one others m t = go (same_timer t x) refl
   where
     go : (b : Bool) → same_timer t x ≡ b → h (m, t) ≡ ends_at (map.get c t) m
@@ -88,7 +88,7 @@ first_moment : (a : Bool) → (a || false) ≡ a
 first_moment true = refl
 first_moment false = refl
 
-module _ (c : Contents) (h : Due → Bool) (are : AreTogether c h) (x : Timer) where
+module _ (c : Contents) (h : Due → Bool) (are : AreTogether (map.get c) h) (x : Timer) where
   module _ (n : ℕ) (mid : Due → Bool) (put : (d : Due) → mid d ≡ (same_due d (n, x) || h d)) where
     own_put : (o : Option ℕ) → map.get c x ≡ o → (m : ℕ) → mid (m, x) ≡ ((m == n) || ends_at o m)
     own_put o is m = put (m, x) ∙ (λ i. own m n x i || (are m x ∙ ap (λ (w : Option ℕ). ends_at w m) is) i)
@@ -97,13 +97,13 @@ module _ (c : Contents) (h : Due → Bool) (are : AreTogether c h) (x : Timer) w
     other_put m t apart = put (m, t) ∙ (λ i. other m n t x apart i || are m t i)
 
     -- a timer that wasn't set, or ended then already
-    pub set_new : map.get c x ≡ None → AreTogether (map.insert c x n) mid
+    pub set_new : map.get c x ≡ None → AreTogether (map.get (map.insert c x n)) mid
     unfolding ends_at
     set_new is = by_timer (map.insert c x n) mid x
         (λ m. own_put None is m ∙ first_moment (m == n) ∙ ap (λ (o : Option ℕ). ends_at o m) (sym (own_inserted c x n)))
         (λ m t apart. other_put m t apart ∙ ap (λ (o : Option ℕ). ends_at o m) (sym (other_inserted c x t n apart)))
 
-    pub set_same : map.get c x ≡ Some n → AreTogether (map.insert c x n) mid
+    pub set_same : map.get c x ≡ Some n → AreTogether (map.get (map.insert c x n)) mid
     unfolding ends_at
     set_same is = by_timer (map.insert c x n) mid x
         (λ m. own_put (Some n) is m ∙ one_moment (m == n)
@@ -111,7 +111,7 @@ module _ (c : Contents) (h : Due → Bool) (are : AreTogether c h) (x : Timer) w
         (λ m t apart. other_put m t apart ∙ ap (λ (o : Option ℕ). ends_at o m) (sym (other_inserted c x t n apart)))
 
     pub set_moved : (b : ℕ) (new : Due → Bool) → map.get c x ≡ Some b → (b == n) ≡ false
-        → ((d : Due) → new d ≡ (not (same_due d (b, x)) && mid d)) → AreTogether (map.insert c x n) new
+        → ((d : Due) → new d ≡ (not (same_due d (b, x)) && mid d)) → AreTogether (map.get (map.insert c x n)) new
     unfolding ends_at
     set_moved b new is moves taken = by_timer (map.insert c x n) new x
         (λ m. taken (m, x) ∙ (λ i. not (own m b x i) && own_put (Some b) is m i)
@@ -125,7 +125,7 @@ module _ (c : Contents) (h : Due → Bool) (are : AreTogether c h) (x : Timer) w
 
     -- memory was refused after all
     pub set_undone : (new : Due → Bool) → map.get c x ≡ None → ((d : Due) → new d ≡ (not (same_due d (n, x)) && mid d))
-        → AreTogether c new
+        → AreTogether (map.get c) new
     unfolding ends_at
     set_undone new is taken = by_timer c new x
         (λ m. taken (m, x) ∙ (λ i. not (own m n x i) && own_put None is m i) ∙ undone_bits (m == n)
@@ -133,7 +133,7 @@ module _ (c : Contents) (h : Due → Bool) (are : AreTogether c h) (x : Timer) w
         (λ m t apart. taken (m, t) ∙ (λ i. not (other m n t x apart i) && other_put m t apart i))
 
   pub cancelled : (b : ℕ) (new : Due → Bool) → map.get c x ≡ Some b
-      → ((d : Due) → new d ≡ (not (same_due d (b, x)) && h d)) → AreTogether (map.remove c x) new
+      → ((d : Due) → new d ≡ (not (same_due d (b, x)) && h d)) → AreTogether (map.get (map.remove c x)) new
   unfolding ends_at
   cancelled b new is taken = by_timer (map.remove c x) new x
       (λ m. taken (m, x) ∙ (λ i. not (own m b x i) && (are m x ∙ ap (λ (w : Option ℕ). ends_at w m) is) i)
@@ -141,19 +141,19 @@ module _ (c : Contents) (h : Due → Bool) (are : AreTogether c h) (x : Timer) w
       (λ m t apart. taken (m, t) ∙ (λ i. not (other m b t x apart i) && are m t i)
       ∙ ap (λ (o : Option ℕ). ends_at o m) (sym (other_removed c x t apart)))
 
-  pub not_set : map.get c x ≡ None → AreTogether (map.remove c x) h
+  pub not_set : map.get c x ≡ None → AreTogether (map.get (map.remove c x)) h
   unfolding ends_at
   not_set is = by_timer (map.remove c x) h x
       (λ m. are m x ∙ ap (λ (o : Option ℕ). ends_at o m) (is ∙ sym (own_removed c x)))
       (λ m t apart. are m t ∙ ap (λ (o : Option ℕ). ends_at o m) (sym (other_removed c x t apart)))
 
-pub none_together : (c : Contents) (h : Due → Bool) → c ≡ map.empty → ((d : Due) → h d ≡ false) → AreTogether c h
+pub none_together : (c : Contents) (h : Due → Bool) → c ≡ map.empty → ((d : Due) → h d ≡ false) → AreTogether (map.get c) h
 unfolding ends_at
 none_together c h none empty m t = empty (m, t) ∙ sym (rw (none, map.get-empty {X = ℕ} timer_cmp t) refl)
 
 -- ---- the first of the queue is the timer that is next
 
-set_at : (o : Option ℕ) (m : ℕ) → ends_at o m ≡ true → o ≡ Some m
+pub set_at : (o : Option ℕ) (m : ℕ) → ends_at o m ≡ true → o ≡ Some m
 unfolding ends_at
 set_at None m e = cc
 set_at (Some n) m e = let same : n ≡ m = grind (arith, nat_tests) in ap (λ (k : ℕ). Some k) same
@@ -166,10 +166,10 @@ unset : (o : Option ℕ) → ((m : ℕ) → ends_at o m ≡ false) → o ≡ Non
 unset None no_end = refl
 unset (Some n) no_end = absurd (true≢false (sym (at_set (Some n) n refl) ∙ no_end n))
 
-pub first_is_next : (c : Contents) (h : Due → Bool) (r : Option Due) → AreTogether c h → IsFirst h r
-    → IsNext (map.get c) r
-first_is_next c h None are empty = λ t. unset (map.get c t) (λ m. sym (are m t) ∙ empty (m, t))
-first_is_next c h (Some due) are first = record {
-  is_set = set_at (map.get c due.1) due.0 (sym (are due.0 due.1) ∙ first.0);
-  none_before = λ t m is. first.1 (m, t) (are m t ∙ at_set (map.get c t) m is);
+pub first_is_next : (f : Timer → Option ℕ) (h : Due → Bool) (r : Option Due) → AreTogether f h → IsFirst h r
+    → IsNext f r
+first_is_next f h None are empty = λ t. unset (f t) (λ m. sym (are m t) ∙ empty (m, t))
+first_is_next f h (Some due) are first = record {
+  is_set = set_at (f due.1) due.0 (sym (are due.0 due.1) ∙ first.0);
+  none_before = λ t m is. first.1 (m, t) (are m t ∙ at_set (f t) m is);
 }

@@ -2,11 +2,9 @@
 use Rattle.std.specs.Prelude.{◌≡◌, ℕ, ◌||◌, Bool, true, false, List, Option, Some, None}
 use Rattle.std.specs.List.{list_any}
 use Rattle.std.specs.Ordering.{is_eq, is_lt}
-use Rattle.std.specs.FinMap as map
 use Rattle.pim_types.specs.declared.timer.Timer.{Timer}
 use Rattle.pim_timers.specs.Ends.{ends_at}
 use Rattle.pim_timers.specs.Order.{due_cmp}
-use Rattle.pim_timers.specs.Schedule.{Contents}
 
 abbrev pub Due : Type 0
 Due = ℕ × Timer
@@ -36,7 +34,7 @@ IsFirstOfBoth one other first =
     (holds a b : Due → Bool) → IsFirstOf holds a one → IsFirstOf holds b other
     → IsFirstOf holds (λ d. a d || b d) first
 
--- the dues that are held are the ends of the timers
-abbrev pub AreTogether : Contents → (Due → Bool) → Type 0
-AreTogether contents holds =
-    (moment : ℕ) (timer : Timer) → holds (moment, timer) ≡ ends_at (map.get contents timer) moment
+-- the dues that are held are the ends of the timers, by what tells when each ends
+abbrev pub AreTogether : (Timer → Option ℕ) → (Due → Bool) → Type 0
+AreTogether end_of holds =
+    (moment : ℕ) (timer : Timer) → holds (moment, timer) ≡ ends_at (end_of timer) moment

@@ -19,6 +19,7 @@ pub struct Index<Q: Queue> {
 }
 
 impl<Q: Queue> Model for Index<Q> {
+    ghost use Rattle.std.specs.FinMap as map;
     ghost use Rattle.pim_timers.specs.Schedule.{Contents, contents_code};
     ghost use Rattle.pim_timers.specs.Dues.{AreTogether};
 
@@ -28,7 +29,7 @@ impl<Q: Queue> Model for Index<Q> {
 
     ghost view = { λ a. a.moments };
 
-    ghost invariant = { λ a. AreTogether a.moments (Q.holds a.queue) };
+    ghost invariant = { λ a. AreTogether (map.get a.moments) (Q.holds a.queue) };
 }
 
 /// Timers in one ordered set.

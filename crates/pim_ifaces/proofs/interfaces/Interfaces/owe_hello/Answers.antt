@@ -7,12 +7,12 @@ use Rattle.pim_model.specs.State.{InterfaceTable}
 use Rattle.pim_ifaces.proofs.Rows.{Settles, owing_missing, owing_there, settled, with_rows}
 use Rattle.pim_ifaces.proofs.interfaces.Interfaces.owe_hello.Goals as goal
 
-changed : (c : goal.After-change) → Settles c.self.inside.configured.items _
+changed : (c : goal.After-change) → Settles c.self.inside.configured _
     c.change.result c.change.new.self (hellos_triggered c.args.iface.number c.args.end c.self.inside.rows)
 changed c =
     let found : row_at c.self.inside.rows (iface_key c.args.iface.number) ≡ Some c.in-Some.row =
     sym (rw c.iface-key.ensures at c.get.ensures) ∙ c.in-Some.is in
-    settled c.self.inside.configured.items c.self.inside.rows _ c.change.result c.change.new.self _ _
+    settled c.self.inside.configured c.self.inside.rows _ c.change.result c.change.new.self _ _
     c.self.invariant
     (λ e. owing_there _ c.args.iface.number c.self.inside.rows c.args.end c.in-Some.row c.change.new.self
     c.self.invariant found e)
@@ -24,7 +24,7 @@ invariant_of-self c = (changed c).held
 pub returns-clause-ok : goal.returns-clause-ok
 returns-clause-ok c =
     rw (← c.self.view_is)
-    (with_rows c.self.inside.configured.items _ c.change.result c.change.new.self _ (changed c).ok)
+    (with_rows c.self.inside.configured _ c.change.result c.change.new.self _ (changed c).ok)
 
 pub returns-in_default : goal.returns-in_default
 returns-in_default c =
@@ -34,6 +34,6 @@ returns-in_default c =
     (record {
       err = tt;
       ok = ap (λ (rows : Table InterfaceRow). let t : InterfaceTable = record
-          { configured = c.self.inside.configured.items; rows = rows } in t)
+          { configured = c.self.inside.configured; rows = rows } in t)
           (owing_missing _ c.args.iface.number c.self.inside.rows c.args.end c.self.invariant missing);
     })

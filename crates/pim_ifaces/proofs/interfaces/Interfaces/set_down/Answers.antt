@@ -6,7 +6,7 @@ use Rattle.pim_model.specs.State.{InterfaceTable}
 use Rattle.pim_ifaces.proofs.Rows.{Becomes, row_dropped}
 use Rattle.pim_ifaces.proofs.interfaces.Interfaces.set_down.Goals as goal
 
-changed : (c : goal.After-remove) → Becomes c.self.inside.configured.items c.remove.new.self
+changed : (c : goal.After-remove) → Becomes c.self.inside.configured c.remove.new.self
     (drop_where (is_on c.args.iface.number) c.self.inside.rows)
 changed c =
     row_dropped _ c.args.iface.number c.self.inside.rows c.remove.new.self c.self.invariant
@@ -19,4 +19,4 @@ pub returns : goal.returns
 returns c =
     rw (← c.self.view_is)
     (ap (λ (rows : Table InterfaceRow). let t : InterfaceTable = record
-    { configured = c.self.inside.configured.items; rows = rows } in t) (changed c).same)
+    { configured = c.self.inside.configured; rows = rows } in t) (changed c).same)

@@ -4,4 +4,4 @@ use Rattle.pim_tables.proofs.timed.Timed.next.Goals as goal
 pub returns : goal.returns
 returns g c = rw (← c.self.view_is)
     (next_is_first g.R.Ends.kinds g.R.Ends.ends c.self.inside.rows g.met.R.Ends.apart c.recall_rising.ensures _ _
-    c.self.invariant c.next.ensures)
+    c.self.invariant c.first.ensures)
