@@ -1,5 +1,5 @@
 -- What a tested configuration has.
-use Rattle.std.proofs.Common.{◌≡◌, ◌≤◌, ℕ, Bool, true, false, ◌&&◌, List, length, Result, Ok, Err, refl, arith, leb}
+use Rattle.std.proofs.Common.{◌≡◌, ◌≤◌, Bool, true, false, ◌&&◌, List, length, Result, Ok, Err, refl, arith, leb}
 use Rattle.std.proofs.lemmas.Bool.Decides.{nat_tests}
 use Rattle.pim_ip.specs.Tests.{expect, ◌>>◌}
 use Rattle.pim_ip.specs.declared.refusal.Refusal.{Refusal}

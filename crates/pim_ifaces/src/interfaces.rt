@@ -64,7 +64,7 @@ impl Interfaces {
         ensures count { result ≡ length self.now.configured }
         ensures within { result ≤ MOST_INTERFACES }
     {
-        self.configured().len() as u32
+        self.configured.as_slice().len() as u32
     }
 
     /// At most 120 interfaces are configured, so an interface that is has a number below 120. It does nothing.
