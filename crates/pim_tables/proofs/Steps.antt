@@ -278,17 +278,8 @@ module _ {R : Type 0} (kinds : Kinds) (ends : R → Option ℕ × Option ℕ) wh
         (second_under apart w kind d.1.kind (ap (λ (q : Kinds). q.1) (sym kinds_are) ∙ is) same
         ∙ ap (λ (e : Option ℕ × Option ℕ). e.1) (sym ends_are))
 
-    -- what is known of the row is known of each end
+    -- what is known of the row is known of its second end, after the first was moved
     module _ (h : Due → Bool) (knows : KnowsRow kinds ends h k w) where
-      pub first_known : (m : ℕ) → h (m, timer_of ks.0 k) ≡ ends_at es.0 m
-      first_known m =
-          knows (m, timer_of ks.0 k)
-          (subst (λ (q : Kinds). is_of_row q k (timer_of ks.0 k) ≡ true) kinds_are (own (is_second ks.1 ks.0)))
-          ∙ first (m, timer_of ks.0 k) (same_kind_itself ks.0)
-        where
-          own : (b : Bool) → ((same_kind ks.0 ks.0 || b) && same_key k k) ≡ true
-          own b = rw (same_kind_itself ks.0, same_key_same k) refl
-
       pub second_known : (h1 : Due → Bool) (x : Option ℕ)
           → ((d : Due) → h1 d ≡ cond (same_timer d.1 (timer_of ks.0 k)) (ends_at x d.0) (h d))
           → (kind : TimerKind) → ks.1 ≡ Some kind → (m : ℕ) → h1 (m, timer_of kind k) ≡ ends_at es.1 m
@@ -388,11 +379,6 @@ module _ {R : Type 0} (kinds : Kinds) (ends : R → Option ℕ × Option ℕ) wh
   set_keeps_others h0 h1 k w set d other =
       set d ∙ ap (λ (b : Bool). cond b (ends_at (end_of kinds ends w d.1.kind) d.0) (h0 d)) other
 
-  pub known_either : (h0 h1 : Due → Bool) (k : Key) (before w : Option R) → KnowsRow kinds ends h0 k before
-      → ((d : Due) → h1 d ≡ h0 d) → HasEither kinds ends h1 k before w
-  known_either h0 h1 k before w knows kept d not_before not_after own =
-      kept d ∙ knows d own ∙ no_such_end k before d not_before own
-
   -- ---- the row goes
 
   module _ (k : Key) (h0 : Due → Bool) where
@@ -460,10 +446,6 @@ module _ {R : Type 0} (kinds : Kinds) (ends : R → Option ℕ × Option ℕ) wh
           before m t
           ∙ ap (λ (o : Option ℕ). ends_at o m) (no_end (row_at rows t.key) t.kind e ∙ sym (no_end w t.kind e))
       go false false e f = before m t
-
-  pub still_in_step : (h0 h1 : Due → Bool) (rows : Table R) → InStep kinds ends h0 rows → ((d : Due) → h1 d ≡ h0 d)
-      → InStep kinds ends h1 rows
-  still_in_step h0 h1 rows before kept m t = kept (m, t) ∙ before m t
 
   -- what the table knows of one row
   pub known : (h : Due → Bool) (rows : Table R) (k : Key) (w : Option R) → InStep kinds ends h rows
