@@ -10,7 +10,9 @@ FIRST_GROUP = 0xE1010000
 FIRST_SOURCE = 0x0A800000
 RP = 0x0A090909
 STAR, SOURCE = 7, 4
+TO_IN, IS_EX, ALLOW = 3, 2, 5
 GROUPS_A_FRAME, SOURCES_A_FRAME = 70, 180
+RECORDS_A_REPORT = 183
 
 
 def inet_sum(data):
@@ -30,6 +32,30 @@ def packet(source, payload, is_right=True):
     header = bytes.fromhex("45c0") + (20 + len(payload)).to_bytes(2, "big") + bytes.fromhex("0000000001670000")
     header += source.to_bytes(4, "big") + bytes.fromhex("e000000d")
     return header[:10] + inet_sum(header) + header[12:] + payload
+
+
+def igmp_packet(source, destination, message, is_right=True):
+    """An IGMP message with the Router Alert option."""
+    check = inet_sum(message)
+    message = message[:2] + (check if is_right else bytes([check[0] ^ 1, check[1]])) + message[4:]
+    header = bytes.fromhex("46c0") + (24 + len(message)).to_bytes(2, "big") + bytes.fromhex("0000000001020000")
+    header += source.to_bytes(4, "big") + destination.to_bytes(4, "big") + bytes.fromhex("94040000")
+    return header[:10] + inet_sum(header) + header[12:] + message
+
+
+def addresses(sources):
+    return b"".join(source.to_bytes(4, "big") for source in sources)
+
+
+def member_record(kind, group, sources=()):
+    """A record of an IGMPv3 report."""
+    return bytes([kind, 0]) + len(sources).to_bytes(2, "big") + group.to_bytes(4, "big") + addresses(sources)
+
+
+def report_packet(host, records, is_right=True):
+    """An IGMPv3 report of a host."""
+    message = bytes.fromhex("220000000000") + len(records).to_bytes(2, "big") + b"".join(records)
+    return igmp_packet(host, 0xE0000016, message, is_right)
 
 
 def group_record(group, joins, prunes):

@@ -4,12 +4,12 @@ ghost use Rattle.pim_ip.specs.Fault.{fault_number};
 ghost use Rattle.pim_mfc.specs.Laws.{IsAfresh};
 ghost use Rattle.pim_model.specs.Cache.{Answers};
 ghost use Rattle.pim_c.specs.Called.{forwarding_of};
-ghost use Rattle.pim_c.specs.Told.{answer_number, blank, bytes_in, downstream_number, iface_number, ignored_number, keyed, packet_of, register_number, row_of, source_bits, table_of, verdict_number, written};
+ghost use Rattle.pim_c.specs.Told.{answer_number, bytes_in, downstream_number, iface_number, ignored_number, packet_of, register_number, row_of, source_bits, table_of, verdict_number, written};
 
 use pim_mfc::CacheRow;
 use pim_types::fact::AssertRole;
 use pim_types::table::{DownstreamState, RegisterName};
-use pim_types::{Addr, Emission, Fault, IfaceId, Ignored, Key, Refusal, Row, Table, Verdict};
+use pim_types::{Addr, Emission, Fault, IfaceId, Ignored, Refusal, Row, Table, Verdict};
 
 /// An event was taken.
 pub const DONE: u32 = 0;
@@ -143,36 +143,6 @@ pub struct TableRow {
     pub pending: u64,
 }
 
-impl TableRow {
-    fn blank(table: u8) -> TableRow
-        ensures { result ≡ blank table }
-    {
-        TableRow {
-            table: u32::from(table),
-            iface: 0,
-            group: 0,
-            source: 0,
-            winner: 0,
-            is_rpt: false,
-            is_set: false,
-            state: 0,
-            end: NEVER,
-            pending: NEVER,
-        }
-    }
-
-    fn keyed(table: u8, key: Key) -> TableRow
-        ensures { result ≡ keyed table key }
-    {
-        let mut row = TableRow::blank(table);
-        row.iface = key.iface.number;
-        row.group = key.group.bits;
-        row.source = source_bits(key.source);
-        row.is_rpt = key.rpt;
-        row
-    }
-}
-
 fn source_bits(source: Option<Addr>) -> u32
     ensures { result ≡ source_bits source }
 {
@@ -212,110 +182,143 @@ fn register_number(register: Option<RegisterName>) -> u32
     }
 }
 
-/// A row as it is told.
+// What each column of a row tells.
+
+fn letter(row: &Row) -> u8
+    ensures { result ≡ (row_of row.now).table }
+{
+    match *row {
+        Row::Neighbour { .. } => b'N',
+        Row::Group { .. } => b'G',
+        Row::Source { .. } => b'S',
+        Row::Downstream { .. } => b'D',
+        Row::Assert { .. } => b'A',
+        Row::Upstream { .. } => b'U',
+        Row::Tree { .. } => b'R',
+        Row::Active { .. } => b'F',
+    }
+}
+
+fn iface(row: &Row) -> u32
+    ensures { result ≡ (row_of row.now).iface }
+{
+    match *row {
+        Row::Neighbour { iface, .. } | Row::Group { iface, .. } | Row::Source { iface, .. } => {
+            iface.number
+        }
+        Row::Downstream { key, .. } | Row::Assert { key, .. } => key.iface.number,
+        Row::Upstream { .. } | Row::Tree { .. } | Row::Active { .. } => 0,
+    }
+}
+
+fn group(row: &Row) -> u32
+    ensures { result ≡ (row_of row.now).group }
+{
+    match *row {
+        Row::Neighbour { .. } => 0,
+        Row::Downstream { key, .. } | Row::Assert { key, .. } => key.group.bits,
+        Row::Group { group, .. }
+        | Row::Source { group, .. }
+        | Row::Upstream { group, .. }
+        | Row::Tree { group, .. }
+        | Row::Active { group, .. } => group.bits,
+    }
+}
+
+fn source(row: &Row) -> u32
+    ensures { result ≡ (row_of row.now).source }
+{
+    match *row {
+        Row::Neighbour { address, .. } => address.bits,
+        Row::Group { .. } => 0,
+        Row::Downstream { key, .. } | Row::Assert { key, .. } => source_bits(key.source),
+        Row::Upstream { source, .. } => source_bits(source),
+        Row::Source { source, .. } | Row::Tree { source, .. } | Row::Active { source, .. } => {
+            source.bits
+        }
+    }
+}
+
+fn winner(row: &Row) -> u32
+    ensures { result ≡ (row_of row.now).winner }
+{
+    match *row {
+        Row::Assert { winner, .. } => winner.bits,
+        _ => 0,
+    }
+}
+
+fn is_rpt(row: &Row) -> bool
+    ensures { result ≡ (row_of row.now).is_rpt }
+{
+    match *row {
+        Row::Downstream { key, .. } | Row::Assert { key, .. } => key.rpt,
+        Row::Tree { .. } => true,
+        _ => false,
+    }
+}
+
+fn is_set(row: &Row) -> bool
+    ensures { result ≡ (row_of row.now).is_set }
+{
+    match *row {
+        Row::Group { is_exclude, .. } => is_exclude,
+        Row::Assert { role, .. } => matches!(role, AssertRole::Loser),
+        Row::Tree { is_pruned, .. } => is_pruned,
+        Row::Active { spt, .. } => spt,
+        _ => false,
+    }
+}
+
+fn state(row: &Row) -> u32
+    ensures { result ≡ (row_of row.now).state }
+{
+    match *row {
+        Row::Downstream { state, .. } => downstream_number(state),
+        Row::Active { register, .. } => register_number(register),
+        _ => 0,
+    }
+}
+
+fn end(row: &Row) -> u64
+    ensures { result ≡ (row_of row.now).end }
+{
+    match *row {
+        Row::Neighbour { end, .. }
+        | Row::Group { end, .. }
+        | Row::Source { end, .. }
+        | Row::Downstream { end, .. } => end.unwrap_or(NEVER),
+        Row::Assert { end, .. } => end,
+        Row::Upstream { next_join, .. } => next_join,
+        Row::Tree { .. } => NEVER,
+        Row::Active { keepalive, .. } => keepalive.unwrap_or(NEVER),
+    }
+}
+
+fn pending(row: &Row) -> u64
+    ensures { result ≡ (row_of row.now).pending }
+{
+    match *row {
+        Row::Downstream { pending, .. } => pending.unwrap_or(NEVER),
+        _ => NEVER,
+    }
+}
+
+/// A row as it is told, column by column.
 pub fn row(row: &Row) -> TableRow
     ensures { result ≡ row_of row.now }
 {
-    match *row {
-        Row::Neighbour {
-            iface,
-            address,
-            end,
-        } => {
-            let mut told = TableRow::blank(b'N');
-            told.iface = iface.number;
-            told.source = address.bits;
-            told.end = end.unwrap_or(NEVER);
-            told
-        }
-        Row::Group {
-            iface,
-            group,
-            is_exclude,
-            end,
-        } => {
-            let mut told = TableRow::blank(b'G');
-            told.iface = iface.number;
-            told.group = group.bits;
-            told.is_set = is_exclude;
-            told.end = end.unwrap_or(NEVER);
-            told
-        }
-        Row::Source {
-            iface,
-            group,
-            source,
-            end,
-        } => {
-            let mut told = TableRow::blank(b'S');
-            told.iface = iface.number;
-            told.group = group.bits;
-            told.source = source.bits;
-            told.end = end.unwrap_or(NEVER);
-            told
-        }
-        Row::Downstream {
-            key,
-            state,
-            end,
-            pending,
-        } => {
-            let mut told = TableRow::keyed(b'D', key);
-            told.state = downstream_number(state);
-            told.end = end.unwrap_or(NEVER);
-            told.pending = pending.unwrap_or(NEVER);
-            told
-        }
-        Row::Assert {
-            key,
-            role,
-            winner,
-            end,
-        } => {
-            let mut told = TableRow::keyed(b'A', key);
-            told.is_set = matches!(role, AssertRole::Loser);
-            told.winner = winner.bits;
-            told.end = end;
-            told
-        }
-        Row::Upstream {
-            group,
-            source,
-            next_join,
-        } => {
-            let mut told = TableRow::blank(b'U');
-            told.group = group.bits;
-            told.source = source_bits(source);
-            told.end = next_join;
-            told
-        }
-        Row::Tree {
-            group,
-            source,
-            is_pruned,
-        } => {
-            let mut told = TableRow::blank(b'R');
-            told.group = group.bits;
-            told.source = source.bits;
-            told.is_rpt = true;
-            told.is_set = is_pruned;
-            told
-        }
-        Row::Active {
-            group,
-            source,
-            keepalive,
-            spt,
-            register,
-        } => {
-            let mut told = TableRow::blank(b'F');
-            told.group = group.bits;
-            told.source = source.bits;
-            told.is_set = spt;
-            told.state = register_number(register);
-            told.end = keepalive.unwrap_or(NEVER);
-            told
-        }
+    TableRow {
+        table: u32::from(letter(row)),
+        iface: iface(row),
+        group: group(row),
+        source: source(row),
+        winner: winner(row),
+        is_rpt: is_rpt(row),
+        is_set: is_set(row),
+        state: state(row),
+        end: end(row),
+        pending: pending(row),
     }
 }
 

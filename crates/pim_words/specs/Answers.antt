@@ -61,7 +61,8 @@ abbrev pub AssertGivesOne : Type 0
 AssertGivesOne =
     (s : State) (w : ℕ) (i : IfaceId) (from : Addr) (a : AssertMessage) → answers_of (change s w (Accepted.Assert i from a)) ≤ 1
 
--- a Hello, a Join/Prune, a query, a Register-Stop, time, an interface that goes down, new routes, new RP ranges: none
+-- a Hello, a Join/Prune, a query, a Register-Stop, an interface that goes down, new routes, new RP ranges: none. Time is among them, since
+-- it makes no change of its own: what it brings comes of the timers that end, each with a change that is counted nowhere here
 abbrev pub is_unanswered : Accepted → Bool
 is_unanswered (Accepted.Up i) = false
 is_unanswered (Accepted.Assert i from a) = false
