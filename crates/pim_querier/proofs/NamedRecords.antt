@@ -525,7 +525,7 @@ pub gathered_rise : (i g : ℕ) (t : Table SourceRecordRow) (ms : List CodeMembe
 gathered_rise i g t ms left set none so_far rise =
     subst IsAscending
     (sym (sym (append-nil (entries_of ms))
-    ∙ ap (λ (as : List Addr). entries_of ms ++ members_named i g t (bits_of as)) (sym none) ∙ so_far))
+    ∙ ap (λ (rest : List Addr). entries_of ms ++ members_named i g t (bits_of rest)) (sym none) ∙ so_far))
     (gathered_ascend i g t (bits_of set) (bits_rise set rise))
 
 -- what is said of a record that is made
