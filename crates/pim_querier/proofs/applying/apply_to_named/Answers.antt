@@ -8,7 +8,7 @@ returns-clause-state c =
     (bits_of c.args.sources.now) c.in_ok-known.known
     (rw c.membership.ensures at c.recall_rising_source_records.ensures)
     (rw c.membership-2.ensures at c.recall_keyed_source_records.ensures)
-    (rw (c.membership-3.ensures, c.source_records_at.ensures.rows) at c.source_records_at.ensures.rising)
+    (rw (rw c.membership-3.ensures at c.source_records_at.ensures.rows) at c.source_records_at.ensures.rising)
     c.in_ok-known.ensures.timer c.in_ok-known.ensures.ascending c.in_ok-known.ensures.fates c.apply.new.self
     c.write_beside.new.world c.requires.keeps c.in_ok-apply.ensures.record_after c.in_ok-write_beside.ensures
 
@@ -18,6 +18,6 @@ returns-clause-asked c = λ asks.
     (bits_of c.args.sources.now) c.in_ok-known.known
     (rw c.membership.ensures at c.recall_rising_source_records.ensures)
     (rw c.membership-2.ensures at c.recall_keyed_source_records.ensures)
-    (rw (c.membership-3.ensures, c.source_records_at.ensures.rows) at c.source_records_at.ensures.rising)
+    (rw (rw c.membership-3.ensures at c.source_records_at.ensures.rows) at c.source_records_at.ensures.rising)
     c.in_ok-known.ensures.timer c.in_ok-known.ensures.ascending c.in_ok-known.ensures.fates c.apply.new.asked asks
     c.in_ok-apply.ensures.asked_after

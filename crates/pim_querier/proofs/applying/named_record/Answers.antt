@@ -1,4 +1,4 @@
-use Rattle.std.proofs.Common.{◌≡◌, ℕ, refl, sym, ◌∙◌}
+use Rattle.std.proofs.Common.{◌≡◌, ℕ, ap, subst, sym, ◌∙◌}
 use Rattle.std.specs.Prelude.{if◌then◌else◌}
 use Rattle.pim_filters.specs.Members.{IsAscending, entries_of}
 use Rattle.pim_model.specs.Querier.{group_end}
@@ -16,7 +16,8 @@ returns-clause-timer c =
 
 pub returns-clause-ascending : goal.returns-clause-ascending
 returns-clause-ascending c =
-    made_so (λ known. IsAscending known.members) c.with.result _ c.with.ensures c.with.requires
+    made_so (λ known. IsAscending known.members) c.with.result _ c.with.ensures
+    (subst (λ ms. IsAscending (entries_of ms)) (sym c.deref.ensures.value) c.in_ok-members.ensures.ascending)
 
 pub returns-clause-fates : goal.returns-clause-fates
 returns-clause-fates c =
@@ -25,4 +26,5 @@ returns-clause-fates c =
     c.with.result _ c.with.ensures
     (gathered_fares c.args.world.now c.args.iface.number c.args.group.bits (bits_of c.in_ok-named.named.keys)
     (bits_of c.args.sources.now) _ (rw c.membership.ensures at c.recall_keyed_source_records.ensures)
-    (set_among c.in_ok-named.named.keys c.args.sources.now c.in_ok-named.ensures) c.in_ok-members.ensures.members)
+    (set_among c.in_ok-named.named.keys c.args.sources.now c.in_ok-named.ensures)
+    (ap (λ ms. entries_of ms) c.deref.ensures.value ∙ c.in_ok-members.ensures.members))
