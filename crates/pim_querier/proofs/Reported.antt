@@ -15,17 +15,19 @@ use Rattle.pim_model.specs.State.{State}
 use Rattle.pim_model.specs.Tables.{Table}
 use Rattle.pim_querier.specs.Changes.{applied}
 
+-- the numbers of the members are the sources of the rows
+pub numbers_of_rows : (rows : Table SourceRecordRow)
+    → map (λ (m : Entry). m.0) (members_of rows) ≡ map (λ e. source_in e.0) rows
+unfolding members_of
+numbers_of_rows [] = refl
+numbers_of_rows (e ∷ rows) = ap (λ (ns : List ℕ). source_in e.0 ∷ ns) (numbers_of_rows rows)
+
 -- the members rise where the sources of the rows do
 pub members_rise : (rows : Table SourceRecordRow) (ms : List Member) → entries_of ms ≡ members_of rows
     → IsStrictlySortedBy nat_cmp (map (λ e. source_in e.0) rows) → IsAscending (entries_of ms)
 unfolding members_of
-members_rise rows ms are rise = subst IsAscending (sym are) (subst (IsStrictlySortedBy nat_cmp) (sym (of_rows rows)) rise)
-  where
-    of_rows : (rows : Table SourceRecordRow)
-        → map (λ (m : Entry). m.0) (map (λ (e : Key × SourceRecordRow). (source_in e.0, (e.1).end)) rows)
-        ≡ map (λ e. source_in e.0) rows
-    of_rows [] = refl
-    of_rows (e ∷ rows) = ap (λ (ns : List ℕ). source_in e.0 ∷ ns) (of_rows rows)
+members_rise rows ms are rise =
+    subst IsAscending (sym are) (subst (IsStrictlySortedBy nat_cmp) (sym (numbers_of_rows rows)) rise)
 
 -- all that were read are those of the rows
 pub all_read : (rows left : Table SourceRecordRow) (ms : List Member) (whole : List Entry) → left ≡ []

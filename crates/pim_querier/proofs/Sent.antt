@@ -1,6 +1,6 @@
 -- Sendings and records that are changed one after the other, and all at once.
-use Rattle.std.proofs.Common.{◌≡◌, ◌<◌, ◌+◌, ℕ, add-one, drop, drop-cons, get_or, length, Bool, true, false, not, ◌&&◌, List, [], ◌∷◌, Option, Some, None, option_map, refl, sym, ap, ◌∙◌, nat_lt, ◌-◌}
-use Rattle.std.specs.List.{filter, filter_map}
+use Rattle.std.proofs.Common.{◌≡◌, ◌<◌, ◌+◌, ℕ, add-one, drop, drop-cons, get_or, is_none, length, Bool, true, false, not, ◌&&◌, List, [], ◌∷◌, Option, Some, None, option_map, refl, sym, ap, ◌∙◌, nat_lt, ◌-◌}
+use Rattle.std.specs.List.{filter, filter_map, list_any}
 use Rattle.std.specs.List.Sorted.{IsStrictlySortedBy}
 use Rattle.std.specs.Prelude.{fold, if◌then◌else◌}
 use Rattle.pim_filters.specs.Members.{entries_of}
@@ -14,8 +14,8 @@ use Rattle.pim_model.specs.Querier.{exceeds, is_sending, next_sending, one_sent,
 use Rattle.pim_world.specs.Turns.{Taking, saying}
 use Rattle.pim_model.specs.Records.{GroupRecord, is_at_group, is_no_record, put_member, with_members, with_repeats_of_rows}
 use Rattle.pim_model.specs.State.{State}
-use Rattle.pim_model.specs.Tables.{Table, change_row, drop_where, has_row, keys_in, same_bool}
-use Rattle.pim_querier.specs.Changes.{each_changed, member_put, members_put, one_less, sending_changed, sendings_changed, sources_in, without_empty, without_group_repeat, without_source_repeat}
+use Rattle.pim_model.specs.Tables.{Table, change_row, drop_where, has_row, keys_in, put, same_bool}
+use Rattle.pim_querier.specs.Changes.{beside, each_changed, member_put, members_put, one_less, sending_changed, sendings_changed, sources_in, without_empty, without_group_repeat, without_source_repeat}
 use Rattle.pim_querier.proofs.Starting.{said_twice}
 use Rattle.pim_querier.proofs.EachOnce.{both, each_is_changed_once, filter_both, gone_is_filtered, left_of}
 
@@ -154,3 +154,25 @@ module _ (i g : ℕ) where
       ∙ ap (λ (t : State). with_repeats_of_rows t i g)
       (third ∙ members_in_table i g ms s2 ∙ ap (λ (es : List (ℕ × Option ℕ)). put es s2) are
       ∙ ap (put r.members) (second ∙ ap dropped (first ∙ ap (λ (b : Bool). without_empty b i g s) none)))
+
+  -- those of some sources beside the rows that are there, and the group's with a timer
+  pub put_beside : (s s1 s2 s3 s4 : State) (r : GroupRecord) (end : Option ℕ) (ms : List Member) (is_left_none : Bool)
+      → entries_of ms ≡ r.members → end ≡ r.timer
+      → s1 ≡ (let t : State = record s { group_records = put s.group_records (star_key i g) (record { end = end }) } in t)
+      → s2 ≡ members_put i g s1 ms
+      → is_left_none ≡ (is_none end && not (list_any (λ e. is_at_group i g e.0) s2.source_records))
+      → s3 ≡ without_empty is_left_none i g s2 → s4 ≡ with_repeats_of_rows s3 i g → s4 ≡ beside i g s r
+  unfolding beside
+  put_beside s s1 s2 s3 s4 r end ms is_left_none are ends first second none third fourth =
+      let timed : Option ℕ → State = λ o.
+      record s { group_records = put s.group_records (star_key i g) (record { end = o }) } in
+      let rows : List (ℕ × Option ℕ) → State → State = λ es t.
+      record t { source_records = fold (put_member i g) t.source_records es } in
+      let left : Option ℕ → State → State = λ o t.
+      without_empty (is_none o && not (list_any (λ e. is_at_group i g e.0) t.source_records)) i g t in
+      fourth
+      ∙ ap (λ (t : State). with_repeats_of_rows t i g)
+      (third ∙ ap (λ (b : Bool). without_empty b i g s2) none ∙ ap (λ (o : Option ℕ). left o s2) ends
+      ∙ ap (left r.timer)
+      (second ∙ members_in_table i g ms s1 ∙ ap (λ (es : List (ℕ × Option ℕ)). rows es s1) are
+      ∙ ap (rows r.members) (first ∙ ap timed ends)))

@@ -1,6 +1,6 @@
 -- Rows that are changed key by key, and the members of a group's record.
 use Rattle.std.specs.List.{list_any}
-use Rattle.std.specs.Prelude.{Bool, List, None, Option, Some, fold, if◌then◌else◌, map, nat_lt, not, ℕ, ◌+◌, ◌-◌}
+use Rattle.std.specs.Prelude.{Bool, List, None, Option, Some, fold, if◌then◌else◌, is_none, map, nat_lt, not, ℕ, ◌&&◌, ◌+◌, ◌-◌}
 use Rattle.pim_filters.specs.Members.{entry_of}
 use Rattle.pim_filters.specs.declared.member.Member.{Member}
 use Rattle.igmp_wire.specs.Values.{Record}
@@ -11,7 +11,7 @@ use Rattle.pim_types.specs.declared.fact.SendingRow.{SendingRow}
 use Rattle.pim_types.specs.declared.fact.SourceRecordRow.{SourceRecordRow}
 use Rattle.pim_types.specs.Keys.{source_in, source_key, star_key}
 use Rattle.pim_model.specs.Querier.{group_membership_interval, is_sending, last_member_query_interval, lowered}
-use Rattle.pim_model.specs.Records.{Asked, GroupRecord, apply_record, is_at_group, put_member, record_of}
+use Rattle.pim_model.specs.Records.{Asked, GroupRecord, apply_record, is_at_group, put_member, record_of, with_repeats_of_rows}
 use Rattle.pim_model.specs.State.{State}
 use Rattle.pim_model.specs.Tables.{Table, change_row, drop_at, has_row, put}
 
@@ -74,6 +74,16 @@ without_group_repeat i g s = record s {
   group_repeats = (if has_row s.group_records (star_key i g) then s.group_repeats
       else drop_at s.group_repeats (star_key i g));
 }
+
+-- the group's record with the timer of this one, and its sources beside those that are there
+unfoldable pub beside : ℕ → ℕ → State → GroupRecord → State
+beside i g s r =
+    let rows : Table SourceRecordRow = fold (put_member i g) s.source_records r.members in
+    let timed : State = record s {
+      group_records = put s.group_records (star_key i g) (record { end = r.timer });
+      source_records = rows;
+    } in
+    with_repeats_of_rows (without_empty (is_none r.timer && not (list_any (λ e. is_at_group i g e.0) rows)) i g timed) i g
 
 -- a source's timer lowered to an end
 abbrev pub source_lowered : ℕ → SourceRecordRow → Option SourceRecordRow

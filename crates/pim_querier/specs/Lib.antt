@@ -1,3 +1,4 @@
 pub mod Changes
 pub mod Kinds
 pub mod Queries
+pub mod Reports

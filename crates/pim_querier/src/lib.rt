@@ -1,6 +1,7 @@
 //! The querier of an interface (RFC 3376, sections 6 and 8): how it starts, and what the ends of its timers change.
 #![tactic(auto)]
 
+mod applying;
 pub mod asked;
 pub mod election;
 pub mod firing;

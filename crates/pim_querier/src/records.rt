@@ -43,7 +43,7 @@ fn members_at(
 
 // Puts the records of these sources of the group.
 #[tactic(auto, unfolding(crate::specs::Changes::members_put, crate::specs::Changes::member_put, pim_model::specs::Tables::set_row))]
-fn put_members(
+pub(crate) fn put_members(
     world: &mut World,
     meter: &mut Meter,
     iface: IfaceId,
@@ -63,7 +63,7 @@ fn put_members(
 }
 
 // Takes the group's record away, where it is none.
-fn drop_empty(world: &mut World, meter: &mut Meter, iface: IfaceId, group: Addr, is_none: bool)
+pub(crate) fn drop_empty(world: &mut World, meter: &mut Meter, iface: IfaceId, group: Addr, is_none: bool)
     ensures { world.new ≡ without_empty is_none iface.number group.bits world.old }
 {
     if is_none {
@@ -120,7 +120,7 @@ fn drop_group_repeat(world: &mut World, iface: IfaceId, group: Addr)
 }
 
 // Ends what is repeated of sources and of the group, where they have no record any more.
-fn drop_repeats(
+pub(crate) fn drop_repeats(
     world: &mut World,
     alloc: Global,
     iface: IfaceId,
@@ -216,7 +216,7 @@ pub fn group_record_due(
 }
 
 // Whether a source of the group has a record on the interface.
-fn has_sources(world: &World, iface: IfaceId, group: Addr) -> bool
+pub(crate) fn has_sources(world: &World, iface: IfaceId, group: Addr) -> bool
     ensures { result ≡ list_any (λ e. is_at_group iface.number group.bits e.0) world.now.source_records }
 {
     world

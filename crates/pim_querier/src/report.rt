@@ -6,10 +6,10 @@ ghost use Rattle.pim_model.specs.Records.{with_record};
 ghost use Rattle.pim_querier.specs.Changes.{applied};
 ghost use Rattle.pim_querier.specs.Queries.{bits_of};
 
+use crate::applying::apply;
 use crate::asked::query_asked;
 use crate::election::is_querier;
 use crate::intervals::group_membership_interval;
-use crate::records::{record_of, set_record};
 use igmp_wire::{RecordType, RecordView, ReportView};
 use pim_filters::Asking;
 use pim_types::{Addr, IfaceId};
@@ -41,14 +41,10 @@ fn apply_record(
         (applied world.old iface.number group_record.now).0) }
     ensures asked { IfOk result (λ asked. asked ≡ (applied world.old iface.number group_record.now).1) }
 {
-    let group = group_record.group();
     let full = world.present() + group_membership_interval(world, iface);
     let sources = sources_of(alloc, group_record)?;
-    let mut known = record_of(world, alloc, iface, group)?;
-    let mut asked = Asking::new();
-    known.apply(group_record.record_type(), &sources, full, &mut asked)?;
-    set_record(world, meter, alloc, iface, group, &known)?;
-    Ok(asked)
+    let (group, record_type) = (group_record.group(), group_record.record_type());
+    apply(world, meter, alloc, iface, group, record_type, &sources, full)
 }
 
 // Takes a group record in; what it asks for is queried, where the router is the querier.

@@ -1,0 +1,11 @@
+use Rattle.std.proofs.Common.{◌≡◌, ◌++◌}
+use Rattle.pim_filters.specs.Members.{entries_of}
+use Rattle.pim_querier.specs.Queries.{bits_of}
+use Rattle.pim_querier.specs.Reports.{members_named}
+use Rattle.pim_querier.proofs.applying.members_among.Given as goal
+
+abbrev pub invariant-loop-source : goal.invariant-loop-source
+invariant-loop-source l =
+    entries_of l.members.items
+    ++ members_named l.iface.number l.group.bits l.world.source_records (bits_of l.source-iterator)
+    ≡ members_named l.iface.number l.group.bits l.world.source_records (bits_of l.sources.keys)

@@ -1,0 +1,30 @@
+use Rattle.std.proofs.Common.{◌≡◌, ℕ, ap, subst, sym, ◌∙◌}
+use Rattle.std.specs.Prelude.{if◌then◌else◌}
+use Rattle.pim_filters.specs.Members.{IsAscending, entries_of}
+use Rattle.pim_model.specs.Querier.{group_end}
+use Rattle.pim_model.specs.Records.{Gone, fate_in, record_of}
+use Rattle.pim_model.specs.Tables.{is_among}
+use Rattle.pim_querier.specs.Queries.{bits_of}
+use Rattle.pim_querier.proofs.NamedRecords.{gathered_fares, made_so}
+use Rattle.pim_querier.proofs.NamedSet.{set_among}
+use Rattle.pim_querier.proofs.applying.named_record.Goals as goal
+
+pub returns-clause-timer : goal.returns-clause-timer
+returns-clause-timer c =
+    made_so (λ known. known.timer ≡ group_end c.args.world.now c.args.iface.number c.args.group.bits) c.with.result _
+    c.with.ensures c.group_end.ensures
+
+pub returns-clause-ascending : goal.returns-clause-ascending
+returns-clause-ascending c =
+    made_so (λ known. IsAscending known.members) c.with.result _ c.with.ensures
+    (subst (λ ms. IsAscending (entries_of ms)) (sym c.deref.ensures.value) c.in_ok-members.ensures.ascending)
+
+pub returns-clause-fates : goal.returns-clause-fates
+returns-clause-fates c =
+    made_so (λ known. (src : ℕ) → fate_in known src ≡ (if is_among src (bits_of c.args.sources.now)
+    then fate_in (record_of c.args.world.now c.args.iface.number c.args.group.bits) src else Gone))
+    c.with.result _ c.with.ensures
+    (gathered_fares c.args.world.now c.args.iface.number c.args.group.bits (bits_of c.in_ok-named.named.keys)
+    (bits_of c.args.sources.now) _ (rw c.membership.ensures at c.recall_keyed_source_records.ensures)
+    (set_among c.in_ok-named.named.keys c.args.sources.now c.in_ok-named.ensures)
+    (ap (λ ms. entries_of ms) c.deref.ensures.value ∙ c.in_ok-members.ensures.members))

@@ -1,0 +1,243 @@
+//! A record of a report, applied to what is known of its group (RFC 3376, section 6.4).
+ghost use Rattle.std.specs.List.{list_any};
+ghost use Rattle.std.specs.Prelude.{◌≡◌, ◌<◌, ◌&&◌, ℕ, IfOk, OnOk, if◌then◌else◌, is_none, not, option_map, true};
+ghost use Rattle.pim_filters.specs.Members.{IsAscending, entries_of, entry_of, is_named};
+ghost use Rattle.pim_model.specs.Querier.{group_end};
+ghost use Rattle.pim_model.specs.Records.{Gone, apply_record, fate_in, is_at_group, record_of, with_record};
+ghost use Rattle.pim_model.specs.Tables.{is_among};
+ghost use Rattle.pim_querier.specs.Changes.{beside};
+ghost use Rattle.pim_querier.specs.Queries.{bits_of};
+ghost use Rattle.pim_querier.specs.Reports.{asks_named, keeps_others, member_named, members_named};
+
+use crate::records::{drop_empty, drop_repeats, has_sources, put_members, record_of, set_record};
+use igmp_wire::RecordType;
+use pim_filters::{Asking, GroupRecord, Member};
+use pim_types::fact::GroupRecordRow;
+use pim_types::{Addr, IfaceId};
+use pim_world::{Meter, World};
+use std::alloc::{AllocError, Global};
+use std::collections::BTreeSet;
+
+// ---- what is known of the sources that are named
+
+// The sources as a set.
+fn set_of(alloc: Global, sources: &[Addr]) -> Result<BTreeSet<Addr>, AllocError>
+    ensures { IfOk result (λ set. (n : ℕ) → is_named n set.keys ≡ is_named n sources.now) }
+{
+    let mut set = BTreeSet::new(alloc);
+    for source in sources {
+        set.insert(*source)?;
+    }
+    Ok(set)
+}
+
+// What the group's record says of the source, where it has it.
+fn member_of(world: &World, iface: IfaceId, group: Addr, source: Addr) -> Option<Member>
+    ensures { option_map entry_of result
+        ≡ member_named iface.number group.bits world.now.source_records source.bits }
+{
+    let row = world.membership().source_record(iface, group, source)?;
+    Some(Member {
+        source,
+        end: row.end,
+    })
+}
+
+// Those of the sources that the group's record has, by rising source.
+fn members_among(
+    world: &World,
+    alloc: Global,
+    iface: IfaceId,
+    group: Addr,
+    sources: &BTreeSet<Addr>,
+) -> Result<Vec<Member>, AllocError>
+    ensures members { IfOk result (λ members. entries_of members.items
+        ≡ members_named iface.number group.bits world.now.source_records (bits_of sources.now.keys)) }
+    ensures ascending { IfOk result (λ members. IsAscending (entries_of members.items)) }
+{
+    // It tells that the sources rise.
+    let _ = sources.len();
+    let mut members = Vec::new(alloc);
+    for source in sources.iter() {
+        if let Some(member) = member_of(world, iface, group, *source) {
+            members.push(member)?;
+        }
+    }
+    Ok(members)
+}
+
+// The group's record on the interface, with those of its sources alone that are named.
+fn named_record(
+    world: &World,
+    alloc: Global,
+    iface: IfaceId,
+    group: Addr,
+    sources: &[Addr],
+) -> Result<GroupRecord, AllocError>
+    ensures timer { IfOk result (λ known. known.timer ≡ group_end world.now iface.number group.bits) }
+    ensures ascending { IfOk result (λ known. IsAscending known.members) }
+    ensures fates { IfOk result (λ known. (src : ℕ) → fate_in known src
+        ≡ (if is_among src (bits_of sources.now) then fate_in (record_of world.now iface.number group.bits) src
+        else Gone)) }
+{
+    // It tells that each is under the key of a source.
+    world.membership().recall_keyed_source_records();
+    let named = set_of(alloc, sources)?;
+    let members = members_among(world, alloc, iface, group, &named)?;
+    GroupRecord::with(alloc, world.group_end(iface, group), &members)
+}
+
+// ---- what is written
+
+// Whether a group with this timer and its sources as they are has no record: INCLUDE of no source.
+fn is_none_left(world: &World, iface: IfaceId, group: Addr, timer: Option<u64>) -> bool
+    ensures { result ≡ (is_none timer
+        && not (list_any (λ e. is_at_group iface.number group.bits e.0) world.now.source_records)) }
+{
+    timer.is_none() && !has_sources(world, iface, group)
+}
+
+// Gives the group's record the timer of this one, and its sources beside those that it has. It goes where it is none.
+fn write_beside(
+    world: &mut World,
+    meter: &mut Meter,
+    alloc: Global,
+    iface: IfaceId,
+    group: Addr,
+    known: &GroupRecord,
+) -> Result<(), AllocError>
+    requires { iface.number < 120 }
+    ensures { OnOk result (world.new ≡ beside iface.number group.bits world.old known.now) }
+{
+    let end = known.timer();
+    let row = GroupRecordRow { end };
+    world
+        .membership_mut()
+        .set_group_record(iface, group, Some(row), meter)?;
+    put_members(world, meter, iface, group, known.members())?;
+    let is_none = is_none_left(world, iface, group, end);
+    drop_empty(world, meter, iface, group, is_none);
+    drop_repeats(world, alloc, iface, group)
+}
+
+// Applies a record of a report that leaves the sources that it doesn't name: their records aren't looked at. The queries
+// that it asks for are told where it asks for named sources alone.
+fn apply_to_named(
+    world: &mut World,
+    meter: &mut Meter,
+    alloc: Global,
+    iface: IfaceId,
+    group: Addr,
+    record_type: RecordType,
+    sources: &[Addr],
+    full: u64,
+) -> Result<Asking, AllocError>
+    requires near { iface.number < 120 }
+    requires keeps { keeps_others record_type ≡ true }
+    ensures state { OnOk result (world.new ≡ with_record world.old iface.number group.bits
+        (apply_record full (record_of world.old iface.number group.bits) record_type (bits_of sources.now)).0) }
+    ensures asked { asks_named record_type ≡ true → IfOk result (λ asked. asked
+        ≡ (apply_record full (record_of world.old iface.number group.bits) record_type (bits_of sources.now)).1) }
+{
+    // They tell that each source has one record, under its own key, and that the sources rise.
+    world.membership().recall_rising_source_records();
+    world.membership().recall_keyed_source_records();
+    let _ = world.membership().source_records_at(iface, group);
+    let mut known = named_record(world, alloc, iface, group, sources)?;
+    let mut asked = Asking::new();
+    known.apply(record_type, sources, full, &mut asked)?;
+    write_beside(world, meter, alloc, iface, group, &known)?;
+    Ok(asked)
+}
+
+// What a record of a report asks for, of all that is known of its group.
+fn asked_of_all(
+    world: &World,
+    alloc: Global,
+    iface: IfaceId,
+    group: Addr,
+    record_type: RecordType,
+    sources: &[Addr],
+    full: u64,
+) -> Result<Asking, AllocError>
+    ensures { IfOk result (λ asked. asked
+        ≡ (apply_record full (record_of world.now iface.number group.bits) record_type (bits_of sources.now)).1) }
+{
+    let mut known = record_of(world, alloc, iface, group)?;
+    let mut asked = Asking::new();
+    known.apply(record_type, sources, full, &mut asked)?;
+    Ok(asked)
+}
+
+// Applies a record of a report that may delete any of the group's sources.
+fn apply_to_all(
+    world: &mut World,
+    meter: &mut Meter,
+    alloc: Global,
+    iface: IfaceId,
+    group: Addr,
+    record_type: RecordType,
+    sources: &[Addr],
+    full: u64,
+) -> Result<Asking, AllocError>
+    requires { iface.number < 120 }
+    ensures state { OnOk result (world.new ≡ with_record world.old iface.number group.bits
+        (apply_record full (record_of world.old iface.number group.bits) record_type (bits_of sources.now)).0) }
+    ensures asked { IfOk result (λ asked. asked
+        ≡ (apply_record full (record_of world.old iface.number group.bits) record_type (bits_of sources.now)).1) }
+{
+    let mut known = record_of(world, alloc, iface, group)?;
+    let mut asked = Asking::new();
+    known.apply(record_type, sources, full, &mut asked)?;
+    set_record(world, meter, alloc, iface, group, &known)?;
+    Ok(asked)
+}
+
+// Whether a source that the record doesn't name stays as it is.
+fn keeps_others(record_type: RecordType) -> bool
+    ensures { result ≡ keeps_others record_type }
+{
+    !matches!(
+        record_type,
+        RecordType::IsExclude | RecordType::ToExclude
+    )
+}
+
+// Whether what the record asks for is of the sources that it names.
+fn asks_named(record_type: RecordType) -> bool
+    ensures { result ≡ asks_named record_type }
+{
+    matches!(
+        record_type,
+        RecordType::IsInclude | RecordType::Allow | RecordType::Block
+    )
+}
+
+/// Applies a record of a report, of an interface below 120, whose timers end then, in ms, where they are set. It tells the
+/// queries that the record asks for. Where it deletes no source, the records of those that it doesn't name aren't written.
+pub fn apply(
+    world: &mut World,
+    meter: &mut Meter,
+    alloc: Global,
+    iface: IfaceId,
+    group: Addr,
+    record_type: RecordType,
+    sources: &[Addr],
+    full: u64,
+) -> Result<Asking, AllocError>
+    requires { iface.number < 120 }
+    ensures state { OnOk result (world.new ≡ with_record world.old iface.number group.bits
+        (apply_record full (record_of world.old iface.number group.bits) record_type (bits_of sources.now)).0) }
+    ensures asked { IfOk result (λ asked. asked
+        ≡ (apply_record full (record_of world.old iface.number group.bits) record_type (bits_of sources.now)).1) }
+{
+    if !keeps_others(record_type) {
+        return apply_to_all(world, meter, alloc, iface, group, record_type, sources, full);
+    }
+    if asks_named(record_type) {
+        return apply_to_named(world, meter, alloc, iface, group, record_type, sources, full);
+    }
+    let asked = asked_of_all(world, alloc, iface, group, record_type, sources, full)?;
+    apply_to_named(world, meter, alloc, iface, group, record_type, sources, full)?;
+    Ok(asked)
+}
