@@ -1,5 +1,5 @@
 -- The record of a group whose interface is below 120 where it has sources, and after a timer of it has ended.
-use Rattle.std.proofs.Common.{◌≡◌, ℕ, ◌<◌, ◌≤◌, List, Result, Ok, Err, IfOk, length, refl, ap, subst, sym, ◌∙◌, arith}
+use Rattle.std.proofs.Common.{◌≡◌, ℕ, ◌<◌, ◌≤◌, List, Result, Ok, Err, IfOk, length, ap, subst, sym, ◌∙◌, arith}
 use Rattle.std.proofs.lemmas.List.{length-map}
 use Rattle.pim_filters.specs.Members.{entries_of, entry_of}
 use Rattle.pim_filters.specs.declared.member.Member.{Member}

@@ -1,10 +1,9 @@
 -- A record of a report that deletes no source, applied to what is known of the sources that it names alone.
-use Rattle.std.proofs.Common.{◌≡◌, ℕ, append-nil, Result, Ok, Err, IfOk, ◌==◌, ◌&&◌, ◌||◌, ◌++◌, Bool, true, false, not, cond, List, [], ◌∷◌, find, fold, map, Option, Some, None, is_none, is_some, option_map, eqb-true, eq-eqb, refl, ap, sym, subst, ◌∙◌}
+use Rattle.std.proofs.Common.{◌≡◌, ℕ, append-nil, Result, Ok, Err, IfOk, ◌==◌, ◌&&◌, ◌||◌, ◌++◌, Bool, true, false, not, cond, List, [], ◌∷◌, find, fold, map, Option, Some, None, is_none, option_map, eqb-true, eq-eqb, refl, ap, sym, subst, ◌∙◌}
 use Rattle.std.proofs.lemmas.Bool.{or_right}
 use Rattle.std.proofs.lemmas.List.Folds.{list_any-append}
 use Rattle.std.proofs.lemmas.List.Kept.{IsStrictlySortedBy-filter}
-use Rattle.std.specs.BTreeMap.{insert_entry}
-use Rattle.std.specs.List.{AllByRecursion, cons_option, filter, filter_map, list_any}
+use Rattle.std.specs.List.{AllByRecursion, cons_option, filter, list_any}
 use Rattle.std.specs.List.Sorted.{IsStrictlySortedBy}
 use Rattle.std.specs.Option.{option_map_or}
 use Rattle.std.specs.Ordering.{is_eq, match_ordering, nat_cmp}
@@ -22,12 +21,12 @@ use Rattle.pim_types.proofs.Keys.{equal_keys}
 use Rattle.pim_model.specs.Querier.{group_end}
 use Rattle.pim_model.specs.Records.{Asked, Fate, Gone, Excluded, Until, GroupRecord, Member, apply_record, fate_in, is_at_group, is_no_record, is_running, put_member, record_of, with_members, with_record, with_repeats_of_rows}
 use Rattle.pim_model.specs.State.{State}
-use Rattle.pim_model.specs.Tables.{Table, ascending, drop_at, drop_where, is_among, is_empty_list, keys_in, put, row_at}
+use Rattle.pim_model.specs.Tables.{Table, drop_at, drop_where, is_among, is_empty_list, keys_in, put, row_at}
 use Rattle.pim_filters.specs.Asking.{asked_in_order}
 use Rattle.pim_filters.specs.Members.{IsAscending, entries_of}
-use Rattle.pim_filters.specs.Rules.{asks_group, asks_sources, fate_after, is_asked, kept_or, timer_after}
+use Rattle.pim_filters.specs.Rules.{asks_group, asks_sources, fate_after, is_asked, timer_after}
 use Rattle.pim_filters.specs.declared.member.Member.{Member as CodeMember}
-use Rattle.pim_filters.proofs.Applying.{all_of, applied, asked_are, entries_are, is_told_asked, queries_after, told_of}
+use Rattle.pim_filters.proofs.Applying.{all_of, applied, asked_are, entries_are, queries_after}
 use Rattle.pim_filters.proofs.Merging.{fate_among}
 use Rattle.pim_filters.proofs.Orders.{Rises, Rises-ascending, Rises-from_sorted, is_among-ascending, same_rising, sorted_from_Rises}
 use Rattle.pim_laws.proofs.TableLaws.{any_in_filter}

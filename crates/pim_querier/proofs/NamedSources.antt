@@ -1,24 +1,20 @@
 -- A record of a report that deletes no source changes the sources that it names, and no other: what is known of the others
 -- need not be gathered, and isn't written anew.
-use Rattle.std.proofs.Common.{◌≡◌, ℕ, ◌==◌, ◌&&◌, ◌||◌, ◌++◌, Bool, true, false, not, cond, List, [], ◌∷◌, find, fold, map, Option, Some, None, is_some, eqb-true, eq-eqb, refl, ap, sym, subst, ◌∙◌}
-use Rattle.std.proofs.lemmas.List.Folds.{list_any-append}
-use Rattle.std.specs.List.{cons_option, filter, filter_map, list_any}
-use Rattle.std.specs.List.Sorted.{IsStrictlySortedBy}
+use Rattle.std.proofs.Common.{◌≡◌, ℕ, ◌==◌, ◌&&◌, ◌||◌, Bool, true, false, not, cond, List, [], ◌∷◌, fold, Option, Some, None, is_some, eqb-true, eq-eqb, refl, ap, sym, subst, ◌∙◌}
+use Rattle.std.specs.List.{cons_option, filter, filter_map}
 use Rattle.std.specs.Option.{option_map_or, option_or}
-use Rattle.igmp_wire.specs.declared.report.RecordType.{RecordType}
 use Rattle.pim_types.specs.declared.fact.Key.{Key}
 use Rattle.pim_types.specs.declared.fact.SourceRecordRow.{SourceRecordRow}
-use Rattle.pim_types.specs.Keys.{key_cmp, same_key, source_in, source_key}
+use Rattle.pim_types.specs.Keys.{same_key, source_in, source_key}
 use Rattle.pim_types.proofs.Keys.{equal_keys, same_key_same}
 use Rattle.pim_model.specs.Records.{Fate, Gone, Excluded, Until, Member, is_at_group, member_of, members_of, put_member}
-use Rattle.pim_model.specs.Tables.{Table, drop_where, has_row, is_among, keys_in, put, row_at}
-use Rattle.pim_filters.specs.Rules.{fate_after, fresh_fate, kept_or}
+use Rattle.pim_model.specs.Tables.{Table, drop_where, has_row, is_among, row_at}
 use Rattle.pim_filters.proofs.Merging.{fate_among}
 use Rattle.pim_laws.specs.Laws.{is_under_source}
 use Rattle.pim_laws.proofs.RecordsKept.{equal_forms}
 use Rattle.pim_laws.proofs.RowLaws.{has_row_dropped, row_kept, row_put, row_put_away}
 use Rattle.pim_querier.proofs.OneSource.{AreSources, same_source}
-use Rattle.pim_querier.proofs.RisingRows.{Up, same_rows, up_filtered, up_of_sorted, up_put}
+use Rattle.pim_querier.proofs.RisingRows.{Up, same_rows, up_filtered, up_put}
 
 -- ---- rows and fates
 

@@ -197,10 +197,7 @@ fn apply_to_all(
 fn keeps_others(record_type: RecordType) -> bool
     ensures { result ≡ keeps_others record_type }
 {
-    !matches!(
-        record_type,
-        RecordType::IsExclude | RecordType::ToExclude
-    )
+    !matches!(record_type, RecordType::IsExclude | RecordType::ToExclude)
 }
 
 // Whether what the record asks for is of the sources that it names.
@@ -232,12 +229,39 @@ pub fn apply(
         ≡ (apply_record full (record_of world.old iface.number group.bits) record_type (bits_of sources.now)).1) }
 {
     if !keeps_others(record_type) {
-        return apply_to_all(world, meter, alloc, iface, group, record_type, sources, full);
+        return apply_to_all(
+            world,
+            meter,
+            alloc,
+            iface,
+            group,
+            record_type,
+            sources,
+            full,
+        );
     }
     if asks_named(record_type) {
-        return apply_to_named(world, meter, alloc, iface, group, record_type, sources, full);
+        return apply_to_named(
+            world,
+            meter,
+            alloc,
+            iface,
+            group,
+            record_type,
+            sources,
+            full,
+        );
     }
     let asked = asked_of_all(world, alloc, iface, group, record_type, sources, full)?;
-    apply_to_named(world, meter, alloc, iface, group, record_type, sources, full)?;
+    apply_to_named(
+        world,
+        meter,
+        alloc,
+        iface,
+        group,
+        record_type,
+        sources,
+        full,
+    )?;
     Ok(asked)
 }

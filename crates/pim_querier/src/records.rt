@@ -63,7 +63,13 @@ pub(crate) fn put_members(
 }
 
 // Takes the group's record away, where it is none.
-pub(crate) fn drop_empty(world: &mut World, meter: &mut Meter, iface: IfaceId, group: Addr, is_none: bool)
+pub(crate) fn drop_empty(
+    world: &mut World,
+    meter: &mut Meter,
+    iface: IfaceId,
+    group: Addr,
+    is_none: bool,
+)
     ensures { world.new ≡ without_empty is_none iface.number group.bits world.old }
 {
     if is_none {

@@ -44,7 +44,16 @@ fn apply_record(
     let full = world.present() + group_membership_interval(world, iface);
     let sources = sources_of(alloc, group_record)?;
     let (group, record_type) = (group_record.group(), group_record.record_type());
-    apply(world, meter, alloc, iface, group, record_type, &sources, full)
+    apply(
+        world,
+        meter,
+        alloc,
+        iface,
+        group,
+        record_type,
+        &sources,
+        full,
+    )
 }
 
 // Takes a group record in; what it asks for is queried, where the router is the querier.

@@ -1,7 +1,6 @@
 use Rattle.std.proofs.Common.{ap}
 use Rattle.pim_model.specs.Tables.{set_row}
 use Rattle.pim_world.specs.Lending.{with_membership}
-use Rattle.pim_querier.proofs.Expired.{members_near}
 use Rattle.pim_querier.proofs.Sent.{put_beside}
 use Rattle.pim_querier.proofs.Starting.{then_ok}
 use Rattle.pim_querier.proofs.applying.write_beside.Goals as goal
