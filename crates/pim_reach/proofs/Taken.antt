@@ -152,7 +152,7 @@ module _ (keys : List Key) (o c : State) where
   -- ---- the facts before and after the change
 
   module _ (moves : MovesAlone keys o c) where
-    facts_stay : fact_keys c ≡ fact_keys o
+    pub facts_stay : fact_keys c ≡ fact_keys o
     unfolding fact_keys
     facts_stay =
         ap fact_keys (moves.rerouted).only

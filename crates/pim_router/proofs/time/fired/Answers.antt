@@ -1,4 +1,4 @@
-use Rattle.std.proofs.Common.{◌≡◌, subst, sym}
+use Rattle.std.proofs.Common.{◌≡◌, ◌∙◌, subst, sym}
 use Rattle.pim_types.specs.declared.timer.TimerKind.{TimerKind}
 use Rattle.pim_world.specs.Turns.{saying}
 use Rattle.pim_model.specs.Firing.{fired}
