@@ -1,5 +1,5 @@
 -- From a quiet state the touched sources that are named are those that are named of all.
-use Rattle.std.proofs.Common.{◌≡◌, ◌==◌, ◌&&◌, ◌||◌, ℕ, Bool, true, false, cond, Option, Some, None, is_some, filter, List, [], ◌++◌, map, refl, sym, ap, subst, ◌∙◌, eq-eqb}
+use Rattle.std.proofs.Common.{◌≡◌, ◌==◌, ◌&&◌, ◌||◌, ℕ, Bool, true, false, cond, Option, Some, None, is_some, filter, List, [], ◌++◌, inl, inr, map, refl, sym, ap, subst, ◌∙◌, eq-eqb}
 use Rattle.std.proofs.Math.Bool.{or-true}
 use Rattle.std.proofs.lemmas.Bool.{or_left}
 use Rattle.std.proofs.lemmas.List.Folds.{list_any-append}
@@ -28,13 +28,15 @@ use Rattle.pim_laws.proofs.TurnLaws.{kept_to_the_end}
 use Rattle.pim_locality.specs.Locality.{IsQuiet, touching}
 use Rattle.pim_locality.specs.Scopes.{reads}
 use Rattle.pim_reach.specs.Named.{is_named, named, named_by}
+use Rattle.pim_reach.proofs.Moved.{moved_names}
+use Rattle.pim_reach.proofs.Taken.{facts_stay}
 use Rattle.pim_reach.proofs.Touched.{touched_names}
 use Rattle.pim_cached.specs.Kept.{is_listed}
 use Rattle.pim_cached.proofs.Listed.{listed}
 use Rattle.pim_world.specs.declared.touched.Touched.{Touched}
-use Rattle.pim_opening.specs.Covers.{Covers}
 use Rattle.pim_opening.specs.Openings.{facts_of_whole, has_facts, is_of_all, opened_keys, touched_sources}
 use Rattle.pim_fanout.specs.Before.{opened_sources}
+use Rattle.pim_fanout.specs.Contains.{Contains}
 use Rattle.pim_fanout.specs.Named.{is_changed, named_among}
 use Rattle.pim_fanout.proofs.Opened.{opened}
 
@@ -197,23 +199,40 @@ module _ (o changed : State) (quiet : IsQuiet o) (g src : ℕ) where
   abbrev has_one : Bool
   has_one = has_row o.sources (source_key 0 g src) || has_row after.sources (source_key 0 g src)
 
-  named_is_opened : (touched : Touched) → Covers touched o changed → has_one ≡ true → is_named g src o after ≡ true
-      → list_any (same_key (source_key 0 g src)) (opened_sources o touched) ≡ true
-  named_is_opened Touched.All within known named =
-      opened_of_all o g src
-      (either (has_row o.sources (source_key 0 g src)) (has_row after.sources (source_key 0 g src))
-      (λ e. source_is_fact g src o e)
-      (λ e. within.sources g src (source_is_fact g src changed (was_there g src o changed e))) known)
-  named_is_opened (Touched.Keys keys) concerns known named =
-      opened_by_keys o g src keys
-      (is_touched (touching keys (source_key 0 g src)) refl)
-      (either (has_row o.sources (source_key 0 g src)) (has_row after.sources (source_key 0 g src))
-      (λ e. or_left (has_facts o g src) (list_any (names_source g src) keys) (source_is_fact g src o e))
-      (λ e. concerns.named g src (source_is_fact g src changed (was_there g src o changed e))) known)
+  -- who has a fact after clearing had one at the opening, or is named
+  was_known : (b : Bool) → (has_facts o g src ≡ true → b ≡ true) → (has_facts changed g src ≡ true → b ≡ true)
+      → has_one ≡ true → b ≡ true
+  was_known b before later =
+      either (has_row o.sources (source_key 0 g src)) (has_row after.sources (source_key 0 g src))
+      (λ e. before (source_is_fact g src o e))
+      (λ e. later (source_is_fact g src changed (was_there g src o changed e)))
+
+  -- a source that isn't touched isn't named
+  opened_if_touched : (keys : List Key) → (touching keys (source_key 0 g src) ≡ false → is_named g src o after ≡ false)
+      → is_named g src o after ≡ true → (has_facts o g src || list_any (names_source g src) keys) ≡ true
+      → list_any (same_key (source_key 0 g src)) (opened_sources o (Touched.Keys keys)) ≡ true
+  opened_if_touched keys unnamed named known =
+      opened_by_keys o g src keys (go (touching keys (source_key 0 g src)) refl) known
     where
-      is_touched : (b : Bool) → touching keys (source_key 0 g src) ≡ b → b ≡ true
-      is_touched true e = refl
-      is_touched false e = sym (touched_names keys o changed quiet concerns.agrees g src e) ∙ named
+      go : (b : Bool) → touching keys (source_key 0 g src) ≡ b → b ≡ true
+      go true e = refl
+      go false e = sym (unnamed e) ∙ named
+
+  named_is_opened : (touched : Touched) → Contains touched o changed → has_one ≡ true → is_named g src o after ≡ true
+      → list_any (same_key (source_key 0 g src)) (opened_sources o touched) ≡ true
+  named_is_opened Touched.All (inl within) known named =
+      opened_of_all o g src (was_known (has_facts o g src) (λ e. e) (within.sources g src) known)
+  named_is_opened Touched.All (inr none) known named = absurd none
+  named_is_opened (Touched.Keys keys) (inl concerns) known named =
+      opened_if_touched keys (touched_names keys o changed quiet concerns.agrees g src) named
+      (was_known (has_facts o g src || list_any (names_source g src) keys)
+      (or_left (has_facts o g src) (list_any (names_source g src) keys)) (concerns.named g src) known)
+  named_is_opened (Touched.Keys keys) (inr moves) known named =
+      let had : has_facts o g src ≡ true =
+      was_known (has_facts o g src) (λ e. e)
+      (λ e. ap (λ (ks : List Key). list_any (names_source g src) ks) (sym (facts_stay keys o changed moves)) ∙ e) known in
+      opened_if_touched keys (moved_names keys o changed quiet moves g src had) named
+      (or_left (has_facts o g src) (list_any (names_source g src) keys) had)
 
   among_named : (b n l : Bool) → (b ≡ true → n ≡ true → l ≡ true) → ((b && n) && l) ≡ (n && b)
   among_named true true l opened = opened refl refl
@@ -221,7 +240,7 @@ module _ (o changed : State) (quiet : IsQuiet o) (g src : ℕ) where
   among_named false true l opened = refl
   among_named false false l opened = refl
 
-  pub names_are_named : (touched : Touched) → Covers touched o changed
+  pub names_are_named : (touched : Touched) → Contains touched o changed
       → is_listed (named_among o after touched) g src ≡ is_listed (named_by o changed) g src
   unfolding is_listed named_among named_by is_changed
   names_are_named touched covers =
@@ -240,7 +259,7 @@ unlisted o a g src known e = go (is_named g src o a) refl
     go true f = sym (listed_of_all o a g src true f ∙ known) ∙ e
     go false f = refl
 
-pub unlisted_is_unnamed : (o changed : State) → IsQuiet o → (touched : Touched) → Covers touched o changed → (g src : ℕ)
+pub unlisted_is_unnamed : (o changed : State) → IsQuiet o → (touched : Touched) → Contains touched o changed → (g src : ℕ)
     → (has_row o.sources (source_key 0 g src) || has_row (clear o changed).0.sources (source_key 0 g src)) ≡ true
     → is_listed (named_among o (clear o changed).0 touched) g src ≡ false
     → is_named g src o (clear o changed).0 ≡ false

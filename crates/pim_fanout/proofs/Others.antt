@@ -17,7 +17,7 @@ use Rattle.pim_reach.proofs.Calm.{event_facts, firing_facts}
 use Rattle.pim_reach.proofs.Settled.{event_keeps, firing_keeps}
 use Rattle.pim_cached.specs.Kept.{is_listed}
 use Rattle.pim_world.specs.declared.touched.Touched.{Touched}
-use Rattle.pim_opening.specs.Covers.{Covers}
+use Rattle.pim_fanout.specs.Contains.{Contains}
 use Rattle.pim_fanout.specs.Named.{named_among}
 use Rattle.pim_fanout.proofs.Listed.{unlisted_is_unnamed}
 
@@ -26,7 +26,7 @@ abbrev HasOne : ℕ → ℕ → State → Table SourceRow → Type 0
 HasOne g src o t = (has_row o.sources (source_key 0 g src) || has_row t (source_key 0 g src)) ≡ true
 
 pub others_keep : (s : State) → IsQuiet s → length s.configured ≤ most_ifaces → (w : ℕ) (a : Accepted)
-    → (touched : Touched) → Covers touched s (change s w a).state → (g src : ℕ) → HasOne g src s (done s w (change s w a)).state.sources
+    → (touched : Touched) → Contains touched s (change s w a).state → (g src : ℕ) → HasOne g src s (done s w (change s w a)).state.sources
     → is_listed (named_among s (clear s (change s w a).state).0 touched) g src ≡ false
     → KeepsAnswers g src s (done s w (change s w a)).state
 others_keep s quiet few w a touched covers g src known e =
@@ -34,7 +34,7 @@ others_keep s quiet few w a touched covers g src known e =
     (unlisted_is_unnamed s (change s w a).state quiet touched covers g src (rw (event_facts s w a) known) e)
 
 pub fired_others_keep : (s : State) → IsQuiet s → length s.configured ≤ most_ifaces → (w : ℕ) (e : Ending)
-    → (touched : Touched) → Covers touched s (own_firing s e) → (g src : ℕ)
+    → (touched : Touched) → Contains touched s (own_firing s e) → (g src : ℕ)
     → HasOne g src s (fire_once w s e).0.sources
     → is_listed (named_among s (clear s (own_firing s e)).0 touched) g src ≡ false
     → KeepsAnswers g src s (fire_once w s e).0

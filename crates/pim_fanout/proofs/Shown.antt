@@ -28,7 +28,7 @@ use Rattle.pim_macros.specs.declared.rows.SourceAnswers.{SourceAnswers}
 use Rattle.pim_mfc.specs.Laws.{ShowsRow, ShowsRows}
 use Rattle.pim_mfc.proofs.Shown.{none_shown, refreshed_are_shown}
 use Rattle.pim_world.specs.declared.touched.Touched.{Touched}
-use Rattle.pim_opening.specs.Covers.{Covers}
+use Rattle.pim_fanout.specs.Contains.{Contains}
 use Rattle.pim_fanout.specs.Named.{named_among}
 use Rattle.pim_fanout.proofs.Listed.{names_are_named}
 
@@ -43,7 +43,7 @@ same_refreshed xs ys s c same is g src =
     subst (λ l. SameRow (cond l (cached s g src) (c g src)) (cached s g src)) (sym (same g src)) (is g src)
 
 event_cached : (s : State) → IsQuiet s → length s.configured ≤ most_ifaces → (w : ℕ) (a : Accepted) (touched : Touched)
-    → Covers touched s (change s w a).state → IsCached
+    → Contains touched s (change s w a).state → IsCached
     (refreshed (named_among s (clear s (change s w a).state).0 touched) (done s w (change s w a)).state (cached s)) (done s w (change s w a)).state
 event_cached s quiet few w a touched covers =
     same_refreshed (named_among s (clear s (change s w a).state).0 touched) (named_by s (change s w a).state)
@@ -52,7 +52,7 @@ event_cached s quiet few w a touched covers =
     (event_keeps_cache s w a (cached s) few (own_rows s))
 
 firing_cached : (s : State) → IsQuiet s → length s.configured ≤ most_ifaces → (w : ℕ) (e : Ending) (touched : Touched)
-    → Covers touched s (own_firing s e) → IsCached (refreshed (named_among s (clear s (own_firing s e)).0 touched)
+    → Contains touched s (own_firing s e) → IsCached (refreshed (named_among s (clear s (own_firing s e)).0 touched)
     (fire_once w s e).0 (cached s)) (fire_once w s e).0
 firing_cached s quiet few w e touched covers =
     same_refreshed (named_among s (clear s (own_firing s e)).0 touched) (named_by s (own_firing s e))
@@ -60,7 +60,7 @@ firing_cached s quiet few w e touched covers =
     (firing_keeps_cache s w e (cached s) few (own_rows s))
 
 pub event_shows_rows : (s : State) → IsQuiet s → length s.configured ≤ most_ifaces → (w : ℕ) (a : Accepted)
-    → (touched : Touched) → Covers touched s (change s w a).state → (rows : Table SourceAnswers)
+    → (touched : Touched) → Contains touched s (change s w a).state → (rows : Table SourceAnswers)
     → ShowsRows rows (refreshed (named_among s (clear s (change s w a).state).0 touched) (done s w (change s w a)).state
     (cached s)) → ShowsRows rows (cached (done s w (change s w a)).state)
 event_shows_rows s quiet few w a touched covers rows shows =
@@ -69,7 +69,7 @@ event_shows_rows s quiet few w a touched covers rows shows =
     (event_cached s quiet few w a touched covers)
 
 pub firing_shows_rows : (s : State) → IsQuiet s → length s.configured ≤ most_ifaces → (w : ℕ) (e : Ending)
-    → (touched : Touched) → Covers touched s (own_firing s e) → (rows : Table SourceAnswers)
+    → (touched : Touched) → Contains touched s (own_firing s e) → (rows : Table SourceAnswers)
     → ShowsRows rows (refreshed (named_among s (clear s (own_firing s e)).0 touched) (fire_once w s e).0 (cached s))
     → ShowsRows rows (cached (fire_once w s e).0)
 firing_shows_rows s quiet few w e touched covers rows shows =

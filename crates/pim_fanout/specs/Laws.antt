@@ -25,8 +25,8 @@ use Rattle.pim_cached.specs.Decided.{IsDecided}
 use Rattle.pim_cached.specs.Kept.{is_listed, refreshed}
 use Rattle.pim_world.specs.declared.touched.Touched.{Touched}
 use Rattle.pim_macros.specs.declared.rows.SourceAnswers.{SourceAnswers}
-use Rattle.pim_opening.specs.Covers.{Covers}
 use Rattle.pim_mfc.specs.Laws.{ShowsRows}
+use Rattle.pim_fanout.specs.Contains.{Contains}
 use Rattle.pim_fanout.specs.Named.{named_among}
 
 -- ---- who is named
@@ -41,7 +41,7 @@ NamesRise = (o a : State) (touched : Touched) → IsStrictlySortedBy key_cmp (na
 
 -- from a quiet state those are named of the touched sources that are named of all
 abbrev pub NamesAreNamed : Type 0
-NamesAreNamed = (o : State) → IsQuiet o → (touched : Touched) (changed : State) → Covers touched o changed → (g src : ℕ)
+NamesAreNamed = (o : State) → IsQuiet o → (touched : Touched) (changed : State) → Contains touched o changed → (g src : ℕ)
     → is_listed (names_of o changed touched) g src ≡ is_listed (named_by o changed) g src
 
 -- they are no more than those of all
@@ -71,14 +71,14 @@ HasFact g src o a =
 -- asserts, and every macro, to the end of the event
 abbrev pub OthersKeep : Type 0
 OthersKeep = (s : State) → IsQuiet s → length s.configured ≤ most_ifaces → (w : ℕ) (a : Accepted) (touched : Touched)
-    → Covers touched s (change s w a).state → (g src : ℕ) → HasFact g src s (done s w (change s w a)).state
+    → Contains touched s (change s w a).state → (g src : ℕ) → HasFact g src s (done s w (change s w a)).state
     → is_listed (names_of s (change s w a).state touched) g src ≡ false
     → KeepsAnswers g src s (done s w (change s w a)).state
 
 -- and of a timer's end
 abbrev pub FiredOthersKeep : Type 0
 FiredOthersKeep = (s : State) → IsQuiet s → length s.configured ≤ most_ifaces → (w : ℕ) (e : Ending) (touched : Touched)
-    → Covers touched s (own_firing s e) → (g src : ℕ) → HasFact g src s (fire_once w s e).0
+    → Contains touched s (own_firing s e) → (g src : ℕ) → HasFact g src s (fire_once w s e).0
     → is_listed (names_of s (own_firing s e) touched) g src ≡ false → KeepsAnswers g src s (fire_once w s e).0
 
 -- ---- the rows
@@ -90,7 +90,7 @@ OpeningShowsRows = (c : Config) → ShowsRows [] (cached (opening c))
 -- where the named ones of what the state had are made anew, the rows are those of the state that the event leaves
 abbrev pub EventShowsRows : Type 0
 EventShowsRows = (s : State) → IsQuiet s → length s.configured ≤ most_ifaces → (w : ℕ) (a : Accepted)
-    → (touched : Touched) → Covers touched s (change s w a).state → (rows : Table SourceAnswers)
+    → (touched : Touched) → Contains touched s (change s w a).state → (rows : Table SourceAnswers)
     → (let after : State = (done s w (change s w a)).state in
     ShowsRows rows (refreshed (names_of s (change s w a).state touched) after (cached s))
     → ShowsRows rows (cached after))
@@ -98,7 +98,7 @@ EventShowsRows = (s : State) → IsQuiet s → length s.configured ≤ most_ifac
 -- and that a timer's end leaves
 abbrev pub FiringShowsRows : Type 0
 FiringShowsRows = (s : State) → IsQuiet s → length s.configured ≤ most_ifaces → (w : ℕ) (e : Ending)
-    → (touched : Touched) → Covers touched s (own_firing s e) → (rows : Table SourceAnswers)
+    → (touched : Touched) → Contains touched s (own_firing s e) → (rows : Table SourceAnswers)
     → (let after : State = (fire_once w s e).0 in
     ShowsRows rows (refreshed (names_of s (own_firing s e) touched) after (cached s)) → ShowsRows rows (cached after))
 

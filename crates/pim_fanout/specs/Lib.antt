@@ -1,4 +1,5 @@
 pub mod Before
+pub mod Contains
 pub mod Same
 pub mod Named
 pub mod Refreshing

@@ -11,8 +11,8 @@ use pim_macros::{SourceSight, StarSight};
 use pim_types::fact::RegisterState;
 use pim_types::{Addr, Path};
 
-// Whether both are the same address, or none.
-fn is_same_address(before: Option<Addr>, after: Option<Addr>) -> bool
+/// Whether both are the same address, or none.
+pub fn is_same_address(before: Option<Addr>, after: Option<Addr>) -> bool
     ensures { result ≡ same_address before after }
 {
     match (before, after) {
@@ -22,8 +22,8 @@ fn is_same_address(before: Option<Addr>, after: Option<Addr>) -> bool
     }
 }
 
-// Whether both are the same route, or none.
-fn is_same_path(before: Option<Path>, after: Option<Path>) -> bool
+/// Whether both are the same route, or none.
+pub fn is_same_path(before: Option<Path>, after: Option<Path>) -> bool
     ensures { result ≡ same_both same_path before after }
 {
     match (before, after) {

@@ -7,12 +7,16 @@ pub mod Configured
 pub mod Few
 pub mod Kept
 pub mod Masks
+pub mod Moved
+pub mod MovedKeys
+pub mod MovedTold
 pub mod Reached
 pub mod Rerouted
 pub mod SameRows
 pub mod Settled
 pub mod Sights
 pub mod Through
+pub mod Taken
 pub mod Touched
 pub mod Unreached
 pub mod Within

@@ -37,6 +37,7 @@ use Rattle.pim_locality.specs.Sees.{SeesSource, SeesStar}
 use Rattle.pim_locality.proofs.Registers.{all_keys, nothing_dropped}
 use Rattle.pim_locality.proofs.Rows.{has_row_in_scope, row_in_scope}
 use Rattle.pim_locality.proofs.SameMacros.{could_assert_same, could_assert_star_same, could_register_same, is_tracking_same, is_tracking_star_same, join_desired_same, my_metric_same, my_metric_star_same, rpf_at_same, rpf_rp_at_same}
+use Rattle.pim_reach.specs.Moved.{IsRerouted, is_moved, is_of_place}
 use Rattle.pim_reach.specs.Named.{has_same_routes, has_same_rp, is_named, is_rerouted, named_by, named_where}
 use Rattle.pim_reach.proofs.Agreed.{SameSourceRows, SameStarRows, rows_within, same_with_rows}
 use Rattle.pim_reach.proofs.Asked.{asked_alone}
@@ -46,7 +47,7 @@ use Rattle.pim_reach.proofs.Unreached.{Around, alike, alike_sees, dr_around, kep
 
 -- ---- either way
 
-pick : {X : Type 0} (P : X → Type 0) (b : Bool) (x y : X) → (b ≡ true → P x) → (b ≡ false → P y) → P (cond b x y)
+pub pick : {X : Type 0} (P : X → Type 0) (b : Bool) (x y : X) → (b ≡ true → P x) → (b ≡ false → P y) → P (cond b x y)
 pick P true x y f h = f refl
 pick P false x y f h = h refl
 
@@ -128,10 +129,6 @@ module _ {R : Type 0} (touched : Key → Bool) (p : Key × R → Bool) where
 
 -- ---- keys
 
--- of the group and the source, or of the group where there is none
-abbrev at_place : ℕ → ℕ → Key → Bool
-at_place g src k = (group_in k == g) && (source_in k == src)
-
 abbrev names : Key → Key → Bool
 names k = cond (is_star k) (names_star (group_in k)) (names_source (group_in k) (source_in k))
 
@@ -152,10 +149,10 @@ names_itself k =
     (λ e. both_true (both_true (eq-eqb (group_in k) (group_in k) refl) (has_source k.source e))
     (eq-eqb (source_in k) (source_in k) refl))
 
-place_itself : (k : Key) → at_place (group_in k) (source_in k) k ≡ true
+place_itself : (k : Key) → is_of_place (group_in k) (source_in k) k ≡ true
 place_itself k = both_true (eq-eqb (group_in k) (group_in k) refl) (eq-eqb (source_in k) (source_in k) refl)
 
-named_place : (g src : ℕ) (k : Key) → names_source g src k ≡ true → at_place g src k ≡ true
+named_place : (g src : ℕ) (k : Key) → names_source g src k ≡ true → is_of_place g src k ≡ true
 unfolding names_source
 named_place g src k e =
     both_true
@@ -197,10 +194,10 @@ never_not false e f = cc
 module _ (o c : State) (around : Around o c) where
   -- facts of other keys may go
   abbrev touches : Key → Bool
-  touches k = cond (is_star k) (not (has_same_rp (group_in k) o c)) (not (has_same_routes (group_in k) (source_in k) o c))
+  touches = is_moved o c
 
   abbrev touches_place : Key → Bool
-  touches_place k = not (has_same_routes (group_in k) (source_in k) o c)
+  touches_place = is_rerouted o c
 
   star_apart : (g : ℕ) (k : Key) → touches k ≡ true → has_same_rp g o c ≡ true → names_star g k ≡ false
   star_apart g k e calm =
@@ -209,7 +206,7 @@ module _ (o c : State) (around : Around o c) where
       (second_so (group_in k == g) (is_star k) f)
       (ap (λ m. has_same_rp m o c) (eqb-true (group_in k) g (first_so (group_in k == g) (is_star k) f)) ∙ calm))
 
-  same_place : (g src : ℕ) (k : Key) → at_place g src k ≡ true → has_same_routes g src o c ≡ true
+  same_place : (g src : ℕ) (k : Key) → is_of_place g src k ≡ true → has_same_routes g src o c ≡ true
       → has_same_routes (group_in k) (source_in k) o c ≡ true
   same_place g src k e calm =
       let group : group_in k ≡ g = eqb-true (group_in k) g (first_so (group_in k == g) (source_in k == src) e) in
@@ -228,9 +225,9 @@ module _ (o c : State) (around : Around o c) where
       (same_place g src k (named_place g src k f) calm))
 
   place_apart : (g src : ℕ) (k : Key) → touches_place k ≡ true → has_same_routes g src o c ≡ true
-      → at_place g src k ≡ false
+      → is_of_place g src k ≡ false
   place_apart g src k e calm =
-      never (at_place g src k)
+      never (is_of_place g src k)
       (λ f. never_not (has_same_routes (group_in k) (source_in k) o c) e (same_place g src k f calm))
 
   -- where the routes of a source are the same, so is its RP
@@ -244,11 +241,11 @@ module _ (o c : State) (around : Around o c) where
         ≡ rows_where (names_source g src) t.source_records
     downstream : rows_where (names_source g src) o.downstream ≡ rows_where (names_source g src) t.downstream
     asserts : rows_where (names_source g src) o.asserts ≡ rows_where (names_source g src) t.asserts
-    sources : rows_where (at_place g src) o.sources ≡ rows_where (at_place g src) t.sources
-    registers : rows_where (at_place g src) o.registers ≡ rows_where (at_place g src) t.registers
+    sources : rows_where (is_of_place g src) o.sources ≡ rows_where (is_of_place g src) t.sources
+    registers : rows_where (is_of_place g src) o.registers ≡ rows_where (is_of_place g src) t.registers
 
   -- where the routes are the same, so are the rows
-  record Beside (t : State) : Type 0 where
+  pub record Beside (t : State) : Type 0 where
     kept : Keeps c t
     star : (g : ℕ) → has_same_rp g o c ≡ true → SameStarRows g o t
     source : (g src : ℕ) → has_same_routes g src o c ≡ true → PlaceRows g src t
@@ -307,7 +304,7 @@ module _ (o c : State) (around : Around o c) where
       assert_row i =
           row_same (names_star g) (star_key i g) (star_itself i) o.asserts t.asserts (beside.star g calm).asserts
 
-      star_sees : SeesStar g o t
+      pub star_sees : SeesStar g o t
       unfolding joins_star has_row is_exclude is_exclude_among
       star_sees = record {
         settings = around_now.settings;
@@ -341,9 +338,9 @@ module _ (o c : State) (around : Around o c) where
             source_records = rows.source_records;
             downstream = rows.downstream;
             asserts = rows.asserts;
-            sources = rows_within (names_source g src) (at_place g src) (named_place g src) o.sources t.sources
+            sources = rows_within (names_source g src) (is_of_place g src) (named_place g src) o.sources t.sources
                 rows.sources;
-            registers = rows_within (names_source g src) (at_place g src) (named_place g src) o.registers t.registers
+            registers = rows_within (names_source g src) (is_of_place g src) (named_place g src) o.registers t.registers
                 rows.registers;
           }
 
@@ -352,13 +349,13 @@ module _ (o c : State) (around : Around o c) where
           same_with_rows g src o t (beside.star g (rp_of_routes g src calm)) source_rows same_route
           (same_rp g (rp_of_routes g src calm)) (same_rp_route g (rp_of_routes g src calm))
 
-      source_sees : SeesSource g src o t
+      pub source_sees : SeesSource g src o t
       source_sees = alike_sees g src o t around_now (alike g src o t nothing_differs)
 
-      kept_alive : is_kept_alive o g src ≡ is_kept_alive t g src
+      pub kept_alive : is_kept_alive o g src ≡ is_kept_alive t g src
       kept_alive = kept_alive_same g src o t around_now (alike g src o t nothing_differs)
 
-      desired_same : join_desired o g src ≡ join_desired t g src
+      pub desired_same : join_desired o g src ≡ join_desired t g src
       desired_same = join_desired_same g src o t source_sees kept_alive
 
     -- ---- what must go there
@@ -417,21 +414,21 @@ module _ (o c : State) (around : Around o c) where
         (λ e. (beside.source (group_in k) (source_in k) (routes_calm k calm e)).asserts)
 
     module _ (quiet : IsQuiet o) where
-      asserts_beside : list_all (λ e. touches e.0 || not (assert_must_go o t e)) t.asserts ≡ true
+      pub asserts_beside : list_all (λ e. touches e.0 || not (assert_must_go o t e)) t.asserts ≡ true
       asserts_beside =
           all_kept (λ e. not (assert_must_go o o e)) (λ e. not (assert_must_go o t e)) names names_itself touches
           (λ e calm stays. ap not (sym (must_go_same e.0 calm e.1)) ∙ stays) o.asserts t.asserts names_same
           quiet.clear.asserts
 
-      spts_beside : list_all (λ e. touches_place e.0 || not (spt_must_go t e)) t.sources ≡ true
+      pub spts_beside : list_all (λ e. touches_place e.0 || not (spt_must_go t e)) t.sources ≡ true
       spts_beside =
           all_kept (λ e. not (spt_must_go o e)) (λ e. not (spt_must_go t e))
-          (λ k. at_place (group_in k) (source_in k)) place_itself touches_place
+          (λ k. is_of_place (group_in k) (source_in k)) place_itself touches_place
           (λ e calm stays. (λ j. not ((e.1).spt
           && not (sym (desired_same (group_in e.0) (source_in e.0) (not_false _ calm)) j))) ∙ stays) o.sources t.sources
           (λ k calm. (beside.source (group_in k) (source_in k) (not_false _ calm)).sources) quiet.clear.sources
 
-      abbrev GoesBeside : Cleared → Type 0
+      abbrev pub GoesBeside : Cleared → Type 0
       GoesBeside (ClearAssert k r) = touches k ≡ true
       GoesBeside (ClearSptBit k) = touches_place k ≡ true
 
@@ -460,7 +457,7 @@ module _ (o c : State) (around : Around o c) where
               let same : ClearSptBit y.0 ≡ d = cc in
               subst GoesBeside same (found_touched touches_place (spt_must_go t) t.sources y spts_beside was)
 
-      goes_beside : (d : Cleared) → to_clear o t ≡ Some d → GoesBeside d
+      pub goes_beside : (d : Cleared) → to_clear o t ≡ Some d → GoesBeside d
       unfolding to_clear
       goes_beside d e = go (assert_to_clear o t) refl e
         where
@@ -468,7 +465,7 @@ module _ (o c : State) (around : Around o c) where
           go None was f = spt_goes d f
           go (Some y) was f = assert_goes d (was ∙ f)
 
-      beside_after : (d : Cleared) → GoesBeside d → Beside (cleared t d).0
+      pub beside_after : (d : Cleared) → GoesBeside d → Beside (cleared t d).0
       unfolding cleared assert_forgotten without_spt_bit
       beside_after (ClearAssert k r) is = record {
         kept = one_cleared c t (ClearAssert k r) beside.kept;
@@ -499,7 +496,7 @@ module _ (o c : State) (around : Around o c) where
           downstream = (beside.source g src calm).downstream;
           asserts = (beside.source g src calm).asserts;
           sources = (beside.source g src calm).sources
-              ∙ sym (changed_elsewhere (at_place g src) without_spt k (place_apart g src k is calm) t.sources);
+              ∙ sym (changed_elsewhere (is_of_place g src) without_spt k (place_apart g src k is calm) t.sources);
           registers = (beside.source g src calm).registers;
         };
       }
@@ -507,9 +504,9 @@ module _ (o c : State) (around : Around o c) where
   -- ---- registers
 
   module _ (start : Beside c) (quiet : IsQuiet o) where
-    abbrev Stays : Table RegisterRow → Type 0
+    abbrev pub Stays : Table RegisterRow → Type 0
     Stays u = (g src : ℕ) → has_same_routes g src o c ≡ true
-        → rows_where (at_place g src) o.registers ≡ rows_where (at_place g src) u
+        → rows_where (is_of_place g src) o.registers ≡ rows_where (is_of_place g src) u
 
     settled_if : (k : Key) (u : Table RegisterRow) (b d : Bool) → could_register c (group_in k) (source_in k) ≡ b
         → has_row u k ≡ d → b ≡ d → settled_register c k u ≡ u
@@ -519,10 +516,10 @@ module _ (o c : State) (around : Around o c) where
     settled_if k u false true e f same = cc
     settled_if k u false false e f same = rw e (nothing_dropped k u f)
 
-    idle : (k : Key) (u : Table RegisterRow) → Stays u → has_same_routes (group_in k) (source_in k) o c ≡ true
+    pub idle : (k : Key) (u : Table RegisterRow) → Stays u → has_same_routes (group_in k) (source_in k) o c ≡ true
         → is_register_settled o k ≡ true → settled_register c k u ≡ u
     idle k u stays calm held =
-        let here : Key → Bool = at_place (group_in k) (source_in k) in
+        let here : Key → Bool = is_of_place (group_in k) (source_in k) in
         settled_if k u (could_register c (group_in k) (source_in k)) (has_row u k) refl refl
         (sym (could_register_same (group_in k) (source_in k) o c (source_sees c start (group_in k) (source_in k) calm)
         (kept_alive c start (group_in k) (source_in k) calm))
@@ -542,15 +539,15 @@ module _ (o c : State) (around : Around o c) where
     unfolding settled_register
     goes_on k u is stays g src calm =
         stays g src calm
-        ∙ sym (goes_elsewhere k u (at_place g src) (place_apart g src k is calm)
+        ∙ sym (goes_elsewhere k u (is_of_place g src) (place_apart g src k is calm)
         (could_register c (group_in k) (source_in k)) (has_row u k) (record { state = RegisterState.Join }))
 
-    turn : (k : Key) (u : Table RegisterRow) (b : Bool) → touches_place k ≡ b
+    pub turn : (k : Key) (u : Table RegisterRow) (b : Bool) → touches_place k ≡ b
         → (b || is_register_settled o k) ≡ true → Stays u → Stays (settled_register c k u)
     turn k u true e f stays = goes_on k u e stays
     turn k u false e f stays = subst Stays (sym (idle k u stays (not_false _ e) f)) stays
 
-    abbrev is_idle : Key → Bool
+    abbrev pub is_idle : Key → Bool
     is_idle k = touches_place k || is_register_settled o k
 
     turns : (ks : List Key) (u : Table RegisterRow) → Stays u → list_all is_idle ks ≡ true
@@ -561,20 +558,20 @@ module _ (o c : State) (around : Around o c) where
         (turn k u (touches_place k) refl (first_so (is_idle k) (list_all is_idle ks) e) stays)
         (second_so (is_idle k) (list_all is_idle ks) e)
 
-    all_idle : list_all is_idle (keys_in c.sources ++ keys_in c.registers) ≡ true
+    pub all_idle : list_all is_idle (keys_in c.sources ++ keys_in c.registers) ≡ true
     all_idle =
         list_all-append is_idle (keys_in c.sources) (keys_in c.registers)
         ∙ both_true
         (all_keys is_idle c.sources
         ∙ all_kept (λ e. is_register_settled o e.0) (λ e. is_register_settled o e.0)
-        (λ k. at_place (group_in k) (source_in k)) place_itself touches_place (λ e calm f. f) o.sources c.sources
+        (λ k. is_of_place (group_in k) (source_in k)) place_itself touches_place (λ e calm f. f) o.sources c.sources
         (λ k calm. (start.source (group_in k) (source_in k) (not_false _ calm)).sources) quiet.sources_settled)
         (all_keys is_idle c.registers
         ∙ all_kept (λ e. is_register_settled o e.0) (λ e. is_register_settled o e.0)
-        (λ k. at_place (group_in k) (source_in k)) place_itself touches_place (λ e calm f. f) o.registers c.registers
+        (λ k. is_of_place (group_in k) (source_in k)) place_itself touches_place (λ e calm f. f) o.registers c.registers
         (λ k calm. (start.source (group_in k) (source_in k) (not_false _ calm)).registers) quiet.registers_settled)
 
-    after_registers : Beside (settle_registers c)
+    pub after_registers : Beside (settle_registers c)
     unfolding settle_registers
     after_registers = record {
       kept = record {
@@ -600,67 +597,91 @@ module _ (o c : State) (around : Around o c) where
       };
     }
 
-    beside_end : Beside (clear o c).0
+    pub beside_end : Beside (clear o c).0
     unfolding clear clear_all
     beside_end =
         kept_to_the_end (to_clear o) cleared Beside
         (λ t d beside e. beside_after t beside quiet d (goes_beside t beside quiet d e))
         (clearable_count (settle_registers c)) (settle_registers c) after_registers
 
-    rerouted_unnamed : (g src : ℕ) → has_same_routes g src o c ≡ true → is_named g src o (clear o c).0 ≡ false
+    pub rerouted_unnamed : (g src : ℕ) → has_same_routes g src o c ≡ true → is_named g src o (clear o c).0 ≡ false
     rerouted_unnamed g src calm =
         same_is_unnamed g src o (clear o c).0 (around_now (clear o c).0 beside_end)
         (nothing_differs (clear o c).0 beside_end g src calm)
 
-    rerouted_alone : named_by o c ≡ named_where (is_rerouted o c) o c
+    pub rerouted_alone : named_by o c ≡ named_where (is_rerouted o c) o c
     rerouted_alone =
         asked_alone o c (is_rerouted o c)
         (λ k calm. rerouted_unnamed (group_in k) (source_in k) (not_false _ calm))
 
--- ---- the two events
+-- ---- what new routes or RP ranges change
 
--- rows that a map leaves where a test of keys passes
-module _ {R : Type 0} (f : Key × R → Key × R) (keys : (e : Key × R) → (f e).0 ≡ e.0) (test : Key → Bool)
-    (stays : (e : Key × R) → test e.0 ≡ true → f e ≡ e) where
-  mapped_step : (x : Key × R) (ys zs : Table R) (b c : Bool) → test x.0 ≡ b → b ≡ c → ys ≡ zs
-      → cond b (x ∷ ys) ys ≡ cond c (f x ∷ zs) zs
-  mapped_step x ys zs true true e same ih = λ j. sym (stays x e) j ∷ ih j
-  mapped_step x ys zs true false e same ih = cc
-  mapped_step x ys zs false true e same ih = cc
-  mapped_step x ys zs false false e same ih = ih
+module _ (o c : State) (is : IsRerouted o c) where
+  pub around_rerouted : Around o c
+  around_rerouted = record {
+    settings = sym (ap (λ (u : State). u.settings) is.only);
+    configured = sym (ap (λ (u : State). u.configured) is.only);
+    priorities = sym (ap (λ (u : State). map only_priority u.neighbours) is.only);
+  }
 
-  mapped_elsewhere : (t : Table R) → rows_where test t ≡ rows_where test (map f t)
-  unfolding rows_where
-  mapped_elsewhere [] = refl
-  mapped_elsewhere (x ∷ xs) =
-      mapped_step x (filter (λ e. test e.0) xs) (filter (λ e. test e.0) (map f xs)) (test x.0) (test (f x).0) refl
-      (ap test (sym (keys x))) (mapped_elsewhere xs)
+  pub rerouted_beside : Beside o c around_rerouted c
+  rerouted_beside = record {
+    kept = record {
+      settings = refl;
+      configured = refl;
+      routes = refl;
+      ranges = refl;
+      interfaces = refl;
+      neighbours = refl;
+    };
+    star = λ g calm. record {
+      group_records = sym (ap (λ (u : State). rows_where (names_star g) u.group_records) is.only);
+      downstream = sym (ap (λ (u : State). rows_where (names_star g) u.downstream) is.only);
+      asserts = sym (ap (λ (u : State). rows_where (names_star g) u.asserts) is.only);
+    };
+    source = λ g src calm. record {
+      source_records = sym (ap (λ (u : State). rows_where (names_source g src) u.source_records) is.only);
+      downstream = sym (ap (λ (u : State). rows_where (names_source g src) u.downstream) is.only);
+      asserts = sym (ap (λ (u : State). rows_where (names_source g src) u.asserts) is.only);
+      sources = sym (ap (λ (u : State). rows_where (is_of_place g src) u.sources) is.only);
+      registers = is.registers g src calm;
+    };
+  }
+
+pub routes_reroute : (s : State) (w : ℕ) (routes : List Route)
+    → IsRerouted s (change s w (Accepted.Routes routes)).state
+unfolding change
+routes_reroute s w routes = record { only = refl; keys = refl; registers = λ g src calm. refl }
 
 pub routes_name : (s : State) → IsQuiet s → (w : ℕ) (routes : List Route)
     → (let c : State = (change s w (Accepted.Routes routes)).state in
     named_by s c ≡ named_where (is_rerouted s c) s c)
-unfolding change
 routes_name s quiet w routes =
-    rerouted_alone s (record s { routes = routes })
-    (record { settings = refl; configured = refl; priorities = refl })
-    (record {
-      kept = record {
-        settings = refl;
-        configured = refl;
-        routes = refl;
-        ranges = refl;
-        interfaces = refl;
-        neighbours = refl;
-      };
-      star = λ h e. record { group_records = refl; downstream = refl; asserts = refl };
-      source = λ h x e. record {
-        source_records = refl;
-        downstream = refl;
-        asserts = refl;
-        sources = refl;
-        registers = refl;
-      };
-    }) quiet
+    let c : State = (change s w (Accepted.Routes routes)).state in
+    let is : IsRerouted s c = routes_reroute s w routes in
+    rerouted_alone s c (around_rerouted s c is) (rerouted_beside s c is) quiet
+
+-- rows that a map leaves where a test of keys passes
+module _ {R : Type 0} (f : Key × R → Key × R) (keys : (e : Key × R) → (f e).0 ≡ e.0) where
+  same_keys : (t : Table R) → keys_in (map f t) ≡ keys_in t
+  unfolding keys_in
+  same_keys [] = refl
+  same_keys (x ∷ xs) = λ j. keys x j ∷ same_keys xs j
+
+  module _ (test : Key → Bool) (stays : (e : Key × R) → test e.0 ≡ true → f e ≡ e) where
+    mapped_step : (x : Key × R) (ys zs : Table R) (b c : Bool) → test x.0 ≡ b → b ≡ c → ys ≡ zs
+        → cond b (x ∷ ys) ys ≡ cond c (f x ∷ zs) zs
+    mapped_step x ys zs true true e same ih = λ j. sym (stays x e) j ∷ ih j
+    mapped_step x ys zs true false e same ih = cc
+    mapped_step x ys zs false true e same ih = cc
+    mapped_step x ys zs false false e same ih = ih
+
+    mapped_elsewhere : (t : Table R) → rows_where test t ≡ rows_where test (map f t)
+    unfolding rows_where
+    mapped_elsewhere [] = refl
+    mapped_elsewhere (x ∷ xs) =
+        mapped_step x (filter (λ e. test e.0) xs) (filter (λ e. test e.0) (map f xs)) (test x.0) (test (f x).0) refl
+        (ap test (sym (keys x))) (mapped_elsewhere xs)
 
 module _ (s : State) (ranges : List RpRange) where
   abbrev as_joined : Key × RegisterRow → Key × RegisterRow
@@ -676,7 +697,7 @@ module _ (s : State) (ranges : List RpRange) where
       go false = refl
 
   row_stays : (g src : ℕ) → has_same_routes g src s (rps_replaced s ranges) ≡ true → (e : Key × RegisterRow)
-      → at_place g src e.0 ≡ true → as_joined e ≡ e
+      → is_of_place g src e.0 ≡ true → as_joined e ≡ e
   unfolding has_same_routes has_same_rp rps_replaced rp_of
   row_stays g src calm e here =
       let group : group_in e.0 ≡ g =
@@ -685,29 +706,20 @@ module _ (s : State) (ranges : List RpRange) where
       ap (λ (b : Bool). let x : Key × RegisterRow = cond b e (e.0, record { state = RegisterState.Join }) in x)
       ((λ j. same_option (rp_among s.ranges (group j)) (rp_among ranges (group j))) ∙ rps)
 
+pub rps_reroute : (s : State) (w : ℕ) (ranges : List RpRange) → IsRerouted s (change s w (Accepted.Rps ranges)).state
+unfolding change rps_replaced registers_after_rps rp_of
+rps_reroute s w ranges = record {
+  only = refl;
+  keys = same_keys (as_joined s ranges) (key_stays s ranges) s.registers;
+  registers = λ g src calm.
+      mapped_elsewhere (as_joined s ranges) (key_stays s ranges) (is_of_place g src)
+      (row_stays s ranges g src calm) s.registers;
+}
+
 pub rps_name : (s : State) → IsQuiet s → (w : ℕ) (ranges : List RpRange)
     → (let c : State = (change s w (Accepted.Rps ranges)).state in
     named_by s c ≡ named_where (is_rerouted s c) s c)
-unfolding change rps_replaced registers_after_rps rp_of
 rps_name s quiet w ranges =
-    rerouted_alone s (rps_replaced s ranges)
-    (record { settings = refl; configured = refl; priorities = refl })
-    (record {
-      kept = record {
-        settings = refl;
-        configured = refl;
-        routes = refl;
-        ranges = refl;
-        interfaces = refl;
-        neighbours = refl;
-      };
-      star = λ h e. record { group_records = refl; downstream = refl; asserts = refl };
-      source = λ h x e. record {
-        source_records = refl;
-        downstream = refl;
-        asserts = refl;
-        sources = refl;
-        registers = mapped_elsewhere (as_joined s ranges) (key_stays s ranges) (at_place h x)
-            (row_stays s ranges h x e) s.registers;
-      };
-    }) quiet
+    let c : State = (change s w (Accepted.Rps ranges)).state in
+    let is : IsRerouted s c = rps_reroute s w ranges in
+    rerouted_alone s c (around_rerouted s c is) (rerouted_beside s c is) quiet

@@ -1,4 +1,5 @@
 pub mod Calm
 pub mod Named
 pub mod Keeps
+pub mod Moved
 pub mod Laws

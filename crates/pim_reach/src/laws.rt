@@ -1,5 +1,6 @@
 //! Laws of the definitions, each the contract of a function with nothing to do.
 
+ghost use Rattle.pim_reach.specs.Moved.{MovedGoes, MovedNames, MovedSettles, RoutesMove, RoutesReroute, RpsMove, RpsReroute};
 ghost use Rattle.pim_reach.specs.Laws.{EventFacts, EventIsCalm, EventKeeps, EventNamesFew, FiredAreFew, FiredIsReached, FiredNames, FiringFacts, FiringKeeps, NamedAreFew, NamedIsReached, RisingWithin, RoutesName, RpsName, SameMasks, ToldFires, TouchedAlone, TouchedNames, UnnamedKeeps, UnreachedIsSame, UnreachedSees};
 
 /// Where nothing differs that counts for a source, its macros read the same.
@@ -120,4 +121,43 @@ pub fn firing_facts()
 #[tactic(auto, using(crate::proofs::Masks::same_masks))]
 pub fn same_masks()
     ensures { SameMasks }
+{}
+
+/// New routes change the routes alone.
+#[tactic(auto, using(crate::proofs::Rerouted::routes_reroute))]
+pub fn routes_reroute()
+    ensures { RoutesReroute }
+{}
+
+/// New RP ranges change, beside these, the registers of what they move.
+#[tactic(auto, using(crate::proofs::Rerouted::rps_reroute))]
+pub fn rps_reroute()
+    ensures { RpsReroute }
+{}
+
+/// What goes after a change of routes or RP ranges is of the keys that take what is moved.
+pub fn moved_goes()
+    ensures { MovedGoes }
+{}
+
+/// All that follows of it follows of these keys.
+pub fn moved_settles()
+    ensures { MovedSettles }
+{}
+
+/// A source with a fact that they don't touch isn't named.
+pub fn moved_names()
+    ensures { MovedNames }
+{}
+
+/// New routes move no more than the groups whose RP has another route, and the sources that have one.
+#[tactic(auto, using(crate::proofs::MovedKeys::routes_move))]
+pub fn routes_move()
+    ensures { RoutesMove }
+{}
+
+/// New RP ranges move no more than the groups that have another RP.
+#[tactic(auto, using(crate::proofs::MovedKeys::rps_move))]
+pub fn rps_move()
+    ensures { RpsMove }
 {}

@@ -16,6 +16,7 @@ mod Sending
 mod Settling
 mod SourceEnds
 mod Taking
+mod OtherRoutes
 mod Packets
 mod Plans
 mod Touching

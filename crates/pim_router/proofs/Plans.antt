@@ -1,22 +1,28 @@
 -- Plans of events: each kind's fits where its parts do.
-use Rattle.std.proofs.Common.{◌≡◌, ℕ, Bool, true, false, List, ap, refl, subst, sym, ◌∙◌}
+use Rattle.std.proofs.Common.{◌≡◌, ℕ, Bool, true, false, List, ap, inl, inr, refl, subst, sym, ◌∙◌}
 use Rattle.pim_types.specs.declared.fact.Key.{Key}
 use Rattle.pim_model.specs.declared.accepted.Accepted.{Accepted}
 use Rattle.pim_model.specs.Full.{is_full, join_prune_is_full, keys_are_full, source_is_full}
 use Rattle.pim_locality.specs.Touches.{packet_keys}
 use Rattle.pim_macros.specs.Sights.{IsSourceSight}
 use Rattle.pim_model.specs.State.{State}
-use Rattle.pim_model.specs.Step.{advanced, change, stopped, taken, taken_unless_full}
+use Rattle.pim_model.specs.Step.{advanced, change, rps_replaced, stopped, taken, taken_unless_full}
 use Rattle.pim_ip.specs.declared.refusal.Refusal.{Refusal}
 use Rattle.pim_types.specs.declared.outcome.Stop.{Stop}
 use Rattle.pim_opening.specs.Covers.{Concerns, IsWithin}
+use Rattle.pim_fanout.specs.Contains.{Contains}
+use Rattle.pim_reach.specs.Moved.{MovesAlone, keys_by_routes, keys_by_rps}
+use Rattle.pim_reach.proofs.MovedKeys.{routes_move, rps_move}
 use Rattle.pim_world.specs.declared.touched.Touched.{Touched}
 use Rattle.pim_ip.specs.Ipv4.{Packet}
 use Rattle.pim_types.specs.declared.config.IfaceId.{IfaceId}
+use Rattle.pim_types.specs.declared.config.Route.{Route}
+use Rattle.pim_types.specs.declared.config.RpRange.{RpRange}
 use Rattle.pim_wire.specs.Values.{JoinPrune}
 use Rattle.pim_model.specs.Downstream.{joined_keys, pruned_keys}
 use Rattle.pim_downstream.specs.declared.named.Named.{Named}
 use Rattle.pim_macros.specs.declared.sight.SourceSight.{SourceSight}
+use Rattle.pim_router.specs.OtherRoutes.{IsTouched, with_routes}
 use Rattle.pim_router.specs.Planning.{Fits, HasKeys, HasSight, HasSomeKeys, HasSomeSight, IsSightOf, Supplies}
 use Rattle.pim_router.specs.declared.plan.Means.{Means}
 use Rattle.pim_router.specs.declared.plan.Plan.{Plan}
@@ -27,13 +33,14 @@ module _ (s : State) (a : Accepted) (plan : Plan) where
   pub keys_fit : (keys : List Key) (means : Means) → (let p : Plan = record { touched = Touched.Keys keys; means = means } in plan ≡ p)
       → is_full s a ≡ false → ((w : ℕ) → Concerns keys s (change s w a).state) → Supplies s a means → Fits s a plan
   keys_fit keys means is room covers supplied =
-      subst (λ (p : Plan). Fits s a p) (sym is) (record { room = room; covers = covers; means = supplied })
+      subst (λ (p : Plan). Fits s a p) (sym is) (record { room = room; covers = λ w. inl (covers w); means = supplied })
 
   -- all may be touched
   all_fit : (let p : Plan = record { touched = Touched.All; means = Means.Nothing } in plan ≡ p)
       → is_full s a ≡ false → ((w : ℕ) → IsWithin s (change s w a).state) → Supplies s a Means.Nothing → Fits s a plan
   all_fit is room covers supplied =
-      subst (λ (p : Plan). Fits s a p) (sym is) (record { room = room; covers = covers; means = supplied })
+      subst (λ (p : Plan). Fits s a p) (sym is)
+      (record { room = room; covers = λ w. inl (covers w); means = supplied })
 
 -- all may be touched, of an event whose kind is known
 pub all_planned : (s : State) (a b : Accepted) (plan : Plan)
@@ -42,6 +49,38 @@ pub all_planned : (s : State) (a b : Accepted) (plan : Plan)
 all_planned s a b plan whole is room none supplied =
     subst (λ (x : Accepted). Fits s x plan) (sym is)
     (all_fit s b plan whole room (λ w. facts_covered s w b none) supplied)
+
+-- ---- routes and RP ranges
+
+-- these keys are touched, which take all that is moved, or all are
+module _ (s : State) (a : Accepted) (touched : Touched) (keys : List Key) where
+  moves_contained : (none : MakesNone a) → ((w : ℕ) → MovesAlone keys s (change s w a).state) → (t : Touched)
+      → IsTouched t keys → (w : ℕ) → Contains t s (change s w a).state
+  moves_contained none moves Touched.All those w = inl (facts_covered s w a none)
+  moves_contained none moves (Touched.Keys ks) those w =
+      inr (subst (λ (qs : List Key). MovesAlone qs s (change s w a).state) (sym those) (moves w))
+
+  moved_fits : MakesNone a → is_full s a ≡ false → Supplies s a Means.Nothing
+      → ((w : ℕ) → MovesAlone keys s (change s w a).state) → IsTouched touched keys
+      → (let p : Plan = record { touched = touched; means = Means.Nothing } in Fits s a p)
+  moved_fits none room supplied moves those =
+      record { room = room; covers = moves_contained none moves touched those; means = supplied }
+
+pub routes_fit : (s : State) (routes : List Route) (touched : Touched)
+    → IsTouched touched (keys_by_routes s (with_routes s routes))
+    → (let p : Plan = record { touched = touched; means = Means.Nothing } in Fits s (Accepted.Routes routes) p)
+unfolding is_full change
+routes_fit s routes touched those =
+    moved_fits s (Accepted.Routes routes) touched (keys_by_routes s (with_routes s routes)) tt refl tt
+    (λ w. routes_move s w routes) those
+
+pub rps_fit : (s : State) (ranges : List RpRange) (touched : Touched)
+    → IsTouched touched (keys_by_rps s (rps_replaced s ranges))
+    → (let p : Plan = record { touched = touched; means = Means.Nothing } in Fits s (Accepted.Rps ranges) p)
+unfolding is_full change
+rps_fit s ranges touched those =
+    moved_fits s (Accepted.Rps ranges) touched (keys_by_rps s (rps_replaced s ranges)) tt refl tt
+    (λ w. rps_move s w ranges) those
 
 -- ---- room
 

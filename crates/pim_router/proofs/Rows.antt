@@ -19,12 +19,12 @@ use Rattle.pim_cached.specs.Kept.{refreshed}
 use Rattle.pim_macros.specs.declared.rows.SourceAnswers.{SourceAnswers}
 use Rattle.pim_mfc.specs.declared.cache_row.CacheRow.{CacheRow}
 use Rattle.pim_mfc.specs.Laws.{ShowsRows, TellsRow}
-use Rattle.pim_opening.specs.Covers.{Covers}
 use Rattle.pim_opening.specs.Openings.{opening_of}
 use Rattle.pim_opening.specs.declared.opening.GroupOpening.{GroupOpening}
 use Rattle.pim_store.specs.PimTables.{AreKeyed, pim_tables}
 use Rattle.pim_world.specs.declared.touched.Touched.{Touched}
 use Rattle.pim_fanout.specs.Before.{IsBefore}
+use Rattle.pim_fanout.specs.Contains.{Contains}
 use Rattle.pim_fanout.specs.Refreshing.{Refreshes}
 use Rattle.pim_fanout.specs.Named.{keys_of, named_among}
 use Rattle.pim_fanout.specs.declared.before.SourceBefore.{SourceBefore}
@@ -40,7 +40,7 @@ use Rattle.pim_router.proofs.Taking.{taken_is_done}
 
 -- what is named where all is cleared by what was opened
 pub names_opened : (o changed a : State) (touched : Touched) (opening : List GroupOpening) (before : List SourceBefore)
-    (names : List Key) → IsQuiet o → AreKeyed (pim_tables a) → Covers touched o changed → a ≡ changed
+    (names : List Key) → IsQuiet o → AreKeyed (pim_tables a) → Contains touched o changed → a ≡ changed
     → opening ≡ opening_of o touched → IsBefore o touched before → AreNamed before (cleared_by opening a).0 names
     → AreNames o changed names
 names_opened o changed a touched opening before names quiet keyed covers is opens befores named = record {

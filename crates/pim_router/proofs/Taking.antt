@@ -21,7 +21,6 @@ use Rattle.pim_model.specs.Full.{is_full}
 use Rattle.pim_model.specs.Step.{Answered, Change, change, concluded, done, outcome_of, advanced, step, stopped, taken, taken_unless_full}
 use Rattle.pim_model.specs.Sure.{needs_no_memory}
 use Rattle.pim_world.specs.declared.touched.Touched.{Touched}
-use Rattle.pim_opening.specs.Covers.{Covers}
 use Rattle.pim_opening.specs.Openings.{opening_of}
 use Rattle.pim_opening.specs.declared.opening.GroupOpening.{GroupOpening}
 use Rattle.pim_store.specs.PimTables.{AreKeyed, pim_tables}
@@ -29,6 +28,7 @@ use Rattle.pim_locality.specs.Locality.{IsQuiet as IsQuietState}
 use Rattle.pim_locality.specs.Rest.{IsAtRest}
 use Rattle.pim_locality.proofs.Rest.{step_is_at_rest}
 use Rattle.pim_data.specs.declared.leaving.Leaving.{Leaving}
+use Rattle.pim_fanout.specs.Contains.{Contains}
 use Rattle.pim_router.specs.Sending.{Sends}
 use Rattle.pim_router.specs.Settling.{settled_by}
 use Rattle.pim_router.specs.Standing.{Shown, Standing, nothing_shown}
@@ -61,7 +61,7 @@ answered sent copies registered =
 module _ (s : State) (w : ℕ) (a : Accepted) (touched : Touched) (opening : List GroupOpening) where
   -- of the change, settled by what was opened
   as_opened : (t : State) (messages : List Message) (copies registered : List Emission) → IsQuietState s
-      → AreKeyed (pim_tables t) → ((m : ℕ) → ¬ (a ≡ Accepted.Advance m)) → Covers touched s (change s w a).state
+      → AreKeyed (pim_tables t) → ((m : ℕ) → ¬ (a ≡ Accepted.Advance m)) → Contains touched s (change s w a).state
       → opening ≡ opening_of s touched → t ≡ (change s w a).state → messages ≡ (change s w a).messages
       → copies ≡ (change s w a).copies → registered ≡ (change s w a).registered
       → answered (settled_by opening t messages w) copies registered ≡ taken s w a
@@ -82,7 +82,7 @@ module _ (s : State) (w : ℕ) (a : Accepted) (touched : Touched) (opening : Lis
 -- what is taken in its turn: the turn of the opening, and that after the change
 pub taken_in_turn : (s t : State) (a : Accepted) (touched : Touched) (opening : List GroupOpening) (leaving : Leaving)
     (first opened changing : Taking) → IsQuietState s → AreKeyed (pim_tables t)
-    → ((m : ℕ) → ¬ (a ≡ Accepted.Advance m)) → ((w : ℕ) → Covers touched s (change s w a).state)
+    → ((m : ℕ) → ¬ (a ≡ Accepted.Advance m)) → ((w : ℕ) → Contains touched s (change s w a).state)
     → opening ≡ opening_of s touched → first.messages ≡ [] → opened ≡ first
     → Sends leaving t opened changing (change s opened.draw a)
     → answered (settled_by opening t changing.messages changing.draw) leaving.copies.items leaving.registered.items

@@ -1,6 +1,7 @@
 pub mod Costs
 pub mod Ends
 pub mod Naming
+pub mod OtherRoutes
 pub mod Plainly
 pub mod Planning
 pub mod Sending

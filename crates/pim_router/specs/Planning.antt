@@ -8,7 +8,7 @@ use Rattle.pim_model.specs.State.{State}
 use Rattle.pim_model.specs.Step.{change}
 use Rattle.pim_macros.specs.Sights.{IsSourceSight}
 use Rattle.pim_macros.specs.declared.sight.SourceSight.{SourceSight}
-use Rattle.pim_opening.specs.Covers.{Covers}
+use Rattle.pim_fanout.specs.Contains.{Contains}
 use Rattle.pim_router.specs.declared.plan.Means.{Means}
 use Rattle.pim_router.specs.declared.plan.Plan.{Plan}
 
@@ -45,7 +45,7 @@ Supplies s _ means = Unit {0}
 -- there is room for what it names, what it touches covers its change, and it has what that needs
 pub record Fits (s : State) (a : Accepted) (plan : Plan) : Type 0 where
   pub room : is_full s a ≡ false
-  pub covers : (w : ℕ) → Covers plan.touched s (change s w a).state
+  pub covers : (w : ℕ) → Contains plan.touched s (change s w a).state
   pub means : Supplies s a plan.means
 
 -- without room there is none

@@ -10,8 +10,8 @@ use Rattle.pim_opening.specs.declared.opening.GroupOpening.{GroupOpening}
 use Rattle.pim_register.specs.Settling.{registers_by}
 use Rattle.pim_asserts.specs.Opened.{clear_by}
 use Rattle.pim_upstream.specs.Told.{upstream_by}
-use Rattle.pim_opening.specs.Covers.{Covers}
 use Rattle.pim_fanout.specs.Before.{IsBefore}
+use Rattle.pim_fanout.specs.Contains.{Contains}
 use Rattle.pim_fanout.specs.Laws.{names_of}
 use Rattle.pim_fanout.specs.Named.{named_among}
 use Rattle.pim_fanout.specs.declared.before.SourceBefore.{SourceBefore}
@@ -41,5 +41,5 @@ AreNamed before cleared names = (o : State) (touched : Touched) → IsBefore o t
 -- they are those that are named of the sources which a change touches, where what it touches covers it
 pub record AreNames (o changed : State) (names : List Key) : Type 0 where
   pub touched : Touched
-  pub covers : Covers touched o changed
+  pub covers : Contains touched o changed
   pub are : names ≡ names_of o changed touched

@@ -5,6 +5,7 @@ pub mod change;
 pub mod event;
 mod plain;
 pub mod plan;
+mod rerouted;
 pub mod router;
 pub mod settle;
 pub mod time;

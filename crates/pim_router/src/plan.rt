@@ -9,13 +9,14 @@ ghost use Rattle.pim_locality.specs.Touches.{packet_keys};
 ghost use Rattle.pim_macros.specs.Sights.{IsSourceSight};
 ghost use Rattle.pim_router.specs.Planning.{IsPlanned, IsSightOf};
 
+use crate::rerouted::{touched_by_routes, touched_by_rps};
 use igmp_wire::{QueryView, ReportView};
 use pim_downstream::Named;
 use pim_ip::Ipv4View;
 use pim_macros::{SourceSight, StarSight};
 use pim_model::Accepted;
 use pim_register::source_is_full;
-use pim_types::{Addr, IfaceId, Key, Series};
+use pim_types::{Addr, IfaceId, Key, Route, RpRange, Series};
 use pim_wire::{Assert, Hello, JoinPruneView, RegisterStop, RegisterView};
 use pim_world::{Touched, Turn, World};
 use std::alloc::{AllocError, Global};
@@ -261,6 +262,34 @@ fn plan_stop(
     Ok(Some(Plan::of_keys(keys)))
 }
 
+// New routes touch what they move, and make no facts.
+fn plan_routes(
+    world: &World,
+    turn: &mut Turn,
+    routes: &[Route],
+) -> Result<Option<Plan>, AllocError>
+    ensures plan { IfOk result (λ plan. IsPlanned world.now (AcceptedValue.Routes routes.now) plan) }
+    ensures silent { turn.new ≡ turn.old }
+{
+    let touched = touched_by_routes(world, turn, routes)?;
+    let means = Means::Nothing;
+    Ok(Some(Plan { touched, means }))
+}
+
+// So do new RP ranges.
+fn plan_rps(
+    world: &World,
+    turn: &mut Turn,
+    ranges: &[RpRange],
+) -> Result<Option<Plan>, AllocError>
+    ensures plan { IfOk result (λ plan. IsPlanned world.now (AcceptedValue.Rps ranges.now) plan) }
+    ensures silent { turn.new ≡ turn.old }
+{
+    let touched = touched_by_rps(world, turn, ranges)?;
+    let means = Means::Nothing;
+    Ok(Some(Plan { touched, means }))
+}
+
 /// The plan of an event whose bytes and interface passed their tests; none where there is no room for the facts that it
 /// names.
 pub(crate) fn planned(
@@ -273,11 +302,11 @@ pub(crate) fn planned(
     ensures silent { turn.new ≡ turn.old }
 {
     match accepted {
-        Accepted::Advance { .. }
-        | Accepted::Up { .. }
-        | Accepted::Down { .. }
-        | Accepted::Routes { .. }
-        | Accepted::Rps { .. } => Ok(Some(Plan::of_all())),
+        Accepted::Advance { .. } | Accepted::Up { .. } | Accepted::Down { .. } => {
+            Ok(Some(Plan::of_all()))
+        }
+        Accepted::Routes { routes } => plan_routes(world, turn, routes.as_slice()),
+        Accepted::Rps { ranges } => plan_rps(world, turn, ranges.as_slice()),
         Accepted::Hello { iface, from, hello } => Ok(plan_hello(world, turn, *iface, *from, hello)),
         Accepted::JoinPruneToMe { iface, message } => plan_join_prune(world, turn, *iface, message),
         Accepted::JoinPruneSeen { iface, message } => plan_seen(world, turn, *iface, message),

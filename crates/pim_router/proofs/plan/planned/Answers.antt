@@ -13,6 +13,4 @@ returns-in-Advance-clause-plan c =
     let whole = c.of_all.ensures in
     ⊎_elim (λ is. all_planned s a (Accepted.Advance is.0) plan whole is.1 refl tt tt)
     (⊎_elim (λ is. all_planned s a (Accepted.Up is.0) plan whole is.1 refl tt tt)
-    (⊎_elim (λ is. all_planned s a (Accepted.Down is.0) plan whole is.1 refl tt tt)
-    (⊎_elim (λ is. all_planned s a (Accepted.Routes is.0) plan whole is.1 refl tt tt)
-    (λ is. all_planned s a (Accepted.Rps is.0) plan whole is.1 refl tt tt)))) c.in-Advance.is
+    (λ is. all_planned s a (Accepted.Down is.0) plan whole is.1 refl tt tt)) c.in-Advance.is

@@ -1,0 +1,15 @@
+-- What follows of a change concerns the touched keys alone.
+use Rattle.std.specs.Prelude.{◌⊎◌}
+use Rattle.pim_model.specs.State.{State}
+use Rattle.pim_reach.specs.Moved.{MovesAlone}
+use Rattle.pim_world.specs.declared.touched.Touched.{Touched}
+use Rattle.pim_opening.specs.Covers.{Covers}
+
+-- new routes or RP ranges move what has facts under the touched keys alone
+abbrev pub Moves : Touched → State → State → Type 0
+Moves Touched.All o a = ⊥
+Moves (Touched.Keys keys) o a = MovesAlone keys o a
+
+-- the change concerns no others; or it is one of routes or RP ranges, which all macros read, and moves no others
+abbrev pub Contains : Touched → State → State → Type 0
+Contains touched o a = Covers touched o a ⊎ Moves touched o a

@@ -1,0 +1,15 @@
+use Rattle.std.proofs.Common.{ap, option_map, sym, ◌∙◌}
+use Rattle.pim_ip.specs.declared.addr.Addr.{Addr}
+use Rattle.pim_router.proofs.OtherRoutes.{moved_with_rp, unmoved_without_rp}
+use Rattle.pim_router.proofs.rerouted.is_group_moved.Goals as goal
+
+pub returns-in-Some-clause-moved : goal.returns-in-Some-clause-moved
+returns-in-Some-clause-moved c =
+    c.has_other_route.ensures.moved
+    ∙ moved_with_rp c.args.world.now c.args.next.now.routes c.args.group.bits c.in-Some.rp.bits
+    (sym c.rp.ensures.value ∙ ap (option_map (λ (a : Addr). a.bits)) c.in-Some.is)
+
+pub returns-in-None-clause-moved : goal.returns-in-None-clause-moved
+returns-in-None-clause-moved c =
+    unmoved_without_rp c.args.world.now c.args.next.now.routes c.args.group.bits
+    (sym c.rp.ensures.value ∙ ap (option_map (λ (a : Addr). a.bits)) c.in-None.is)

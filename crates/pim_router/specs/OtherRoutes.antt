@@ -1,0 +1,24 @@
+-- What is touched where routes or RP ranges are new.
+use Rattle.std.specs.Prelude.{Bool, List, not, ℕ, ◌≡◌}
+use Rattle.pim_types.specs.declared.config.Route.{Route}
+use Rattle.pim_types.specs.declared.fact.Key.{Key}
+use Rattle.pim_model.specs.Rows.{same_both, same_path}
+use Rattle.pim_model.specs.State.{State}
+use Rattle.pim_model.specs.Tables.{same_option}
+use Rattle.pim_model.specs.Unicast.{route, rp_of}
+use Rattle.pim_world.specs.declared.touched.Touched.{Touched}
+
+abbrev pub with_routes : State → List Route → State
+with_routes s routes = record s { routes = routes }
+
+-- the route to the address is another one, or RP(G) is
+abbrev pub has_other_route : State → State → ℕ → Bool
+has_other_route o c address = not (same_both same_path (route o address) (route c address))
+
+abbrev pub has_other_rp : State → State → ℕ → Bool
+has_other_rp o c g = not (same_option (rp_of o g) (rp_of c g))
+
+-- these keys are touched, or all
+abbrev pub IsTouched : Touched → List Key → Type 0
+IsTouched Touched.All keys = Unit {0}
+IsTouched (Touched.Keys touched) keys = touched ≡ keys

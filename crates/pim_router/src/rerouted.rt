@@ -1,0 +1,198 @@
+//! Which keys new routes, or new RP ranges, touch: those of what they move, of which there are facts. The new ones stand
+//! in a table of their own, beside those there are.
+ghost use Rattle.std.specs.List.{flat_map};
+ghost use Rattle.std.specs.Prelude.{◌≡◌, ◌++◌, IfOk, IfSome, OnOk, filter, map, not};
+ghost use Rattle.pim_types.specs.Keys.{source_key, star_key};
+ghost use Rattle.pim_model.specs.Rows.{same_both, same_path};
+ghost use Rattle.pim_model.specs.Step.{rps_replaced};
+ghost use Rattle.pim_model.specs.Unicast.{route};
+ghost use Rattle.pim_reach.specs.Moved.{keys_by_routes, keys_by_rps, moved_of_group};
+ghost use Rattle.pim_reach.specs.Named.{has_same_rp};
+ghost use Rattle.pim_world.specs.Groups.{numbers_of};
+ghost use Rattle.pim_router.specs.OtherRoutes.{IsTouched, has_other_route, has_other_rp, with_routes};
+
+use pim_fanout::{is_same_address, is_same_path};
+use pim_mrib::Mrib;
+use pim_types::{Addr, IfaceId, Key, Route, RpRange, Series};
+use pim_world::{Touched, Turn, World};
+use std::alloc::{AllocError, Global};
+use std::collections::BTreeMap;
+
+// A table of these routes; none where the router doesn't take them.
+fn table_of_routes(
+    world: &World,
+    alloc: Global,
+    routes: &[Route],
+) -> Result<Option<Mrib>, AllocError>
+    ensures { IfOk result (λ made. IfSome made (λ next. next.routes ≡ routes.now)) }
+{
+    let mut next = Mrib::new(alloc);
+    match next.replace(world.interfaces(), routes) {
+        Ok(Ok(())) => Ok(Some(next)),
+        Ok(Err(_)) => Ok(None),
+        Err(_) => Err(AllocError),
+    }
+}
+
+// A table of these RP ranges; none where the router doesn't take them.
+fn table_of_ranges(alloc: Global, ranges: &[RpRange]) -> Result<Option<Mrib>, AllocError>
+    ensures { IfOk result (λ made. IfSome made (λ next. next.ranges ≡ ranges.now)) }
+{
+    let mut next = Mrib::new(alloc);
+    match next.replace_rps(ranges) {
+        Ok(Ok(())) => Ok(Some(next)),
+        Ok(Err(_)) => Ok(None),
+        Err(_) => Err(AllocError),
+    }
+}
+
+// Whether the address has another route in the new table.
+#[tactic(auto, unfolding(pim_model::specs::Unicast::route))]
+fn has_other_route(world: &World, turn: &mut Turn, next: &Mrib, address: Addr) -> bool
+    ensures moved { result ≡ has_other_route world.now (with_routes world.now next.now.routes) address.bits }
+    ensures silent { turn.new ≡ turn.old }
+{
+    let before = world.route(address, &mut turn.meter);
+    let after = next.route(world.interfaces(), address, &mut turn.meter);
+    !is_same_path(before, after)
+}
+
+// Whether the RP of the group has another route in the new table.
+fn is_group_moved(world: &World, turn: &mut Turn, next: &Mrib, group: Addr) -> bool
+    ensures moved { result ≡ not (has_same_rp group.bits world.now (with_routes world.now next.now.routes)) }
+    ensures silent { turn.new ≡ turn.old }
+{
+    match world.rp(group, &mut turn.meter) {
+        Some(rp) => has_other_route(world, turn, next, rp),
+        None => false,
+    }
+}
+
+// Whether the group has another RP by the new ranges.
+#[tactic(auto, unfolding(pim_model::specs::Unicast::rp_of, pim_model::specs::Step::rps_replaced))]
+fn has_other_rp(world: &World, turn: &mut Turn, next: &Mrib, group: Addr) -> bool
+    ensures moved { result ≡ has_other_rp world.now (rps_replaced world.now next.now.ranges) group.bits }
+    ensures silent { turn.new ≡ turn.old }
+{
+    let before = world.rp(group, &mut turn.meter);
+    let after = next.rp(group, &mut turn.meter);
+    !is_same_address(before, after)
+}
+
+// Puts those of the sources of a group that have another route behind other keys.
+fn put_sources(
+    world: &World,
+    turn: &mut Turn,
+    next: &Mrib,
+    group: Addr,
+    sources: &BTreeMap<Addr, (), Global>,
+    keys: &mut Vec<Key>,
+) -> Result<(), AllocError>
+    ensures keys { OnOk result (keys.new.items ≡ keys.old.items ++ map (source_key 0 group.bits)
+        (filter (has_other_route world.now (with_routes world.now next.now.routes)) (numbers_of sources.now.entries))) }
+    ensures silent { turn.new ≡ turn.old }
+{
+    for (source, ()) in sources.iter() {
+        if has_other_route(world, turn, next, *source) {
+            keys.push(Key::source(IfaceId::NONE, group, *source))?;
+        }
+    }
+    Ok(())
+}
+
+// Puts what the new routes move of a group behind other keys: all of it where its RP has another route, or else each
+// source with any fact that has one.
+fn put_group(
+    world: &World,
+    turn: &mut Turn,
+    next: &Mrib,
+    group: Addr,
+    keys: &mut Vec<Key>,
+) -> Result<(), AllocError>
+    ensures keys { OnOk result (keys.new.items ≡ keys.old.items
+        ++ moved_of_group world.now (with_routes world.now next.now.routes) group.bits) }
+    ensures silent { turn.new ≡ turn.old }
+{
+    if is_group_moved(world, turn, next, group) {
+        keys.push(Key::group(group))?;
+        return Ok(());
+    }
+    let sources = world.sources(turn.alloc, group, &mut turn.meter)?;
+    put_sources(world, turn, next, group, &sources, keys)
+}
+
+// The keys of what the new routes move of these groups.
+fn keys_of_groups(
+    world: &World,
+    turn: &mut Turn,
+    next: &Mrib,
+    groups: &BTreeMap<Addr, (), Global>,
+) -> Result<Series<Key>, AllocError>
+    ensures keys { IfOk result (λ keys. keys
+        ≡ flat_map (moved_of_group world.now (with_routes world.now next.now.routes)) (numbers_of groups.now.entries)) }
+    ensures silent { turn.new ≡ turn.old }
+{
+    let mut keys = Vec::new(turn.alloc);
+    for (group, ()) in groups.iter() {
+        put_group(world, turn, next, *group, &mut keys)?;
+    }
+    Ok(Series::from_vec(keys))
+}
+
+// The keys of those of these groups that have another RP by the new ranges.
+fn keys_with_other_rp(
+    world: &World,
+    turn: &mut Turn,
+    next: &Mrib,
+    groups: &BTreeMap<Addr, (), Global>,
+) -> Result<Series<Key>, AllocError>
+    ensures keys { IfOk result (λ keys. keys ≡ map (star_key 0)
+        (filter (has_other_rp world.now (rps_replaced world.now next.now.ranges)) (numbers_of groups.now.entries))) }
+    ensures silent { turn.new ≡ turn.old }
+{
+    let mut keys = Vec::new(turn.alloc);
+    for (group, ()) in groups.iter() {
+        if has_other_rp(world, turn, next, *group) {
+            keys.push(Key::group(*group))?;
+        }
+    }
+    Ok(Series::from_vec(keys))
+}
+
+/// What new routes touch: the groups with any fact whose RP has another route, and of the other groups the sources with any
+/// fact that have one. All may be touched by routes that the router doesn't take.
+pub(crate) fn touched_by_routes(
+    world: &World,
+    turn: &mut Turn,
+    routes: &[Route],
+) -> Result<Touched, AllocError>
+    ensures touched { IfOk result (λ touched. IsTouched touched (keys_by_routes world.now (with_routes world.now routes.now))) }
+    ensures silent { turn.new ≡ turn.old }
+{
+    match table_of_routes(world, turn.alloc, routes)? {
+        Some(next) => {
+            let groups = world.groups(turn.alloc)?;
+            Ok(Touched::Keys(keys_of_groups(world, turn, &next, &groups)?))
+        }
+        None => Ok(Touched::All),
+    }
+}
+
+/// What new RP ranges touch: the groups with any fact that have another RP. All may be touched by ranges that the router
+/// doesn't take.
+pub(crate) fn touched_by_rps(
+    world: &World,
+    turn: &mut Turn,
+    ranges: &[RpRange],
+) -> Result<Touched, AllocError>
+    ensures touched { IfOk result (λ touched. IsTouched touched (keys_by_rps world.now (rps_replaced world.now ranges.now))) }
+    ensures silent { turn.new ≡ turn.old }
+{
+    match table_of_ranges(turn.alloc, ranges)? {
+        Some(next) => {
+            let groups = world.groups(turn.alloc)?;
+            Ok(Touched::Keys(keys_with_other_rp(world, turn, &next, &groups)?))
+        }
+        None => Ok(Touched::All),
+    }
+}
