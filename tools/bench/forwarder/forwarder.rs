@@ -114,7 +114,7 @@ struct Both {
 }
 
 impl Both {
-    /// The router after the events of the setup, and a plain forwarder that is told the same interfaces.
+    /// The router after the events of the setup, and a plain forwarder that is told the same interfaces and the rows.
     fn new(setup: &str, copies: u32, rows: u32) -> Both {
         let settings = Settings { limit: 1_000_000, ..USUAL_SETTINGS };
         let addresses: Vec<u32> = (0..=copies).map(|iface| 0x0A00_0002 | iface << 8).collect();
@@ -125,15 +125,13 @@ impl Both {
         let ranges = [Range { prefix: 0xE000_0000, length: 4, rp: 0x0A09_0909 }];
         let mut router = Router::new(&settings, &interfaces, &routes, &ranges).expect("a router");
         setup.lines().for_each(|line| take_line(&mut router, line));
-        Both { router, plain: Plain::new(addresses), rows, room: [0; MOST_BYTES], moment: 0 }
+        let mut plain = Plain::new(addresses);
+        (0..rows).map(names_of).for_each(|(source, group)| plain.put(source, group, 0, (2 << copies) - 2));
+        Both { router, plain, rows, room: [0; MOST_BYTES], moment: 0 }
     }
 
-    /// Makes the rows: the plain forwarder by a call for each, the router by two packets of each source, whose second sets SPTbit.
-    fn make_rows(&mut self, batch: &mut Batch, copies: u32) {
-        for row in 0..self.rows {
-            let (source, group) = names_of(row);
-            self.plain.put(source, group, 0, (2 << copies) - 2);
-        }
+    /// Makes the router's rows by two packets of each source: the second sets SPTbit.
+    fn make_rows(&mut self, batch: &mut Batch) {
         let mut next = 0;
         for _ in 0..(2 * self.rows).div_ceil(BATCH as u32) {
             batch.fill(|| {
@@ -241,7 +239,7 @@ fn main() {
     let (copies, rows, packets) = (number(2), number(3), number(5) as usize);
     let setup = std::fs::read_to_string(&words[1]).expect("the setup");
     let (mut both, mut batch) = (Both::new(&setup, copies, rows), Batch::new(number(4) as usize));
-    both.make_rows(&mut batch, copies);
+    both.make_rows(&mut batch);
     let mut state = 1;
     batch.fill(|| random(&mut state) % rows);
     both.compare(&batch);
