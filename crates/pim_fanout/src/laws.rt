@@ -50,13 +50,11 @@ pub fn opening_shows_rows()
 {}
 
 /// Where an event's named rows are made anew, all rows are those of the state after it.
-#[tactic(auto, using(crate::proofs::Shown::event_shows_rows))]
 pub fn event_shows_rows()
     ensures { EventShowsRows }
 {}
 
 /// So it is of a timer's end.
-#[tactic(auto, using(crate::proofs::Shown::firing_shows_rows))]
 pub fn firing_shows_rows()
     ensures { FiringShowsRows }
 {}
