@@ -263,11 +263,7 @@ fn plan_stop(
 }
 
 // New routes touch what they move, and make no facts.
-fn plan_routes(
-    world: &World,
-    turn: &mut Turn,
-    routes: &[Route],
-) -> Result<Option<Plan>, AllocError>
+fn plan_routes(world: &World, turn: &mut Turn, routes: &[Route]) -> Result<Option<Plan>, AllocError>
     ensures plan { IfOk result (λ plan. IsPlanned world.now (AcceptedValue.Routes routes.now) plan) }
     ensures silent { turn.new ≡ turn.old }
 {
@@ -277,11 +273,7 @@ fn plan_routes(
 }
 
 // So do new RP ranges.
-fn plan_rps(
-    world: &World,
-    turn: &mut Turn,
-    ranges: &[RpRange],
-) -> Result<Option<Plan>, AllocError>
+fn plan_rps(world: &World, turn: &mut Turn, ranges: &[RpRange]) -> Result<Option<Plan>, AllocError>
     ensures plan { IfOk result (λ plan. IsPlanned world.now (AcceptedValue.Rps ranges.now) plan) }
     ensures silent { turn.new ≡ turn.old }
 {
