@@ -1,6 +1,6 @@
 -- What follows of an event, and of a timer's end, follows of the keys that it touches.
 use Rattle.std.proofs.Common.{◌≡◌, ℕ, true, List, [], ◌∷◌, ◌++◌, Some, refl, subst}
-use Rattle.pim_types.specs.Keys.{source_key, star_key}
+use Rattle.pim_types.specs.Keys.{source_key}
 use Rattle.pim_types.specs.declared.fact.Key.{Key}
 use Rattle.pim_wire.specs.Values.{Encapsulated, Null, Register}
 use Rattle.pim_model.specs.declared.accepted.Accepted.{Accepted}
@@ -18,7 +18,7 @@ use Rattle.pim_locality.specs.Locality.{AgreesBut, IsQuiet, own_settled, touchin
 use Rattle.pim_locality.specs.Touches.{isnt_neighbour, touched_by, packet_keys}
 use Rattle.pim_locality.proofs.Events.{assert_touches}
 use Rattle.pim_locality.proofs.Membership.{report_touches}
-use Rattle.pim_locality.proofs.OtherEvents.{query_touches, register_received_touches, register_stop_touches}
+use Rattle.pim_locality.proofs.OtherEvents.{query_touches_none, register_received_touches, register_stop_touches}
 use Rattle.pim_locality.proofs.OwnKeys.{present_touches_none}
 use Rattle.pim_locality.proofs.Packets.{packet_touches}
 use Rattle.pim_locality.proofs.Settling.{settling_is_own}
@@ -50,8 +50,7 @@ change_touches s w (Accepted.JoinPruneToMe i m) keys e =
 change_touches s w (Accepted.JoinPruneSeen i m) keys e = renamed s _ [] keys e (seen_touches_none s w i.number m)
 change_touches s w (Accepted.Assert i from a) keys e =
     renamed s _ (asserted_keys i.number a) keys e (assert_touches s i.number from.bits a)
-change_touches s w (Accepted.Query i from q) keys e =
-    renamed s _ (star_key 0 q.group ∷ []) keys e (query_touches s i.number from.bits q)
+change_touches s w (Accepted.Query i from q) keys e = renamed s _ [] keys e (query_touches_none s i.number from.bits q)
 change_touches s w (Accepted.Report i records) keys e =
     renamed s _ (reported_groups i.number records) keys e (report_touches s i.number records)
 change_touches s w (Accepted.Data i p) keys e =

@@ -20,10 +20,12 @@ use Rattle.pim_model.specs.Full.{reported_groups}
 use Rattle.pim_model.specs.Downstream.{is_named}
 use Rattle.pim_laws.proofs.TurnLaws.{kept_in_turn}
 use Rattle.pim_locality.specs.Locality.{AgreesBut, touching}
-use Rattle.pim_locality.specs.Scopes.{reads, scope}
+use Rattle.pim_locality.specs.Scopes.{only_running, reads, scope}
 use Rattle.pim_laws.proofs.RowChanges.{changed_elsewhere, dropped_elsewhere, filtered_elsewhere, put_elsewhere}
 use Rattle.pim_locality.proofs.Asserts.{stars_read}
 use Rattle.pim_locality.proofs.Events.{agrees_if}
+use Rattle.pim_locality.proofs.SourceMacros.{cut_source}
+use Rattle.pim_locality.proofs.StarMacros.{cut_group}
 use Rattle.pim_locality.proofs.Touches.{agrees_same, agrees_then, named_touches, touched_with_group, touching_is_closed, unread_of, widened, group_records_agree, source_records_agree}
 
 -- ---- rows that are changed in their places
@@ -48,6 +50,58 @@ module _ {R : Type 0} (sees : Key → Bool) (test : Key → Bool) (change : Key 
   placed_elsewhere (x ∷ xs) =
       place_step x xs (map in_place xs) (test x.0) (sees x.0) refl refl (placed_elsewhere xs)
 
+-- ---- ends that move
+
+module _ {R : Type 0} (cut : R → R) (sees : Key → Bool) (test : Key → Bool) (change : Key × R → R)
+    (alike : (e : Key × R) → cut (change e) ≡ cut e.1) where
+  abbrev cut_down : Key × R → Key × R
+  cut_down e = (e.0, cut e.1)
+
+  alike_step : (x : Key × R) (xs ys : Table R) (b c : Bool) → sees x.0 ≡ c
+      → map cut_down (rows_where sees ys) ≡ map cut_down (rows_where sees xs)
+      → map cut_down (rows_where sees (cond b (x.0, change x) x ∷ ys))
+      ≡ map cut_down (cond c (x ∷ rows_where sees xs) (rows_where sees xs))
+  unfolding rows_where
+  alike_step x xs ys true true f ih = rw f (λ j. (x.0, alike x j) ∷ ih j)
+  alike_step x xs ys true false f ih = rw f ih
+  alike_step x xs ys false true f ih = rw f (ap (λ (t : Table R). cut_down x ∷ t) ih)
+  alike_step x xs ys false false f ih = rw f ih
+
+  -- rows that are cut down alike, changed in their places
+  placed_alike : (t : Table R) → map cut_down (rows_where sees (map (λ (e : Key × R). cond (test e.0) (e.0, change e) e) t))
+      ≡ map cut_down (rows_where sees t)
+  unfolding rows_where
+  placed_alike [] = refl
+  placed_alike (x ∷ xs) =
+      alike_step x xs (map (λ (e : Key × R). cond (test e.0) (e.0, change e) e) xs) (test x.0) (sees x.0) refl
+      (placed_alike xs)
+
+lowered_runs : (end : ℕ) (o : Option ℕ) → only_running (lowered end o) ≡ only_running o
+lowered_runs end None = refl
+lowered_runs end (Some moment) = refl
+
+-- a timer that is lowered runs on: no machine sees it
+pub lower_group_alike : (touches : Key → Bool) (s : State) (i g end : ℕ) → AgreesBut touches s (lower_group s i g end)
+unfolding lower_group scope
+lower_group_alike touches s i g end h e =
+    sym (λ j. record (scope (reads h) s) {
+      group_records = placed_alike cut_group (reads h) (same_key (star_key i g))
+          (λ x. record { end = lowered end (x.1).end })
+          (λ x. ap (λ (o : Option ℕ). let r : GroupRecordRow = record { end = o } in r) (lowered_runs end (x.1).end))
+          s.group_records j;
+    })
+
+pub lower_sources_alike : (touches : Key → Bool) (s : State) (i g : ℕ) (sources : List ℕ) (end : ℕ)
+    → AgreesBut touches s (lower_sources s i g sources end)
+unfolding lower_sources scope
+lower_sources_alike touches s i g sources end h e =
+    sym (λ j. record (scope (reads h) s) {
+      source_records = placed_alike cut_source (reads h) (λ k. is_at_group i g k && is_among (source_in k) sources)
+          (λ x. record { end = lowered end (x.1).end })
+          (λ x. ap (λ (o : Option ℕ). let r : SourceRecordRow = record { end = o } in r) (lowered_runs end (x.1).end))
+          s.source_records j;
+    })
+
 -- ---- one group on one interface
 
 module _ (i g : ℕ) where
@@ -69,22 +123,6 @@ module _ (i g : ℕ) where
   at_group_away : (q : Key) → touching (star_key 0 g ∷ []) q ≡ false → (k : Key) → is_at_group i g k ≡ true
       → reads q k ≡ false
   at_group_away q e k same = unread_here q e k (second_so (is_on i k) (is_of_group g k) same)
-
-  pub lower_group_here : (s : State) (end : ℕ) → Here s (lower_group s i g end)
-  unfolding lower_group
-  lower_group_here s end =
-      group_records_agree (touching (star_key 0 g ∷ [])) s _ (λ h e.
-      placed_elsewhere (reads h) (same_key (star_key i g)) (λ x. record { end = lowered end (x.1).end }) (star_away h e)
-      s.group_records)
-
-  pub lower_sources_here : (s : State) (sources : List ℕ) (end : ℕ) → Here s (lower_sources s i g sources end)
-  unfolding lower_sources
-  lower_sources_here s sources end =
-      source_records_agree (touching (star_key 0 g ∷ [])) s _ (λ h e.
-      placed_elsewhere (reads h) (λ k. is_at_group i g k && is_among (source_in k) sources)
-      (λ x. record { end = lowered end (x.1).end })
-      (λ k same. at_group_away h e k (first_so (is_at_group i g k) (is_among (source_in k) sources) same))
-      s.source_records)
 
   members_put : (h : Key) → touching (star_key 0 g ∷ []) h ≡ false → (ms : List Member) (t : Table SourceRecordRow)
       → rows_where (reads h) (fold (put_member i g) t ms) ≡ rows_where (reads h) t
@@ -148,7 +186,7 @@ module _ (i g : ℕ) where
 
   query_group_here : (s : State) → Here s (query_group s i g).0
   unfolding query_group scope
-  query_group_here s = lower_group_here s _
+  query_group_here s = lower_group_alike (touching (star_key 0 g ∷ [])) s i g _
 
   query_sources_here : (s : State) (asked : List ℕ) → Here s (query_sources s i g asked).0
   unfolding query_sources send_sources sources_sent scope
@@ -162,7 +200,8 @@ module _ (i g : ℕ) where
           elim b [ true ↦ (s, []) | false ↦ send_sources lower i g ] in Here s after.0)
       go true = agrees_same (touching (star_key 0 g ∷ [])) s
       go false =
-          lower_sources_here s (filter (λ src. exceeds (query_end s i) (source_end s i g src)) asked) (query_end s i)
+          lower_sources_alike (touching (star_key 0 g ∷ [])) s i g
+          (filter (λ src. exceeds (query_end s i) (source_end s i g src)) asked) (query_end s i)
 
   asked_here : (s : State) (a : Asked) → Here s (query_asked i g s a).0
   unfolding query_asked

@@ -1,11 +1,11 @@
--- A query touches its group, a Register and a Register-Stop their source.
+-- A query touches nothing, a Register and a Register-Stop their source.
 use Rattle.std.proofs.Common.{eq-eqb, eqb-true, sym, ◌≡◌, true, false, ◌==◌, ◌||◌, ◌&&◌, ◌+◌, ℕ, Bool, cond, List, [], ◌∷◌, refl}
 use Rattle.std.proofs.lemmas.Bool.{or_left, or_right}
 use Rattle.std.specs.Cmp.{first_so, second_so}
 use Rattle.std.specs.Cmp.Derive.{both_true}
 use Rattle.pim_ip.specs.Ipv4.{Packet}
 use Rattle.pim_types.specs.declared.fact.Key.{Key}
-use Rattle.pim_types.specs.Keys.{group_in, source_in, source_key, star_key}
+use Rattle.pim_types.specs.Keys.{group_in, source_in, source_key}
 use Rattle.igmp_wire.specs.Codes.{code_value}
 use Rattle.igmp_wire.specs.Values.{Query as QueryValue}
 use Rattle.pim_model.specs.Forwarding.{register_at_rp, register_received}
@@ -18,7 +18,7 @@ use Rattle.pim_model.specs.Unicast.{is_rp}
 use Rattle.pim_laws.proofs.ListLaws.{either, by_cond}
 use Rattle.pim_locality.specs.Locality.{AgreesBut, touching}
 use Rattle.pim_locality.specs.Scopes.{reads, scope}
-use Rattle.pim_locality.proofs.Membership.{lower_group_here, lower_sources_here, placed_elsewhere}
+use Rattle.pim_locality.proofs.Membership.{lower_group_alike, lower_sources_alike, placed_elsewhere}
 use Rattle.pim_locality.proofs.Packets.{either_here, keepalive_here, when_here}
 use Rattle.pim_locality.proofs.Touches.{agrees_same, agrees_then, touches_itself, unread_of, registers_agree}
 
@@ -26,29 +26,26 @@ elected_alike : (touches : Key → Bool) (s : State) (i qrv qqi : ℕ) → Agree
 unfolding querier_elected scope
 elected_alike touches s i qrv qqi h e = refl
 
-lowered_here : (s : State) (i : ℕ) (q : QueryValue)
-    → AgreesBut (touching (star_key 0 q.group ∷ [])) s (lower_queried s i q)
+lowered_alike : (touches : Key → Bool) (s : State) (i : ℕ) (q : QueryValue) → AgreesBut touches s (lower_queried s i q)
 unfolding lower_queried
-lowered_here s i q =
-    by_cond (AgreesBut (touching (star_key 0 q.group ∷ [])) s) (q.suppress || (q.group == 0)) s _
-    (agrees_same (touching (star_key 0 q.group ∷ [])) s)
-    (by_cond (AgreesBut (touching (star_key 0 q.group ∷ [])) s) (is_empty_list q.sources)
-    (lower_group s i q.group (query_end s i))
+lowered_alike touches s i q =
+    by_cond (AgreesBut touches s) (q.suppress || (q.group == 0)) s _ (agrees_same touches s)
+    (by_cond (AgreesBut touches s) (is_empty_list q.sources) (lower_group s i q.group (query_end s i))
     (lower_sources s i q.group q.sources (query_end s i))
-    (lower_group_here i q.group s (query_end s i)) (lower_sources_here i q.group s q.sources (query_end s i)))
+    (lower_group_alike touches s i q.group (query_end s i))
+    (lower_sources_alike touches s i q.group q.sources (query_end s i)))
 
-pub query_touches : (s : State) (i from : ℕ) (q : QueryValue)
-    → AgreesBut (touching (star_key 0 q.group ∷ [])) s (query_seen s i from q)
+pub query_touches_none : (s : State) (i from : ℕ) (q : QueryValue) → AgreesBut (touching []) s (query_seen s i from q)
 unfolding query_seen
-query_touches s i from q =
+query_touches_none s i from q =
     let elected : State =
     cond (is_lower_querier s i from) (querier_elected s i q.robustness (code_value q.interval_code)) s in
-    agrees_then (touching (star_key 0 q.group ∷ [])) s elected (query_seen s i from q)
-    (by_cond (AgreesBut (touching (star_key 0 q.group ∷ [])) s) (is_lower_querier s i from)
+    agrees_then (touching []) s elected (query_seen s i from q)
+    (by_cond (AgreesBut (touching []) s) (is_lower_querier s i from)
     (querier_elected s i q.robustness (code_value q.interval_code)) s
-    (elected_alike (touching (star_key 0 q.group ∷ [])) s i q.robustness (code_value q.interval_code))
-    (agrees_same (touching (star_key 0 q.group ∷ [])) s))
-    (lowered_here elected i q)
+    (elected_alike (touching []) s i q.robustness (code_value q.interval_code))
+    (agrees_same (touching []) s))
+    (lowered_alike (touching []) elected i q)
 
 pub register_stop_touches : (s : State) (w g src : ℕ)
     → AgreesBut (touching (source_key 0 g src ∷ [])) s (register_stop_seen s w g src)

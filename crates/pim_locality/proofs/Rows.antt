@@ -1,7 +1,8 @@
 -- Look-ups in the rows of some keys, and in tables whose rows were cut down.
-use Rattle.std.proofs.Common.{◌≡◌, ℕ, Bool, true, false, cond, [], ◌∷◌, map, Option, Some, is_some, refl, ap}
+use Rattle.std.proofs.Common.{◌≡◌, ℕ, Bool, true, false, cond, [], ◌∷◌, map, Option, Some, None, option_map, is_some, refl, ap}
 use Rattle.std.specs.Map.{lookup}
 use Rattle.std.specs.BTreeMap.{is_at}
+use Rattle.std.specs.Option.{option_map_or}
 use Rattle.pim_types.specs.declared.fact.Key.{Key}
 use Rattle.pim_types.specs.Keys.{key_cmp, same_key, is_on}
 use Rattle.pim_types.proofs.Keys.{equal_keys}
@@ -46,3 +47,20 @@ module _ {R : Type 0} (cut : R → R) where
   unfolding rows_on
   rows_on_cut i [] = refl
   rows_on_cut i (x ∷ xs) = on_step i x xs (is_on i x.0) (rows_on_cut i xs)
+
+  -- the row at a key
+  pub row_at_cut : (k : Key) (t : Table R) → row_at (map cut_entry t) k ≡ option_map cut (row_at t k)
+  unfolding row_at
+  row_at_cut k [] = refl
+  row_at_cut k (x ∷ xs) = cut_step (same_key k x.0) (row_at_cut k xs)
+    where
+      cut_step : (b : Bool) → row_at (map cut_entry xs) k ≡ option_map cut (row_at xs k)
+          → cond b (Some (cut x.1)) (row_at (map cut_entry xs) k) ≡ option_map cut (cond b (Some x.1) (row_at xs k))
+      cut_step true ih = refl
+      cut_step false ih = ih
+
+  -- what is read of it, where that is read of the row as it was cut down too
+  pub read_of_cut : (read : R → Bool) → ((r : R) → read (cut r) ≡ read r) → (o : Option R)
+      → option_map_or read (option_map cut o) false ≡ option_map_or read o false
+  read_of_cut read same None = refl
+  read_of_cut read same (Some r) = same r

@@ -1,6 +1,6 @@
 -- Each macro of a source, in a scope with the rows that it reads, is what it is in the state. Each line is the
 -- macro's own body, with the laws of its parts in the place of the parts.
-use Rattle.std.proofs.Common.{◌≡◌, ℕ, Bool, true, false, not, ◌||◌, ◌&&◌, cond, is_none, is_some, option_map, ap, ◌∙◌}
+use Rattle.std.proofs.Common.{◌≡◌, ℕ, Bool, true, false, not, ◌||◌, ◌&&◌, cond, Option, Some, None, is_none, is_some, option_map, refl, ap, ◌∙◌}
 use Rattle.std.specs.Option.{option_map_or, option_or}
 use Rattle.pim_types.specs.declared.fact.AssertRow.{AssertRow}
 use Rattle.pim_types.specs.declared.fact.DownstreamRow.{DownstreamRow}
@@ -15,12 +15,23 @@ use Rattle.pim_model.specs.Receivers.{is_exclude, local_receiver_exclude, local_
 use Rattle.pim_model.specs.Sets.{assert_source, immediate_olist, inherited_olist, inherited_olist_rpt, is_beaten, is_better, is_empty, is_kept_alive, is_loser, is_register_join, is_winner, joins, lost_assert, lost_assert_rpt, pim_exclude, pim_include, prunes, route_metric, serves, spt_bit, spt_metric, tunnel, ◌∖◌, ◌∪◌}
 use Rattle.pim_model.specs.State.{State, is_own, my_address}
 use Rattle.pim_types.specs.Keys.{rpt_key, source_key, star_key}
-use Rattle.pim_model.specs.Tables.{same_hop}
+use Rattle.pim_model.specs.Tables.{has_row, row_at, rows_where, same_hop}
 use Rattle.pim_model.specs.Unicast.{route}
-use Rattle.pim_locality.specs.Scopes.{scope}
+use Rattle.pim_locality.specs.Scopes.{only_running, only_side, scope}
+use Rattle.pim_laws.proofs.RowLaws.{has_row_map}
 use Rattle.pim_locality.proofs.SharedMacros.{is_dr_local, nbr_local, route_local, rpf_interface_local, rpf_interface_rp_local}
-use Rattle.pim_locality.proofs.Rows.{row_in_scope, has_row_in_scope}
+use Rattle.pim_locality.proofs.Rows.{read_of_cut, row_at_cut, row_in_scope, has_row_in_scope}
 use Rattle.pim_locality.proofs.StarMacros.{is_exclude_local, is_include_local, join_desired_star_local, joins_star_local, lost_assert_star_local, pim_include_star_local, rpf_at, rpf_rp_at, rpf_star_local, serves_star_local}
+
+none_cut : (o : Option ℕ) → is_none (only_running o) ≡ is_none o
+none_cut None = refl
+none_cut (Some end) = refl
+
+abbrev pub cut_source : SourceRecordRow → SourceRecordRow
+cut_source r = record { end = only_running r.end }
+
+abbrev has_no_end : SourceRecordRow → Bool
+has_no_end r = is_none r.end
 
 -- the rows of (*,G), of (S,G) and of (S,G,rpt) are seen
 pub record ReadsSource (sees : Key → Bool) (g src : ℕ) : Type 0 where
@@ -64,19 +75,31 @@ module _ (sees : Key → Bool) (s : State) (g src : ℕ) (rows : ReadsSource see
   unfolding scope
   assert_source_local = λ j i. row_in_scope sees (source_key i g src) (rows.sources i) s.asserts j
 
-  source_record_local : source_record (scope sees s) g src ≡ source_record s g src
+  is_listed_local : (i : ℕ) → is_some (source_record (scope sees s) g src i) ≡ is_some (source_record s g src i)
+  unfolding scope has_row
+  is_listed_local i =
+      has_row_map (source_key i g src) only_side (λ e. refl) (rows_where sees s.source_records)
+      ∙ has_row_in_scope sees (source_key i g src) (rows.sources i) s.source_records
+
+  is_excluded_local : (i : ℕ) → option_map_or has_no_end (source_record (scope sees s) g src i) false
+      ≡ option_map_or has_no_end (source_record s g src i) false
   unfolding scope
-  source_record_local = λ j i. row_in_scope sees (source_key i g src) (rows.sources i) s.source_records j
+  is_excluded_local i =
+      ap (λ (o : Option SourceRecordRow). option_map_or has_no_end o false)
+      (row_at_cut cut_source (source_key i g src) (rows_where sees s.source_records))
+      ∙ read_of_cut cut_source has_no_end (λ r. none_cut r.end)
+      (row_at (rows_where sees s.source_records) (source_key i g src))
+      ∙ ap (λ (o : Option SourceRecordRow). option_map_or has_no_end o false)
+      (row_in_scope sees (source_key i g src) (rows.sources i) s.source_records)
 
   pub local_include_local : local_receiver_include (scope sees s) g src ≡ local_receiver_include s g src
   unfolding is_exclude local_receiver_include local_receiver_include_among
-  local_include_local = λ j i. is_include_local sees s g rows.stars j i && is_some (source_record_local j i)
+  local_include_local = λ j i. is_include_local sees s g rows.stars j i && is_listed_local i j
 
   local_exclude_local : local_receiver_exclude (scope sees s) g src ≡ local_receiver_exclude s g src
   unfolding is_exclude local_receiver_exclude local_receiver_exclude_among
   local_exclude_local = λ j i.
-      is_exclude_local sees s g rows.stars j i && option_map_or (λ (r : SourceRecordRow). is_none r.end)
-      (source_record_local j i) false
+      is_exclude_local sees s g rows.stars j i && is_excluded_local i j
 
   -- ---- metrics and asserts
 

@@ -1,7 +1,7 @@
 -- Each macro of (*,G), in a scope with the rows of (*,G), is what it is in the state. Each line is the macro's own
 -- body,
 -- with the laws of its parts in the place of the parts.
-use Rattle.std.proofs.Common.{◌≡◌, ℕ, Bool, true, false, not, ◌||◌, ◌&&◌, Some, is_some, ap, ◌∙◌}
+use Rattle.std.proofs.Common.{◌≡◌, ℕ, Bool, true, false, not, ◌||◌, ◌&&◌, Option, Some, None, is_some, refl, ap, ◌∙◌}
 use Rattle.std.specs.Option.{option_map_or, option_or}
 use Rattle.pim_types.specs.declared.fact.GroupRecordRow.{GroupRecordRow}
 use Rattle.pim_types.specs.declared.fact.Key.{Key}
@@ -10,12 +10,13 @@ use Rattle.pim_model.specs.Neighbours.{nbr}
 use Rattle.pim_model.specs.Receivers.{is_exclude, is_exclude_among, is_include}
 use Rattle.pim_model.specs.Sets.{assert_star, immediate_olist_star, is_empty, is_loser, is_winner, joins_star, lost_assert_star, pim_include_star, serves_star, ◌∖◌, ◌∪◌}
 use Rattle.pim_model.specs.State.{State}
-use Rattle.pim_model.specs.Tables.{same_option}
+use Rattle.pim_model.specs.Tables.{row_at, rows_where, same_option}
 use Rattle.pim_types.specs.Keys.{star_key}
 use Rattle.pim_model.specs.Unicast.{is_rpf_interface, is_rpf_interface_rp, rp_route}
-use Rattle.pim_locality.specs.Scopes.{scope}
+use Rattle.pim_locality.specs.Scopes.{only_mode, only_running, scope}
+use Rattle.pim_laws.proofs.RowLaws.{has_row_map}
 use Rattle.pim_locality.proofs.SharedMacros.{is_dr_local, nbr_local, rp_route_local, rpf_interface_local, rpf_interface_rp_local}
-use Rattle.pim_locality.proofs.Rows.{row_in_scope, has_row_in_scope}
+use Rattle.pim_locality.proofs.Rows.{read_of_cut, row_at_cut, row_in_scope, has_row_in_scope}
 
 module _ (sees : Key → Bool) (s : State) where
   pub rpf_at : (address : ℕ) (i : ℕ) → is_rpf_interface (scope sees s) address i ≡ is_rpf_interface s address i
@@ -23,6 +24,18 @@ module _ (sees : Key → Bool) (s : State) where
 
   pub rpf_rp_at : (g i : ℕ) → is_rpf_interface_rp (scope sees s) g i ≡ is_rpf_interface_rp s g i
   rpf_rp_at g i = λ j. same_option (rpf_interface_rp_local sees s g j) (Some i)
+
+-- ---- ends that are cut down
+
+pub some_cut : (o : Option ℕ) → is_some (only_running o) ≡ is_some o
+some_cut None = refl
+some_cut (Some end) = refl
+
+abbrev pub cut_group : GroupRecordRow → GroupRecordRow
+cut_group r = record { end = only_running r.end }
+
+abbrev has_end : GroupRecordRow → Bool
+has_end r = is_some r.end
 
 -- ---- facts
 
@@ -38,13 +51,17 @@ module _ (sees : Key → Bool) (s : State) (g : ℕ) (stars : (i : ℕ) → sees
   pub is_exclude_local : is_exclude (scope sees s) g ≡ is_exclude s g
   unfolding is_exclude is_exclude_among scope
   is_exclude_local =
-      λ j i. option_map_or (λ (r : GroupRecordRow). is_some r.end)
-      (row_in_scope sees (star_key i g) (stars i) s.group_records j) false
+      λ j i. (ap (λ (o : Option GroupRecordRow). option_map_or has_end o false)
+      (row_at_cut cut_group (star_key i g) (rows_where sees s.group_records))
+      ∙ read_of_cut cut_group has_end (λ r. some_cut r.end) (row_at (rows_where sees s.group_records) (star_key i g))
+      ∙ ap (λ (o : Option GroupRecordRow). option_map_or has_end o false)
+      (row_in_scope sees (star_key i g) (stars i) s.group_records)) j
 
   pub is_include_local : is_include (scope sees s) g ≡ is_include s g
   unfolding is_exclude scope
   is_include_local =
-      λ j i. has_row_in_scope sees (star_key i g) (stars i) s.group_records j && not (is_exclude_local j i)
+      λ j i. (has_row_map (star_key i g) only_mode (λ e. refl) (rows_where sees s.group_records)
+      ∙ has_row_in_scope sees (star_key i g) (stars i) s.group_records) j && not (is_exclude_local j i)
 
   -- ---- (*,G)
 

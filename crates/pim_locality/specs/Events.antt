@@ -1,6 +1,6 @@
 -- An event costs what it concerns: what follows of it is found by the keys that it touches.
 use Rattle.std.specs.Prelude.{List, None, Option, Some, [], true, ℕ, ◌++◌, ◌∷◌, ◌≡◌}
-use Rattle.pim_types.specs.Keys.{source_key, star_key}
+use Rattle.pim_types.specs.Keys.{source_key}
 use Rattle.pim_types.specs.declared.fact.Key.{Key}
 use Rattle.pim_model.specs.declared.accepted.Accepted.{Accepted}
 use Rattle.pim_model.specs.Downstream.{joined_keys, pruned_keys}
@@ -19,7 +19,7 @@ unfoldable pub touched_by_event : State → Accepted → Option (List Key)
 touched_by_event s (Accepted.JoinPruneToMe i m) = Some (joined_keys s i.number m ++ pruned_keys i.number m)
 touched_by_event s (Accepted.JoinPruneSeen i m) = Some []
 touched_by_event s (Accepted.Assert i from a) = Some (asserted_keys i.number a)
-touched_by_event s (Accepted.Query i from q) = Some (star_key 0 q.group ∷ [])
+touched_by_event s (Accepted.Query i from q) = Some []
 touched_by_event s (Accepted.Report i records) = Some (reported_groups i.number records)
 touched_by_event s (Accepted.Data i p) = Some (packet_keys s p.destination p.source i.number)
 touched_by_event s (Accepted.Register p r) = Some (source_key 0 (registered_group r) (registered_source r) ∷ [])

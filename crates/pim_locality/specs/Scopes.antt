@@ -1,8 +1,10 @@
 -- What the machines of a key see of a state: the rows that they read, and what all groups share.
-use Rattle.std.specs.Prelude.{Bool, None, [], map, false, ℕ, ◌&&◌, ◌==◌, ◌||◌}
+use Rattle.std.specs.Prelude.{Bool, None, Option, Some, [], map, false, ℕ, ◌&&◌, ◌==◌, ◌||◌}
+use Rattle.pim_types.specs.declared.fact.GroupRecordRow.{GroupRecordRow}
 use Rattle.pim_types.specs.declared.fact.InterfaceRow.{InterfaceRow}
 use Rattle.pim_types.specs.declared.fact.NeighbourRow.{NeighbourRow}
 use Rattle.pim_types.specs.declared.fact.Key.{Key}
+use Rattle.pim_types.specs.declared.fact.SourceRecordRow.{SourceRecordRow}
 use Rattle.pim_model.specs.State.{State}
 use Rattle.pim_model.specs.Tables.{Table, rows_where}
 use Rattle.pim_types.specs.Keys.{group_in, is_of_group, source_in}
@@ -24,6 +26,18 @@ only_up e = (e.0, record { generation = 0; hello_end = 0; is_hello_owed = false 
 abbrev pub only_priority : Key × NeighbourRow → Key × NeighbourRow
 only_priority e = (e.0, record e.1 { end = None; lan_delay = None; generation = None })
 
+-- whether a timer runs, and not until when
+abbrev pub only_running : Option ℕ → Option ℕ
+only_running None = None
+only_running (Some end) = Some 0
+
+-- a group's record with its mode alone, and a source's with its side: no macro reads when their timers end
+abbrev pub only_mode : Key × GroupRecordRow → Key × GroupRecordRow
+only_mode e = (e.0, record { end = only_running (e.1).end })
+
+abbrev pub only_side : Key × SourceRecordRow → Key × SourceRecordRow
+only_side e = (e.0, record { end = only_running (e.1).end })
+
 -- the state as macros see it that read these keys alone; they read no present, no timer of an upstream state, and
 -- nothing of queriers
 unfoldable pub scope : (Key → Bool) → State → State
@@ -36,8 +50,8 @@ scope sees s = record {
   interfaces = map only_up s.interfaces;
   neighbours = map only_priority s.neighbours;
   queriers = [];
-  group_records = rows_where sees s.group_records;
-  source_records = rows_where sees s.source_records;
+  group_records = map only_mode (rows_where sees s.group_records);
+  source_records = map only_side (rows_where sees s.source_records);
   group_repeats = [];
   source_repeats = [];
   sendings = [];

@@ -94,11 +94,11 @@ HelloAgainTouchesNone = (s : State) (i address : ℕ) (h : HelloValue) (w : ℕ)
     → h.priority ≡ old.priority → (hello_holdtime_of h == 0) ≡ false → is_generation_changed s i address h ≡ false
     → AgreesBut (touching []) s (hello_received s i address h w)
 
--- a query touches its group, a Register its source, a Register-Stop its source, or its group where it names none
-abbrev pub QueryTouches : Type 0
-QueryTouches = (s : State) (i from : ℕ) (q : QueryValue)
-    → AgreesBut (touching (star_key 0 q.group ∷ [])) s (query_seen s i from q)
+-- a query lowers ends, and touches nothing
+abbrev pub QueryTouchesNone : Type 0
+QueryTouchesNone = (s : State) (i from : ℕ) (q : QueryValue) → AgreesBut (touching []) s (query_seen s i from q)
 
+-- a Register touches its source, a Register-Stop its source, or its group where it names none
 abbrev pub RegisterStopTouches : Type 0
 RegisterStopTouches = (s : State) (w g src : ℕ)
     → AgreesBut (touching (source_key 0 g src ∷ [])) s (register_stop_seen s w g src)

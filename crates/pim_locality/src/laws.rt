@@ -4,7 +4,7 @@ ghost use Rattle.pim_locality.specs.Events.{ChangeTouches, EventIsLocal, FiringI
 ghost use Rattle.pim_locality.specs.Locality.{AgreedSourceIsUntold, AgreedStarIsUntold, AssertsAreLocal, ClearingIsLocal, CouldRegisterIsLocal, NextToClearIsLocal, OpeningIsQuiet, PresentTouchesNone, QuietGoesOn, RegistersAreLocal, RowsElsewhereStay, SettlingClears, SettlingIsLocal, SettlingIsOwn, SettlingQuiets, SourceDesiresAreLocal, SourceViewsAreLocal, SourcesAreOwn, SourcesStandOnce, StarDesiresAreLocal, StarViewsAreLocal, TouchingIsClosed, TreeStatesAreLocal, UpstreamIsLocal, UpstreamIsOwn};
 ghost use Rattle.pim_locality.specs.Rest.{FiringIsQuiet, InstantIsQuiet, OneFiringQuiets, OpeningIsAtRest, RunIsAtRest, StepIsAtRest, StepIsQuiet};
 ghost use Rattle.pim_locality.specs.Sees.{ConnectionsOfSame, DesiresOfSame, MetricsOfSame, RegistersOfSame, StarTrackingOfSame, TrackingOfSame, TreeNeighboursOfSame, TreeStatesOfSame};
-ghost use Rattle.pim_locality.specs.Touches.{AssertDueTouches, AssertTouches, GroupEndTouches, HelloAgainTouchesNone, JoinPruneTouches, PacketTouches, QueryTouches, RegisterStopTouches, RegisterTouches, ReportTouches, SeenTouchesNone, SourceEndTouches, TimerTouches};
+ghost use Rattle.pim_locality.specs.Touches.{AssertDueTouches, AssertTouches, GroupEndTouches, HelloAgainTouchesNone, JoinPruneTouches, PacketTouches, QueryTouchesNone, RegisterStopTouches, RegisterTouches, ReportTouches, SeenTouchesNone, SourceEndTouches, TimerTouches};
 
 /// JoinDesired(*,G) reads the rows of (*,G) alone.
 #[tactic(auto, using(crate::proofs::UntoldKeys::join_desired_star_at))]
@@ -206,10 +206,10 @@ pub fn hello_again_touches_none()
     ensures { HelloAgainTouchesNone }
 {}
 
-/// A query touches its group.
-#[tactic(auto, using(crate::proofs::OtherEvents::query_touches))]
-pub fn query_touches()
-    ensures { QueryTouches }
+/// A query touches nothing.
+#[tactic(auto, using(crate::proofs::OtherEvents::query_touches_none))]
+pub fn query_touches_none()
+    ensures { QueryTouchesNone }
 {}
 
 /// A Register-Stop touches its source, or its group where it names none.

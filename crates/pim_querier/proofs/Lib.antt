@@ -4,14 +4,14 @@ mod Expired
 mod InTurn
 mod Lowered
 mod Missing
-mod NamedRecords
+pub mod NamedRecords
 mod NamedSet
-mod NamedSources
+pub mod NamedSources
 mod Naming
 mod Parts
 mod Queried
 mod Reported
-mod RisingRows
+pub mod RisingRows
 mod Sent
 mod Starting
 pub mod OneSource

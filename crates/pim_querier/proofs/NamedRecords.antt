@@ -110,7 +110,7 @@ timer_stays full timer RecordType.ToExclude keeps = cc
 
 -- ---- who is a member
 
-abbrev is_member : Fate → Bool
+abbrev pub is_member : Fate → Bool
 is_member Gone = false
 is_member _ = true
 
@@ -131,7 +131,7 @@ unfolding is_among
 members_among src [] = refl
 members_among src (m ∷ es) = member_step src m es (m.0 == src) (members_among src es)
 
-all_among : (src : ℕ) (es : List Member) (named : List ℕ)
+pub all_among : (src : ℕ) (es : List Member) (named : List ℕ)
     → is_among src (all_of es named) ≡ (is_member (fate_among es src) || is_among src named)
 unfolding is_among
 all_among src es named =
@@ -139,12 +139,12 @@ all_among src es named =
     ∙ list_any-append (λ m. m == src) (map (λ (e : Member). e.0) es) named
     ∙ ap (λ (b : Bool). b || is_among src named) (members_among src es)
 
-gone_of : (f : Fate) → is_member f ≡ false → f ≡ Gone
+pub gone_of : (f : Fate) → is_member f ≡ false → f ≡ Gone
 gone_of Gone e = refl
 gone_of Excluded e = cc
 gone_of (Until end) e = cc
 
-neither : (b c : Bool) → (b || c) ≡ false → (b ≡ false) × (c ≡ false)
+pub neither : (b c : Bool) → (b || c) ≡ false → (b ≡ false) × (c ≡ false)
 neither true c e = cc
 neither false c e = (refl, e)
 

@@ -183,22 +183,15 @@ module _ (i g : ℕ) where
   none_of_form k (e ∷ t) here other under =
       form_step k e t (same_key k e.0) refl here other under.0 (none_of_form k t here other under.1)
 
-  -- ---- what is written of all, and of the named ones alone
+  -- ---- what is written of all
 
-  module _ (t : Rows) (up : Up t) (under : AreSources t) (named : List ℕ) (fate few : ℕ → Fate) (all some : List ℕ)
-      (named_so : (src : ℕ) → is_among src named ≡ true → few src ≡ fate src)
-      (others_stay : (src : ℕ) → is_among src named ≡ false → fate src ≡ fate_among (known t) src)
-      (some_named : (src : ℕ) → is_among src some ≡ is_among src named)
-      (all_told : (src : ℕ) → is_among src all ≡ false → fate src ≡ Gone)
-      (none_goes : (src : ℕ) → is_among src named ≡ true → fate src ≡ Gone → fate_among (known t) src ≡ Gone) where
+  module _ (t : Rows) (up : Up t) (under : AreSources t) (fate : ℕ → Fate) (all : List ℕ)
+      (all_told : (src : ℕ) → is_among src all ≡ false → fate src ≡ Gone) where
     abbrev others : Rows
     others = drop_where (is_at_group i g) t
 
-    abbrev anew : Rows
+    abbrev pub anew : Rows
     anew = fold (put_member i g) others (made fate all)
-
-    abbrev beside : Rows
-    beside = fold (put_member i g) t (made few some)
 
     or_none : (f : Fate) → option_or (row_of f) None ≡ row_of f
     or_none Gone = refl
@@ -209,13 +202,46 @@ module _ (i g : ℕ) where
     anew_by src true is = refl
     anew_by src false is = sym (ap row_of (all_told src is))
 
-    anew_row : (src : ℕ) → row_at anew (key_of src) ≡ row_of (fate src)
+    pub anew_row : (src : ℕ) → row_at anew (key_of src) ≡ row_of (fate src)
     anew_row src =
         made_row fate src all others
         ∙ ap (λ (o : Option SourceRecordRow). cond (is_among src all) (option_or (row_of (fate src)) o) o)
         (none_at_group (key_of src) t (own_at_group src))
         ∙ ap (λ (o : Option SourceRecordRow). cond (is_among src all) o None) (or_none (fate src))
         ∙ anew_by src (is_among src all) refl
+
+    not_own : (k : Key) → same_key (key_of (source_in k)) k ≡ false → (src : ℕ) → key_of src ≡ k → ⊥
+    not_own k other src same =
+        let number : src ≡ source_in k = ap (λ (q : Key). source_in q) same in
+        let yes : same_key (key_of (source_in k)) k ≡ true =
+        subst (λ (q : Key). same_key q k ≡ true) (sym same ∙ ap key_of number) (same_key_same k) in cc
+
+    elsewhere : (k : Key) (b : Bool) → is_at_group i g k ≡ b → same_key (key_of (source_in k)) k ≡ false
+        → row_at others k ≡ row_at t k
+    elsewhere k true here other = none_at_group k t here ∙ sym (none_of_form k t here other under)
+    elsewhere k false here other = row_kept (is_at_group i g) k here t
+
+    -- the row under a key of no source of the group
+    pub anew_elsewhere : (k : Key) → same_key (key_of (source_in k)) k ≡ false → row_at anew k ≡ row_at t k
+    anew_elsewhere k is = other_made fate k (not_own k is) all others ∙ elsewhere k (is_at_group i g k) refl is
+
+    up_others : Up others
+    unfolding drop_where
+    up_others = up_filtered (λ (e : Entry). not (is_at_group i g e.0)) t up
+
+    pub up_anew : Up anew
+    up_anew = up_made fate all others up_others
+
+  -- ---- and of the named ones alone
+
+  module _ (t : Rows) (up : Up t) (under : AreSources t) (named : List ℕ) (fate few : ℕ → Fate) (all some : List ℕ)
+      (named_so : (src : ℕ) → is_among src named ≡ true → few src ≡ fate src)
+      (others_stay : (src : ℕ) → is_among src named ≡ false → fate src ≡ fate_among (known t) src)
+      (some_named : (src : ℕ) → is_among src some ≡ is_among src named)
+      (all_told : (src : ℕ) → is_among src all ≡ false → fate src ≡ Gone)
+      (none_goes : (src : ℕ) → is_among src named ≡ true → fate src ≡ Gone → fate_among (known t) src ≡ Gone) where
+    abbrev beside : Rows
+    beside = fold (put_member i g) t (made few some)
 
     or_gone : (f : Fate) (o : Option SourceRecordRow) → (f ≡ Gone → o ≡ None) → option_or (row_of f) o ≡ row_of f
     or_gone Gone o none = none refl
@@ -237,31 +263,17 @@ module _ (i g : ℕ) where
         (some_named src)
         ∙ beside_by src (is_among src named) refl
 
-    not_own : (k : Key) → same_key (key_of (source_in k)) k ≡ false → (src : ℕ) → key_of src ≡ k → ⊥
-    not_own k other src same =
-        let number : src ≡ source_in k = ap (λ (q : Key). source_in q) same in
-        let yes : same_key (key_of (source_in k)) k ≡ true =
-        subst (λ (q : Key). same_key q k ≡ true) (sym same ∙ ap key_of number) (same_key_same k) in cc
-
-    elsewhere : (k : Key) (b : Bool) → is_at_group i g k ≡ b → same_key (key_of (source_in k)) k ≡ false
-        → row_at others k ≡ row_at t k
-    elsewhere k true here other = none_at_group k t here ∙ sym (none_of_form k t here other under)
-    elsewhere k false here other = row_kept (is_at_group i g) k here t
-
-    each_row : (k : Key) (b : Bool) → same_key (key_of (source_in k)) k ≡ b → row_at anew k ≡ row_at beside k
+    each_row : (k : Key) (b : Bool) → same_key (key_of (source_in k)) k ≡ b
+        → row_at (anew t up under fate all all_told) k ≡ row_at beside k
     each_row k true is =
         let own : key_of (source_in k) ≡ k = equal_keys (key_of (source_in k)) k is in
-        subst (λ (q : Key). row_at anew q ≡ row_at beside q) own
-        (anew_row (source_in k) ∙ sym (beside_row (source_in k)))
+        subst (λ (q : Key). row_at (anew t up under fate all all_told) q ≡ row_at beside q) own
+        (anew_row t up under fate all all_told (source_in k) ∙ sym (beside_row (source_in k)))
     each_row k false is =
-        other_made fate k (not_own k is) all others ∙ elsewhere k (is_at_group i g k) refl is
-        ∙ sym (other_made few k (not_own k is) some t)
+        anew_elsewhere t up under fate all all_told k is
+        ∙ sym (other_made few k (not_own t up under fate all all_told k is) some t)
 
-    up_others : Up others
-    unfolding drop_where
-    up_others = up_filtered (λ (e : Entry). not (is_at_group i g e.0)) t up
-
-    pub same_written : anew ≡ beside
+    pub same_written : anew t up under fate all all_told ≡ beside
     same_written =
-        same_rows anew beside (up_made fate all others up_others) (up_made few some t up)
+        same_rows (anew t up under fate all all_told) beside (up_anew t up under fate all all_told) (up_made few some t up)
         (λ k. each_row k (same_key (key_of (source_in k)) k) refl)

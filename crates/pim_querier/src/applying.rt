@@ -194,7 +194,7 @@ fn apply_to_all(
 }
 
 // Whether a source that the record doesn't name stays as it is.
-fn keeps_others(record_type: RecordType) -> bool
+pub(crate) fn keeps_others(record_type: RecordType) -> bool
     ensures { result ≡ keeps_others record_type }
 {
     !matches!(record_type, RecordType::IsExclude | RecordType::ToExclude)

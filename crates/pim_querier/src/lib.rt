@@ -7,6 +7,7 @@ pub mod election;
 pub mod firing;
 pub mod intervals;
 pub mod lowering;
+mod moving;
 pub mod named;
 pub mod overheard;
 pub mod queries;
@@ -17,6 +18,7 @@ pub mod sendings;
 pub mod startup;
 
 pub use firing::fired;
+pub use moving::all_move_ends;
 pub use named::{is_full, named_keys};
 pub use overheard::query_seen;
 pub use report::{is_skipped, report_seen};

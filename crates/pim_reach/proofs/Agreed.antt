@@ -1,5 +1,5 @@
 -- Where two states agree on a source, nothing of it differs; so a source beside the touched keys isn't named.
-use Rattle.std.proofs.Common.{◌≡◌, ◌==◌, ℕ, Bool, true, false, ◌&&◌, ◌||◌, [], ◌∷◌, filter, Option, Some, None, is_none, is_some, refl, sym, ap, ◌∙◌, eq-eqb}
+use Rattle.std.proofs.Common.{◌≡◌, ◌==◌, ℕ, Bool, true, false, cond, ◌&&◌, ◌||◌, [], ◌∷◌, filter, map, Option, Some, None, is_none, is_some, refl, sym, ap, ◌∙◌, eq-eqb}
 use Rattle.std.specs.Cmp.Derive.{both_true}
 use Rattle.std.specs.Option.{option_map_or}
 use Rattle.pim_ip.specs.declared.addr.Addr.{Addr}
@@ -10,18 +10,19 @@ use Rattle.pim_types.specs.declared.fact.Key.{Key}
 use Rattle.pim_types.specs.declared.fact.RegisterRow.{RegisterRow}
 use Rattle.pim_types.specs.declared.fact.RegisterState.{RegisterState}
 use Rattle.pim_types.specs.declared.fact.SourceRow.{SourceRow}
-use Rattle.pim_types.specs.Keys.{group_in, names_source, source_in, source_key}
+use Rattle.pim_types.specs.Keys.{group_in, names_source, same_key, source_in, source_key}
 use Rattle.pim_types.proofs.Keys.{same_key_same}
 use Rattle.pim_model.specs.Reach.{is_same_for, names_star}
-use Rattle.pim_model.specs.Rows.{same_assert, same_downstream, same_group_record, same_metric, same_register, same_register_state, same_rows, same_source, same_source_record}
+use Rattle.pim_model.specs.Rows.{same_assert, same_downstream, same_end, same_group_record, same_metric, same_register, same_register_state, same_rows, same_source, same_source_record}
 use Rattle.pim_model.specs.Sets.{is_winner}
 use Rattle.pim_model.specs.State.{State}
-use Rattle.pim_model.specs.Tables.{Table, rows_where}
+use Rattle.pim_model.specs.Tables.{Table, rows_where, same_bool}
 use Rattle.pim_model.specs.Unicast.{route, rp_of, rp_route}
 use Rattle.pim_laws.proofs.ListLaws.{filter_within}
 use Rattle.pim_locality.specs.Locality.{AgreesOn}
-use Rattle.pim_locality.specs.Scopes.{reads, scope}
+use Rattle.pim_locality.specs.Scopes.{only_running, reads, scope}
 use Rattle.pim_locality.proofs.SharedMacros.{route_local, rp_of_local, rp_route_local}
+use Rattle.pim_locality.proofs.StarMacros.{some_cut}
 use Rattle.pim_locality.proofs.UntoldKeys.{same_by_scope}
 use Rattle.pim_reach.specs.Named.{is_named}
 use Rattle.pim_reach.proofs.Reached.{same_is_unnamed}
@@ -72,6 +73,53 @@ rows_within p q more t u e =
     sym (filter_within (λ x. p x.0) (λ x. q x.0) (λ x. more x.0) t)
     ∙ (ap (filter (λ x. p x.0)) e ∙ filter_within (λ x. p x.0) (λ x. q x.0) (λ x. more x.0) u)
 
+-- ---- rows that were cut down
+
+module _ {R : Type 0} (cut : R → R) where
+  abbrev cut_down : Key × R → Key × R
+  cut_down e = (e.0, cut e.1)
+
+  where_step : (p : Key → Bool) (x : Key × R) (xs : Table R) (b : Bool)
+      → rows_where p (map cut_down xs) ≡ map cut_down (rows_where p xs)
+      → cond b (cut_down x ∷ rows_where p (map cut_down xs)) (rows_where p (map cut_down xs))
+      ≡ map cut_down (cond b (x ∷ rows_where p xs) (rows_where p xs))
+  where_step p x xs true ih = ap (λ (t : Table R). cut_down x ∷ t) ih
+  where_step p x xs false ih = ih
+
+  where_cut : (p : Key → Bool) (t : Table R) → rows_where p (map cut_down t) ≡ map cut_down (rows_where p t)
+  unfolding rows_where
+  where_cut p [] = refl
+  where_cut p (x ∷ xs) = where_step p x xs (p x.0) (where_cut p xs)
+
+  cut_within : (p q : Key → Bool) → ((k : Key) → p k ≡ true → q k ≡ true) → (t u : Table R)
+      → map cut_down (rows_where q t) ≡ map cut_down (rows_where q u)
+      → map cut_down (rows_where p t) ≡ map cut_down (rows_where p u)
+  unfolding rows_where
+  cut_within p q more t u e =
+      sym (ap (map cut_down) (filter_within (λ x. p x.0) (λ x. q x.0) (λ x. more x.0) t))
+      ∙ sym (where_cut p (rows_where q t)) ∙ ap (rows_where p) e ∙ where_cut p (rows_where q u)
+      ∙ ap (map cut_down) (filter_within (λ x. p x.0) (λ x. q x.0) (λ x. more x.0) u)
+
+  module _ (same : R → R → Bool) (itself : (r : R) → same r r ≡ true)
+      (of_cut : (a b : R) → same (cut a) (cut b) ≡ same a b) where
+    cut_alike : (t u : Table R) → same_rows same (map cut_down t) (map cut_down u) ≡ same_rows same t u
+    unfolding same_rows
+    cut_alike [] [] = refl
+    cut_alike [] (y ∷ ys) = refl
+    cut_alike (x ∷ xs) [] = refl
+    cut_alike (x ∷ xs) (y ∷ ys) = λ j. same_key x.0 y.0 && of_cut x.1 y.1 j && cut_alike xs ys j
+
+    -- rows are alike where they are the same once they are cut down
+    rows_alike : (p q : Key → Bool) → ((k : Key) → p k ≡ true → q k ≡ true) → (t u : Table R)
+        → map cut_down (rows_where q t) ≡ map cut_down (rows_where q u)
+        → same_rows same (rows_where p t) (rows_where p u) ≡ true
+    rows_alike p q more t u e =
+        sym (cut_alike (rows_where p t) (rows_where p u))
+        ∙ rows_equal same itself (map cut_down (rows_where p t)) (map cut_down (rows_where p u)) (cut_within p q more t u e)
+
+ends_alike : (a b : Option ℕ) → same_end (only_running a) (only_running b) ≡ same_end a b
+ends_alike a b = λ j. same_bool (some_cut a j) (some_cut b j)
+
 -- the rows of (*,G), and those of a source, are the same
 pub record SameStarRows (g : ℕ) (s t : State) : Type 0 where
   pub group_records : rows_where (names_star g) s.group_records ≡ rows_where (names_star g) t.group_records
@@ -86,23 +134,54 @@ pub record SameSourceRows (g src : ℕ) (s t : State) : Type 0 where
   pub sources : rows_where (names_source g src) s.sources ≡ rows_where (names_source g src) t.sources
   pub registers : rows_where (names_source g src) s.registers ≡ rows_where (names_source g src) t.registers
 
+-- the same, but for the ends of records
+record AlikeRows (g src : ℕ) (s t : State) : Type 0 where
+  group_records : same_rows same_group_record (rows_where (names_star g) s.group_records)
+      (rows_where (names_star g) t.group_records)
+      ≡ true
+  source_records : same_rows same_source_record (rows_where (names_source g src) s.source_records)
+      (rows_where (names_source g src) t.source_records)
+      ≡ true
+  star_downstream : rows_where (names_star g) s.downstream ≡ rows_where (names_star g) t.downstream
+  star_asserts : rows_where (names_star g) s.asserts ≡ rows_where (names_star g) t.asserts
+  downstream : rows_where (names_source g src) s.downstream ≡ rows_where (names_source g src) t.downstream
+  asserts : rows_where (names_source g src) s.asserts ≡ rows_where (names_source g src) t.asserts
+  sources : rows_where (names_source g src) s.sources ≡ rows_where (names_source g src) t.sources
+  registers : rows_where (names_source g src) s.registers ≡ rows_where (names_source g src) t.registers
+
 -- then nothing differs, with the same routes
-pub same_with_rows : (g src : ℕ) (s t : State) → SameStarRows g s t → SameSourceRows g src s t
+alike_with_rows : (g src : ℕ) (s t : State) → AlikeRows g src s t
     → route s src ≡ route t src → rp_of s g ≡ rp_of t g → rp_route s g ≡ rp_route t g → is_same_for g src s t ≡ true
 unfolding is_same_for
-same_with_rows g src s t star rows path rp rp_path =
+alike_with_rows g src s t rows path rp rp_path =
     both_true (both_true (both_true (both_true (both_true (both_true (both_true (both_true (both_true (both_true
-    (rows_equal same_source_record (λ r. bool_itself (is_some r.end)) _ _ rows.source_records)
+    rows.source_records
     (rows_equal same_downstream downstream_itself _ _ rows.downstream))
     (rows_equal same_assert assert_itself _ _ rows.asserts))
     (rows_equal same_source source_itself _ _ rows.sources))
     (rows_equal same_register register_itself _ _ rows.registers))
-    (rows_equal same_group_record (λ r. bool_itself (is_some r.end)) _ _ star.group_records))
-    (rows_equal same_downstream downstream_itself _ _ star.downstream))
-    (rows_equal same_assert assert_itself _ _ star.asserts))
+    rows.group_records)
+    (rows_equal same_downstream downstream_itself _ _ rows.star_downstream))
+    (rows_equal same_assert assert_itself _ _ rows.star_asserts))
     (paths_same _ _ path))
     (options_same _ _ rp))
     (paths_same _ _ rp_path)
+
+pub same_with_rows : (g src : ℕ) (s t : State) → SameStarRows g s t → SameSourceRows g src s t
+    → route s src ≡ route t src → rp_of s g ≡ rp_of t g → rp_route s g ≡ rp_route t g → is_same_for g src s t ≡ true
+same_with_rows g src s t star rows path rp rp_path =
+    alike_with_rows g src s t
+    (record {
+      group_records = rows_equal same_group_record (λ r. bool_itself (is_some r.end)) _ _ star.group_records;
+      source_records = rows_equal same_source_record (λ r. bool_itself (is_some r.end)) _ _ rows.source_records;
+      star_downstream = star.downstream;
+      star_asserts = star.asserts;
+      downstream = rows.downstream;
+      asserts = rows.asserts;
+      sources = rows.sources;
+      registers = rows.registers;
+    })
+    path rp rp_path
 
 -- ---- where they agree on the key of the source
 
@@ -129,26 +208,21 @@ source_read g src k e =
     source_reads (group_in k == g) (is_some k.source) (source_in k == src) (source_in k == 0) e
 
 module _ (g src : ℕ) (s t : State) (agree : AgreesOn (source_key 0 g src) s t) where
-  agreed_star : SameStarRows g s t
+  agreed_rows : AlikeRows g src s t
   unfolding scope
-  agreed_star =
+  agreed_rows =
       let k : Key = source_key 0 g src in
       record {
-        group_records = rows_within (names_star g) (reads k) (star_read g src) s.group_records t.group_records
-            (ap (λ (u : State). u.group_records) agree);
-        downstream = rows_within (names_star g) (reads k) (star_read g src) s.downstream t.downstream
+        group_records = rows_alike (λ r. record { end = only_running r.end }) same_group_record
+            (λ r. bool_itself (is_some r.end)) (λ a b. ends_alike a.end b.end) (names_star g) (reads k)
+            (star_read g src) s.group_records t.group_records (ap (λ (u : State). u.group_records) agree);
+        source_records = rows_alike (λ r. record { end = only_running r.end }) same_source_record
+            (λ r. bool_itself (is_some r.end)) (λ a b. ends_alike a.end b.end) (names_source g src) (reads k)
+            (source_read g src) s.source_records t.source_records (ap (λ (u : State). u.source_records) agree);
+        star_downstream = rows_within (names_star g) (reads k) (star_read g src) s.downstream t.downstream
             (ap (λ (u : State). u.downstream) agree);
-        asserts = rows_within (names_star g) (reads k) (star_read g src) s.asserts t.asserts
+        star_asserts = rows_within (names_star g) (reads k) (star_read g src) s.asserts t.asserts
             (ap (λ (u : State). u.asserts) agree);
-      }
-
-  agreed_source : SameSourceRows g src s t
-  unfolding scope
-  agreed_source =
-      let k : Key = source_key 0 g src in
-      record {
-        source_records = rows_within (names_source g src) (reads k) (source_read g src) s.source_records
-            t.source_records (ap (λ (u : State). u.source_records) agree);
         downstream = rows_within (names_source g src) (reads k) (source_read g src) s.downstream t.downstream
             (ap (λ (u : State). u.downstream) agree);
         asserts = rows_within (names_source g src) (reads k) (source_read g src) s.asserts t.asserts
@@ -171,7 +245,7 @@ module _ (g src : ℕ) (s t : State) (agree : AgreesOn (source_key 0 g src) s t)
   agreed_is_unnamed =
       let k : Key = source_key 0 g src in
       same_is_unnamed g src s t agreed_around
-      (same_with_rows g src s t agreed_star agreed_source
+      (alike_with_rows g src s t agreed_rows
       (same_by_scope k (λ u. route u src) (λ u. route_local (reads k) u src) s t agree)
       (same_by_scope k (λ u. rp_of u g) (λ u. rp_of_local (reads k) u g) s t agree)
       (same_by_scope k (λ u. rp_route u g) (λ u. rp_route_local (reads k) u g) s t agree))

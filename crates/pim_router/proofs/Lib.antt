@@ -9,6 +9,8 @@ mod Growing
 mod Heard
 mod Instants
 mod Judgements
+mod MovedEnds
+mod MovedReports
 mod Plainly
 mod Rows
 mod Runs

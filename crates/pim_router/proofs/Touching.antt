@@ -1,5 +1,5 @@
 -- Which machines a change concerns, and of which groups and sources it makes facts.
-use Rattle.std.proofs.Common.{◌≡◌, ℕ, Bool, true, false, List, [], ◌∷◌, ◌&&◌, ◌++◌, ◌==◌, filter, min, map, not, Option, Some, None, refl, ap, eqb-true, subst, sym, ◌∙◌}
+use Rattle.std.proofs.Common.{◌≡◌, ℕ, Bool, true, false, List, [], ◌∷◌, ◌&&◌, ◌||◌, ◌++◌, ◌==◌, filter, min, map, not, Option, Some, None, refl, ap, eqb-true, subst, sym, ◌∙◌}
 use Rattle.std.specs.Cmp.{first_so, second_so}
 use Rattle.std.proofs.lemmas.Bool.{or_left, or_right}
 use Rattle.std.proofs.lemmas.List.Folds.{list_any-append}
@@ -21,7 +21,7 @@ use Rattle.pim_model.specs.Downstream.{asserts_after_joins, is_named, joined_key
 use Rattle.pim_model.specs.Firing.{fired}
 use Rattle.pim_model.specs.Full.{asserted_keys}
 use Rattle.pim_model.specs.Hellos.{hello_holdtime_of, hello_received, hello_triggered, is_generation_changed, is_lost_to, neighbour_replaced, neighbour_restarted}
-use Rattle.pim_model.specs.Querier.{querier_up, querying}
+use Rattle.pim_model.specs.Querier.{is_skipped, querier_up, querying}
 use Rattle.pim_model.specs.Seen.{seen}
 use Rattle.pim_model.specs.Sets.{is_loser}
 use Rattle.pim_model.specs.State.{State}
@@ -53,7 +53,9 @@ use Rattle.pim_laws.specs.Laws.{is_under_source}
 use Rattle.igmp_wire.specs.Values.{Query as QueryValue, Record}
 use Rattle.pim_locality.specs.Scopes.{reads}
 use Rattle.pim_ready.specs.Ready.{IsSettled}
-use Rattle.pim_router.proofs.IgmpFacts.{query_leaves_facts, report_names_facts}
+use Rattle.pim_querier.specs.Reports.{all_move_ends}
+use Rattle.pim_router.proofs.IgmpFacts.{query_leaves_facts, report_names_facts, star_names_none}
+use Rattle.pim_router.proofs.MovedReports.{report_touches_none, reported_there}
 use Rattle.pim_router.proofs.Tunnelled.{routes_leave_facts, rps_leave_facts, stop_leaves_facts}
 use Rattle.pim_model.specs.Registers.{is_null, register_stop_seen, registered_group, registered_source}
 use Rattle.pim_ip.specs.Ipv4.{Packet}
@@ -200,6 +202,21 @@ received_named : (s : State) (packet : Packet) (r : Register)
 received_named s packet (Encapsulated inner) = register_named s packet inner.destination inner.source false
 received_named s packet (Null source group) = register_named s packet group source true
 
+-- ---- what a report names
+
+stars_in : (g src i : ℕ) (rs : List Record) → list_any (names_source g src) (map (λ (r : Record). star_key i r.group) rs) ≡ false
+stars_in g src i [] = refl
+stars_in g src i (r ∷ rs) = rw (star_names_none g src i r.group) (stars_in g src i rs)
+
+stars_none : (g src i : ℕ) (records : List Record) → list_any (names_source g src) (reported_groups i records) ≡ false
+unfolding reported_groups
+stars_none g src i records = stars_in g src i (filter (λ r. not (is_skipped r)) records)
+
+of_second : (p : Key → Bool) (xs ys : List Key) → list_any p xs ≡ false → list_any p (xs ++ ys) ≡ true
+    → list_any p ys ≡ true
+of_second p xs ys none some =
+    sym (ap (λ (b : Bool). b || list_any p ys) none) ∙ sym (list_any-append p xs ys) ∙ some
+
 -- ---- what was accepted
 
 module _ (s : State) where
@@ -265,15 +282,14 @@ module _ (s : State) where
             ((stop_leaves_facts s w r.group.bits r.source.bits).passed (names_source g src) there);
       })
 
-  pub queried_covered : (i : IfaceId) (from : Addr) (q : QueryValue) (k : Key) (keys : List Key) → k ≡ star_key 0 q.group → keys ≡ k ∷ []
+  pub queried_covered : (i : IfaceId) (from : Addr) (q : QueryValue) (keys : List Key) → keys ≡ []
       → (w : ℕ) → Concerns keys s (change s w (Accepted.Query i from q)).state
   unfolding touched_by_event change
-  queried_covered i from q k keys own all w =
-      let those : keys ≡ star_key 0 q.group ∷ [] = all ∙ ap (λ (x : Key). x ∷ []) own in
-      subst (λ ks. Concerns ks s (change s w (Accepted.Query i from q)).state) (sym those)
+  queried_covered i from q keys none w =
+      subst (λ ks. Concerns ks s (change s w (Accepted.Query i from q)).state) (sym none)
       (record {
-        agrees = change_touches s w (Accepted.Query i from q) (star_key 0 q.group ∷ []) refl;
-        named = λ g src there. or_left (has_facts s g src) (list_any (names_source g src) (star_key 0 q.group ∷ []))
+        agrees = change_touches s w (Accepted.Query i from q) [] refl;
+        named = λ g src there. or_left (has_facts s g src) (list_any (names_source g src) [])
             ((query_leaves_facts i.number s from.bits q).passed (names_source g src) there);
       })
 
@@ -289,6 +305,25 @@ module _ (s : State) where
         agrees = touching_more groups sources s _ (change_touches s w (Accepted.Report i records) groups refl);
         named = report_names_facts s i.number records
             (each_of_list is_under_source s.source_records settled.ahead.firable.source_records);
+      })
+
+  pub moved_covered : (i : IfaceId) (records : List Record) (keys : List Key) → IsSettled s
+      → all_move_ends s i.number records ≡ true → keys ≡ []
+      → (w : ℕ) → Concerns keys s (change s w (Accepted.Report i records)).state
+  unfolding change
+  moved_covered i records keys settled moves none w =
+      let under = each_of_list is_under_source s.source_records settled.ahead.firable.source_records in
+      subst (λ ks. Concerns ks s (change s w (Accepted.Report i records)).state) (sym none)
+      (record {
+        agrees = report_touches_none s i.number records
+            (record { groups = settled.ordered.group_records; sources = settled.ordered.source_records; under = under }) moves;
+        named = λ g src there. or_left (has_facts s g src) false
+            (either (has_facts s g src)
+            (list_any (names_source g src) (reported_groups i.number records ++ reported_sources i.number records)) (λ h. h)
+            (λ named. reported_there s i.number records moves (names_source g src)
+            (of_second (names_source g src) (reported_groups i.number records) (reported_sources i.number records)
+            (stars_none g src i.number records) named))
+            (report_names_facts s i.number records under g src there));
       })
 
   pub packet_covered : (i : IfaceId) (packet : Packet) (keys : List Key)

@@ -149,22 +149,20 @@ fn plan_assert(
     Ok(Some(Plan::of_keys(keys)))
 }
 
-// A query touches its group, and makes no facts.
+// A query touches nothing, and makes no facts: the timers that it lowers run on.
 fn plan_query(
     world: &World,
     turn: &Turn,
     iface: IfaceId,
     from: Addr,
     query: &QueryView<'_>,
-) -> Result<Option<Plan>, AllocError>
-    ensures { IfOk result (λ plan. IsPlanned world.now (AcceptedValue.Query iface from query.now) plan) }
+) -> Option<Plan>
+    ensures { IsPlanned world.now (AcceptedValue.Query iface from query.now) result }
 {
-    let key = Key::group(query.group());
-    let keys = only(turn.alloc, key)?;
-    Ok(Some(Plan::of_keys(keys)))
+    Some(Plan::of_keys(Series::new(turn.alloc)))
 }
 
-// A report touches the groups and the sources that it names.
+// A report that moves the ends of timers alone touches nothing, any other the groups and the sources that it names.
 fn plan_report(
     world: &World,
     turn: &Turn,
@@ -176,6 +174,9 @@ fn plan_report(
 {
     if pim_querier::is_full(world, turn.alloc, iface, report)? {
         return Ok(None);
+    }
+    if pim_querier::all_move_ends(world, iface, report) {
+        return Ok(Some(Plan::of_keys(Series::new(turn.alloc))));
     }
     let keys = pim_querier::named_keys(turn.alloc, iface, report)?;
     Ok(Some(Plan::of_keys(keys)))
@@ -307,7 +308,9 @@ pub(crate) fn planned(
             from,
             assert,
         } => plan_assert(world, turn, *iface, *from, assert),
-        Accepted::Query { iface, from, query } => plan_query(world, turn, *iface, *from, query),
+        Accepted::Query { iface, from, query } => {
+            Ok(plan_query(world, turn, *iface, *from, query))
+        }
         Accepted::Report { iface, report } => plan_report(world, turn, *iface, report),
         Accepted::Data { iface, packet } => plan_data(world, turn, *iface, packet),
         Accepted::Register { packet, register } => plan_register(world, turn, packet, register),
