@@ -47,16 +47,17 @@ fn leaves(packet: &Ipv4View<'_>) -> bool
     packet.time_to_live() > 1
 }
 
-// A copy of the packet on each of these interfaces.
+// A copy of the packet on each of these interfaces. Room for so many is taken at once.
 fn copies_on(
     alloc: Global,
+    room: usize,
     ifaces: Iter,
     packet: &Ipv4View<'_>,
 ) -> Result<Vec<Emission>, AllocError>
     ensures { IfOk result (λ copies. copies.items
         ≡ map (λ (iface : IfaceValue). on_link iface.number (copy_text packet.now)) ifaces) }
 {
-    let mut copies = Vec::new(alloc);
+    let mut copies = Vec::with_capacity(alloc, room)?;
     for iface in ifaces {
         copies.push(copy_on_link(alloc, iface, packet)?)?;
     }
@@ -82,7 +83,7 @@ pub fn copies(
     let count = world.interfaces().count();
     // It tells how many there are.
     let list = list.without_tunnel();
-    copies_on(alloc, members(list, count), packet)
+    copies_on(alloc, list.len(), members(list, count), packet)
 }
 
 // The Register round the packet, from the router's address on RPF_interface(S) to the RP, where there is one.

@@ -1,5 +1,5 @@
 -- Asserts by the sets of the interfaces on which the router lost or won one.
-use Rattle.std.proofs.Common.{◌≡◌, ℕ, Bool, true, false, ◌&&◌, ◌||◌, nat_lt, Option, Some, None, is_some, refl, ap, ◌∙◌}
+use Rattle.std.proofs.Common.{◌≡◌, ℕ, Bool, true, false, ◌&&◌, ◌||◌, nat_lt, Option, Some, None, is_some, refl, ap, sym, ◌∙◌}
 use Rattle.std.specs.Option.{option_map_or}
 use Rattle.pim_ifset.specs.Members.{Members, has}
 use Rattle.pim_types.specs.declared.fact.AssertMetric.{AssertMetric}
@@ -24,6 +24,19 @@ unfolding is_beaten has_row
 beaten_where_asserted s g src i asserted e =
     ap (λ b. b && is_beaten s g src i) e
     ∙ some_row (λ r. is_better r.winner (spt_metric s src i)) (row_at s.asserts (source_key i g src))
+
+limit_none : (limit : Bool) → (limit && false) ≡ false
+limit_none true = refl
+limit_none false = refl
+
+-- where there is no assert at all, an empty set shows where a winner is better
+pub beaten_nowhere : (s : State) (g src : ℕ) (asserted set : Members)
+    → ((i : ℕ) → has asserted i ≡ has_row s.asserts (source_key i g src)) → ((i : ℕ) → has asserted i ≡ false)
+    → ((i : ℕ) → has set i ≡ false) → Shows set (is_beaten s g src)
+beaten_nowhere s g src asserted set tells none empty i =
+    let e : is_beaten s g src i ≡ false =
+    sym (beaten_where_asserted s g src i (has asserted i) (tells i)) ∙ ap (λ b. b && is_beaten s g src i) (none i) in
+    empty i ∙ sym (ap (λ b. nat_lt i 120 && b) e ∙ limit_none (nat_lt i 120))
 
 either_role : (role : AssertRole) (winner : AssertMetric) (end : ℕ)
     → let row : Option AssertRow = Some (record { role = role; winner = winner; end = end }) in

@@ -1,5 +1,5 @@
 -- A row of the forwarding cache: what it answers of its source, and when these answers are those of a state.
-use Rattle.std.specs.Prelude.{Bool, Option, Some, false, nat_lt, option_map, true, ℕ, ◌≡◌}
+use Rattle.std.specs.Prelude.{Option, Some, false, nat_lt, option_map, true, ℕ, ◌≡◌}
 use Rattle.pim_ifset.specs.Members.{has}
 use Rattle.pim_ip.specs.declared.addr.Addr.{Addr}
 use Rattle.pim_types.specs.declared.config.IfaceId.{IfaceId}

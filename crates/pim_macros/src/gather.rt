@@ -16,7 +16,7 @@ ghost use Rattle.pim_types.specs.Keys.{source_key};
 ghost use Rattle.pim_types.specs.declared.path.Path.{Path as PathValue};
 ghost use Rattle.pim_trie.specs.Meter.{raised};
 ghost use Rattle.pim_world.specs.Shown.{Shows};
-ghost use Rattle.pim_world.specs.Visits.{group_record_nodes, source_nodes, source_record_nodes, star_nodes};
+ghost use Rattle.pim_world.specs.Visits.{group_record_nodes, sight_nodes, source_nodes, source_record_nodes, star_nodes};
 
 use crate::asserts::{is_better, route_metric};
 use crate::interfaces::interfaces_where;
@@ -110,6 +110,9 @@ fn beaten(world: &World, asserted: IfSet, group: Addr, source: Addr, path: Optio
     requires path { path ≡ route world.now source.bits }
     ensures { Shows result (is_beaten world.now group.bits source.bits) }
 {
+    if asserted.is_empty() {
+        return IfSet::new();
+    }
     interfaces_where(|iface| {
         asserted.contains(iface) && is_beaten(world, iface, group, source, path)
     })
@@ -217,10 +220,12 @@ impl SourceSight {
     }
 }
 
-/// The upstream neighbour of the key's Join timer: RPF'(*,G), or RPF'(S,G).
+/// The upstream neighbour of the key's Join timer: RPF'(*,G), or RPF'(S,G). The meter rises by the nodes that the look-ups
+/// visit, at least those of the sight of the group and, where the key has one, of the source.
 #[tactic(auto, unfolding(pim_model::specs::Hellos::upstream_of))]
 pub fn upstream_of(world: &World, key: Key, meter: &mut Meter) -> Option<Hop>
-    ensures { result ≡ upstream_of world.now key }
+    ensures upstream { result ≡ upstream_of world.now key }
+    ensures at_least { raised meter.old (sight_nodes world.now key.group key.source) ≤ meter.new }
 {
     let star = StarSight::of(world, key.group, meter);
     match key.source {

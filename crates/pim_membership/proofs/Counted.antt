@@ -12,8 +12,9 @@ use Rattle.pim_laws.proofs.ListLaws.{any_among_all, each_both, each_more}
 use Rattle.pim_laws.proofs.RowLaws.{has_row_any}
 use Rattle.pim_laws.proofs.TableLaws.{any_of_map, row_is_there}
 use Rattle.pim_source_trie.specs.Entries.{nodes_visited, raised}
-use Rattle.pim_source_trie.proofs.Visited.{raised_more}
+use Rattle.pim_source_trie.proofs.Visited.{raised_at_most, raised_more, visited_at_most}
 use Rattle.pim_membership.specs.Listing.{IsListed, There, in_entry, is_record_key, record_at, source_bits, told_of}
+use Rattle.pim_membership.specs.Visits.{IsLookedUp}
 use Rattle.pim_membership.specs.declared.listed.Listed.{Listed}
 use Rattle.pim_membership.proofs.Told.{key_again, source_again}
 
@@ -84,3 +85,10 @@ module _ {R : Type 0} (runs : R → Bool) (of_sources : Bool) (marks : Table Lis
       (λ test. any_listed (λ k. is_of_group group.bits k && (is_some k.source && test (source_in k)))
       (λ k. ap (λ (o : Option Addr). is_of_group group.bits k && (is_some o && test (option_map_or (λ (a : Addr). a.bits) o 0)))
       (source_again k.source))) source old)
+
+  pub is_looked_up : (group : Addr) (source : Option Addr) (old new : ℕ)
+      → new ≡ raised old (nodes_visited (keys_in marks) group source) → IsLookedUp (keys_in rows) group source old new
+  is_looked_up group source old new visited = record {
+    at_least = records_visited group source old new visited;
+    at_most = raised_at_most _ _ _ 66 visited (visited_at_most (keys_in marks) group source);
+  }

@@ -8,3 +8,6 @@ mod Found
 mod Named
 mod Kept
 mod Walked
+mod Listings
+mod Each
+mod Summed

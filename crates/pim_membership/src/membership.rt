@@ -1,5 +1,5 @@
 //! The membership facts.
-ghost use Rattle.std.specs.Prelude.{◌≡◌, ◌<◌, ◌≤◌, ◌+◌, ◌^◌, ℕ, None, Some, IfOk, IfSome, IsTrue, OnErr, OnOk, Option, false, filter, length, map, nat_lt, option_map, true};
+ghost use Rattle.std.specs.Prelude.{◌≡◌, ◌<◌, ◌≤◌, ◌+◌, ◌^◌, ℕ, None, Some, IfOk, IfSome, IsTrue, OnErr, OnOk, Option, false, filter, is_some, length, map, nat_lt, option_map, true};
 ghost use Rattle.std.specs.List.{AllByRecursion, list_all, list_any};
 ghost use Rattle.std.specs.List.Sorted.{IsStrictlySortedBy};
 ghost use Rattle.std.specs.Ordering.{nat_cmp};
@@ -8,15 +8,17 @@ ghost use Rattle.pim_laws.specs.Laws.{is_under_source};
 ghost use Rattle.pim_model.specs.Clearing.{first_by};
 ghost use Rattle.pim_model.specs.Receivers.{is_exclude_among, local_receiver_exclude_among, local_receiver_include_among};
 ghost use Rattle.pim_model.specs.Records.{is_at_group};
-ghost use Rattle.pim_model.specs.Tables.{change_row, drop_at, drop_where, has_row, keys_in, put, row_at, set_row};
+ghost use Rattle.pim_model.specs.Tables.{change_row, drop_at, drop_where, has_row, keys_in, put, row_at, rows_on, set_row};
 ghost use Rattle.pim_model.specs.Timers.{is_ending_first};
 ghost use Rattle.pim_model.specs.Upstream.{sources_of};
 ghost use Rattle.pim_source_trie.specs.Entries.{nodes_visited, raised};
 ghost use Rattle.pim_tables.specs.Ends.{due_of};
 ghost use Rattle.pim_types.specs.Keys.{iface_in, iface_key, is_on, key_cmp, names_source, source_in, source_key, star_key};
 ghost use Rattle.pim_types.specs.declared.fact.GroupRecordRow.{GroupRecordRow as GroupRecord};
+ghost use Rattle.pim_types.specs.declared.fact.SourceRecordRow.{SourceRecordRow as SourceRecord};
 ghost use Rattle.pim_membership.specs.MembershipTables.{counted_records, membership_endings, membership_keys, no_membership};
 ghost use Rattle.pim_membership.specs.Sources.{NameNone};
+ghost use Rattle.pim_membership.specs.Visits.{IsLookedUp, Visits, changes_listed, nodes_to_each, nodes_to_sources, sets_listed};
 
 use crate::records::Records;
 use crate::repeats::Repeats;
@@ -164,18 +166,22 @@ impl Membership {
         meter: &mut Meter,
     ) -> Result<(), AllocError>
         requires { iface.number < 120 }
-        ensures { OnOk result (self.new ≡ record self.old {
+        ensures set { OnOk result (self.new ≡ record self.old {
           group_records = set_row self.old.group_records (star_key iface.number group.bits) row;
         }) }
+        ensures visited { OnOk result (Visits (sets_listed (λ (r : GroupRecord). is_some r.end) row
+            (row_at self.old.group_records (star_key iface.number group.bits))) (keys_in self.old.group_records) group None
+            meter.old meter.new) }
     {
         self.group_records.set(iface, group, None, row, meter)
     }
 
     /// Takes the group's record on the interface away.
     pub fn remove_group_record(&mut self, iface: IfaceId, group: Addr, meter: &mut Meter)
-        ensures { self.new ≡ record self.old {
+        ensures removed { self.new ≡ record self.old {
           group_records = drop_at self.old.group_records (star_key iface.number group.bits);
         } }
+        ensures visited { IsLookedUp (keys_in self.old.group_records) group None meter.old meter.new }
     {
         self.group_records.remove(iface, group, None, meter);
     }
@@ -197,6 +203,9 @@ impl Membership {
             → self.new ≡ record self.old {
               group_records = change_row change (star_key iface.number group.bits) self.old.group_records;
             }) }
+        ensures visited { OnOk result (Visits (changes_listed (λ (r : GroupRecord). is_some r.end) row
+            (row_at self.old.group_records (star_key iface.number group.bits))) (keys_in self.old.group_records) group None
+            meter.old meter.new) }
     {
         self.group_records.change(iface, group, None, row, meter)
     }
@@ -254,9 +263,12 @@ impl Membership {
         meter: &mut Meter,
     ) -> Result<(), AllocError>
         requires { iface.number < 120 }
-        ensures { OnOk result (self.new ≡ record self.old {
+        ensures set { OnOk result (self.new ≡ record self.old {
           source_records = set_row self.old.source_records (source_key iface.number group.bits source.bits) row;
         }) }
+        ensures visited { OnOk result (Visits (sets_listed (λ (r : SourceRecord). is_some r.end) row
+            (row_at self.old.source_records (source_key iface.number group.bits source.bits)))
+            (keys_in self.old.source_records) group (Some source) meter.old meter.new) }
     {
         self.source_records
             .set(iface, group, Some(source), row, meter)
@@ -270,9 +282,10 @@ impl Membership {
         source: Addr,
         meter: &mut Meter,
     )
-        ensures { self.new ≡ record self.old {
+        ensures removed { self.new ≡ record self.old {
           source_records = drop_at self.old.source_records (source_key iface.number group.bits source.bits);
         } }
+        ensures visited { IsLookedUp (keys_in self.old.source_records) group (Some source) meter.old meter.new }
     {
         self.source_records
             .remove(iface, group, Some(source), meter);
@@ -285,9 +298,11 @@ impl Membership {
         row: SourceRecordRow,
         meter: &mut Meter,
     ) -> Result<(), AllocError>
-        ensures { OnOk result (self.new ≡ record self.old {
+        ensures changed { OnOk result (self.new ≡ record self.old {
           source_records = change_row (λ _. Some row) key self.old.source_records;
         }) }
+        ensures visited { OnOk result (Visits (changes_listed (λ (r : SourceRecord). is_some r.end) row
+            (row_at self.old.source_records key)) (keys_in self.old.source_records) key.group key.source meter.old meter.new) }
     {
         self.source_records.change_at(key, row, meter)
     }
@@ -308,9 +323,11 @@ impl Membership {
 
     /// Takes the source records of the group on the interface away.
     pub fn drop_source_records(&mut self, iface: IfaceId, group: Addr, meter: &mut Meter)
-        ensures { self.new ≡ record self.old {
+        ensures dropped { self.new ≡ record self.old {
           source_records = drop_where (is_at_group iface.number group.bits) self.old.source_records;
         } }
+        ensures at_least { raised meter.old (nodes_to_each self.old.source_records (keys_in
+            (filter (λ e. is_at_group iface.number group.bits e.0) self.old.source_records))) ≤ meter.new }
     {
         self.source_records.drop_group(iface, group, meter);
     }
@@ -457,7 +474,7 @@ impl Membership {
 
     /// Takes all facts of the interface away.
     pub fn drop_on(&mut self, iface: IfaceId, meter: &mut Meter)
-        ensures { self.new ≡ record {
+        ensures dropped { self.new ≡ record {
           queriers = drop_where (is_on iface.number) self.old.queriers;
           group_records = drop_where (is_on iface.number) self.old.group_records;
           source_records = drop_where (is_on iface.number) self.old.source_records;
@@ -465,6 +482,9 @@ impl Membership {
           source_repeats = drop_where (is_on iface.number) self.old.source_repeats;
           sendings = drop_where (is_on iface.number) self.old.sendings;
         } }
+        ensures at_least { raised meter.old
+            (nodes_to_each self.old.group_records (keys_in (rows_on iface.number self.old.group_records))
+            + nodes_to_each self.old.source_records (keys_in (rows_on iface.number self.old.source_records))) ≤ meter.new }
     {
         self.queriers.drop_on(iface);
         self.group_records.drop_on(iface, meter);
@@ -493,7 +513,9 @@ impl Membership {
         group: Addr,
         meter: &mut Meter,
     ) -> Result<BTreeMap<Addr, (), Global>, AllocError>
-        ensures { IfOk result (λ found. map (λ e. (e.0).bits) found.entries ≡ sources_of group.bits (membership_keys self.now)) }
+        ensures sources { IfOk result (λ found. map (λ e. (e.0).bits) found.entries
+            ≡ sources_of group.bits (membership_keys self.now)) }
+        ensures at_least { OnOk result (raised meter.old (nodes_to_sources (keys_in self.now.source_records) group) ≤ meter.new) }
     {
         // It tells that no other fact is of a source.
         self.recall_keyed();

@@ -1,5 +1,5 @@
 //! The records of one kind, of groups or of their sources, with the interfaces that have them.
-ghost use Rattle.std.specs.Prelude.{◌≡◌, ◌<◌, ◌≤◌, ◌+◌, [], length, ℕ, Bool, None, Option, Some, IfOk, IfSome, IsTrue, OnErr, OnOk, false, true, filter, is_some, nat_lt, option_map};
+ghost use Rattle.std.specs.Prelude.{◌≡◌, ◌<◌, ◌≤◌, ◌+◌, ◌∷◌, [], length, ℕ, Bool, None, Option, Some, IfOk, IfSome, IsTrue, OnErr, OnOk, false, true, filter, is_some, nat_lt, option_map};
 ghost use Rattle.std.specs.List.{AllByRecursion, list_all, list_any};
 ghost use Rattle.std.specs.List.Sorted.{IsStrictlySortedBy};
 ghost use Rattle.std.specs.Option.{option_map_or};
@@ -14,6 +14,7 @@ ghost use Rattle.pim_ifset.specs.Members.{has};
 ghost use Rattle.pim_source_trie.specs.Entries.{nodes_visited, raised};
 ghost use Rattle.pim_membership.specs.Sources.{Gathers};
 ghost use Rattle.pim_membership.specs.Listing.{IsListed, Lists, is_record_key, record_key};
+ghost use Rattle.pim_membership.specs.Visits.{IsLookedUp, Visits, changes_listed, is_listed_anew, nodes_to_each, nodes_to_sources, sets_listed};
 
 use crate::index::Index;
 use crate::listed::Listed;
@@ -182,7 +183,8 @@ impl<R: Record> Records<R> {
         found: &mut BTreeMap<Addr, (), Global>,
         meter: &mut Meter,
     ) -> Result<(), AllocError>
-        ensures { OnOk result (Gathers found.old.entries found.new.entries group.bits self.now) }
+        ensures gathered { OnOk result (Gathers found.old.entries found.new.entries group.bits self.now) }
+        ensures at_least { OnOk result (raised meter.old (nodes_to_sources (keys_in self.now) group) ≤ meter.new) }
     {
         // These tell that the keys rise, and of which form they are.
         self.recall_rising();
@@ -210,7 +212,10 @@ impl<R: Record> Records<R> {
     ) -> Result<(), AllocError>
         requires below { iface.number < 120 }
         requires kind { is_some source ≡ R.of_sources }
-        ensures { OnOk result (self.new ≡ set_row self.old (record_key iface.number group source) row) }
+        ensures set { OnOk result (self.new ≡ set_row self.old (record_key iface.number group source) row) }
+        ensures visited { OnOk result (Visits
+            (sets_listed R.runs row (row_at self.old (record_key iface.number group source))) (keys_in self.old) group source
+            meter.old meter.new) }
     {
         match row {
             Some(row) => self.put(iface, group, source, row, meter),
@@ -232,7 +237,10 @@ impl<R: Record> Records<R> {
     ) -> Result<(), AllocError>
         requires below { iface.number < 120 }
         requires kind { is_some source ≡ R.of_sources }
-        ensures { OnOk result (self.new ≡ put self.old (record_key iface.number group source) row) }
+        ensures put { OnOk result (self.new ≡ put self.old (record_key iface.number group source) row) }
+        ensures visited { OnOk result (Visits
+            (is_listed_anew R.runs row (row_at self.old (record_key iface.number group source))) (keys_in self.old) group source
+            meter.old meter.new) }
     {
         let key = record_key(iface, group, source);
         relist(&self.rows, &mut self.index, key, row, meter)?;
@@ -253,7 +261,8 @@ impl<R: Record> Records<R> {
         source: Option<Addr>,
         meter: &mut Meter,
     )
-        ensures { self.new ≡ drop_at self.old (record_key iface.number group source) }
+        ensures removed { self.new ≡ drop_at self.old (record_key iface.number group source) }
+        ensures visited { IsLookedUp (keys_in self.old) group source meter.old meter.new }
     {
         self.rows.remove(record_key(iface, group, source));
         self.index.unlist(iface, group, source, meter);
@@ -273,6 +282,9 @@ impl<R: Record> Records<R> {
         ensures by { OnOk result ((change : R → Option R)
             → IfSome (row_at self.old (record_key iface.number group source)) (λ before. change before ≡ Some row)
             → self.new ≡ change_row change (record_key iface.number group source) self.old) }
+        ensures visited { OnOk result (Visits
+            (changes_listed R.runs row (row_at self.old (record_key iface.number group source))) (keys_in self.old) group source
+            meter.old meter.new) }
     {
         // What is put under a key that is there stands in its place.
         self.rows.recall_rising();
@@ -289,7 +301,9 @@ impl<R: Record> Records<R> {
         row: R,
         meter: &mut Meter,
     ) -> Result<(), AllocError>
-        ensures { OnOk result (self.new ≡ change_row (λ _. Some row) key self.old) }
+        ensures changed { OnOk result (self.new ≡ change_row (λ _. Some row) key self.old) }
+        ensures visited { OnOk result (Visits (changes_listed R.runs row (row_at self.old key)) (keys_in self.old) key.group
+            key.source meter.old meter.new) }
     {
         // What is put under a key that is there stands in its place.
         self.rows.recall_rising();
@@ -302,8 +316,13 @@ impl<R: Record> Records<R> {
     // The key of the first record of the group on the interface.
     fn first_of_group(&self, iface: IfaceId, group: Addr) -> Option<Key>
         ensures first { result ≡ first_key (filter (λ e. is_at_group iface.number group.bits e.0) self.now) }
+
+        // The key stands once, so without its record the others are left.
+        ensures others { IfSome result (λ key. keys_in (filter (λ e. is_at_group iface.number group.bits e.0) self.now)
+            ≡ key ∷ keys_in (filter (λ e. is_at_group iface.number group.bits e.0) (drop_at self.now key))) }
         ensures kind { IfSome result (λ key. IsTrue (is_record_key key)) }
     {
+        self.rows.recall_rising();
         let (key, _) = self.rows.rows_at(iface, group).next()?;
         Some(*key)
     }
@@ -311,15 +330,22 @@ impl<R: Record> Records<R> {
     // The key of the interface's first record.
     fn first_on(&self, iface: IfaceId) -> Option<Key>
         ensures first { result ≡ first_key (rows_on iface.number self.now) }
+
+        // The key stands once, so without its record the others are left.
+        ensures others { IfSome result (λ key. keys_in (rows_on iface.number self.now)
+            ≡ key ∷ keys_in (rows_on iface.number (drop_at self.now key))) }
         ensures kind { IfSome result (λ key. IsTrue (is_record_key key)) }
     {
+        self.rows.recall_rising();
         let (key, _) = self.rows.rows_on(iface).next()?;
         Some(*key)
     }
 
     // Takes the group's records on the interface away.
     pub(crate) fn drop_group(&mut self, iface: IfaceId, group: Addr, meter: &mut Meter)
-        ensures { self.new ≡ drop_where (is_at_group iface.number group.bits) self.old }
+        ensures dropped { self.new ≡ drop_where (is_at_group iface.number group.bits) self.old }
+        ensures at_least { raised meter.old (nodes_to_each self.old
+            (keys_in (filter (λ e. is_at_group iface.number group.bits e.0) self.old))) ≤ meter.new }
     {
         while let Some(key) = self.first_of_group(iface, group) {
             self.remove(key.iface, key.group, key.source, meter);
@@ -328,7 +354,8 @@ impl<R: Record> Records<R> {
 
     // Takes the interface's records away.
     pub(crate) fn drop_on(&mut self, iface: IfaceId, meter: &mut Meter)
-        ensures { self.new ≡ drop_where (is_on iface.number) self.old }
+        ensures dropped { self.new ≡ drop_where (is_on iface.number) self.old }
+        ensures at_least { raised meter.old (nodes_to_each self.old (keys_in (rows_on iface.number self.old))) ≤ meter.new }
     {
         while let Some(key) = self.first_on(iface) {
             self.remove(key.iface, key.group, key.source, meter);
@@ -348,6 +375,16 @@ fn record_key(iface: IfaceId, group: Addr, source: Option<Addr>) -> Key
     }
 }
 
+// Whether the row is listed otherwise than the one before, or there was none.
+fn is_listed_anew<R: Record>(before: Option<R>, row: R) -> bool
+    ensures { result ≡ is_listed_anew R.runs row before }
+{
+    match before {
+        Some(before) => before.is_running() != row.is_running(),
+        None => true,
+    }
+}
+
 // Lists the interface as the row under the key has it, unless the one that is there has it so. An error is want of
 // memory, and then nothing has changed.
 fn relist<R: Record>(
@@ -361,14 +398,11 @@ fn relist<R: Record>(
     requires listed { IsListed R.runs R.of_sources index.old rows.now }
     ensures ok { OnOk result (Lists index.old index.new key (Some (R.runs row))) }
     ensures err { OnErr result (index.new ≡ index.old) }
-    ensures new { row_at rows.now key ≡ None
-        → meter.new ≡ raised meter.old (nodes_visited (keys_in index.old) key.group key.source) }
+    ensures visited { Visits (is_listed_anew R.runs row (row_at rows.now key)) (keys_in rows.now) key.group key.source
+        meter.old meter.new }
 {
-    let is_running = row.is_running();
-    if let Some(before) = rows.get(key) {
-        if before.is_running() == is_running {
-            return Ok(());
-        }
+    if !is_listed_anew(rows.get(key), row) {
+        return Ok(());
     }
-    index.list(key.iface, key.group, key.source, is_running, meter)
+    index.list(key.iface, key.group, key.source, row.is_running(), meter)
 }

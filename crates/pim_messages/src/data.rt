@@ -18,7 +18,7 @@ pub fn copy_on_link(
 ) -> Result<Emission, AllocError>
     ensures { IfOk result (λ e. e ≡ on_link iface.number (copy_text packet.now)) }
 {
-    let mut copy = Vec::new(alloc);
+    let mut copy = Vec::with_capacity(alloc, packet.total_length())?;
     write_copy(packet, &mut copy)?;
     let bytes = Series::from_vec(copy);
     Ok(Emission::Link { iface, bytes })

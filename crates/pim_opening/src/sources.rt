@@ -1,10 +1,13 @@
 //! The sources that an event touches.
 ghost use Rattle.std.specs.List.{list_any};
-ghost use Rattle.std.specs.Prelude.{◌≡◌, IfOk, OnOk};
+ghost use Rattle.std.specs.Prelude.{◌≡◌, ◌≤◌, IfOk, OnOk};
 ghost use Rattle.pim_world.specs.Groups.{gathered, numbers_of};
 ghost use Rattle.pim_world.specs.Sources.{sources_among};
 ghost use Rattle.pim_model.specs.Upstream.{sources_of};
 ghost use Rattle.pim_opening.specs.Openings.{facts_of_whole, is_of_all, touched_sources};
+ghost use Rattle.pim_opening.specs.Visits.{touched_nodes};
+ghost use Rattle.pim_trie.specs.Meter.{raised};
+ghost use Rattle.pim_world.specs.declared.touched.Touched.{Touched as TouchedKeys};
 
 use pim_types::{Addr, Key};
 use pim_world::sources::gather_source;
@@ -46,7 +49,8 @@ fn gather_named(
     Ok(())
 }
 
-// The sources that the keys touch because they touch all of the group: those that have any fact, or none.
+// The sources that the keys touch because they touch all of the group: those that have any fact, or none. The meter rises
+// where these are asked for.
 fn sources_of_whole(
     alloc: Global,
     world: &World,
@@ -54,8 +58,9 @@ fn sources_of_whole(
     group: Addr,
     meter: &mut Meter,
 ) -> Result<BTreeMap<Addr, (), Global>, AllocError>
-    ensures { IfOk result (λ found. numbers_of found.entries
+    ensures sources { IfOk result (λ found. numbers_of found.entries
         ≡ sources_of group.bits (facts_of_whole world.now keys.now group.bits)) }
+    ensures at_least { OnOk result (raised meter.old (touched_nodes world.now (TouchedKeys.Keys keys.now) group.bits) ≤ meter.new) }
 {
     if is_whole(keys, group) {
         return world.sources(alloc, group, meter);
@@ -64,7 +69,7 @@ fn sources_of_whole(
 }
 
 /// The sources of the group that are touched, ascending: those of the touched keys, and where all of the group is
-/// touched those that have any fact.
+/// touched those that have any fact: the meter rises where these are asked for.
 pub fn touched_sources(
     alloc: Global,
     world: &World,
@@ -72,7 +77,8 @@ pub fn touched_sources(
     group: Addr,
     meter: &mut Meter,
 ) -> Result<BTreeMap<Addr, (), Global>, AllocError>
-    ensures { IfOk result (λ found. numbers_of found.entries ≡ touched_sources world.now touched.now group.bits) }
+    ensures sources { IfOk result (λ found. numbers_of found.entries ≡ touched_sources world.now touched.now group.bits) }
+    ensures at_least { OnOk result (raised meter.old (touched_nodes world.now touched.now group.bits) ≤ meter.new) }
 {
     match touched {
         Touched::All => {

@@ -82,7 +82,7 @@ fn change_world(
         (keys_of changed.names)) }
     ensures fault { IsOkUnless result Fault.Memory }
 {
-    let opening = Opening::of(world, turn, &plan.touched)?;
+    let opening = Opening::of(world, turn.alloc, &plan.touched, &mut turn.meter)?;
     let before = Before::of(world, turn, &plan.touched)?;
     let Leaving {
         mut copies,

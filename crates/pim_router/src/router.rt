@@ -1,6 +1,7 @@
 //! The router.
 ghost use Rattle.std.specs.Option.{option_map_or};
-ghost use Rattle.std.specs.Prelude.{◌≡◌, ◌++◌, ◌↔◌, [], Err, IfErr, IfOk, IfSome, IsOk, IsOkUnless, IsTrue, None, Ok, OnErr, OnOk, Some, option_and_then};
+ghost use Rattle.std.specs.Prelude.{◌≡◌, ◌+◌, ◌<◌, ◌++◌, ◌↔◌, [], Err, IfErr, IfOk, IfSome, IsOk, IsOkUnless, IsTrue, None, Ok, OnErr, OnOk, Some, option_and_then};
+ghost use Rattle.std.specs.Vec.{vec_capacity, vec_len};
 ghost use Rattle.pim_fanout.specs.Refreshing.{touches};
 ghost use Rattle.pim_mfc.specs.Laws.{ShowsRows, TellsRow};
 ghost use Rattle.pim_model.specs.Cache.{cached};
@@ -24,7 +25,7 @@ use pim_mfc::CacheRow;
 use pim_trie::Meter;
 use pim_types::{Addr, Config, Emission, Event, Fault, Outcome, Refusal, Row, Table, Verdict};
 use pim_world::World;
-use std::alloc::Global;
+use std::alloc::{AllocError, Global};
 use std::marker::Model;
 
 /// A router: its state, or nothing more once memory was refused to it.
@@ -189,7 +190,7 @@ impl Router {
             event,
             &mut self.meter,
         )?;
-        emissions.append(&mut outcome.emissions.into_vec())?;
+        hand_over(outcome.emissions.into_vec(), emissions)?;
         self.copies = outcome.copies;
         self.failed = false;
         Ok(outcome.answer)
@@ -228,6 +229,20 @@ impl Router {
         self.failed = false;
         Ok(outcomes)
     }
+}
+
+// Puts what was sent behind the packets that are there; where there are none, as they stand. An error is want of memory, and
+// changes nothing.
+fn hand_over(mut sent: Vec<Emission>, emissions: &mut Vec<Emission>) -> Result<(), AllocError>
+    ensures ok { OnOk result (emissions.new.items ≡ emissions.old.items ++ sent.items) }
+    ensures err { OnErr result (emissions.new.items ≡ emissions.old.items) }
+    ensures full { OnErr result (vec_capacity emissions.old < vec_len emissions.old + vec_len sent) }
+{
+    if emissions.is_empty() {
+        *emissions = sent;
+        return Ok(());
+    }
+    emissions.append(&mut sent)
 }
 
 // The copies of the last of these outcomes; where there are none, those of the event before.

@@ -140,7 +140,7 @@ fn fire_world(
     ensures fault { IsOkUnless result Fault.Memory }
 {
     let touched = touched_by_end(world, turn.alloc, due.1)?;
-    let opening = Opening::of(world, turn, &touched)?;
+    let opening = Opening::of(world, turn.alloc, &touched, &mut turn.meter)?;
     let before = Before::of(world, turn, &touched)?;
     world.set_present(due.0);
     fired(world, turn, due.1)?;

@@ -1,5 +1,6 @@
 mod Ascents
 mod GroupLaws
+mod HeldLaws
 mod Keyed
 mod Rising
 mod RowLaws

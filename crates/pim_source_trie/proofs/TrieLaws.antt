@@ -1,8 +1,7 @@
 -- A trie of groups: what each change of it leaves.
-use Rattle.std.proofs.Common.{Box, ◌≡◌, ◌≢◌, ℕ, Bool, true, false, [], ◌∷◌, Option, Some, None, IsTrue, is_some, Result, Ok, Err, OnOk, OnErr, sym, ap, ◌∙◌, subst, cond}
+use Rattle.std.proofs.Common.{◌≡◌, ◌≢◌, ℕ, Bool, true, false, [], ◌∷◌, Option, Some, None, IsTrue, is_some, Result, Ok, Err, OnOk, OnErr, sym, ap, ◌∙◌, subst, cond}
 use Rattle.std.proofs.lemmas.Option.{same_Some}
 use Rattle.std.proofs.lemmas.Bool.{false≢true}
-use Rattle.std.specs.Box.{box_value}
 use Rattle.std.specs.BTreeMap.{insert_entry, is_at}
 use Rattle.std.specs.List.{AllByRecursion}
 use Rattle.std.specs.Map.{lookup}
@@ -38,56 +37,56 @@ full : {V : Type 0} (s : Option ℕ) (v : V) (rows : Rows V) → insert_entry ro
 full s v [] e = cc
 full s v (r ∷ rows) e = full_step s v r rows (insert_entry row_cmp rows s v) (row_cmp s r.0) e
 
-module _ {V A : Type 0} where
+module _ {V : Type 0} where
   -- ---- the keys rise
 
-  entries_below : (a : ℕ) (rows : Rows V) (es : GroupList V A) → Below a es
+  entries_below : (a : ℕ) (rows : Rows V) (es : GroupList V) → Below a es
       → AllByRecursion (λ x. Stands key_cmp x.0 Less (table_of es)) (keyed a rows)
   unfolding keyed
   entries_below a [] es above = tt
   entries_below a (r ∷ rows) es above = (table_stands a r.0 es above, entries_below a rows es above)
 
-  table_rises : (es : GroupList V A) → Ascends es → AllByRecursion IsGroup es
+  table_rises : (es : GroupList V) → Ascends es → AllByRecursion IsGroup es
       → Rises key_cmp (table_of es)
   unfolding table_of
   table_rises [] up each = tt
   table_rises (e ∷ es) up each =
-      rises_append key_cmp (group_entries e) (table_of es) (keyed_rises (address_in e) (box_value e.1) each.0.1)
-      (table_rises es up.2 each.1) (entries_below (address_in e) (box_value e.1) es up.1)
+      rises_append key_cmp (group_entries e) (table_of es) (keyed_rises (address_in e) e.1 each.0.1)
+      (table_rises es up.2 each.1) (entries_below (address_in e) e.1 es up.1)
 
-  pub groups_rise : (es : GroupList V A) → IsGroups es → Rises key_cmp (table_of es)
+  pub groups_rise : (es : GroupList V) → IsGroups es → Rises key_cmp (table_of es)
   groups_rise es whole = table_rises es (ascends_of es whole.hosts whole.rise) whole.each
 
   -- ---- a group that is found
 
-  found_step : (e : Prefix × Box (Rows V) A) (o : Option (Box (Rows V) A))
-      (was : Box (Rows V) A) (b : Bool) → IsGroup e → (o ≡ Some was → AreRows (box_value was))
-      → cond b (Some e.1) o ≡ Some was → AreRows (box_value was)
-  found_step e o was true is ih found = subst (λ box. AreRows (box_value box)) (same_Some e.1 was found) is
+  found_step : (e : Prefix × Rows V) (o : Option (Rows V))
+      (was : Rows V) (b : Bool) → IsGroup e → (o ≡ Some was → AreRows was)
+      → cond b (Some e.1) o ≡ Some was → AreRows was
+  found_step e o was true is ih found = subst (λ new. AreRows new) (same_Some e.1 was found) is
   found_step e o was false is ih found = ih found
 
-  rows_found : (test : Prefix → Bool) (es : GroupList V A) → AllByRecursion IsGroup es
-      → (was : Box (Rows V) A) → lookup test es ≡ Some was → AreRows (box_value was)
+  rows_found : (test : Prefix → Bool) (es : GroupList V) → AllByRecursion IsGroup es
+      → (was : Rows V) → lookup test es ≡ Some was → AreRows was
   rows_found test [] each was found = absurd (cc (found))
   rows_found test (e ∷ es) each was found =
       found_step e (lookup test es) was (test e.0) each.0 (rows_found test es each.1 was) found
 
-  module _ (es : GroupList V A) (whole : IsGroups es) (g : ℕ) (p : Prefix) (named : p ≡ host_of g) where
+  module _ (es : GroupList V) (whole : IsGroups es) (g : ℕ) (p : Prefix) (named : p ≡ host_of g) where
     up : Ascends es
     up = ascends_of es whole.hosts whole.rise
 
-    pub trie_found : (s : Option ℕ) (o : Option (Box (Rows V) A)) → o ≡ at_prefix p es
+    pub trie_found : (s : Option ℕ) (o : Option (Rows V)) → o ≡ at_prefix p es
         → row_in s (rows_in o) ≡ row_at (table_of es) (key_of 0 g s false)
     unfolding row_at
     trie_found s o is =
         ap (λ x. row_in s (rows_in x)) (is ∙ ap (λ q. at_prefix q es) named) ∙ sym (groups_found g s es up)
 
     -- with this group in place
-    groups_put : (box : Box (Rows V) A) → AreRows (box_value box) → IsGroups (insert_entry prefix_cmp es p box)
-    groups_put box are = record {
-      hosts = hosts_put g p box es whole.hosts named;
-      rise = rises_inserted prefix_total p box es whole.rise;
-      each = each_inserted prefix_cmp p box IsGroup (λ e h. are) are es whole.each;
+    groups_put : (new : Rows V) → AreRows new → IsGroups (insert_entry prefix_cmp es p new)
+    groups_put new are = record {
+      hosts = hosts_put g p new es whole.hosts named;
+      rise = rises_inserted prefix_total p new es whole.rise;
+      each = each_inserted prefix_cmp p new IsGroup (λ e h. are) are es whole.each;
     }
 
     -- without the group
@@ -117,73 +116,72 @@ module _ {V A : Type 0} where
       pub trie_absent : table_of es ≡ drop_at (table_of es) (key_of 0 g s false)
       trie_absent = removed_absent g s es up absent ∙ dropped s
 
-      module _ (v : V) (box : Box (Rows V) A) (holds : box_value box ≡ (s, v) ∷ []) where
-        pub trie_opened : table_of (insert_entry prefix_cmp es p box) ≡ put (table_of es) (key_of 0 g s false) v
+      module _ (v : V) (new : Rows V) (holds : new ≡ (s, v) ∷ []) where
+        pub trie_opened : table_of (insert_entry prefix_cmp es p new) ≡ put (table_of es) (key_of 0 g s false) v
         unfolding put
         trie_opened =
-            ap (λ q. table_of (insert_entry prefix_cmp es q box)) named ∙ opened g s v box holds es up absent
+            ap (λ q. table_of (insert_entry prefix_cmp es q new)) named ∙ opened g s v new holds es up absent
 
-        pub groups_opened : IsGroups (insert_entry prefix_cmp es p box)
-        groups_opened = groups_put box (rw holds (λ e. cc, (tt, tt)))
+        pub groups_opened : IsGroups (insert_entry prefix_cmp es p new)
+        groups_opened = groups_put new (rw holds (λ e. cc, (tt, tt)))
 
-    -- ---- a group that is there, with these rows
+    -- ---- a group that is there
 
-    module _ (was : Box (Rows V) A) (some : Some was ≡ at_prefix p es) (rows : Rows V) (shown : rows ≡ box_value was)
-      where
-        found : at_prefix (host_of g) es ≡ Some was
-        found = ap (λ q. at_prefix q es) (sym named) ∙ sym some
+    module _ (was : Rows V) (some : Some was ≡ at_prefix p es) where
+      found : at_prefix (host_of g) es ≡ Some was
+      found = ap (λ q. at_prefix q es) (sym named) ∙ sym some
 
-        are : AreRows rows
-        are = subst (λ x. AreRows x) (sym shown) (rows_found (is_at (prefix_cmp p)) es whole.each was (sym some))
+      are : AreRows was
+      are = rows_found (is_at (prefix_cmp p)) es whole.each was (sym some)
 
-        pub rows_at : (s : Option ℕ) → row_in s rows ≡ row_at (table_of es) (key_of 0 g s false)
-        rows_at s = ap (row_in s) shown ∙ trie_found s (Some was) some
+      pub rows_at : (s : Option ℕ) → row_in s was ≡ row_at (table_of es) (key_of 0 g s false)
+      rows_at s = trie_found s (Some was) some
 
-        module _ (box : Box (Rows V) A) where
-          pub trie_same : box_value box ≡ rows → table_of (insert_entry prefix_cmp es p box) ≡ table_of es
-          trie_same same =
-              ap (λ q. table_of (insert_entry prefix_cmp es q box)) named
-              ∙ same_there g None was box (same ∙ shown) es up found
+      module _ (new : Rows V) where
+        pub trie_same : new ≡ was → table_of (insert_entry prefix_cmp es p new) ≡ table_of es
+        trie_same same =
+            ap (λ q. table_of (insert_entry prefix_cmp es q new)) named
+            ∙ same_there g None was new same es up found
 
-          module _ (s : Option ℕ) where
-            -- ---- put
+        module _ (s : Option ℕ) where
+          -- ---- put
 
-            module _ (v : V) where
-              pub trie_put : box_value box ≡ insert_entry row_cmp rows s v
-                  → table_of (insert_entry prefix_cmp es p box) ≡ put (table_of es) (key_of 0 g s false) v
-              unfolding put
-              trie_put made =
-                  ap (λ q. table_of (insert_entry prefix_cmp es q box)) named
-                  ∙ put_there g s v was box (made ∙ ap (λ x. insert_entry row_cmp x s v) shown) es up found
+          module _ (v : V) where
+            pub trie_put : new ≡ insert_entry row_cmp was s v
+                → table_of (insert_entry prefix_cmp es p new) ≡ put (table_of es) (key_of 0 g s false) v
+            unfolding put
+            trie_put made =
+                ap (λ q. table_of (insert_entry prefix_cmp es q new)) named
+                ∙ put_there g s v was new made es up found
 
-              -- the group's own put may have been refused
-              pub groups_tried : {T E : Type 0} (r : Result T E)
-                  → OnOk r (box_value box ≡ insert_entry row_cmp rows s v)
-                  → OnErr r (box_value box ≡ rows) → IsGroups (insert_entry prefix_cmp es p box)
-              groups_tried r ok err =
-                  on_either r ok err
-                  (λ made. groups_put box (rw made (full s v rows, rises_inserted row_total s v rows are.1)))
-                  (λ same. groups_put box (rw same are))
+            -- the group's own put may have been refused
+            pub groups_tried : {T E : Type 0} (r : Result T E)
+                → OnOk r (new ≡ insert_entry row_cmp was s v)
+                → OnErr r (new ≡ was) → IsGroups (insert_entry prefix_cmp es p new)
+            groups_tried r ok err =
+                on_either r ok err
+                (λ made. groups_put new (rw made (full s v was, rises_inserted row_total s v was are.1)))
+                (λ same. groups_put new (rw same are))
 
-            -- ---- remove
+          -- ---- remove
 
-            module _ (made : box_value box ≡ without_row s rows) where
-              pub trie_removed : table_of (insert_entry prefix_cmp es p box)
+          module _ (made : new ≡ without_row s was) where
+            pub trie_removed : table_of (insert_entry prefix_cmp es p new)
+                ≡ drop_at (table_of es) (key_of 0 g s false)
+            trie_removed =
+                ap (λ q. table_of (insert_entry prefix_cmp es q new)) named
+                ∙ removed_there g s was new made es up found ∙ dropped s
+
+            pub groups_left : (new ≡ [] → ⊥) → IsGroups (insert_entry prefix_cmp es p new)
+            groups_left full = groups_put new (full, rw made (rises_removed row_total s was are.1))
+
+            module _ (none : new ≡ []) where
+              pub trie_emptied : table_of (without_prefix p (insert_entry prefix_cmp es p new))
                   ≡ drop_at (table_of es) (key_of 0 g s false)
-              trie_removed =
-                  ap (λ q. table_of (insert_entry prefix_cmp es q box)) named
-                  ∙ removed_there g s was box (made ∙ ap (without_row s) shown) es up found ∙ dropped s
+              trie_emptied =
+                  ap (λ q. table_of (without_prefix q (insert_entry prefix_cmp es q new))) named
+                  ∙ emptied_there g new none es ∙ ap (λ q. table_of (insert_entry prefix_cmp es q new)) (sym named)
+                  ∙ trie_removed
 
-              pub groups_left : (box_value box ≡ [] → ⊥) → IsGroups (insert_entry prefix_cmp es p box)
-              groups_left full = groups_put box (full, rw made (rises_removed row_total s rows are.1))
-
-              module _ (none : box_value box ≡ []) where
-                pub trie_emptied : table_of (without_prefix p (insert_entry prefix_cmp es p box))
-                    ≡ drop_at (table_of es) (key_of 0 g s false)
-                trie_emptied =
-                    ap (λ q. table_of (without_prefix q (insert_entry prefix_cmp es q box))) named
-                    ∙ emptied_there g box none es ∙ ap (λ q. table_of (insert_entry prefix_cmp es q box)) (sym named)
-                    ∙ trie_removed
-
-                pub groups_emptied : IsGroups (without_prefix p (insert_entry prefix_cmp es p box))
-                groups_emptied = rw (removed_inserted prefix_total p box es whole.rise) groups_removed
+              pub groups_emptied : IsGroups (without_prefix p (insert_entry prefix_cmp es p new))
+              groups_emptied = rw (removed_inserted prefix_total p new es whole.rise) groups_removed

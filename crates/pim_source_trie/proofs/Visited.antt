@@ -1,21 +1,22 @@
 -- How many nodes a look-up visits.
-use Rattle.std.proofs.Common.{Box, ◌≡◌, ◌≢◌, ℕ, ◌+◌, ◌≤◌, Bool, true, false, ◌&&◌, ◌||◌, if◌then◌else◌, List, [], ◌∷◌, map, Option, Some, None, cond, is_some, refl, sym, ap, ◌∙◌, add-zero, arith}
+use Rattle.std.proofs.Common.{Box, ◌≡◌, ◌≢◌, ℕ, suc, ◌+◌, ◌/◌, ◌^◌, ◌<◌, ◌≤◌, Bool, true, false, not, ◌&&◌, ◌||◌, if◌then◌else◌, List, [], ◌∷◌, map, Option, Some, None, cond, is_some, refl, sym, ap, ◌∙◌, add-zero, arith}
 use Rattle.std.proofs.lemmas.List.Folds.{list_any-append}
-use Rattle.std.specs.Box.{box_value}
 use Rattle.std.specs.List.{AllByRecursion, filter, list_any}
 use Rattle.std.specs.Option.{unwrap_or}
 use Rattle.pim_ip.specs.declared.addr.Addr.{Addr}
 use Rattle.pim_ip.specs.declared.addr.Prefix.{Prefix}
-use Rattle.pim_trie.specs.Entries.{is_canonical, nodes_along, nodes_to}
+use Rattle.pim_ip.specs.Prefixes.{contains}
+use Rattle.pim_trie.specs.Entries.{enters, has_bits, is_canonical, nodes_along, nodes_to, parts, passes}
 use Rattle.pim_trie.specs.Meter.{raised}
-use Rattle.pim_trie.proofs.Counts.{along_more, along_same, none_along, prefix_at_most}
+use Rattle.pim_trie.proofs.Counts.{along_more, along_same, count-tally, none_along, one_if, prefix_at_most, tally-none, tally-shift}
 use Rattle.pim_types.specs.declared.fact.Key.{Key}
 use Rattle.pim_types.specs.Keys.{group_in, is_of_group, key_of, source_in}
 use Rattle.pim_model.specs.Tables.{Table, keys_in}
 use Rattle.pim_laws.proofs.TableLaws.{any_in_filter, any_of_map}
 use Rattle.pim_source_trie.specs.Entries.{group_nodes, host_of, nodes_visited, source_nodes}
 use Rattle.pim_source_trie.specs.Groups.{GroupList, IsGroup, IsGroups, group_entries, table_of}
-use Rattle.pim_source_trie.specs.Rows.{IsHosts, Rows, SourceList, address_in, at_prefix, keyed, row_nodes, rows_of, source_of, source_rows}
+use Rattle.pim_source_trie.specs.Held.{trie_values}
+use Rattle.pim_source_trie.specs.Rows.{IsHosts, Rows, SourceValues, address_in, at_prefix, keyed, nodes_among, row_nodes, rows_of, source_of, source_rows}
 use Rattle.pim_source_trie.proofs.GroupLaws.{rows_in}
 use Rattle.pim_source_trie.proofs.RowLaws.{host_canonical}
 use Rattle.pim_source_trie.proofs.WalkLaws.{walk_found}
@@ -92,17 +93,17 @@ one_group {V} test g (r ∷ rows) full =
     (any_of_map (tests_group test) (λ (r : Option ℕ × V). (key_of 0 g r.0 false, r.1)) rows)
     ∙ each_alike (test (host_of g)) rows
 
-module _ {V A : Type 0} (test : Prefix → Bool) where
-  all_groups : (es : GroupList V A) → IsHosts es → AllByRecursion IsGroup es
+module _ {V : Type 0} (test : Prefix → Bool) where
+  all_groups : (es : GroupList V) → IsHosts es → AllByRecursion IsGroup es
       → list_any (λ e. test e.0) es ≡ list_any (tests_group test) (table_of es)
   unfolding table_of
   all_groups [] hosts each = refl
   all_groups (e ∷ es) hosts each =
       (λ i. test (host_is e.0 hosts.0 i) || all_groups es hosts.1 each.1 i)
-      ∙ ap (λ b. b || list_any (tests_group test) (table_of es)) (sym (one_group test (address_in e) (box_value e.1) each.0.0))
+      ∙ ap (λ b. b || list_any (tests_group test) (table_of es)) (sym (one_group test (address_in e) e.1 each.0.0))
       ∙ sym (list_any-append (tests_group test) (group_entries e) (table_of es))
 
-  groups_alike : (es : GroupList V A) → IsGroups es
+  groups_alike : (es : GroupList V) → IsGroups es
       → list_any (λ e. test e.0) es ≡ list_any (λ (e : Prefix × Key). test e.0) (map (λ k. (host_of (group_in k), k)) (keys_in (table_of es)))
   unfolding keys_in
   groups_alike es whole =
@@ -110,45 +111,107 @@ module _ {V A : Type 0} (test : Prefix → Bool) where
       ∙ sym (any_of_map (λ (e : Prefix × Key). test e.0) (λ k. (host_of (group_in k), k)) (keys_in (table_of es))
       ∙ any_of_map (λ k. test (host_of (group_in k))) (λ (e : Key × V). e.0) (table_of es))
 
-pub groups_visited : {V A : Type 0} (es : GroupList V A) → IsGroups es → (g : ℕ) (p : Prefix) → p ≡ host_of g
+pub groups_visited : {V : Type 0} (es : GroupList V) → IsGroups es → (g : ℕ) (p : Prefix) → p ≡ host_of g
     → nodes_to es p ≡ group_nodes (keys_in (table_of es)) g
 unfolding group_nodes
 groups_visited es whole g p named =
     nodes_same es (map (λ k. (host_of (group_in k), k)) (keys_in (table_of es))) (λ test. groups_alike test es whole) p
     ∙ ap (nodes_to (map (λ k. (host_of (group_in k), k)) (keys_in (table_of es)))) named
 
--- ---- the sources of a group, as their trie holds them
+-- ---- the sources of a group, as they are held
+
+pub none_among : (V : Type 0) (s : ℕ) → nodes_among {V = V} [] s ≡ 0
+unfolding nodes_among
+none_among V s = none_visited (ℕ × V) s
+
+-- a single node, wherever the look-up leads
+module _ {V : Type 0} (own : ℕ) (value : V) (s : ℕ) (low : own < 2 ^ 32) (below : s < 2 ^ 32) where
+  abbrev only : List (Prefix × (ℕ × V))
+  only = (host_of own, (own, value)) ∷ []
+
+  first_entered : enters only s 0 ≡ true
+  unfolding enters passes has_bits contains
+  first_entered =
+      let own_high : own / 2 ^ 32 ≡ 0 = omega arith in
+      let high : s / 2 ^ 32 ≡ 0 = omega arith in
+      rw (own_high, high) refl
+
+  none_further : (n : ℕ) → enters only s (suc n) ≡ false
+  unfolding enters passes parts
+  none_further n = by (has_bits s (suc n) (host_of own, (own, value))) (has_bits s n (host_of own, (own, value)))
+    where
+      by : (b c : Bool) → ((b || false) && ((c && not b) || false)) ≡ false
+      by false c = refl
+      by true false = refl
+      by true true = refl
+
+  one_along : nodes_along only s 32 ≡ 1
+  unfolding nodes_along
+  one_along =
+      count-tally (enters only s) 0 33
+      ∙ (λ i. one_if (first_entered i) + (tally-shift (enters only s) 0 32
+      ∙ tally-none (λ n. enters only s (suc n)) 0 32 none_further) i)
+
+  pub one_among : nodes_among ((own, value) ∷ []) s ≡ 1
+  unfolding nodes_among nodes_to
+  one_among = rw (host_canonical s) one_along
+
+module _ {V A : Type 0} (test : Prefix → Bool) where
+  boxes_alike : (es : List (Prefix × Box V A)) → IsHosts es
+      → list_any (λ e. test e.0) es ≡ list_any (λ (e : ℕ × V). test (host_of e.0)) (trie_values es)
+  unfolding trie_values
+  boxes_alike [] hosts = refl
+  boxes_alike (e ∷ es) hosts = λ i. test (host_is e.0 hosts.0 i) || boxes_alike es hosts.1 i
+
+  values_alike : (es : List (Prefix × Box V A)) → IsHosts es
+      → list_any (λ e. test e.0) es
+      ≡ list_any (λ (e : Prefix × (ℕ × V)). test e.0) (map (λ e. (host_of e.0, e)) (trie_values es))
+  values_alike es hosts =
+      boxes_alike es hosts
+      ∙ sym (any_of_map (λ (e : Prefix × (ℕ × V)). test e.0) (λ e. (host_of e.0, e)) (trie_values es))
+
+pub trie_visited : {V A : Type 0} (es : List (Prefix × Box V A)) → IsHosts es → (s : ℕ) (p : Prefix) → p ≡ host_of s
+    → nodes_to es p ≡ nodes_among (trie_values es) s
+unfolding nodes_among
+trie_visited es hosts s p named =
+    nodes_same es (map (λ e. (host_of e.0, e)) (trie_values es)) (λ test. values_alike test es hosts) p
+    ∙ ap (nodes_to (map (λ e. (host_of e.0, e)) (trie_values es))) named
+
+-- ---- the sources of a group, as its rows have them
 
 abbrev tests_row : {V : Type 0} → (Prefix → Bool) → Option ℕ × V → Bool
 tests_row test r = is_some r.0 && test (host_of (unwrap_or r.0 0))
 
-module _ {V A : Type 0} (test : Prefix → Bool) where
-  all_sources : (es : SourceList V A) → IsHosts es → list_any (λ e. test e.0) es ≡ list_any (tests_row test) (source_rows es)
+module _ {V : Type 0} (test : Prefix → Bool) where
+  all_sources : (es : SourceValues V)
+      → list_any (λ e. test (host_of e.0)) es ≡ list_any (tests_row test) (source_rows es)
   unfolding source_rows
-  all_sources [] hosts = refl
-  all_sources (e ∷ es) hosts = λ i. test (host_is e.0 hosts.0 i) || all_sources es hosts.1 i
+  all_sources [] = refl
+  all_sources (e ∷ es) = ap (λ b. test (host_of e.0) || b) (all_sources es)
 
-  with_star : (star : Option V) (es : SourceList V A) → IsHosts es
-      → list_any (λ e. test e.0) es ≡ list_any (tests_row test) (rows_of star es)
+  with_star : (star : Option V) (es : SourceValues V)
+      → list_any (λ e. test (host_of e.0)) es ≡ list_any (tests_row test) (rows_of star es)
   unfolding rows_of
-  with_star None es hosts = all_sources es hosts
-  with_star (Some v) es hosts = all_sources es hosts
+  with_star None es = all_sources es
+  with_star (Some v) es = all_sources es
 
-  rows_alike : (star : Option V) (es : SourceList V A) → IsHosts es
-      → list_any (λ e. test e.0) es
+  rows_alike : (star : Option V) (es : SourceValues V)
+      → list_any (λ (e : Prefix × (ℕ × V)). test e.0) (map (λ e. (host_of e.0, e)) es)
       ≡ list_any (λ (e : Prefix × (Option ℕ × V)). test e.0) (map (λ r. (host_of (unwrap_or r.0 0), r)) (filter (λ r. is_some r.0) (rows_of star es)))
-  rows_alike star es hosts =
-      with_star star es hosts
+  rows_alike star es =
+      any_of_map (λ (e : Prefix × (ℕ × V)). test e.0) (λ e. (host_of e.0, e)) es
+      ∙ with_star star es
       ∙ sym (any_of_map (λ (e : Prefix × (Option ℕ × V)). test e.0) (λ r. (host_of (unwrap_or r.0 0), r))
       (filter (λ r. is_some r.0) (rows_of star es))
       ∙ any_in_filter (λ r. is_some r.0) (λ r. test (host_of (unwrap_or r.0 0))) (rows_of star es))
 
-pub rows_visited : {V A : Type 0} (star : Option V) (es : SourceList V A) → IsHosts es → (s : ℕ) (p : Prefix)
-    → p ≡ host_of s → nodes_to es p ≡ row_nodes (rows_of star es) (Some s)
-rows_visited star es hosts s p named =
-    nodes_same es (map (λ r. (host_of (unwrap_or r.0 0), r)) (filter (λ r. is_some r.0) (rows_of star es)))
-    (λ test. rows_alike test star es hosts) p
-    ∙ ap (nodes_to (map (λ r. (host_of (unwrap_or r.0 0), r)) (filter (λ r. is_some r.0) (rows_of star es)))) named
+pub rows_visited : {V : Type 0} (star : Option V) (es : SourceValues V) (s : ℕ)
+    → nodes_among es s ≡ row_nodes (rows_of star es) (Some s)
+unfolding nodes_among
+rows_visited star es s =
+    nodes_same (map (λ e. (host_of e.0, e)) es)
+    (map (λ r. (host_of (unwrap_or r.0 0), r)) (filter (λ r. is_some r.0) (rows_of star es)))
+    (λ test. rows_alike test star es) (host_of s)
 
 -- ---- the sources of a group, as the table has them
 
@@ -188,8 +251,8 @@ module _ {V : Type 0} (test : Prefix → Bool) where
       ∙ any_of_map (λ k. is_of_group g k && tests_source test k) (λ (e : Key × V). e.0) t)
 
 -- past the group, where it is found; where it isn't, no key is of it
-pub sources_visited : {V A : Type 0} (es : GroupList V A) → IsGroups es → (g : ℕ) (p : Prefix) → p ≡ host_of g
-    → (o : Option (Box (Rows V) A)) → o ≡ at_prefix p es → (s : ℕ)
+pub sources_visited : {V : Type 0} (es : GroupList V) → IsGroups es → (g : ℕ) (p : Prefix) → p ≡ host_of g
+    → (o : Option (Rows V)) → o ≡ at_prefix p es → (s : ℕ)
     → row_nodes (rows_in o) (Some s) ≡ source_nodes (keys_in (table_of es)) g s
 unfolding source_nodes
 sources_visited es whole g p named o is s =
@@ -200,7 +263,7 @@ sources_visited es whole g p named o is s =
 
 -- ---- both
 
-module _ {V A : Type 0} (es : GroupList V A) (whole : IsGroups es) (group : Addr) (p : Prefix) (named : p ≡ host_of group.bits)
+module _ {V : Type 0} (es : GroupList V) (whole : IsGroups es) (group : Addr) (p : Prefix) (named : p ≡ host_of group.bits)
   where
     pub star_visited : nodes_to es p ≡ nodes_visited (keys_in (table_of es)) group None
     unfolding nodes_visited
@@ -215,15 +278,13 @@ module _ {V A : Type 0} (es : GroupList V A) (whole : IsGroups es) (group : Addr
         ≡ 0 = sym (sources_visited es whole group.bits p named None none source.bits) ∙ none_visited (Option ℕ × V) source.bits in
         omega (arith, groups_visited es whole group.bits p named, past)
 
-    pub found_visited : (was : Box (Rows V) A) → Some was ≡ at_prefix p es → (rows : Rows V) → rows ≡ box_value was
-        → (source : Option Addr)
+    pub found_visited : (rows : Rows V) → Some rows ≡ at_prefix p es → (source : Option Addr)
         → nodes_to es p + row_nodes rows (source_of source) ≡ nodes_visited (keys_in (table_of es)) group source
     unfolding nodes_visited
-    found_visited was some rows shown None = add-zero (nodes_to es p) ∙ groups_visited es whole group.bits p named
-    found_visited was some rows shown (Some source) =
+    found_visited rows some None = add-zero (nodes_to es p) ∙ groups_visited es whole group.bits p named
+    found_visited rows some (Some source) =
         λ i. groups_visited es whole group.bits p named i
-        + (ap (λ rs. row_nodes rs (Some source.bits)) shown
-        ∙ sources_visited es whole group.bits p named (Some was) some source.bits) i
+        + sources_visited es whole group.bits p named (Some rows) some source.bits i
 
 -- ---- at most
 

@@ -1,12 +1,11 @@
 -- What the walks of a trie of groups show of its table.
-use Rattle.std.proofs.Common.{Box, ◌≡◌, ◌≢◌, ◌==◌, ℕ, false, cond, List, [], ◌∷◌, ◌++◌, map, Option, Some, None, All, nat_lt, refl, sym, ap, ◌∙◌, append_assoc, append-nil, eq-eqb, arith}
+use Rattle.std.proofs.Common.{◌≡◌, ◌≢◌, ◌==◌, ℕ, false, cond, List, [], ◌∷◌, ◌++◌, map, Option, Some, None, All, nat_lt, refl, sym, ap, ◌∙◌, append_assoc, append-nil, eq-eqb, arith}
 use Rattle.std.proofs.lemmas.Bool.{false≢true, ne_eqb}
 use Rattle.std.proofs.lemmas.Bool.Decides.{nat_tests}
 use Rattle.std.proofs.lemmas.Cmp.{ranked}
 use Rattle.std.proofs.lemmas.List.{map-append}
 use Rattle.std.proofs.lemmas.List.Elements.{All-from_recursion, filter-append}
 use Rattle.std.proofs.lemmas.List.Sums.{fold-append}
-use Rattle.std.specs.Box.{box_value}
 use Rattle.std.specs.List.{AllByRecursion, filter}
 use Rattle.std.specs.Option.{option_map}
 use Rattle.std.specs.Ordering.{is_eq, nat_cmp}
@@ -29,19 +28,19 @@ use Rattle.pim_source_trie.proofs.RowLaws.{at_host}
 
 -- ---- no entry
 
-module _ {V A : Type 0} where
-  some_entry : (e : Prefix × Box (Rows V) A) (rows : Rows V) (t : Table V) → rows ≢ []
+module _ {V : Type 0} where
+  some_entry : (e : Prefix × Rows V) (rows : Rows V) (t : Table V) → rows ≢ []
       → keyed (address_in e) rows ++ t ≡ [] → ⊥
   unfolding keyed
   some_entry e [] t full none = full refl
   some_entry e (r ∷ rows) t full none = cc
 
-  pub no_groups : (es : GroupList V A) → IsGroups es → table_of es ≡ [] → es ≡ []
+  pub no_groups : (es : GroupList V) → IsGroups es → table_of es ≡ [] → es ≡ []
   unfolding table_of
   no_groups [] whole none = refl
-  no_groups (e ∷ es) whole none = absurd (some_entry e (box_value e.1) (table_of es) whole.each.0.0 none)
+  no_groups (e ∷ es) whole none = absurd (some_entry e e.1 (table_of es) whole.each.0.0 none)
 
-  pub no_table : (es : GroupList V A) → es ≡ [] → table_of es ≡ []
+  pub no_table : (es : GroupList V) → es ≡ [] → table_of es ≡ []
   unfolding table_of
   no_table es none = rw none
 
@@ -60,14 +59,14 @@ module _ {V : Type 0} where
   own_entries g [] = tt
   own_entries g (r ∷ rows) = (own_key g r.0, own_entries g rows)
 
-module _ {V A : Type 0} where
-  own_table : (es : GroupList V A) → AllByRecursion IsOwn (table_of es)
+module _ {V : Type 0} where
+  own_table : (es : GroupList V) → AllByRecursion IsOwn (table_of es)
   unfolding table_of
   own_table [] = tt
   own_table (e ∷ es) =
-      each_append IsOwn (group_entries e) (table_of es) (own_entries (address_in e) (box_value e.1)) (own_table es)
+      each_append IsOwn (group_entries e) (table_of es) (own_entries (address_in e) e.1) (own_table es)
 
-  pub keys_own : (es : GroupList V A) → All IsOwn (table_of es)
+  pub keys_own : (es : GroupList V) → All IsOwn (table_of es)
   keys_own es = All-from_recursion IsOwn (table_of es) (own_table es)
 
 -- ---- the entries of one group
@@ -91,35 +90,35 @@ module _ {V : Type 0} (g : ℕ) where
   none_of h other [] = refl
   none_of h other (r ∷ rows) = rw other (none_of h other rows)
 
-module _ {V A : Type 0} (g : ℕ) where
-  none_above : (es : GroupList V A) → Below g es → of_group g (table_of es) ≡ []
+module _ {V : Type 0} (g : ℕ) where
+  none_above : (es : GroupList V) → Below g es → of_group g (table_of es) ≡ []
   unfolding table_of
   none_above [] above = refl
   none_above (e ∷ es) above =
       filter-append (λ x. is_of_group g x.0) (group_entries e) (table_of es)
       ∙ ap (λ t. t ++ of_group g (table_of es))
-      (none_of g (address_in e) (other_number g (address_in e) Less refl above.0) (box_value e.1))
+      (none_of g (address_in e) (other_number g (address_in e) Less refl above.0) e.1)
       ∙ none_above es above.1
 
-  walk_step : (e : Prefix × Box (Rows V) A) (es : GroupList V A)
+  walk_step : (e : Prefix × Rows V) (es : GroupList V)
       (o : Ordering) → nat_cmp g (address_in e) ≡ o → Ascends (e ∷ es)
       → of_group g (table_of es) ≡ keyed g (rows_in (at_prefix (host_of g) es))
       → of_group g (group_entries e) ++ of_group g (table_of es)
       ≡ keyed g (rows_in (cond (is_eq o) (Some e.1) (at_prefix (host_of g) es)))
   walk_step e es Less is up ih =
       ap (λ t. t ++ of_group g (table_of es))
-      (none_of g (address_in e) (other_number g (address_in e) Less refl is) (box_value e.1)) ∙ ih
+      (none_of g (address_in e) (other_number g (address_in e) Less refl is) e.1) ∙ ih
   walk_step e es Equal is up ih =
       let same = equal_numbers g (address_in e) is in
       ap (λ t. of_group g (group_entries e) ++ t)
       (none_above es (above_both g (address_in e) Equal is refl es up.1))
       ∙ append-nil (of_group g (group_entries e))
-      ∙ ap (λ h. of_group g (keyed h (box_value e.1))) (sym same) ∙ all_of g (box_value e.1)
+      ∙ ap (λ h. of_group g (keyed h e.1)) (sym same) ∙ all_of g e.1
   walk_step e es Greater is up ih =
       ap (λ t. t ++ of_group g (table_of es))
-      (none_of g (address_in e) (other_number g (address_in e) Greater refl is) (box_value e.1)) ∙ ih
+      (none_of g (address_in e) (other_number g (address_in e) Greater refl is) e.1) ∙ ih
 
-  walked : (es : GroupList V A) → Ascends es
+  walked : (es : GroupList V) → Ascends es
       → of_group g (table_of es) ≡ keyed g (rows_in (at_prefix (host_of g) es))
   unfolding table_of keyed
   walked [] up = refl
@@ -127,8 +126,8 @@ module _ {V A : Type 0} (g : ℕ) where
       filter-append (λ x. is_of_group g x.0) (group_entries e) (table_of es)
       ∙ rw (at_host g e.0 up.0) (walk_step e es (nat_cmp g (address_in e)) refl up (walked es up.2))
 
-  pub walk_found : (es : GroupList V A) → IsGroups es → (p : Prefix) → p ≡ host_of g
-      → (o : Option (Box (Rows V) A)) → o ≡ at_prefix p es
+  pub walk_found : (es : GroupList V) → IsGroups es → (p : Prefix) → p ≡ host_of g
+      → (o : Option (Rows V)) → o ≡ at_prefix p es
       → keyed g (rows_in o) ≡ filter (λ e. is_of_group g e.0) (table_of es)
   walk_found es whole p named o is =
       ap (λ x. keyed g (rows_in x)) (is ∙ ap (λ q. at_prefix q es) named)
@@ -184,20 +183,20 @@ module _ {V : Type 0} where
   one_group g ms (r ∷ rows) full last =
       ap (λ ns. put_all ns (numbers (keyed g rows))) (put_last g ms last) ∙ same_again g ms rows last
 
-module _ {V A : Type 0} where
-  first_of : (ms : List ℕ) (e : Prefix × Box (Rows V) A)
-      (es : GroupList V A) → AllByRecursion (λ m. Below m (e ∷ es)) ms
+module _ {V : Type 0} where
+  first_of : (ms : List ℕ) (e : Prefix × Rows V)
+      (es : GroupList V) → AllByRecursion (λ m. Below m (e ∷ es)) ms
       → IsLast (address_in e) ms
   first_of [] e es above = tt
   first_of (m ∷ ms) e es above = (above.0.0, first_of ms e es above.1)
 
-  others_of : (ms : List ℕ) (e : Prefix × Box (Rows V) A)
-      (es : GroupList V A) → AllByRecursion (λ m. Below m (e ∷ es)) ms
+  others_of : (ms : List ℕ) (e : Prefix × Rows V)
+      (es : GroupList V) → AllByRecursion (λ m. Below m (e ∷ es)) ms
       → AllByRecursion (λ m. Below m es) ms
   others_of [] e es above = tt
   others_of (m ∷ ms) e es above = (above.0.1, others_of ms e es above.1)
 
-  all_groups : (ms : List ℕ) (es : GroupList V A) → Ascends es
+  all_groups : (ms : List ℕ) (es : GroupList V) → Ascends es
       → AllByRecursion IsGroup es → AllByRecursion (λ m. Below m es) ms
       → put_all ms (numbers (table_of es)) ≡ ms ++ map address_in es
   unfolding table_of keys_in
@@ -206,12 +205,12 @@ module _ {V A : Type 0} where
       ap (put_all ms) (numbers-append (group_entries e) (table_of es))
       ∙ fold-append (λ sorted n. insert_number n sorted) ms (numbers (group_entries e)) (numbers (table_of es))
       ∙ ap (λ ns. put_all ns (numbers (table_of es)))
-      (one_group (address_in e) ms (box_value e.1) each.0.0 (first_of ms e es above))
+      (one_group (address_in e) ms e.1 each.0.0 (first_of ms e es above))
       ∙ all_groups (ms ++ address_in e ∷ []) es up.2 each.1
       (each_append (λ m. Below m es) ms (address_in e ∷ []) (others_of ms e es above) (up.1, tt))
       ∙ append_assoc ms (address_in e ∷ []) (map address_in es)
 
-  pub groups_ascend : (es : GroupList V A) → IsGroups es
+  pub groups_ascend : (es : GroupList V) → IsGroups es
       → map address_in es ≡ ascending (map group_in (keys_in (table_of es)))
   unfolding ascending
   groups_ascend es whole = sym (all_groups [] es (ascends_of es whole.hosts whole.rise) whole.each tt)

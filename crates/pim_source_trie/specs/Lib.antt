@@ -1,3 +1,4 @@
 pub mod Entries
 pub mod Groups
+pub mod Held
 pub mod Rows

@@ -1,7 +1,6 @@
 -- The rows of one group: the value of (*,G) under no source, and those of its sources. No public clause cites this
 -- module.
-use Rattle.std.specs.Prelude.{Box, ℕ, ◌≡◌, List, [], ◌∷◌, ◌++◌, Option, Some, None, filter, false, is_some, map, option_map, unwrap_or}
-use Rattle.std.specs.Box.{box_value}
+use Rattle.std.specs.Prelude.{ℕ, ◌≡◌, List, [], ◌∷◌, ◌++◌, Option, Some, None, filter, false, is_some, map, option_map, unwrap_or}
 use Rattle.std.specs.BTreeMap.{is_at}
 use Rattle.std.specs.List.{AllByRecursion}
 use Rattle.std.specs.Map.{lookup, remove_entry}
@@ -23,9 +22,9 @@ source_of source = option_map bits_of source
 abbrev pub Rows : Type 0 → Type 0
 Rows V = List (Option ℕ × V)
 
--- the sources of a group, as their trie holds them
-abbrev pub SourceList : Type 0 → Type 0 → Type 0
-SourceList V A = List (Prefix × Box V A)
+-- values under the addresses of their sources
+abbrev pub SourceValues : Type 0 → Type 0
+SourceValues V = List (ℕ × V)
 
 module _ {X : Type 0} where
   -- the address of an entry's prefix
@@ -48,7 +47,18 @@ unfoldable pub row_cmp : Option ℕ → Option ℕ → Ordering
 row_cmp a b = option_cmp nat_cmp a b
 
 module _ {V : Type 0} where
-  -- the value under a source
+  -- the value of a source
+  abbrev pub source_at : ℕ → SourceValues V → Option V
+  source_at s es = lookup (is_at (nat_cmp s)) es
+
+  abbrev pub without_source : ℕ → SourceValues V → SourceValues V
+  without_source s es = remove_entry (is_at (nat_cmp s)) es
+
+  -- how many nodes lead to a source in a trie of these
+  unfoldable pub nodes_among : SourceValues V → ℕ → ℕ
+  nodes_among es s = nodes_to (map (λ e. (host_of e.0, e)) es) (host_of s)
+
+  -- the value under a source, that of (*,G) under none
   abbrev pub row_in : Option ℕ → Rows V → Option V
   row_in s rows = lookup (is_at (row_cmp s)) rows
 
@@ -66,13 +76,12 @@ module _ {V : Type 0} where
   star_rows None = []
   star_rows (Some value) = (None, value) ∷ []
 
-  module _ {A : Type 0} where
-    -- the rows of the sources
-    unfoldable pub source_rows : SourceList V A → Rows V
-    source_rows es = map (λ e. (Some (address_in e), box_value e.1)) es
+  -- the rows of the sources
+  unfoldable pub source_rows : SourceValues V → Rows V
+  source_rows es = map (λ e. (Some e.0, e.1)) es
 
-    unfoldable pub rows_of : Option V → SourceList V A → Rows V
-    rows_of star es = star_rows star ++ source_rows es
+  unfoldable pub rows_of : Option V → SourceValues V → Rows V
+  rows_of star es = star_rows star ++ source_rows es
 
   -- the rows as entries of the group
   unfoldable pub keyed : ℕ → Rows V → Table V

@@ -1,42 +1,43 @@
 //! What is under one group.
-ghost use Rattle.std.specs.Prelude.{◌≡◌, ◌≤◌, ◌+◌, ◌∷◌, ◌↔◌, [], IsTrue, IsOk, IfOk, IsSome, OnOk, OnErr, None, option_copied};
+ghost use Rattle.std.specs.Prelude.{◌≡◌, ◌≤◌, ◌∷◌, ◌↔◌, [], IsTrue, IsOk, IfOk, IsSome, OnOk, OnErr, option_copied, option_map};
+ghost use Rattle.std.specs.Box.{box_value};
 ghost use Rattle.std.specs.BTreeMap.{insert_entry};
-ghost use Rattle.pim_source_trie.specs.Entries.{host_of};
 ghost use Rattle.pim_source_trie.specs.Rows.{row_cmp, row_in, row_nodes, source_of, without_row};
 ghost use Rattle.pim_trie.specs.Meter.{raised};
 
-use pim_ip::{Addr, Prefix};
-use pim_trie::{Meter, Trie};
+use crate::sources::Sources;
+use pim_ip::Addr;
+use pim_trie::Meter;
 use std::alloc::{AllocError, Global};
 use std::marker::Model;
-
-// The prefix of the address alone.
-pub(crate) fn host(address: Addr) -> Prefix
-    ensures { result ≡ host_of address.bits }
-{
-    Prefix {
-        address,
-        length: 32,
-    }
-}
 
 // The value of (*,G), and those of its sources. They are seen as rows under their sources, (*,G)
 // under none.
 #[derive(Drop)]
 pub(crate) struct Group<V> {
     alloc: Global,
-    pub(crate) star: Option<V>,
-    pub(crate) sources: Trie<Box<V>>,
+    pub(crate) star: Option<Box<V>>,
+    pub(crate) sources: Sources<V>,
 }
 
 impl<V> Model for Group<V> {
-    ghost use Rattle.pim_source_trie.specs.Rows.{IsHosts, Rows, rows_of};
+    ghost use Rattle.std.specs.Prelude.{option_map};
+    ghost use Rattle.std.specs.Box.{box_value};
+    ghost use Rattle.pim_source_trie.specs.Rows.{Rows, rows_of};
 
     ghost Value = { Rows V };
 
-    ghost view = { λ g. rows_of g.star g.sources };
+    ghost view = { λ g. rows_of (option_map box_value g.star) g.sources };
+}
 
-    ghost invariant = { λ g. IsHosts g.sources };
+// The value in the box, if there is one.
+pub(crate) fn unboxed<V>(held: &Option<Box<V>>) -> Option<&V>
+    ensures { option_copied result ≡ option_map box_value held.now }
+{
+    match held {
+        Some(value) => Some(&**value),
+        None => None,
+    }
 }
 
 impl<V> Group<V> {
@@ -49,7 +50,7 @@ impl<V> Group<V> {
         let mut group = Group {
             alloc,
             star: None,
-            sources: Trie::new(alloc),
+            sources: Sources::new(alloc),
         };
         group.put(source, value)?;
         Ok(group)
@@ -70,8 +71,8 @@ impl<V> Group<V> {
         ensures at_most { row_nodes self.now (source_of source) ≤ 33 }
     {
         match source {
-            None => self.star.as_ref(),
-            Some(source) => Some(&**self.sources.get(host(source), meter)?),
+            None => unboxed(&self.star),
+            Some(source) => self.sources.get(source, meter),
         }
     }
 
@@ -83,17 +84,10 @@ impl<V> Group<V> {
         ensures overwrites { IsSome (row_in (source_of source) self.old) → IsOk result }
         ensures err { OnErr result (self.new ≡ self.old) }
     {
-        let Some(source) = source else {
-            self.star = Some(value);
-            return Ok(());
-        };
-        if let Some(found) = self.sources.get_mut(host(source)) {
-            **found = value;
-            return Ok(());
+        match source {
+            None => put_boxed(self.alloc, &mut self.star, value),
+            Some(source) => self.sources.put(source, value),
         }
-        let made = Box::new(self.alloc, value)?;
-        self.sources.insert(host(source), made)?;
-        Ok(())
     }
 
     // Takes the value away.
@@ -104,7 +98,21 @@ impl<V> Group<V> {
     {
         match source {
             None => drop(self.star.take()),
-            Some(source) => drop(self.sources.remove(host(source))),
+            Some(source) => self.sources.remove(source),
         }
     }
+}
+
+// Puts the value into the box, or into a new one. After a refusal nothing has changed.
+fn put_boxed<V: Drop>(alloc: Global, held: &mut Option<Box<V>>, value: V) -> Result<(), AllocError>
+    ensures ok { OnOk result (option_map box_value held.new ≡ Some value) }
+    ensures overwrites { IsSome held.old → IsOk result }
+    ensures err { OnErr result (held.new ≡ held.old) }
+{
+    if let Some(found) = held {
+        **found = value;
+        return Ok(());
+    }
+    *held = Some(Box::new(alloc, value)?);
+    Ok(())
 }

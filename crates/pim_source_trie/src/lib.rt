@@ -3,6 +3,7 @@
 
 mod group;
 pub mod source_trie;
+mod sources;
 pub mod walks;
 
 pub use pim_trie::Meter;

@@ -6,7 +6,8 @@ ghost use Rattle.pim_types.specs.Keys.{group_in, is_of_group, key_cmp};
 ghost use Rattle.pim_source_trie.specs.Entries.{entry_key, nodes_visited};
 ghost use Rattle.pim_trie.specs.Meter.{raised};
 
-use crate::group::{Group, host};
+use crate::group::Group;
+use crate::sources::host;
 use crate::walks::{Entries, Groups};
 use pim_ip::Addr;
 use pim_trie::{Meter, Trie};
@@ -20,7 +21,7 @@ use std::marker::Model;
 /// most for a group, and 33 more for a source.
 pub struct SourceTrie<V> {
     alloc: Global,
-    groups: Trie<Box<Group<V>>>,
+    groups: Trie<Group<V>>,
 }
 
 // Written out, so that it is proved once (docs/PROOF_NOTES.md, Drops).
@@ -91,8 +92,8 @@ impl<V> SourceTrie<V> {
         if let Some(found) = self.groups.get_mut(host(group)) {
             return found.put(source, value);
         }
-        let found = Box::new(self.alloc, Group::with(self.alloc, source, value)?)?;
-        self.groups.insert(host(group), found)?;
+        let made = Group::with(self.alloc, source, value)?;
+        self.groups.insert(host(group), made)?;
         Ok(())
     }
 

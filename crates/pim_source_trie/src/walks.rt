@@ -6,7 +6,8 @@ ghost use Rattle.std.specs.Iterator.{YieldsFirstBy, item_count};
 ghost use Rattle.pim_source_trie.specs.Entries.{bits_of, entry_seen};
 ghost use Rattle.pim_source_trie.specs.Rows.{address_in, keyed};
 
-use crate::group::Group;
+use crate::group::{Group, unboxed};
+use crate::sources::SourcesLeft;
 use pim_ip::Addr;
 use pim_trie::{Trie, Under};
 use pim_types::{IfaceId, Key};
@@ -17,7 +18,7 @@ use std::marker::Model;
 pub struct Entries<'a, V> {
     group: Addr,
     star: Option<&'a V>,
-    sources: Option<Under<'a, Box<V>>>,
+    sources: Option<SourcesLeft<'a, V>>,
 }
 
 // Written out, so that it is proved once (docs/PROOF_NOTES.md, Drops).
@@ -48,7 +49,7 @@ impl<'a, V> Entries<'a, V> {
     {
         Entries {
             group,
-            star: found.star.as_ref(),
+            star: unboxed(&found.star),
             sources: Some(found.sources.iter()),
         }
     }
@@ -76,11 +77,8 @@ impl<'a, V> Iterator for Entries<'a, V> {
         if let Some(value) = self.star.take() {
             return Some((Key::group(self.group), value));
         }
-        let (prefix, value) = self.sources.as_mut()?.next()?;
-        Some((
-            Key::source(IfaceId::NONE, self.group, prefix.address),
-            &**value,
-        ))
+        let (source, value) = self.sources.as_mut()?.next()?;
+        Some((Key::source(IfaceId::NONE, self.group, source), value))
     }
 }
 
@@ -88,7 +86,7 @@ impl<'a, V> FusedIterator for Entries<'a, V> {}
 
 /// The groups that are left, ascending.
 pub struct Groups<'a, V> {
-    left: Under<'a, Box<Group<V>>>,
+    left: Under<'a, Group<V>>,
 }
 
 // Written out, so that it is proved once (docs/PROOF_NOTES.md, Drops).
@@ -109,7 +107,7 @@ impl<'a, V> Model for Groups<'a, V> {
 
 impl<'a, V> Groups<'a, V> {
     // Those of the trie.
-    pub(crate) fn of(groups: &'a Trie<Box<Group<V>>>) -> Self
+    pub(crate) fn of(groups: &'a Trie<Group<V>>) -> Self
         ensures { result ≡ map address_in groups.now }
     {
         Groups {

@@ -1,5 +1,5 @@
 -- A row that says what the one before says: nothing is looked up then.
-use Rattle.std.proofs.Common.{◌≡◌, ◌==◌, ◌&&◌, ◌||◌, ℕ, Bool, true, false, not, Option, Some, None, Result, Ok, Err, OnOk, is_some, refl, sym, ap, ◌∙◌, arith}
+use Rattle.std.proofs.Common.{◌≡◌, ◌==◌, ◌&&◌, ◌||◌, ℕ, Bool, true, false, not, Option, Some, None, Result, Ok, Err, OnOk, is_some, refl, ap, ◌∙◌, arith}
 use Rattle.std.specs.Prelude.{IsSome, IsTrue}
 use Rattle.std.proofs.lemmas.Bool.Decides.{nat_tests}
 use Rattle.std.specs.Bool.{beq}
@@ -63,10 +63,6 @@ apart true true e same = cc
 apart true false e same = cc
 apart false true e same = cc
 apart false false e same = cc
-
-pub some_alike : {R : Type 0} (before : Option R) (a b : R) → before ≡ Some a → before ≡ Some b → a ≡ b
-some_alike None a b one two = cc
-some_alike (Some r) a b one two = cc
 
 -- ---- rows that say no more than that they are there
 

@@ -3,6 +3,8 @@ mod Dropped
 mod Empty
 mod Fitting
 mod Indexed
+mod KeptAlive
+mod LookedUp
 mod Losses
 mod Lowered
 mod Marked

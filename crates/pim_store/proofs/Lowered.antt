@@ -59,3 +59,7 @@ pub same_on_ok : {T E X Y : Type 0} (result : Result T E) (f : X → Y) (x y : X
     → OnOk result (f x ≡ f y)
 same_on_ok (Ok r) f x y same = ap f same
 same_on_ok (Err e) f x y same = tt
+
+pub on_ok_always : {T E P : Type 0} (result : Result T E) → P → OnOk result P
+on_ok_always (Ok r) p = p
+on_ok_always (Err e) p = tt

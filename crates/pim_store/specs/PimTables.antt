@@ -72,6 +72,10 @@ pub record AreKeyed (f : PimTables) : Type 0 where
 abbrev pub is_prune : Option DownstreamRow → Bool
 is_prune row = option_map_or (λ (r : DownstreamRow). is_none r.pending) row false
 
+-- a source's row once its keepalive timer ends then, by the row that is there
+abbrev pub kept_alive : ℕ → Option SourceRow → SourceRow
+kept_alive end row = record { keepalive = Some end; spt = option_map_or (λ (r : SourceRow). r.spt) row false }
+
 -- a Join timer that is lowered to an end
 abbrev pub lowered : ℕ → JoinTimerRow → Option JoinTimerRow
 lowered end row = Some (record { end = min row.end end })

@@ -1,6 +1,7 @@
 //! All PIM facts of the router, by interface, group and source.
 #![tactic(auto)]
 
+mod changes;
 mod index;
 pub mod marks;
 mod rows;

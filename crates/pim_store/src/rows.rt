@@ -1,6 +1,6 @@
 //! A table's rows, changed with the marks that they tell.
-ghost use Rattle.std.specs.Prelude.{◌≡◌, ◌&&◌, ℕ, None, Some, IsTrue, OnErr, OnOk, false, true};
-ghost use Rattle.pim_model.specs.Tables.{change_row, drop_at, drop_where, put, row_at, set_row};
+ghost use Rattle.std.specs.Prelude.{◌≡◌, ◌&&◌, ℕ, None, Some, IfOk, IsTrue, OnErr, OnOk, false, true};
+ghost use Rattle.pim_model.specs.Tables.{change_row, drop_at, drop_where, has_row, put, row_at, set_row};
 ghost use Rattle.pim_types.specs.Keys.{is_on};
 ghost use Rattle.pim_store.specs.Said.{AreLookedUp, IsTold, KeepsOtherMarks, SaysAlike, SetsMarks, is_about, row_says};
 ghost use Rattle.pim_store.specs.declared.marks.Mark.{Mark as MarkValue};
@@ -8,21 +8,17 @@ ghost use Rattle.pim_store.specs.declared.marks.Mark.{Mark as MarkValue};
 use crate::index::Index;
 use crate::telling::TellsMarks;
 use pim_source_trie::Meter;
-use pim_tables::{Ring, Timed};
+use pim_tables::{Change, Ring, Timed, To};
 use pim_types::{IfaceId, Key};
 use std::alloc::AllocError;
 
-// Whether the row says what the one before says, if there was one.
-fn says_alike<R: TellsMarks>(key: Key, before: Option<R>, row: R) -> bool
+// Whether the row says what the one before says.
+fn says_alike<R: TellsMarks>(key: Key, before: R, row: R) -> bool
     requires { IsTrue (R.fits key) }
     ensures alike { IsTrue result → (x : MarkValue) (i : ℕ) → (R.tells x && is_about x i key) ≡ true
-        → row_says R.tells R.says x (Some row) ≡ row_says R.tells R.says x before }
-    ensures all { (other : R) → before ≡ Some other → SaysAlike R.tells R.says row other → result ≡ true }
-    ensures absent { before ≡ None → result ≡ false }
+        → row_says R.tells R.says x (Some row) ≡ row_says R.tells R.says x (Some before) }
+    ensures all { SaysAlike R.tells R.says row before → result ≡ true }
 {
-    let Some(before) = before else {
-        return false;
-    };
     let (first, second) = R::told(key);
     if row.says(first) != before.says(first) {
         return false;
@@ -33,27 +29,48 @@ fn says_alike<R: TellsMarks>(key: Key, before: Option<R>, row: R) -> bool
     }
 }
 
-// Marks what the row says, unless it says what the one that is there says. An error is want of memory, and then
-// nothing has changed. The meter rises by the nodes that lead to the marks, where they are looked up.
-fn mark_row<R: TellsMarks>(
-    rows: &Timed<R, Ring>,
+// Changes the row under the key, where there is one, in its place; whether there is one. The row is looked up once. An
+// error is want of memory. The meter rises by the nodes that lead to the marks, where the row says something else than the
+// one before.
+pub(crate) fn update_row<R: TellsMarks, C: Change<R>>(
+    rows: &mut Timed<R, Ring>,
     index: &mut Index,
     key: Key,
-    row: R,
+    change: C,
     meter: &mut Meter,
-) -> Result<(), AllocError>
+) -> Result<bool, AllocError>
     requires fits { IsTrue (R.fits key) }
-    requires told { IsTold R.tells R.says R.fits index.old rows.now }
-    ensures ok { OnOk result (SetsMarks R.tells R.says index.old index.new key (Some row)) }
-    ensures err { OnErr result (index.new ≡ index.old) }
-    ensures alike { (before : R) → row_at rows.now key ≡ Some before → SaysAlike R.tells R.says row before
-        → meter.new ≡ meter.old }
-    ensures new { row_at rows.now key ≡ None → AreLookedUp index.old key meter.old meter.new }
+    requires told { IsTold R.tells R.says R.fits index.old rows.old }
+    ensures changed { OnOk result (rows.new ≡ change_row (λ before. Some (C.after change before)) key rows.old) }
+    ensures there { IfOk result (λ there. there ≡ has_row rows.old key) }
+    ensures told { IsTold R.tells R.says R.fits index.new rows.new }
+    ensures others { KeepsOtherMarks R.tells index.old index.new }
+    ensures alike { OnOk result ((before : R) → row_at rows.old key ≡ Some before
+        → SaysAlike R.tells R.says (C.after change before) before → meter.new ≡ meter.old) }
+    ensures index { IfOk result (λ there. there ≡ false → index.new ≡ index.old) }
+    ensures meter { IfOk result (λ there. there ≡ false → meter.new ≡ meter.old) }
 {
-    if says_alike(key, rows.get(key), row) {
-        return Ok(());
+    // A key stands once.
+    rows.recall_rising();
+    let found = match rows.update(key, change) {
+        Ok(found) => found,
+        Err(refused) => {
+            drop_marked(rows, index, key, meter);
+            return Err(refused);
+        }
+    };
+    let Some(before) = found else {
+        return Ok(false);
+    };
+    let row = change.after(before);
+    if says_alike(key, before, row) {
+        return Ok(true);
     }
-    index.mark(key, row, meter)
+    if let Err(refused) = index.mark(key, row, meter) {
+        drop_marked(rows, index, key, meter);
+        return Err(refused);
+    }
+    Ok(true)
 }
 
 // Puts the row under the key, in place of one that is there. An error is want of memory.
@@ -73,14 +90,51 @@ pub(crate) fn put_row<R: TellsMarks>(
         → meter.new ≡ meter.old) }
     ensures new { OnOk result (row_at rows.old key ≡ None → AreLookedUp index.old key meter.old meter.new) }
 {
-    mark_row(rows, index, key, row, meter)?;
+    // What is put under a key that is there stands in its place.
+    rows.recall_rising();
+    if update_row(rows, index, key, To { row }, meter)? {
+        return Ok(());
+    }
+    add_row(rows, index, key, row, meter)
+}
+
+// Puts a row under a key that has none. An error is want of memory.
+fn add_row<R: TellsMarks>(
+    rows: &mut Timed<R, Ring>,
+    index: &mut Index,
+    key: Key,
+    row: R,
+    meter: &mut Meter,
+) -> Result<(), AllocError>
+    requires fits { IsTrue (R.fits key) }
+    requires told { IsTold R.tells R.says R.fits index.old rows.old }
+    ensures put { OnOk result (rows.new ≡ put rows.old key row) }
+    ensures told { IsTold R.tells R.says R.fits index.new rows.new }
+    ensures others { KeepsOtherMarks R.tells index.old index.new }
+    ensures visited { OnOk result (AreLookedUp index.old key meter.old meter.new) }
+{
+    index.mark(key, row, meter)?;
     if let Err(refused) = rows.put(key, row) {
-        // The row that was there may be marked otherwise now: it goes.
-        rows.remove(key);
-        index.unmark::<R>(key, meter);
+        drop_marked(rows, index, key, meter);
         return Err(refused);
     }
     Ok(())
+}
+
+// Takes the row under the key away, and what it says, if anything is marked of it.
+fn drop_marked<R: TellsMarks>(
+    rows: &mut Timed<R, Ring>,
+    index: &mut Index,
+    key: Key,
+    meter: &mut Meter,
+)
+    requires { IsTrue (R.fits key) }
+    ensures removed { rows.new ≡ drop_at rows.old key }
+    ensures unmarked { SetsMarks R.tells R.says index.old index.new key None }
+    ensures visited { AreLookedUp index.old key meter.old meter.new }
+{
+    rows.remove(key);
+    index.unmark::<R>(key, meter);
 }
 
 // Takes the row under the key away.
@@ -97,8 +151,7 @@ pub(crate) fn remove_row<R: TellsMarks>(
     ensures others { KeepsOtherMarks R.tells index.old index.new }
     ensures visited { AreLookedUp index.old key meter.old meter.new }
 {
-    rows.remove(key);
-    index.unmark::<R>(key, meter);
+    drop_marked(rows, index, key, meter);
 }
 
 // Puts the row under the key, or takes away the one that is there. An error is want of memory.
@@ -118,6 +171,7 @@ pub(crate) fn set_row<R: TellsMarks>(
     ensures alike { OnOk result ((after before : R) → row ≡ Some after → row_at rows.old key ≡ Some before
         → SaysAlike R.tells R.says after before → meter.new ≡ meter.old) }
     ensures new { OnOk result (row_at rows.old key ≡ None → AreLookedUp index.old key meter.old meter.new) }
+    ensures gone { row ≡ None → AreLookedUp index.old key meter.old meter.new }
 {
     match row {
         Some(row) => put_row(rows, index, key, row, meter),
@@ -140,6 +194,10 @@ pub(crate) fn change_row<R: TellsMarks>(
     ensures changed { OnOk result (rows.new ≡ change_row (λ before. row) key rows.old) }
     ensures told { IsTold R.tells R.says R.fits index.new rows.new }
     ensures others { KeepsOtherMarks R.tells index.old index.new }
+    ensures absent { has_row rows.old key ≡ false → meter.new ≡ meter.old }
+    ensures alike { OnOk result ((after before : R) → row ≡ Some after → row_at rows.old key ≡ Some before
+        → SaysAlike R.tells R.says after before → meter.new ≡ meter.old) }
+    ensures gone { row ≡ None → has_row rows.old key ≡ true → AreLookedUp index.old key meter.old meter.new }
 {
     // What is put under a key that is there stands in its place.
     rows.recall_rising();
@@ -160,6 +218,8 @@ pub(crate) fn drop_row<R: TellsMarks>(
     ensures dropped { rows.new ≡ drop_at rows.old key }
     ensures told { IsTold R.tells R.says R.fits index.new rows.new }
     ensures others { KeepsOtherMarks R.tells index.old index.new }
+    ensures absent { has_row rows.old key ≡ false → meter.new ≡ meter.old }
+    ensures there { has_row rows.old key ≡ true → AreLookedUp index.old key meter.old meter.new }
 {
     if rows.contains(key) {
         remove_row(rows, index, key, meter);

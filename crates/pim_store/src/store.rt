@@ -5,18 +5,20 @@ ghost use Rattle.pim_ifset.specs.Members.{has};
 ghost use Rattle.pim_model.specs.Clearing.{first_by};
 ghost use Rattle.pim_model.specs.Downstream.{is_named};
 ghost use Rattle.pim_model.specs.Sets.{is_loser, is_winner};
-ghost use Rattle.pim_model.specs.Tables.{change_row, drop_at, drop_where, has_row, keys_in, row_at, set_row};
+ghost use Rattle.pim_model.specs.Tables.{change_row, drop_at, drop_where, has_row, keys_in, put, row_at, set_row};
 ghost use Rattle.pim_model.specs.Timers.{is_ending_first};
 ghost use Rattle.pim_model.specs.Upstream.{groups_of, sources_of};
 ghost use Rattle.pim_source_trie.specs.Entries.{nodes_visited, raised};
 ghost use Rattle.pim_tables.specs.Ends.{due_of};
 ghost use Rattle.pim_types.specs.Keys.{group_in, iface_in, is_of_group, is_on, names_source, rpt_key, same_key, source_key};
 ghost use Rattle.pim_store.specs.Bare.{IsWithoutTunnel};
-ghost use Rattle.pim_store.specs.PimTables.{AreKeyed, counted_facts, fact_key, is_prune, lowered, no_facts, stored_endings, stored_keys};
+ghost use Rattle.pim_store.specs.PimTables.{AreKeyed, counted_facts, fact_key, is_prune, kept_alive, lowered, no_facts, stored_endings, stored_keys};
+ghost use Rattle.pim_store.specs.Visits.{Visits};
 
+use crate::changes::KeepAlive;
 use crate::index::{Index, row_says};
 use crate::marks::{Mark, Marks};
-use crate::rows::{change_row, drop_row, drop_rows_on, put_row, remove_row, set_row};
+use crate::rows::{change_row, drop_row, drop_rows_on, put_row, remove_row, set_row, update_row};
 use crate::walks::Sources;
 use pim_ip::Addr;
 use pim_source_trie::{Groups, Meter};
@@ -187,7 +189,10 @@ impl Store {
         meter: &mut Meter,
     ) -> Result<(), AllocError>
         requires { key.iface.number < 120 }
-        ensures { OnOk result (self.new ≡ record self.old { downstream = set_row self.old.downstream key row }) }
+        ensures set { OnOk result (self.new ≡ record self.old { downstream = set_row self.old.downstream key row }) }
+        ensures new { OnOk result (row_at self.old.downstream key ≡ None
+            → Visits self.old key.group key.source meter.old meter.new) }
+        ensures gone { row ≡ None → Visits self.old key.group key.source meter.old meter.new }
     {
         set_row(&mut self.downstream, &mut self.index, key, row, meter)
     }
@@ -203,9 +208,12 @@ impl Store {
         meter: &mut Meter,
     ) -> Result<(), AllocError>
         requires { iface.number < 120 }
-        ensures { OnOk result (self.new ≡ record self.old {
+        ensures set { OnOk result (self.new ≡ record self.old {
           asserts = set_row self.old.asserts (fact_key iface.number group source false) row;
         }) }
+        ensures new { OnOk result (row_at self.old.asserts (fact_key iface.number group source false) ≡ None
+            → Visits self.old group source meter.old meter.new) }
+        ensures gone { row ≡ None → Visits self.old group source meter.old meter.new }
     {
         let key = Key {
             iface,
@@ -225,9 +233,12 @@ impl Store {
         row: Option<JoinTimerRow>,
         meter: &mut Meter,
     ) -> Result<(), AllocError>
-        ensures { OnOk result (self.new ≡ record self.old {
+        ensures set { OnOk result (self.new ≡ record self.old {
           join_timers = set_row self.old.join_timers (fact_key 0 group source false) row;
         }) }
+        ensures new { OnOk result (row_at self.old.join_timers (fact_key 0 group source false) ≡ None
+            → Visits self.old group source meter.old meter.new) }
+        ensures gone { row ≡ None → Visits self.old group source meter.old meter.new }
     {
         let key = Key {
             iface: IfaceId::NONE,
@@ -246,9 +257,12 @@ impl Store {
         row: Option<OverrideTimerRow>,
         meter: &mut Meter,
     ) -> Result<(), AllocError>
-        ensures { OnOk result (self.new ≡ record self.old {
+        ensures set { OnOk result (self.new ≡ record self.old {
           override_timers = set_row self.old.override_timers (rpt_key 0 group.bits source.bits) row;
         }) }
+        ensures new { OnOk result (row_at self.old.override_timers (rpt_key 0 group.bits source.bits) ≡ None
+            → Visits self.old group (Some source) meter.old meter.new) }
+        ensures gone { row ≡ None → Visits self.old group (Some source) meter.old meter.new }
     {
         let key = Key::source_rpt(IfaceId::NONE, group, source);
         set_row(&mut self.override_timers, &mut self.index, key, row, meter)
@@ -268,9 +282,44 @@ impl Store {
         }) }
         ensures kept { OnOk result (IsSome row → IsTrue (has_row self.old.sources (source_key 0 group.bits source.bits))
             → meter.new ≡ meter.old) }
+        ensures new { OnOk result (row_at self.old.sources (source_key 0 group.bits source.bits) ≡ None
+            → Visits self.old group (Some source) meter.old meter.new) }
+        ensures gone { row ≡ None → Visits self.old group (Some source) meter.old meter.new }
     {
         let key = Key::source(IfaceId::NONE, group, source);
         set_row(&mut self.sources, &mut self.index, key, row, meter)
+    }
+
+    /// Gives the source of the group this end of its keepalive timer, in ms, and a row where it has none. The row that is
+    /// there is looked up once, and then the meter stays. An error is want of memory.
+    pub fn keep_alive(
+        &mut self,
+        group: Addr,
+        source: Addr,
+        end: u64,
+        meter: &mut Meter,
+    ) -> Result<(), AllocError>
+        ensures state { OnOk result (self.new ≡ record self.old {
+          sources = put self.old.sources (source_key 0 group.bits source.bits)
+              (kept_alive end (row_at self.old.sources (source_key 0 group.bits source.bits)));
+        }) }
+        ensures kept { OnOk result (IsTrue (has_row self.old.sources (source_key 0 group.bits source.bits))
+            → meter.new ≡ meter.old) }
+        ensures new { OnOk result (row_at self.old.sources (source_key 0 group.bits source.bits) ≡ None
+            → Visits self.old group (Some source) meter.old meter.new) }
+    {
+        // A key stands once.
+        self.sources.recall_rising();
+        let key = Key::source(IfaceId::NONE, group, source);
+        let change = KeepAlive { end };
+        if update_row(&mut self.sources, &mut self.index, key, change, meter)? {
+            return Ok(());
+        }
+        let row = SourceRow {
+            keepalive: Some(end),
+            spt: false,
+        };
+        put_row(&mut self.sources, &mut self.index, key, row, meter)
     }
 
     /// Gives the source of the group this register, or takes its register away. An error is want of memory.
@@ -281,9 +330,12 @@ impl Store {
         row: Option<RegisterRow>,
         meter: &mut Meter,
     ) -> Result<(), AllocError>
-        ensures { OnOk result (self.new ≡ record self.old {
+        ensures set { OnOk result (self.new ≡ record self.old {
           registers = set_row self.old.registers (source_key 0 group.bits source.bits) row;
         }) }
+        ensures new { OnOk result (row_at self.old.registers (source_key 0 group.bits source.bits) ≡ None
+            → Visits self.old group (Some source) meter.old meter.new) }
+        ensures gone { row ≡ None → Visits self.old group (Some source) meter.old meter.new }
     {
         let key = Key::source(IfaceId::NONE, group, source);
         set_row(&mut self.registers, &mut self.index, key, row, meter)
@@ -296,15 +348,18 @@ impl Store {
         row: DownstreamRow,
         meter: &mut Meter,
     ) -> Result<(), AllocError>
-        ensures { OnOk result (self.new
+        ensures changed { OnOk result (self.new
             ≡ record self.old { downstream = change_row (λ before. Some row) key self.old.downstream }) }
+        ensures absent { has_row self.old.downstream key ≡ false → meter.new ≡ meter.old }
     {
         change_row(&mut self.downstream, &mut self.index, key, Some(row), meter)
     }
 
     /// Takes the downstream state under the key away, if there is one.
     pub fn drop_downstream(&mut self, key: Key, meter: &mut Meter)
-        ensures { self.new ≡ record self.old { downstream = drop_at self.old.downstream key } }
+        ensures dropped { self.new ≡ record self.old { downstream = drop_at self.old.downstream key } }
+        ensures absent { has_row self.old.downstream key ≡ false → meter.new ≡ meter.old }
+        ensures there { has_row self.old.downstream key ≡ true → Visits self.old key.group key.source meter.old meter.new }
     {
         drop_row(&mut self.downstream, &mut self.index, key, meter);
     }
@@ -316,15 +371,18 @@ impl Store {
         row: AssertRow,
         meter: &mut Meter,
     ) -> Result<(), AllocError>
-        ensures { OnOk result (self.new
+        ensures changed { OnOk result (self.new
             ≡ record self.old { asserts = change_row (λ before. Some row) key self.old.asserts }) }
+        ensures absent { has_row self.old.asserts key ≡ false → meter.new ≡ meter.old }
     {
         change_row(&mut self.asserts, &mut self.index, key, Some(row), meter)
     }
 
     /// Takes the assert under the key away, if there is one.
     pub fn drop_assert(&mut self, key: Key, meter: &mut Meter)
-        ensures { self.new ≡ record self.old { asserts = drop_at self.old.asserts key } }
+        ensures dropped { self.new ≡ record self.old { asserts = drop_at self.old.asserts key } }
+        ensures absent { has_row self.old.asserts key ≡ false → meter.new ≡ meter.old }
+        ensures there { has_row self.old.asserts key ≡ true → Visits self.old key.group key.source meter.old meter.new }
     {
         drop_row(&mut self.asserts, &mut self.index, key, meter);
     }
@@ -336,8 +394,11 @@ impl Store {
         row: Option<SourceRow>,
         meter: &mut Meter,
     ) -> Result<(), AllocError>
-        ensures { OnOk result (self.new
+        ensures changed { OnOk result (self.new
             ≡ record self.old { sources = change_row (λ before. row) key self.old.sources }) }
+        ensures kept { OnOk result (IsSome row → meter.new ≡ meter.old) }
+        ensures absent { has_row self.old.sources key ≡ false → meter.new ≡ meter.old }
+        ensures gone { row ≡ None → has_row self.old.sources key ≡ true → Visits self.old key.group key.source meter.old meter.new }
     {
         change_row(&mut self.sources, &mut self.index, key, row, meter)
     }
@@ -349,8 +410,9 @@ impl Store {
         row: RegisterRow,
         meter: &mut Meter,
     ) -> Result<(), AllocError>
-        ensures { OnOk result (self.new
+        ensures changed { OnOk result (self.new
             ≡ record self.old { registers = change_row (λ before. Some row) key self.old.registers }) }
+        ensures kept { OnOk result (meter.new ≡ meter.old) }
     {
         change_row(&mut self.registers, &mut self.index, key, Some(row), meter)
     }
@@ -362,8 +424,9 @@ impl Store {
         row: JoinTimerRow,
         meter: &mut Meter,
     ) -> Result<(), AllocError>
-        ensures { OnOk result (self.new
+        ensures changed { OnOk result (self.new
             ≡ record self.old { join_timers = change_row (λ before. Some row) key self.old.join_timers }) }
+        ensures kept { OnOk result (meter.new ≡ meter.old) }
     {
         change_row(
             &mut self.join_timers,
@@ -376,7 +439,9 @@ impl Store {
 
     /// Takes the override timer under the key away, if there is one.
     pub fn drop_override_timer(&mut self, key: Key, meter: &mut Meter)
-        ensures { self.new ≡ record self.old { override_timers = drop_at self.old.override_timers key } }
+        ensures dropped { self.new ≡ record self.old { override_timers = drop_at self.old.override_timers key } }
+        ensures absent { has_row self.old.override_timers key ≡ false → meter.new ≡ meter.old }
+        ensures there { has_row self.old.override_timers key ≡ true → Visits self.old key.group key.source meter.old meter.new }
     {
         drop_row(&mut self.override_timers, &mut self.index, key, meter);
     }
@@ -388,8 +453,9 @@ impl Store {
         end: u64,
         meter: &mut Meter,
     ) -> Result<(), AllocError>
-        ensures { OnOk result (self.new
+        ensures lowered { OnOk result (self.new
             ≡ record self.old { join_timers = change_row (lowered end) key self.old.join_timers }) }
+        ensures kept { OnOk result (meter.new ≡ meter.old) }
     {
         // What is put under a key that is there stands in its place.
         self.join_timers.recall_rising();

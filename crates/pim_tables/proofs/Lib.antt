@@ -8,4 +8,5 @@ pub mod Lookups
 pub mod Orders
 pub mod Rows
 mod Steps
+pub mod Updates
 mod Walks

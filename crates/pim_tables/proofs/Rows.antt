@@ -8,7 +8,7 @@ use Rattle.std.specs.Map.{lookup, set_value}
 use Rattle.std.specs.BTreeMap.{is_at}
 use Rattle.std.specs.Prelude.{if◌then◌else◌}
 use Rattle.pim_types.specs.declared.fact.Key.{Key}
-use Rattle.pim_model.specs.Tables.{Table, change_row, changed_entry, drop_at, drop_where, row_at}
+use Rattle.pim_model.specs.Tables.{Table, change_row, changed_entry, drop_at, drop_where, keys_in, row_at}
 use Rattle.pim_types.specs.Keys.{key_cmp, same_key}
 use Rattle.pim_laws.proofs.RemovalLaws.{moved_above}
 
@@ -22,6 +22,12 @@ module _ {R : Type 0} (k : Key) (change : R → Option R) where
   unfolding changed changed_entry
   first_changed e t true h = rw h refl
   first_changed e t false h = rw h refl
+
+  pub change_first : (e : Key × R) (t : Table R) (b : Bool) → same_key k e.0 ≡ b
+      → change_row change k (e ∷ t) ≡ (if b then cons_option (option_map (λ row. (e.0, row)) (change e.1))
+      (change_row change k t) else e ∷ change_row change k t)
+  unfolding change_row changed
+  change_first e t b h = first_changed e t b h
 
   -- a key that isn't there changes nothing
   below_all : (t : Table R) → AllByRecursion (λ y. key_cmp k y ≡ Less) (map (λ e. e.0) t) → changed t ≡ t
@@ -91,3 +97,53 @@ module _ {R : Type 0} (k : Key) where
   unfolding drop_at drop_where change_row changed_entry
   dropped_is_changed [] = refl
   dropped_is_changed (e ∷ t) = gone_step e t (same_key k e.0) (dropped_is_changed t)
+
+-- what a change makes of the row that is there
+pub changed_to : {R : Type 0} (o : Option R) (after : R → R) (before row : R) → o ≡ Some before → row ≡ after before
+    → IfSome o (λ r. Some (after r) ≡ Some row)
+changed_to None after before row there is = cc
+changed_to (Some r) after before row there is = let same : r ≡ before = cc in rw (same, is) refl
+
+-- a row that was changed, and then put back
+module _ {R : Type 0} (k : Key) (after : R → R) (b : R) where
+  abbrev there : Table R → Table R
+  there t = changed k (λ r. Some (after r)) t
+
+  abbrev back : Table R → Table R
+  back t = changed k (λ _. Some b) t
+
+  back_step : (e : Key × R) (t : Table R) (s : Bool) → same_key k e.0 ≡ s
+      → AllByRecursion (λ y. key_cmp e.0 y ≡ Less) (map (λ e. e.0) t)
+      → cond s (Some e.1) (lookup (is_at (key_cmp k)) t) ≡ Some b
+      → (lookup (is_at (key_cmp k)) t ≡ Some b → back (there t) ≡ t) → back (there (e ∷ t)) ≡ e ∷ t
+  back_step e t true h above is rest =
+      let below : AllByRecursion (λ y. key_cmp k y ≡ Less) (map (λ e. e.0) t) = moved_above {R = R} k e.0 h t above in
+      let same : b ≡ e.1 = cc in
+      ap back (first_changed k (λ r. Some (after r)) e t true h
+      ∙ ap (λ u. (e.0, after e.1) ∷ u) (below_all k (λ r. Some (after r)) t below))
+      ∙ first_changed k (λ _. Some b) (e.0, after e.1) t true h
+      ∙ ap (λ u. (e.0, b) ∷ u) (below_all k (λ _. Some b) t below)
+      ∙ ap (λ r. (e.0, r) ∷ t) same
+  back_step e t false h above is rest =
+      ap back (first_changed k (λ r. Some (after r)) e t false h)
+      ∙ first_changed k (λ _. Some b) e (there t) false h ∙ ap (λ u. e ∷ u) (rest is)
+
+  put_back : (t : Table R) → IsStrictlySortedBy key_cmp (map (λ e. e.0) t) → lookup (is_at (key_cmp k)) t ≡ Some b
+      → back (there t) ≡ t
+  unfolding IsStrictlySortedBy
+  put_back [] sorted is = cc
+  put_back (e ∷ t) sorted is = back_step e t (same_key k e.0) refl sorted.0 is (put_back t sorted.1)
+
+  pub changed_back : (t : Table R) → IsStrictlySortedBy key_cmp (map (λ e. e.0) t) → row_at t k ≡ Some b
+      → change_row (λ _. Some b) k (change_row (λ r. Some (after r)) k t) ≡ t
+  unfolding change_row changed row_at
+  changed_back t sorted is = put_back t sorted is
+
+-- a change that makes this row of the one that is there
+pub changed_by : {R : Type 0} (k : Key) (change : R → Option R) (row : R) (t : Table R)
+    → IsStrictlySortedBy key_cmp (keys_in t) → IfSome (row_at t k) (λ before. change before ≡ Some row)
+    → change_row (λ _. Some row) k t ≡ change_row change k t
+unfolding keys_in
+changed_by k change row t sorted is =
+    sym (written_is_changed k (λ _. Some row) row t sorted (always (row_at t k) row))
+    ∙ written_is_changed k change row t sorted is

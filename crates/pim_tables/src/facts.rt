@@ -7,6 +7,7 @@ ghost use Rattle.pim_types.specs.Keys.{group_in, is_of_group, key_cmp, is_on};
 ghost use Rattle.pim_model.specs.Records.{is_at_group};
 ghost use Rattle.pim_tables.specs.RowsOf.{first_key};
 
+use crate::change::Change;
 use crate::group_rows::{GroupRows, RptKeys, push_keys};
 use crate::rows_of::RowsOf;
 use pim_ip::Addr;
@@ -201,6 +202,21 @@ impl<R: Copy> Facts<R> {
             count += 1;
         }
         count
+    }
+
+    // Changes the fact under the key, where there is one, in its place; what it was.
+    pub(crate) fn update<C: Change<R>>(&mut self, key: Key, change: C) -> Option<R>
+        ensures before { result ≡ row_at self.old key }
+        ensures changed { self.new ≡ change_row (λ before. Some (C.after change before)) key self.old }
+    {
+        match self.rows.get_mut(&key) {
+            Some(place) => {
+                let before = *place;
+                *place = change.after(before);
+                Some(before)
+            }
+            None => None,
+        }
     }
 
     // The key of the interface's first fact.

@@ -2,6 +2,7 @@
 //! which of them ends first.
 #![tactic(auto, unfolding(pim_types::specs::Keys::key_cmp, pim_types::specs::Keys::addr_cmp, pim_model::specs::Tables::row_at, pim_model::specs::Tables::has_row, pim_model::specs::Tables::put, pim_model::specs::Tables::drop_at, pim_model::specs::Tables::drop_where, pim_model::specs::Tables::set_row, pim_model::specs::Tables::change_row, pim_model::specs::Tables::changed_entry, pim_model::specs::Tables::rows_on, pim_model::specs::Tables::keys_in))]
 
+pub mod change;
 pub mod ends;
 pub mod facts;
 pub mod first;
@@ -12,6 +13,7 @@ mod row_ends;
 pub mod rows_of;
 pub mod timed;
 
+pub use change::{Change, To};
 pub use ends::Ends;
 pub use facts::Facts;
 pub use first::earlier;

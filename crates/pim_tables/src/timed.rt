@@ -1,5 +1,5 @@
 //! A table whose rows end. A queue of the ends that the rows know stands beside them, so that no caller sets a timer.
-ghost use Rattle.std.specs.Prelude.{◌≡◌, ◌==◌, ◌++◌, ◌↔◌, ◌&&◌, ◌||◌, ℕ, [], false, filter, length, not, IsTrue, IfSome, OnOk, OnErr, Option, Some, None, cond, option_map};
+ghost use Rattle.std.specs.Prelude.{◌≡◌, ◌==◌, ◌++◌, ◌↔◌, ◌&&◌, ◌||◌, ℕ, [], false, filter, length, not, IsTrue, IfOk, IfSome, OnOk, OnErr, Option, Some, None, cond, option_map};
 ghost use Rattle.std.specs.List.{list_any};
 ghost use Rattle.std.specs.List.Sorted.{IsStrictlySortedBy};
 ghost use Rattle.pim_model.specs.Clearing.{first_by};
@@ -12,6 +12,7 @@ ghost use Rattle.pim_types.specs.Keys.{group_in, is_of_group, key_cmp, is_on};
 ghost use Rattle.pim_tables.specs.Ends.{HasEither, InStep, KeepsOthers, KnowsRow, SetsRow, due_of, ends_under, is_end, left_at, row_endings};
 ghost use Rattle.pim_tables.specs.RowsOf.{first_key};
 
+use crate::change::{Change, To};
 use crate::ends::Ends;
 use crate::facts::Facts;
 use crate::group_rows::{GroupRows, RptKeys};
@@ -137,37 +138,83 @@ fn drop_ends<R: Ends, Q: Queue>(queue: &mut Q, key: Key, row: Option<R>)
     }
 }
 
-// Moves the ends of the row that was under the key, if there was one, to those of this one, and then puts it there. An
-// error is want of memory.
-fn put_in_step<R: Ends, Q: Queue>(
+// Changes the row under the key, where there is one, in its place, and moves its ends; what it was. The row is looked up
+// once. An error is want of memory.
+fn update_in_step<R: Ends, Q: Queue, C: Change<R>>(
     rows: &mut Facts<R>,
     queue: &mut Q,
     key: Key,
-    before: Option<R>,
-    row: R,
-) -> Result<(), AllocError>
-    requires before { before ≡ row_at rows.old key }
-    requires in_step { InStep R.kinds R.ends (Q.holds queue.old) rows.old }
-    ensures ok { OnOk result (rows.new ≡ put rows.old key row) }
+    change: C,
+) -> Result<Option<R>, AllocError>
+    requires { InStep R.kinds R.ends (Q.holds queue.old) rows.old }
+    ensures ok { OnOk result (rows.new ≡ change_row (λ before. Some (C.after change before)) key rows.old) }
+    ensures before { IfOk result (λ before. before ≡ row_at rows.old key) }
     ensures err { OnErr result (rows.new ≡ left_at R.kinds.1 rows.old key) }
     ensures in_step { InStep R.kinds R.ends (Q.holds queue.new) rows.new }
 {
-    if let Err(refused) = move_ends(queue, key, before, row) {
+    // A key stands once, so that the row can be put back.
+    rows.recall_rising();
+    let Some(before) = rows.update(key, change) else {
+        return Ok(None);
+    };
+    let row = change.after(before);
+    if let Err(refused) = move_ends(queue, key, Some(before), row) {
         if R::kinds().1.is_none() {
+            rows.change(key, before);
             return Err(refused);
         }
         // The first of the two may be moved by now, and can't be moved back without memory.
         rows.remove(key);
-        drop_ends(queue, key, before);
+        drop_ends(queue, key, Some(before));
+        drop_ends(queue, key, Some(row));
+        return Err(refused);
+    }
+    Ok(Some(before))
+}
+
+// Puts a row with its ends under a key that has none. An error is want of memory, and changes no row.
+fn add_in_step<R: Ends, Q: Queue>(
+    rows: &mut Facts<R>,
+    queue: &mut Q,
+    key: Key,
+    row: R,
+) -> Result<(), AllocError>
+    requires absent { row_at rows.old key ≡ None }
+    requires in_step { InStep R.kinds R.ends (Q.holds queue.old) rows.old }
+    ensures ok { OnOk result (rows.new ≡ put rows.old key row) }
+    ensures err { OnErr result (rows.new ≡ rows.old) }
+    ensures in_step { InStep R.kinds R.ends (Q.holds queue.new) rows.new }
+{
+    if let Err(refused) = move_ends(queue, key, None, row) {
+        // The first of two may be in by now.
         drop_ends(queue, key, Some(row));
         return Err(refused);
     }
     if let Err(refused) = rows.put(key, row) {
-        // No row is under the key, since only a further one wants memory.
         drop_ends(queue, key, Some(row));
         return Err(refused);
     }
     Ok(())
+}
+
+// Puts the row with its ends under the key, in place of one that is there. An error is want of memory.
+fn put_in_step<R: Ends, Q: Queue>(
+    rows: &mut Facts<R>,
+    queue: &mut Q,
+    key: Key,
+    row: R,
+) -> Result<(), AllocError>
+    requires { InStep R.kinds R.ends (Q.holds queue.old) rows.old }
+    ensures ok { OnOk result (rows.new ≡ put rows.old key row) }
+    ensures err { OnErr result (rows.new ≡ left_at R.kinds.1 rows.old key) }
+    ensures in_step { InStep R.kinds R.ends (Q.holds queue.new) rows.new }
+{
+    // What is put under a key that is there stands in its place.
+    rows.recall_rising();
+    match update_in_step(rows, queue, key, To { row })? {
+        Some(_) => Ok(()),
+        None => add_in_step(rows, queue, key, row),
+    }
 }
 
 impl<R: Ends, Q: Queue> Timed<R, Q> {
@@ -293,8 +340,17 @@ impl<R: Ends, Q: Queue> Timed<R, Q> {
         ensures ok { OnOk result (self.new ≡ put self.old key row) }
         ensures err { OnErr result (self.new ≡ left_at R.kinds.1 self.old key) }
     {
-        let before = self.rows.get(key);
-        put_in_step(&mut self.rows, &mut self.queue, key, before, row)
+        put_in_step(&mut self.rows, &mut self.queue, key, row)
+    }
+
+    /// Changes the fact under the key, where there is one, in its place, and answers what it was. The fact is looked up
+    /// once. An error is want of memory, and leaves what one of `put` leaves.
+    pub fn update<C: Change<R>>(&mut self, key: Key, change: C) -> Result<Option<R>, AllocError>
+        ensures ok { OnOk result (self.new ≡ change_row (λ before. Some (C.after change before)) key self.old) }
+        ensures before { IfOk result (λ before. before ≡ row_at self.old key) }
+        ensures err { OnErr result (self.new ≡ left_at R.kinds.1 self.old key) }
+    {
+        update_in_step(&mut self.rows, &mut self.queue, key, change)
     }
 
     /// Takes the fact under the key away.
@@ -329,12 +385,9 @@ impl<R: Ends, Q: Queue> Timed<R, Q> {
             → self.new ≡ change_row change key self.old) }
         ensures err { OnErr result (self.new ≡ left_at R.kinds.1 self.old key) }
     {
-        // What is put under a key that is there stands in its place.
+        // A key stands once.
         self.rows.recall_rising();
-        let before = self.rows.get(key);
-        if before.is_some() {
-            put_in_step(&mut self.rows, &mut self.queue, key, before, row)?;
-        }
+        update_in_step(&mut self.rows, &mut self.queue, key, To { row })?;
         Ok(())
     }
 

@@ -39,7 +39,7 @@ lowered_anew : (end : ℕ) (row : Option OverrideTimerRow)
 lowered_anew end None = refl
 lowered_anew end (Some r) = refl
 
-overrides : (s : State) (k : Key) (end : ℕ) → with_override_timer s k (LowerTo end) ≡ lower_override_timer s k end
+pub overrides : (s : State) (k : Key) (end : ℕ) → with_override_timer s k (LowerTo end) ≡ lower_override_timer s k end
 unfolding with_override_timer moved_override_timer lower_override_timer set_row
 overrides s k end =
     ap (λ row. record s { override_timers = set_row s.override_timers k row })
@@ -239,9 +239,9 @@ module _ (s : State) (w i : ℕ) (m : JoinPrune) where
       → others ≡ joined_keys s i m → pruned ≡ pruned_keys i m → first ≡ []
       → second ≡ first ++ heard_in_joins s to early true stars
       → third ≡ second ++ heard_in_joins s to early false others
-      → fourth ≡ third ++ heard_in_prunes s to late pruned → last ≡ fourth
+      → after_moves s fourth ≡ after_moves s (third ++ heard_in_prunes s to late pruned) → last ≡ fourth
       → after_moves s last ≡ seen s w i m
-  gathered {last = last} drawn is_hop is_holdtime is_early is_late are_stars are_others are_pruned none one two three
-      four =
+  gathered {late = late} {to = to} {pruned = pruned} {third = third} {last = last} drawn is_hop is_holdtime is_early
+      is_late are_stars are_others are_pruned none one two three four =
       let nothing : [] ++ in_joins true ≡ in_joins true = refl in
-      all_heard last (cc)
+      ap (after_moves s) four ∙ three ∙ all_heard (third ++ heard_in_prunes s to late pruned) (cc)

@@ -1,3 +1,4 @@
+mod Absorbed
 mod Alone
 mod EntryChanges
 mod HeardMessages

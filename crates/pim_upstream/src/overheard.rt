@@ -2,11 +2,12 @@
 //! neighbour suppresses the router's, and a Prune to it is overridden.
 ghost use Rattle.std.specs.Prelude.{◌≡◌, ◌++◌, OnOk, Some};
 ghost use Rattle.pim_types.specs.Keys.{is_star};
-ghost use Rattle.pim_macros.specs.Sights.{IsSourceSight};
+ghost use Rattle.pim_macros.specs.Sights.{IsSourceSight, IsStarSight};
 ghost use Rattle.pim_model.specs.Downstream.{joined_keys, pruned_keys};
 ghost use Rattle.pim_model.specs.Seen.{is_unpruned_towards, override_end, seen, suppressed_end};
 ghost use Rattle.pim_model.specs.Tables.{same_hop};
 ghost use Rattle.pim_upstream.specs.Hearing.{heard_in_joins, heard_in_prunes, heard_of_join, heard_of_prune, heard_of_source, heard_of_timer, heard_of_timers, is_source_towards, is_star_towards, timers_of};
+ghost use Rattle.pim_upstream.specs.Timers.{after_moves};
 
 use crate::timer::{TimerMove, move_timers, note_if};
 use pim_downstream::Named;
@@ -17,6 +18,7 @@ use pim_types::{Addr, Hop, IfaceId, Key, TreeState};
 use pim_wire::JoinPruneView;
 use pim_world::{Turn, World};
 use std::alloc::AllocError;
+use std::collections::BTreeSet;
 
 // Whether RPF'(*,G) is the neighbour.
 fn is_star_towards(world: &World, turn: &mut Turn, hop: Hop, group: Addr) -> bool
@@ -128,22 +130,23 @@ fn hear_joins(
 fn hear_source(
     world: &World,
     turn: &mut Turn,
+    star: &StarSight,
     hop: Hop,
     end: u64,
-    group: Addr,
     source: Addr,
     moves: &mut Vec<TimerMove>,
 ) -> Result<(), AllocError>
+    requires { IsStarSight world.now star.now }
     ensures heard { OnOk result (moves.new.items
-        ≡ moves.old.items ++ heard_of_source world.now hop end group source) }
+        ≡ moves.old.items ++ heard_of_source world.now hop end star.now.group source) }
     ensures silent { turn.new ≡ turn.old }
 {
-    let sight = sight_of(world, turn, group, source);
+    let sight = SourceSight::of(world, *star, source, &mut turn.meter);
     let is_heard = is_source_towards(world, &sight, hop);
     note_if(
         moves,
         is_heard,
-        TimerMove::LowerJoin(group, Some(source), end),
+        TimerMove::LowerJoin(star.group, Some(source), end),
     )
 }
 
@@ -152,18 +155,19 @@ fn hear_source(
 fn hear_timer(
     world: &World,
     turn: &mut Turn,
+    star: &StarSight,
     hop: Hop,
     end: u64,
-    group: Addr,
     key: Key,
     moves: &mut Vec<TimerMove>,
 ) -> Result<(), AllocError>
+    requires { IsStarSight world.now star.now }
     ensures heard { OnOk result (moves.new.items
-        ≡ moves.old.items ++ heard_of_timer world.now hop end group key) }
+        ≡ moves.old.items ++ heard_of_timer world.now hop end star.now.group key) }
     ensures silent { turn.new ≡ turn.old }
 {
     match key.source {
-        Some(source) => hear_source(world, turn, hop, end, group, source, moves),
+        Some(source) => hear_source(world, turn, star, hop, end, source, moves),
         None => Ok(()),
     }
 }
@@ -182,8 +186,9 @@ fn hear_timers(
         ≡ moves.old.items ++ heard_of_timers world.now hop end group (timers_of world.now group.bits)) }
     ensures silent { turn.new ≡ turn.old }
 {
+    let star = StarSight::of(world, group, &mut turn.meter);
     for (key, _) in world.store().join_timers_of(group) {
-        hear_timer(world, turn, hop, end, group, key, moves)?;
+        hear_timer(world, turn, &star, hop, end, key, moves)?;
     }
     Ok(())
 }
@@ -227,8 +232,7 @@ fn hear_prune(
     }
 }
 
-// What the keys of Prunes change.
-#[tactic(auto, using(std::proofs::lemmas::List::flat_map_more), unfolding(crate::specs::Hearing::heard_in_prunes))]
+// What the keys of Prunes change. One that stands again changes no more, so it isn't asked again.
 fn hear_prunes(
     world: &World,
     turn: &mut Turn,
@@ -237,12 +241,15 @@ fn hear_prunes(
     keys: &[Key],
     moves: &mut Vec<TimerMove>,
 ) -> Result<(), AllocError>
-    ensures heard { OnOk result (moves.new.items
-        ≡ moves.old.items ++ heard_in_prunes world.now hop end keys.now) }
+    ensures heard { OnOk result (after_moves world.now moves.new.items
+        ≡ after_moves world.now (moves.old.items ++ heard_in_prunes world.now hop end keys.now)) }
     ensures silent { turn.new ≡ turn.old }
 {
+    let mut heard = BTreeSet::new(turn.alloc);
     for key in keys {
-        hear_prune(world, turn, hop, end, *key, moves)?;
+        if heard.insert(*key)? {
+            hear_prune(world, turn, hop, end, *key, moves)?;
+        }
     }
     Ok(())
 }

@@ -8,6 +8,7 @@ use Rattle.pim_model.specs.State.{State}
 use Rattle.pim_model.specs.Tables.{keys_in}
 use Rattle.pim_model.specs.Unicast.{rp_of}
 use Rattle.pim_membership.specs.MembershipTables.{membership_keys}
+use Rattle.pim_membership.specs.Visits.{nodes_to_sources}
 use Rattle.pim_mrib.specs.Routes.{route_nodes, rp_nodes}
 use Rattle.pim_store.specs.PimTables.{pim_tables, stored_keys}
 use Rattle.pim_store.specs.Visits.{nodes_visited}
@@ -36,6 +37,10 @@ fact_nodes s group source =
     + (if list_any (names_source group.bits source.bits) (membership_keys (membership_tables s)) then 0
     else mark_nodes s group (Some source))
 
+-- what is asked for the sources of a group that have any fact: the source records of each, and the group among the PIM facts
+unfoldable pub sources_nodes : State → Addr → ℕ
+sources_nodes s group = nodes_to_sources (keys_in s.source_records) group + mark_nodes s group None
+
 -- what the macros of (*,G) read
 unfoldable pub star_nodes : State → Addr → ℕ
 star_nodes s group =
@@ -48,3 +53,8 @@ source_nodes s group source =
     path_nodes s (Some source.bits) + mark_nodes s group (Some source)
     + (group_record_nodes s group + source_record_nodes s group source)
     + (group_record_nodes s group + source_record_nodes s group source)
+
+-- what the macros of (*,G) read, where there is no source, or those of (S,G) with them
+abbrev pub sight_nodes : State → Addr → Option Addr → ℕ
+sight_nodes s group None = star_nodes s group
+sight_nodes s group (Some source) = star_nodes s group + source_nodes s group source

@@ -1,12 +1,13 @@
 //! What the machines change of sources: the keepalive timer, and the SPTbit.
-ghost use Rattle.std.specs.Prelude.{◌≡◌, IsTrue, OnOk, option_and_then};
+ghost use Rattle.std.specs.Prelude.{◌≡◌, IsTrue, None, OnOk, Some, option_and_then};
 ghost use Rattle.pim_model.specs.Asserts.{with_spt_bit};
 ghost use Rattle.pim_model.specs.Registers.{with_keepalive};
-ghost use Rattle.pim_model.specs.Sets.{spt_bit};
 ghost use Rattle.pim_model.specs.Tables.{has_row, row_at};
 ghost use Rattle.pim_store.specs.PimTables.{AreKeyed, pim_tables};
 ghost use Rattle.pim_types.specs.Keys.{source_key};
 ghost use Rattle.pim_types.specs.declared.fact.SourceRow.{SourceRow as Row};
+ghost use Rattle.pim_trie.specs.Meter.{raised};
+ghost use Rattle.pim_world.specs.Visits.{mark_nodes};
 
 use crate::world::World;
 use pim_trie::Meter;
@@ -25,17 +26,9 @@ impl World {
         self.store.recall_keyed();
     }
 
-    // SPTbit(S,G).
-    #[tactic(auto, unfolding(pim_model::specs::Sets::spt_bit))]
-    fn spt_bit(&self, group: Addr, source: Addr) -> bool
-        ensures { result ≡ spt_bit self.now group.bits source.bits }
-    {
-        let row = self.store.source(Key::source(IfaceId::NONE, group, source));
-        row.is_some_and(|row| row.spt)
-    }
-
-    /// KAT(S,G) runs for its whole period from now on. The meter stays where the source has a row.
-    #[tactic(auto, unfolding(pim_model::specs::Registers::with_keepalive, pim_model::specs::Tables::set_row))]
+    /// KAT(S,G) runs for its whole period from now on. The meter stays where the source has a row, and rises by the nodes
+    /// that lead to its PIM facts where it gets one.
+    #[tactic(auto, unfolding(pim_model::specs::Registers::with_keepalive, pim_model::specs::Sets::spt_bit))]
     pub fn keep_alive(
         &mut self,
         group: Addr,
@@ -45,12 +38,11 @@ impl World {
         ensures state { OnOk result (self.new ≡ with_keepalive self.old group.bits source.bits) }
         ensures kept { OnOk result (IsTrue (has_row self.old.sources (source_key 0 group.bits source.bits))
             → meter.new ≡ meter.old) }
+        ensures new { OnOk result (row_at self.old.sources (source_key 0 group.bits source.bits) ≡ None
+            → meter.new ≡ raised meter.old (mark_nodes self.old group (Some source))) }
     {
-        let row = SourceRow {
-            keepalive: Some(self.present() + KEEPALIVE_PERIOD),
-            spt: self.spt_bit(group, source),
-        };
-        self.store.set_source(group, source, Some(row), meter)
+        let end = self.present() + KEEPALIVE_PERIOD;
+        self.store.keep_alive(group, source, end, meter)
     }
 
     // When KAT(S,G) ends, if it runs, in ms.
@@ -62,7 +54,8 @@ impl World {
         self.store.source(key)?.keepalive
     }
 
-    /// Sets SPTbit(S,G).
+    /// Sets SPTbit(S,G). The meter stays where the source has a row, and rises by the nodes that lead to its PIM facts where it
+    /// gets one.
     #[tactic(auto, unfolding(pim_model::specs::Asserts::with_spt_bit, pim_model::specs::Tables::set_row))]
     pub fn set_spt_bit(
         &mut self,
@@ -70,7 +63,11 @@ impl World {
         source: Addr,
         meter: &mut Meter,
     ) -> Result<(), AllocError>
-        ensures { OnOk result (self.new ≡ with_spt_bit self.old group.bits source.bits) }
+        ensures state { OnOk result (self.new ≡ with_spt_bit self.old group.bits source.bits) }
+        ensures kept { OnOk result (IsTrue (has_row self.old.sources (source_key 0 group.bits source.bits))
+            → meter.new ≡ meter.old) }
+        ensures new { OnOk result (row_at self.old.sources (source_key 0 group.bits source.bits) ≡ None
+            → meter.new ≡ raised meter.old (mark_nodes self.old group (Some source))) }
     {
         let row = SourceRow {
             keepalive: self.keepalive_end(group, source),

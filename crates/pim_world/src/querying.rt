@@ -108,7 +108,7 @@ impl World {
         self.membership.group_record(iface, group).is_some()
     }
 
-    /// Lowers the group's timer on the interface to this end, in ms, where it runs and ends later.
+    /// Lowers the group's timer on the interface to this end, in ms, where it runs and ends later. The meter stays.
     #[tactic(auto, unfolding(pim_model::specs::Querier::lower_group))]
     pub fn lower_group(
         &mut self,
@@ -117,7 +117,8 @@ impl World {
         end: u64,
         meter: &mut Meter,
     ) -> Result<(), AllocError>
-        ensures { OnOk result (self.new ≡ lower_group self.old iface.number group.bits end) }
+        ensures state { OnOk result (self.new ≡ lower_group self.old iface.number group.bits end) }
+        ensures kept { OnOk result (meter.new ≡ meter.old) }
     {
         let Some(row) = self.membership.group_record(iface, group) else {
             return Ok(());

@@ -5,7 +5,7 @@ ghost use Rattle.pim_types.specs.Keys.{is_of_group, names_source};
 ghost use Rattle.pim_model.specs.Upstream.{fact_keys, sources_of};
 ghost use Rattle.pim_world.specs.Groups.{gathered, numbers_of};
 ghost use Rattle.pim_world.specs.Sources.{sources_among};
-ghost use Rattle.pim_world.specs.Visits.{fact_nodes};
+ghost use Rattle.pim_world.specs.Visits.{fact_nodes, sources_nodes};
 ghost use Rattle.pim_trie.specs.Meter.{raised};
 
 use crate::world::World;
@@ -16,14 +16,16 @@ use std::alloc::{AllocError, Global};
 use std::collections::BTreeMap;
 
 impl World {
-    /// The sources of the group that have any fact, ascending.
+    /// The sources of the group that have any fact, ascending. The meter rises by the nodes that are visited, at least those
+    /// that lead to the group and to each of its sources among the source records, and to the group among the PIM facts.
     pub fn sources(
         &self,
         alloc: Global,
         group: Addr,
         meter: &mut Meter,
     ) -> Result<BTreeMap<Addr, (), Global>, AllocError>
-        ensures { IfOk result (λ found. numbers_of found.entries ≡ sources_of group.bits (fact_keys self.now)) }
+        ensures sources { IfOk result (λ found. numbers_of found.entries ≡ sources_of group.bits (fact_keys self.now)) }
+        ensures at_least { OnOk result (raised meter.old (sources_nodes self.now group) ≤ meter.new) }
     {
         let mut found = self.membership.sources_of(alloc, group, meter)?;
         gather_all(self.store.sources_of(group, meter), &mut found)?;

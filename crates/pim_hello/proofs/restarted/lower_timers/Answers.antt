@@ -16,7 +16,7 @@ loop-key-preserved c =
     let keys = c.args.keys.now in
     let i = c.loop-key.key-index in
     let lowered_in =
-    ap (with_store c.loop-key.world) (rw c.store_mut.ensures.value at c.in_ok-lower_join_timer.ensures) in
+    ap (with_store c.loop-key.world) (rw c.store_mut.ensures.value at c.in_ok-lower_join_timer.ensures.lowered) in
     let timers = ap (λ (s : State). s.join_timers) lowered_in in (
       ap (λ (t : Table JoinTimerRow). all_changed (lowered end) t (drop (i + 1) keys)) timers
           ∙ one_more_changed (lowered end) keys i (star_key 0 0) c.loop-key.world.join_timers c.loop-key-test.true

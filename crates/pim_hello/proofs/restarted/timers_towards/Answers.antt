@@ -9,7 +9,7 @@ loop-key-preserved-in-Continue-1 c = (
   found (λ e. is_towards c.args.world.now c.args.neighbour e.0) _ c.loop-key.keys.items c.push.new.self.items
       (c.in-Some.key.now, c.in-Some.field-0-1.now)
       c.loop-key.key-iterator c.next.new.self c.is_same_hop.result c.in-Some.ensures.steps c.in_ok-push.ensures.items
-      (c.is_same_hop.ensures ∙ ap (λ h. same_hop h (Some c.args.neighbour)) c.upstream_of-upstream.ensures)
+      (c.is_same_hop.ensures ∙ ap (λ h. same_hop h (Some c.args.neighbour)) c.upstream_of-upstream.ensures.upstream)
       c.if-is_same_hop.true c.loop-key.invariant.0,
   c.loop-key.invariant.1,
 )
@@ -19,7 +19,7 @@ loop-key-preserved c = (
   passed (λ e. is_towards c.args.world.now c.args.neighbour e.0) _ c.loop-key.keys.items
       (c.in-Some.key.now, c.in-Some.field-0-1.now) c.loop-key.key-iterator c.next.new.self c.is_same_hop.result
       c.in-Some.ensures.steps
-      (c.is_same_hop.ensures ∙ ap (λ h. same_hop h (Some c.args.neighbour)) c.upstream_of-upstream.ensures)
+      (c.is_same_hop.ensures ∙ ap (λ h. same_hop h (Some c.args.neighbour)) c.upstream_of-upstream.ensures.upstream)
       c.if-is_same_hop.false c.loop-key.invariant.0,
   c.loop-key.invariant.1,
 )

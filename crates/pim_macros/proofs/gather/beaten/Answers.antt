@@ -1,8 +1,13 @@
 use Rattle.std.proofs.Common.{arith}
 use Rattle.std.proofs.lemmas.Grind.{common_steps}
 use Rattle.pim_model.specs.Sets.{is_beaten}
-use Rattle.pim_macros.proofs.Asserted.{beaten_where_asserted}
+use Rattle.pim_macros.proofs.Asserted.{beaten_nowhere, beaten_where_asserted}
 use Rattle.pim_macros.proofs.gather.beaten.Goals as goal
+
+pub returns-then-is_empty : goal.returns-then-is_empty
+returns-then-is_empty c =
+    beaten_nowhere c.args.world.now c.args.group.bits c.args.source.bits c.args.asserted c.new.result
+    c.requires.asserted ((c.is_empty.ensures).0 c.if-is_empty.true).0 c.new.ensures.interfaces
 
 pub returns : goal.returns
 returns c =

@@ -1,4 +1,4 @@
-use Rattle.std.proofs.Common.{ap, arith, sym, ◌≡◌, ◌∙◌}
+use Rattle.std.proofs.Common.{ap, sym, ◌≡◌, ◌∙◌}
 use Rattle.pim_model.specs.Tables.{has_row}
 use Rattle.pim_types.specs.Keys.{source_key}
 use Rattle.pim_macros.specs.declared.sight.StarSight.{StarSight}

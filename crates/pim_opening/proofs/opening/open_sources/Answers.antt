@@ -2,6 +2,8 @@ use Rattle.std.proofs.Common.{[], ap, append_assoc, map, sym, ◌++◌, ◌∙�
 use Rattle.pim_world.specs.Groups.{numbers_of}
 use Rattle.pim_opening.specs.Openings.{source_opening}
 use Rattle.pim_opening.specs.declared.opening.SourceOpening.{SourceOpening}
+use Rattle.pim_opening.specs.Visits.{source_opening_nodes}
+use Rattle.pim_opening.proofs.Visited.{all_gathered, next_gathered}
 use Rattle.pim_opening.proofs.opening.open_sources.Goals as goal
 
 pub loop-source-preserved : goal.loop-source-preserved
@@ -14,5 +16,13 @@ loop-source-preserved c =
           ∙ append_assoc c.loop-source.opened.items (source_opening s c.args.star.now.group.bits c.in-Some.source.now.bits ∷ []) left
           ∙ sym (ap (λ es. c.loop-source.opened.items ++ map (source_opening s c.args.star.now.group.bits) (numbers_of es)) c.in-Some.ensures.steps)
           ∙ c.loop-source.invariant.opened;
-      silent = c.open_source.ensures.silent ∙ c.loop-source.invariant.silent;
+      visited = next_gathered (source_opening_nodes s c.args.star.now.group.bits) _ _ _ c.in-Some.source.now.bits
+          (numbers_of c.args.sources.now.entries) (numbers_of c.loop-source.source-iterator) (numbers_of c.next.new.self) c.loop-source.invariant.visited
+          (ap (λ es. numbers_of es) c.in-Some.ensures.steps) c.open_source.ensures.at_least;
     }
+
+pub returns-clause-at_least : goal.returns-clause-at_least
+returns-clause-at_least c =
+    all_gathered (source_opening_nodes c.args.world.now c.args.star.now.group.bits) _ _ (numbers_of c.args.sources.now.entries)
+    (numbers_of c.loop-source.source-iterator) c.loop-source.invariant.visited
+    (ap (λ es. numbers_of es) c.in-None.ensures.steps.0)

@@ -1,11 +1,15 @@
-use Rattle.std.proofs.Common.{◌≡◌, ◌++◌, map}
+use Rattle.std.proofs.Common.{◌≡◌, ◌≤◌, ◌++◌, map}
+use Rattle.std.specs.List.{sum_by}
+use Rattle.pim_trie.specs.Meter.{raised}
 use Rattle.pim_world.specs.Groups.{numbers_of}
 use Rattle.pim_opening.specs.Openings.{source_opening}
+use Rattle.pim_opening.specs.Visits.{source_opening_nodes}
 use Rattle.pim_opening.proofs.opening.open_sources.Given as goal
 
 abbrev pub invariant-loop-source : goal.invariant-loop-source
 invariant-loop-source l = record {
   opened : l.opened.items ++ map (source_opening l.world l.star.group.bits) (numbers_of l.source-iterator)
       ≡ map (source_opening l.world l.star.group.bits) (numbers_of l.fn.sources.entries);
-  silent : l.turn ≡ l.fn.turn;
+  visited : raised l.fn.meter (sum_by (source_opening_nodes l.world l.star.group.bits) (numbers_of l.fn.sources.entries))
+      ≤ raised l.meter (sum_by (source_opening_nodes l.world l.star.group.bits) (numbers_of l.source-iterator));
 }

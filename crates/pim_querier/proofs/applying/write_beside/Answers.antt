@@ -12,6 +12,6 @@ returns c =
     (put_beside c.args.iface.number c.args.group.bits c.args.world.now _ c.put_members.new.world c.drop_empty.new.world
     c.drop_repeats.new.world c.args.known.now c.timer-end.result c.members.result.now c.is_none_left-is_none.result
     c.members.ensures.members c.timer-end.ensures
-    (ap (with_membership c.args.world.now) (rw c.membership_mut.ensures.value at c.in_ok-set_group_record.ensures))
+    (ap (with_membership c.args.world.now) (rw c.membership_mut.ensures.value at c.in_ok-set_group_record.ensures.set))
     c.in_ok-put_members.ensures c.is_none_left-is_none.ensures c.drop_empty.ensures)
     c.drop_repeats.ensures

@@ -17,4 +17,4 @@ returns c =
     (rw c.membership.ensures at c.recall_rising_source_records.ensures)
     (rw c.membership-2.ensures at c.in-Some.ensures) c.source.ensures c.lowered.ensures
     (ap (with_membership c.args.world.now) (rw c.membership_mut.ensures.value at e)))
-    c.change_source_record.ensures
+    c.change_source_record.ensures.changed

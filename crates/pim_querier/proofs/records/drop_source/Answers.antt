@@ -7,5 +7,5 @@ pub returns : goal.returns
 returns c =
     source_dropped c.args.iface.number c.args.group.bits c.args.source.bits c.args.world.now _ c.drop_empty.new.world
     c.has_sources-is_none.result
-    (ap (with_membership c.args.world.now) (rw c.membership_mut.ensures.value at c.remove_source_record.ensures))
+    (ap (with_membership c.args.world.now) (rw c.membership_mut.ensures.value at c.remove_source_record.ensures.removed))
     c.has_sources-is_none.ensures c.drop_empty.ensures

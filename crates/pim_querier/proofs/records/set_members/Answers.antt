@@ -15,6 +15,6 @@ returns c =
     (members_set c.args.iface.number c.args.group.bits c.args.world.now c.drop_empty.new.world _ c.put_members.new.world
     c.drop_repeats.new.world c.args.known.now c.is_no_record.result c.members.result.now c.members.ensures.members
     c.is_no_record.ensures c.drop_empty.ensures
-    (ap (with_membership c.drop_empty.new.world) (rw c.membership_mut.ensures.value at c.drop_source_records.ensures))
+    (ap (with_membership c.drop_empty.new.world) (rw c.membership_mut.ensures.value at c.drop_source_records.ensures.dropped))
     c.in_ok-put_members.ensures)
     c.drop_repeats.ensures

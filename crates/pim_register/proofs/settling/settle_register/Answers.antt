@@ -26,7 +26,7 @@ returns-then-not-could_register-clause-sight c =
     let k = source_key 0 g src in
     subst (λ (u : State). IsSourceSight u c.with_tunnel.result)
     (sym (stored s _ _ (λ (f : PimTables). record f { registers = drop_at f.registers k }) c.store_mut.ensures.value
-    c.in_ok-set_register.ensures))
+    c.in_ok-set_register.ensures.set))
     (c.with_tunnel.ensures.sight s (drop_at s.registers k) c.requires (dropped_tunnel s g src))
 
 pub returns-then-is_some-clause-state : goal.returns-then-is_some-clause-state
@@ -50,6 +50,6 @@ returns-clause-sight c =
     let k = source_key 0 g src in
     subst (λ (u : State). IsSourceSight u c.with_tunnel-2.result)
     (sym (stored s _ _ (λ (f : PimTables). record f { registers = put f.registers k (record { state = RegisterState.Join }) })
-    c.store_mut-2.ensures.value c.in_ok-set_register-2.ensures))
+    c.store_mut-2.ensures.value c.in_ok-set_register-2.ensures.set))
     (c.with_tunnel-2.ensures.sight s (put s.registers k (record { state = RegisterState.Join })) c.requires
     (joined_tunnel s g src))

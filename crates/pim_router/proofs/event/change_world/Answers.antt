@@ -22,7 +22,7 @@ returns-clause-outcome c =
     c.in_ok-opening.opening c.in_ok-copies.field-0 c.args.turn.now c.of-2.new.turn c.apply.new.turn
     c.requires.rest.quiet c.recall_keyed.ensures c.requires.timeless c.requires.plan.covers
     c.in_ok-opening.ensures.opening c.requires.begun
-    (c.of-2.ensures.silent ∙ c.of.ensures.silent) c.in_ok-copies.ensures)
+    (c.of-2.ensures.silent ∙ c.turn.view_is) c.in_ok-copies.ensures)
 
 pub returns-clause-state : goal.returns-clause-state
 returns-clause-state c =
@@ -32,7 +32,7 @@ returns-clause-state c =
     c.in_ok-opening.opening c.in_ok-copies.field-0 c.args.turn.now c.of-2.new.turn c.apply.new.turn
     c.requires.rest.quiet c.recall_keyed.ensures c.requires.timeless c.requires.plan.covers
     c.in_ok-opening.ensures.opening c.requires.begun
-    (c.of-2.ensures.silent ∙ c.of.ensures.silent) c.in_ok-copies.ensures)
+    (c.of-2.ensures.silent ∙ c.turn.view_is) c.in_ok-copies.ensures)
 
 pub returns-clause-names : goal.returns-clause-names
 returns-clause-names c =
@@ -41,5 +41,5 @@ returns-clause-names c =
     c.recall_keyed.ensures (c.requires.plan.covers c.args.turn.now.draw)
     (changed_in_turn c.args.world.now c.apply.new.world c.args.accepted.now c.in_ok-copies.field-0 c.args.turn.now
     c.of-2.new.turn c.apply.new.turn
-    (c.of-2.ensures.silent ∙ c.of.ensures.silent) c.in_ok-copies.ensures)
+    (c.of-2.ensures.silent ∙ c.turn.view_is) c.in_ok-copies.ensures)
     c.in_ok-opening.ensures.opening c.in_ok-before.ensures.before c.in_ok-names.ensures.named

@@ -15,4 +15,4 @@ pub returns-clause-keys : goal.returns-clause-keys
 returns-clause-keys c =
     subst (λ (ks : List Key). OnOk c.put_sources.result (c.put_sources.new.keys.items ≡ c.args.keys.now.items ++ ks))
     (some_moved c.args.world.now c.args.next.now.routes c.args.group.bits c.is_group_moved.result
-    c.is_group_moved.ensures.moved c.if-is_group_moved.false _ c.in_ok-sources.ensures) c.put_sources.ensures.keys
+    c.is_group_moved.ensures.moved c.if-is_group_moved.false _ c.in_ok-sources.ensures.sources) c.put_sources.ensures.keys

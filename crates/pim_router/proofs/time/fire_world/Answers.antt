@@ -13,7 +13,7 @@ returns-clause-state c =
     subst (λ (p : State × List Emission). OnOk c.settle.result (c.settle.new.world ≡ p.0))
     (fired_in_turn c.args.world.now c.args.due c.set_present.new.self c.fired.new.world c.in_ok-touched.touched
     c.in_ok-opening.opening c.args.turn.now c.of-2.new.turn c.fired.new.turn c.requires.lawful c.requires.quiet
-    c.recall_keyed.ensures c.in_ok-touched.ensures c.in_ok-opening.ensures.opening c.requires.begun (c.of-2.ensures.silent ∙ c.of.ensures.silent)
+    c.recall_keyed.ensures c.in_ok-touched.ensures c.in_ok-opening.ensures.opening c.requires.begun (c.of-2.ensures.silent ∙ c.turn.view_is)
     c.set_present.ensures c.in_ok-fired.ensures.state c.in_ok-fired.ensures.messages)
     c.settle.ensures.state
 
@@ -23,7 +23,7 @@ returns-clause-sent c =
     ≡ c.args.emissions.now.items ++ p.1))
     (fired_in_turn c.args.world.now c.args.due c.set_present.new.self c.fired.new.world c.in_ok-touched.touched
     c.in_ok-opening.opening c.args.turn.now c.of-2.new.turn c.fired.new.turn c.requires.lawful c.requires.quiet
-    c.recall_keyed.ensures c.in_ok-touched.ensures c.in_ok-opening.ensures.opening c.requires.begun (c.of-2.ensures.silent ∙ c.of.ensures.silent)
+    c.recall_keyed.ensures c.in_ok-touched.ensures c.in_ok-opening.ensures.opening c.requires.begun (c.of-2.ensures.silent ∙ c.turn.view_is)
     c.set_present.ensures c.in_ok-fired.ensures.state c.in_ok-fired.ensures.messages)
     c.settle.ensures.sent
 

@@ -4,7 +4,7 @@ use Rattle.pim_upstream.proofs.overheard.hear_timers.Given as goal
 
 abbrev pub invariant-loop-key : goal.invariant-loop-key
 invariant-loop-key l = record {
-  heard : l.moves.items ++ heard_of_timers l.world l.hop l.end l.group l.key-iterator
-      ≡ l.fn.moves.items ++ heard_of_timers l.world l.hop l.end l.group (timers_of l.world l.group.bits);
+  heard : l.moves.items ++ heard_of_timers l.world l.hop l.end l.fn.group l.key-iterator
+      ≡ l.fn.moves.items ++ heard_of_timers l.world l.hop l.end l.fn.group (timers_of l.world l.fn.group.bits);
   silent : l.turn ≡ l.fn.turn;
 }

@@ -1,5 +1,6 @@
 use Rattle.std.proofs.Common.{subst, sym}
 use Rattle.pim_types.specs.Keys.{is_on}
+use Rattle.pim_source_trie.proofs.Visited.{raised_in_turn}
 use Rattle.pim_membership.specs.MembershipTables.{AreRobust}
 use Rattle.pim_membership.proofs.Robust.{robust_dropped}
 use Rattle.pim_membership.proofs.membership.Membership.drop_on.Goals as goal
@@ -8,3 +9,7 @@ pub invariant_of-self : goal.invariant_of-self
 invariant_of-self c =
     subst AreRobust (sym c.drop_on.ensures)
     (robust_dropped (is_on c.args.iface.number) c.self.inside.queriers c.self.invariant)
+
+pub returns-clause-at_least : goal.returns-clause-at_least
+returns-clause-at_least c = rw (← c.self.view_is)
+    (raised_in_turn _ _ _ _ _ c.drop_on-2.ensures.at_least c.drop_on-3.ensures.at_least)

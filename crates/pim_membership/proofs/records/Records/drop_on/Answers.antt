@@ -1,28 +1,47 @@
-use Rattle.std.proofs.Common.{◌<◌, ap, length, subst, sym, ◌∙◌}
+use Rattle.std.proofs.Common.{◌<◌, ◌≤◌, ap, arith, length, refl, subst, sym, ◌∙◌}
 use Rattle.pim_types.specs.Keys.{is_on}
-use Rattle.pim_model.specs.Tables.{drop_at, drop_where, rows_on}
+use Rattle.pim_model.specs.Tables.{drop_at, drop_where, keys_in, rows_on}
 use Rattle.pim_tables.proofs.Gone.{fewer, goes_anyhow, none_goes}
+use Rattle.pim_source_trie.specs.Entries.{raised}
+use Rattle.pim_membership.proofs.Each.{next_of_each, none_of_each}
 use Rattle.pim_membership.proofs.Told.{key_again}
+use Rattle.pim_membership.specs.Visits.{nodes_to_each}
 use Rattle.pim_membership.proofs.records.Records.drop_on.Goals as goal
+
+pub loop-key-init : goal.loop-key-init
+loop-key-init g c = (refl, omega arith)
 
 pub loop-key-smaller : goal.loop-key-smaller
 unfolding rows_on
 loop-key-smaller g c =
     subst (λ t. length t < length c.loop-key.self)
-    (sym (c.remove.ensures ∙ ap (drop_at c.loop-key.self) (key_again c.in-Some.key c.in-Some.ensures.kind)))
+    (sym (c.remove.ensures.removed ∙ ap (drop_at c.loop-key.self) (key_again c.in-Some.key c.in-Some.ensures.kind)))
     (fewer (is_on c.args.iface.number) c.in-Some.key c.loop-key.self (sym c.in-Some.ensures.first))
 
 pub loop-key-preserved : goal.loop-key-preserved
 unfolding rows_on
 loop-key-preserved g c =
-    ap (drop_where (is_on c.args.iface.number))
-    (c.remove.ensures ∙ ap (drop_at c.loop-key.self) (key_again c.in-Some.key c.in-Some.ensures.kind))
-    ∙ goes_anyhow (is_on c.args.iface.number) c.in-Some.key c.loop-key.self
-    (sym c.in-Some.ensures.first)
-    ∙ c.loop-key.invariant
+    let gone =
+    c.remove.ensures.removed ∙ ap (drop_at c.loop-key.self) (key_again c.in-Some.key c.in-Some.ensures.kind) in (
+      ap (drop_where (is_on c.args.iface.number)) gone
+          ∙ goes_anyhow (is_on c.args.iface.number) c.in-Some.key c.loop-key.self (sym c.in-Some.ensures.first)
+          ∙ c.loop-key.invariant.0,
+      omega (
+        arith,
+        c.loop-key.invariant.1,
+        next_of_each (is_on c.args.iface.number) c.loop-key.self _ c.in-Some.key _ _ gone c.in-Some.ensures.others c.remove.ensures.visited,
+      ),
+    )
 
-pub returns : goal.returns
+pub returns-clause-dropped : goal.returns-clause-dropped
 unfolding rows_on
-returns g c =
+returns-clause-dropped g c =
     sym (none_goes (is_on c.args.iface.number) c.loop-key.self (sym c.in_default.ensures.first))
-    ∙ c.loop-key.invariant
+    ∙ c.loop-key.invariant.0
+
+pub returns-clause-at_least : goal.returns-clause-at_least
+unfolding rows_on
+returns-clause-at_least g c =
+    subst (λ n. raised c.args.meter.now (nodes_to_each c.args.self.now (keys_in (rows_on c.args.iface.number c.args.self.now))) ≤ n)
+    (none_of_each (is_on c.args.iface.number) c.loop-key.self c.loop-key.meter (sym c.in_default.ensures.first))
+    c.loop-key.invariant.1

@@ -1,44 +1,41 @@
-use Rattle.std.proofs.Common.{refl, ap, sym, ◌∙◌}
-use Rattle.std.specs.Box.{with_value}
-use Rattle.std.specs.Option.{option_copied_mut}
-use Rattle.pim_source_trie.proofs.RowLaws.{hosts_put, host_canonical, none_in, put_in, star_put}
+use Rattle.std.proofs.Common.{ap, is_some, sym, ◌∙◌}
+use Rattle.std.proofs.lemmas.Result.{on_err_weaker, on_ok_weaker}
+use Rattle.std.specs.Box.{box_value}
+use Rattle.std.specs.Option.{option_map}
+use Rattle.pim_source_trie.specs.Rows.{rows_of}
+use Rattle.pim_source_trie.proofs.RowLaws.{boxed_there, row_found, row_put, star_found, star_put}
 use Rattle.pim_source_trie.proofs.group.Group.put.Goals as goal
 
-pub returns-in_default-clause-ok : goal.returns-in_default-clause-ok
-returns-in_default-clause-ok g c =
-    rw (c.in_default.is, ← c.self.view_is) (sym (star_put c.self.inside.star c.self.inside.sources c.args.value))
+pub returns-in-None-clause-ok : goal.returns-in-None-clause-ok
+returns-in-None-clause-ok g c =
+    rw (c.in-None.is, ← c.self.view_is) (on_ok_weaker c.put_boxed.result
+    (λ made. ap (λ star. rows_of star c.self.inside.sources) made
+    ∙ sym (star_put (option_map box_value c.self.inside.star) c.self.inside.sources c.args.value))
+    c.put_boxed.ensures.ok)
 
-pub invariant_of-self-in-Some-get_mut : goal.invariant_of-self-in-Some-get_mut
-invariant_of-self-in-Some-get_mut g c =
-    hosts_put c.in-Some.source.bits c.host.result (with_value c.in-Some-get_mut.found.now c.args.value)
-    c.self.inside.sources c.self.invariant c.host.ensures
+pub returns-in-None-clause-overwrites : goal.returns-in-None-clause-overwrites
+returns-in-None-clause-overwrites g c = rw (c.in-None.is, ← c.self.view_is) (λ some. c.put_boxed.ensures.overwrites
+    (boxed_there c.self.inside.star
+    (sym (ap is_some (star_found (option_map box_value c.self.inside.star) c.self.inside.sources)) ∙ some)))
 
-pub returns-in-Some-get_mut-clause-ok : goal.returns-in-Some-get_mut-clause-ok
-returns-in-Some-get_mut-clause-ok g c =
-    rw (c.in-Some.is, ← c.self.view_is)
-    (put_in c.in-Some.source.bits (with_value c.in-Some-get_mut.found.now c.args.value) c.args.value refl c.host.result
-    c.self.inside.star c.self.inside.sources c.self.invariant c.host.ensures)
+pub returns-in-None-clause-err : goal.returns-in-None-clause-err
+returns-in-None-clause-err g c =
+    rw (← c.self.view_is) (on_err_weaker c.put_boxed.result
+    (ap (λ star. rows_of (option_map box_value star) c.self.inside.sources)) c.put_boxed.ensures.err)
 
-pub returns-in_err-made-clause-overwrites : goal.returns-in_err-made-clause-overwrites
-returns-in_err-made-clause-overwrites g c = rw (c.in-Some.is, ← c.self.view_is) (λ some. absurd
-    (none_in c.in-Some.source.bits c.host.result c.self.inside.star c.self.inside.sources c.self.invariant
-    c.host.ensures (sym (ap option_copied_mut c.in_default-get_mut.is) ∙ c.get_mut.ensures.value) some))
+pub returns-in-Some-clause-ok : goal.returns-in-Some-clause-ok
+returns-in-Some-clause-ok g c =
+    rw (c.in-Some.is, ← c.self.view_is) (on_ok_weaker c.put.result
+    (λ made. ap (rows_of (option_map box_value c.self.inside.star)) made
+    ∙ sym (row_put c.in-Some.source.bits c.args.value (option_map box_value c.self.inside.star) c.self.inside.sources))
+    c.put.ensures.ok)
 
-pub insert-requires : goal.insert-requires
-insert-requires g c = rw c.host-2.ensures (host_canonical c.in-Some.source.bits)
+pub returns-in-Some-clause-overwrites : goal.returns-in-Some-clause-overwrites
+returns-in-Some-clause-overwrites g c = rw (c.in-Some.is, ← c.self.view_is) (λ some. c.put.ensures.overwrites
+    (sym (ap is_some (row_found c.in-Some.source.bits (option_map box_value c.self.inside.star) c.self.inside.sources))
+    ∙ some))
 
-pub returns-in_err-insert-clause-overwrites : goal.returns-in_err-insert-clause-overwrites
-returns-in_err-insert-clause-overwrites g c = rw (c.in-Some.is, ← c.self.view_is) (λ some. absurd
-    (none_in c.in-Some.source.bits c.host.result c.self.inside.star c.self.inside.sources c.self.invariant
-    c.host.ensures (sym (ap option_copied_mut c.in_default-get_mut.is) ∙ c.get_mut.ensures.value) some))
-
-pub invariant_of-self-2 : goal.invariant_of-self-2
-invariant_of-self-2 g c =
-    rw c.in_ok-insert.ensures.ok (hosts_put c.in-Some.source.bits c.host-2.result c.in_ok-made.made
-    c.self.inside.sources c.self.invariant c.host-2.ensures)
-
-pub returns-clause-ok : goal.returns-clause-ok
-returns-clause-ok g c =
-    rw (c.in-Some.is, ← c.self.view_is, c.in_ok-insert.ensures.ok)
-    (put_in c.in-Some.source.bits c.in_ok-made.made c.args.value c.in_ok-made.ensures.ok c.host-2.result
-    c.self.inside.star c.self.inside.sources c.self.invariant c.host-2.ensures)
+pub returns-in-Some-clause-err : goal.returns-in-Some-clause-err
+returns-in-Some-clause-err g c =
+    rw (← c.self.view_is) (on_err_weaker c.put.result
+    (ap (rows_of (option_map box_value c.self.inside.star))) c.put.ensures.err)

@@ -23,13 +23,11 @@ returns-clause-value g c =
     rw (← c.self.view_is)
     (c.get-2.ensures.value
     ∙ rows_at c.self.inside.groups c.self.invariant c.args.group.bits c.host.result c.host.ensures
-    c.in_ok-get.field-0.now (sym (ap option_copied c.in_ok-get.was) ∙ c.get.ensures.value) c.deref.result.now
-    c.deref.ensures (source_of c.args.source))
+    c.in_ok-get.field-0.now (sym (ap option_copied c.in_ok-get.was) ∙ c.get.ensures.value) (source_of c.args.source))
 
 pub returns-clause-visited : goal.returns-clause-visited
 returns-clause-visited g c =
     rw (← c.self.view_is)
     (raised_alike _ _ _ _ (raised_twice _ _ _ _ _ c.get.ensures.visited c.get-2.ensures.visited)
     (found_visited c.self.inside.groups c.self.invariant c.args.group c.host.result c.host.ensures
-    c.in_ok-get.field-0.now (sym (ap option_copied c.in_ok-get.was) ∙ c.get.ensures.value) c.deref.result.now
-    c.deref.ensures c.args.source))
+    c.in_ok-get.field-0.now (sym (ap option_copied c.in_ok-get.was) ∙ c.get.ensures.value) c.args.source))

@@ -1,6 +1,5 @@
 use Rattle.std.proofs.Common.{ap, sym, ◌∙◌}
 use Rattle.std.proofs.lemmas.Bool.{false≢true}
-use Rattle.std.specs.Box.{with_value}
 use Rattle.std.specs.Option.{option_copied_mut}
 use Rattle.pim_source_trie.specs.Rows.{source_of}
 use Rattle.pim_source_trie.proofs.TrieLaws.{groups_emptied, groups_left, trie_absent, trie_emptied, trie_removed}
@@ -16,32 +15,28 @@ pub invariant_of-self-then-is_empty : goal.invariant_of-self-then-is_empty
 invariant_of-self-then-is_empty g c =
     rw (c.remove-then-is_empty.ensures.left, c.host-then-is_empty.ensures ∙ sym c.host.ensures)
     (groups_emptied c.self.inside.groups c.self.invariant c.args.group.bits c.host.result c.host.ensures
-    c.in-Some.found.now (sym (ap option_copied_mut c.in-Some.is) ∙ c.get_mut.ensures.value) c.deref_mut.result.now
-    c.deref_mut.ensures.value (with_value c.in-Some.found.now c.remove.new.self) (source_of c.args.source)
-    c.remove.ensures
-    (sym c.deref.ensures ∙ c.is_empty.ensures.0 c.if-is_empty.true))
+    c.in-Some.found.now (sym (ap option_copied_mut c.in-Some.is) ∙ c.get_mut.ensures.value) c.remove.new.self
+    (source_of c.args.source) c.remove.ensures
+    (c.is_empty.ensures.0 c.if-is_empty.true))
 
 pub invariant_of-self-else-is_empty : goal.invariant_of-self-else-is_empty
 invariant_of-self-else-is_empty g c =
     groups_left c.self.inside.groups c.self.invariant c.args.group.bits c.host.result c.host.ensures
-    c.in-Some.found.now (sym (ap option_copied_mut c.in-Some.is) ∙ c.get_mut.ensures.value) c.deref_mut.result.now
-    c.deref_mut.ensures.value (with_value c.in-Some.found.now c.remove.new.self) (source_of c.args.source)
-    c.remove.ensures
-    (λ none. false≢true (sym c.if-is_empty.false ∙ c.is_empty.ensures.1 (c.deref.ensures ∙ none)))
+    c.in-Some.found.now (sym (ap option_copied_mut c.in-Some.is) ∙ c.get_mut.ensures.value) c.remove.new.self
+    (source_of c.args.source) c.remove.ensures
+    (λ none. false≢true (sym c.if-is_empty.false ∙ c.is_empty.ensures.1 none))
 
 pub returns-then-is_empty : goal.returns-then-is_empty
 returns-then-is_empty g c =
     rw (← c.self.view_is, c.remove-then-is_empty.ensures.left, c.host-then-is_empty.ensures ∙ sym c.host.ensures)
     (trie_emptied c.self.inside.groups c.self.invariant c.args.group.bits c.host.result c.host.ensures
-    c.in-Some.found.now (sym (ap option_copied_mut c.in-Some.is) ∙ c.get_mut.ensures.value) c.deref_mut.result.now
-    c.deref_mut.ensures.value (with_value c.in-Some.found.now c.remove.new.self) (source_of c.args.source)
-    c.remove.ensures
-    (sym c.deref.ensures ∙ c.is_empty.ensures.0 c.if-is_empty.true))
+    c.in-Some.found.now (sym (ap option_copied_mut c.in-Some.is) ∙ c.get_mut.ensures.value) c.remove.new.self
+    (source_of c.args.source) c.remove.ensures
+    (c.is_empty.ensures.0 c.if-is_empty.true))
 
 pub returns-else-is_empty : goal.returns-else-is_empty
 returns-else-is_empty g c =
     rw (← c.self.view_is)
     (trie_removed c.self.inside.groups c.self.invariant c.args.group.bits c.host.result c.host.ensures
-    c.in-Some.found.now (sym (ap option_copied_mut c.in-Some.is) ∙ c.get_mut.ensures.value) c.deref_mut.result.now
-    c.deref_mut.ensures.value (with_value c.in-Some.found.now c.remove.new.self) (source_of c.args.source)
-    c.remove.ensures)
+    c.in-Some.found.now (sym (ap option_copied_mut c.in-Some.is) ∙ c.get_mut.ensures.value) c.remove.new.self
+    (source_of c.args.source) c.remove.ensures)

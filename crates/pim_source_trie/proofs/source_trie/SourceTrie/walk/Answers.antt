@@ -21,7 +21,7 @@ returns-in_default-clause-visited g c =
 pub returns-clause-entries : goal.returns-clause-entries
 returns-clause-entries g c =
     rw (← c.self.view_is)
-    (c.of.ensures ∙ ap (keyed c.args.group.bits) c.deref.ensures
+    (c.of.ensures
     ∙ walk_found c.args.group.bits c.self.inside.groups c.self.invariant c.host.result c.host.ensures
     (Some c.in-Some.found.now) (sym (ap option_copied c.in-Some.is) ∙ c.get.ensures.value))
 

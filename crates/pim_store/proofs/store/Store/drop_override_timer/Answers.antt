@@ -1,4 +1,6 @@
 use Rattle.pim_store.proofs.Indexed.{after_override_timers}
+use Rattle.std.proofs.Common.{refl}
+use Rattle.pim_store.proofs.LookedUp.{looked_up}
 use Rattle.pim_store.proofs.store.Store.drop_override_timer.Goals as goal
 
 pub drop_row-requires : goal.drop_row-requires
@@ -6,3 +8,7 @@ drop_row-requires c = c.self.invariant.override_timers
 
 pub invariant_of-self : goal.invariant_of-self
 invariant_of-self c = after_override_timers c.self.invariant c.drop_row.ensures.others c.drop_row.ensures.told
+
+pub returns-clause-there : goal.returns-clause-there
+returns-clause-there c = rw (← c.self.view_is) (λ there.
+    looked_up _ _ c.self.invariant _ _ refl _ _ (c.drop_row.ensures.there there))

@@ -1,4 +1,6 @@
 use Rattle.pim_store.proofs.Indexed.{after_asserts}
+use Rattle.std.proofs.Common.{false, refl}
+use Rattle.pim_store.proofs.LookedUp.{fact_named, looked_up, looked_up_new}
 use Rattle.pim_store.proofs.store.Store.set_assert.Goals as goal
 
 pub set_row-requires-clause-told : goal.set_row-requires-clause-told
@@ -6,3 +8,12 @@ set_row-requires-clause-told c = c.self.invariant.asserts
 
 pub invariant_of-self : goal.invariant_of-self
 invariant_of-self c = after_asserts c.self.invariant c.set_row.ensures.others c.set_row.ensures.told
+
+pub returns-clause-new : goal.returns-clause-new
+returns-clause-new c = rw (← c.self.view_is)
+    (looked_up_new _ _ c.self.invariant _ _ refl _ _ c.set_row.result c.self.inside.asserts _
+    (fact_named c.args.iface.number c.args.group c.args.source false) c.set_row.ensures.new)
+
+pub returns-clause-gone : goal.returns-clause-gone
+returns-clause-gone c = rw (← c.self.view_is) (λ none.
+    looked_up _ _ c.self.invariant _ _ refl _ _ (c.set_row.ensures.gone none))

@@ -1,4 +1,5 @@
 use Rattle.pim_store.proofs.Indexed.{after_registers}
+use Rattle.pim_store.proofs.LookedUp.{looked_up, looked_up_new}
 use Rattle.pim_store.proofs.store.Store.set_register.Goals as goal
 
 pub set_row-requires-clause-told : goal.set_row-requires-clause-told
@@ -6,3 +7,12 @@ set_row-requires-clause-told c = c.self.invariant.registers
 
 pub invariant_of-self : goal.invariant_of-self
 invariant_of-self c = after_registers c.self.invariant c.set_row.ensures.others c.set_row.ensures.told
+
+pub returns-clause-new : goal.returns-clause-new
+returns-clause-new c = rw (← c.self.view_is)
+    (looked_up_new _ _ c.self.invariant _ _ c.source-key.ensures _ _ c.set_row.result c.self.inside.registers _ c.source-key.ensures
+    c.set_row.ensures.new)
+
+pub returns-clause-gone : goal.returns-clause-gone
+returns-clause-gone c = rw (← c.self.view_is) (λ none.
+    looked_up _ _ c.self.invariant _ _ c.source-key.ensures _ _ (c.set_row.ensures.gone none))

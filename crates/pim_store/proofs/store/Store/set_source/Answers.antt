@@ -1,6 +1,7 @@
 use Rattle.std.proofs.Common.{refl}
 use Rattle.pim_store.proofs.Alike.{kept_there}
 use Rattle.pim_store.proofs.Indexed.{after_sources}
+use Rattle.pim_store.proofs.LookedUp.{looked_up, looked_up_new}
 use Rattle.pim_store.proofs.store.Store.set_source.Goals as goal
 
 pub set_row-requires-clause-told : goal.set_row-requires-clause-told
@@ -14,3 +15,12 @@ returns-clause-kept c =
     rw (← c.self.view_is)
     (kept_there c.set_row.result c.self.inside.sources _ _ c.args.row _ c.source-key.ensures
     (λ x after before told. refl) c.set_row.ensures.alike)
+
+pub returns-clause-new : goal.returns-clause-new
+returns-clause-new c = rw (← c.self.view_is)
+    (looked_up_new _ _ c.self.invariant _ _ c.source-key.ensures _ _ c.set_row.result c.self.inside.sources _ c.source-key.ensures
+    c.set_row.ensures.new)
+
+pub returns-clause-gone : goal.returns-clause-gone
+returns-clause-gone c = rw (← c.self.view_is) (λ none.
+    looked_up _ _ c.self.invariant _ _ c.source-key.ensures _ _ (c.set_row.ensures.gone none))

@@ -1,0 +1,27 @@
+//! Changes of a row in its place.
+ghost use Rattle.std.specs.Prelude.{◌≡◌};
+
+/// What becomes of a row that is there.
+pub trait Change<R>: Copy {
+    /// The row after the change, by the one before.
+    ghost after: { Self → R → R };
+
+    /// The row after the change, by the one before.
+    fn after(self, before: R) -> R
+        ensures { result ≡ after self before };
+}
+
+/// The change to one row, whatever was there.
+#[derive(Clone, Copy)]
+pub struct To<R> {
+    /// The row.
+    pub row: R,
+}
+
+impl<R: Copy> Change<R> for To<R> {
+    ghost after = { λ to before. to.row };
+
+    fn after(self, _before: R) -> R {
+        self.row
+    }
+}

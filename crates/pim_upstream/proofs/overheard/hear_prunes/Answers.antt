@@ -1,0 +1,61 @@
+use Rattle.std.proofs.Common.{[], ap, refl, subst, sym, ◌≡◌, ◌∙◌, not, ◌++◌, ◌+◌, take, Bool, true, false}
+use Rattle.std.proofs.lemmas.List.{take_all}
+use Rattle.std.specs.Prelude.{List}
+use Rattle.pim_types.specs.declared.fact.Key.{Key}
+use Rattle.pim_types.specs.Keys.{addr_cmp, key_cmp}
+use Rattle.pim_model.specs.Downstream.{is_named}
+use Rattle.pim_upstream.specs.Hearing.{heard_in_prunes}
+use Rattle.pim_upstream.specs.Timers.{after_moves}
+use Rattle.pim_upstream.proofs.Absorbed.{HeardOnce, heard_again, heard_first, none_heard}
+use Rattle.pim_upstream.proofs.overheard.hear_prunes.Goals as goal
+use Rattle.pim_upstream.proofs.overheard.hear_prunes.Goals.{then-branch+in_ok-hear_prune, else-branch}
+
+-- what isn't added was there
+was_there : (added there : Bool) → added ≡ not there → added ≡ false → there ≡ true
+was_there added true is e = refl
+was_there added false is e = cc
+
+pub loop-key-init : goal.loop-key-init
+loop-key-init c = record {
+  heard =
+      subst (λ (set : List Key). HeardOnce c.args.world.now c.args.hop c.args.end c.args.world.now c.args.moves.now.items [] set
+      c.args.moves.now.items) (sym c.new-heard.ensures.empty)
+      (none_heard c.args.world.now c.args.hop c.args.end c.args.world.now c.args.moves.now.items c.args.moves.now.items refl);
+  silent = refl;
+}
+
+pub loop-key-preserved : goal.loop-key-preserved
+unfolding key_cmp addr_cmp is_named
+loop-key-preserved c =
+    let o = c.args.world.now in
+    let keys = c.args.keys.now in
+    let n = c.loop-key.key-index in
+    elim c.if-branch.branch [
+      | then-branch+in_ok-hear_prune w ↦ record {
+        heard =
+            heard_first o c.args.hop c.args.end o c.args.moves.now.items keys c.loop-key.heard.keys
+            c.insert.new.self.keys c.loop-key.moves.items n _ _ c.loop-key-test.true refl c.loop-key.invariant.heard
+            c.in_ok-insert.ensures.updates.0 c.if-branch.moves.items
+            (ap (λ m. m.items) w.moves-is ∙ w.in_ok-hear_prune.ensures.heard);
+        silent = w.turn-is ∙ w.in_ok-hear_prune.ensures.silent ∙ c.loop-key.invariant.silent;
+      }
+      | else-branch w ↦ record {
+        heard =
+            subst (λ ms. HeardOnce o c.args.hop c.args.end o c.args.moves.now.items (take (n + 1) keys)
+            c.insert.new.self.keys ms) (sym (ap (λ m. m.items) w.moves-is))
+            (heard_again o c.args.hop c.args.end o c.args.moves.now.items keys c.loop-key.heard.keys
+            c.insert.new.self.keys c.loop-key.moves.items n _ _ c.loop-key-test.true refl c.loop-key.invariant.heard
+            c.in_ok-insert.ensures.updates.0
+            (was_there _ _ c.in_ok-insert.ensures.added w.if-branch.false));
+        silent = w.turn-is ∙ c.loop-key.invariant.silent;
+      }
+    ]
+
+pub returns-clause-heard : goal.returns-clause-heard
+returns-clause-heard c =
+    c.loop-key.invariant.heard.same
+    ∙ ap (λ keys. after_moves c.args.world.now (c.args.moves.now.items ++ heard_in_prunes c.args.world.now c.args.hop c.args.end keys))
+    (take_all c.loop-key.key-index c.args.keys.now c.loop-key-test.false)
+
+pub returns-clause-silent : goal.returns-clause-silent
+returns-clause-silent c = c.loop-key.invariant.silent
