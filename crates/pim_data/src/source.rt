@@ -24,7 +24,7 @@ fn keep_alive(
     ensures group { OnOk result (sight.new.star.group ≡ sight.old.star.group) }
     ensures source { OnOk result (sight.new.source ≡ sight.old.source) }
 {
-    world.keep_alive(sight.star.group, sight.source, meter)?;
+    world.keep_alive(sight.star.group, sight.source, None, meter)?;
     *sight = sight.kept_alive();
     Ok(())
 }

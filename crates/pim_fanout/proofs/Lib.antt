@@ -7,3 +7,4 @@ mod Refreshed
 mod Same
 mod SameSets
 pub mod Shown
+mod Visited

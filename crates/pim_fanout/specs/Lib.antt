@@ -4,3 +4,4 @@ pub mod Same
 pub mod Named
 pub mod Refreshing
 pub mod Laws
+pub mod Visits

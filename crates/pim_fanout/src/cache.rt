@@ -1,8 +1,10 @@
 //! The forwarding cache with what an event costs it.
-ghost use Rattle.std.specs.Prelude.{◌≡◌, ◌≤◌, ◌+◌, ◌*◌, OnOk, length};
+ghost use Rattle.std.specs.Prelude.{◌≡◌, ◌≤◌, ◌+◌, ◌*◌, OnOk, length, sum_by};
 ghost use Rattle.pim_fanout.specs.Before.{name_key};
 ghost use Rattle.pim_fanout.specs.Refreshing.{Refreshes, RefreshesOne, nothing_cached, touches, uncounted};
 ghost use Rattle.pim_fanout.specs.Named.{keys_of};
+ghost use Rattle.pim_fanout.specs.Visits.{named_nodes};
+ghost use Rattle.pim_trie.specs.Meter.{raised};
 
 use crate::before::has_fact;
 use crate::name::SourceName;
@@ -82,6 +84,7 @@ impl Cache {
     ) -> Result<(), AllocError>
         ensures shown { OnOk result (RefreshesOne (name_key name) world.now self.old.mfc.rows self.new.mfc.rows) }
         ensures few { OnOk result (touches self.new ≤ touches self.old + 2) }
+        ensures at_least { raised meter.old (named_nodes world.now name) ≤ meter.new }
     {
         if !has_fact(world, name) {
             self.mfc.remove(name.group, name.source);
@@ -93,7 +96,8 @@ impl Cache {
     }
 
     /// Makes the row anew of each named source that has a fact, by one evaluation and one put, and takes that of each
-    /// other out. The meter rises by the nodes that its look-ups visit. After an error nothing is known of the rows.
+    /// other out. The meter rises by the nodes that its look-ups visit, at least those of the sight of each named source that
+    /// has a fact. After an error nothing is known of the rows.
     pub fn refresh(
         &mut self,
         world: &World,
@@ -102,6 +106,7 @@ impl Cache {
     ) -> Result<(), AllocError>
         ensures shown { OnOk result (Refreshes (keys_of names.now) world.now self.old.mfc.rows self.new.mfc.rows) }
         ensures few { OnOk result (touches self.new ≤ touches self.old + 2 * length names.now) }
+        ensures at_least { OnOk result (raised meter.old (sum_by (named_nodes world.now) names.now) ≤ meter.new) }
     {
         for name in names {
             self.refresh_one(world, meter, *name)?;

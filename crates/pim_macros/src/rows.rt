@@ -55,6 +55,9 @@ pub struct SourceAnswers {
     pub watches: bool,
     /// Where a packet that is off its tree makes the router the winner of an assert.
     pub contested: IfSet,
+    /// The place of the source's own row when this was evaluated, if it had one. It is no answer, but a hint for `keep_alive` of
+    /// `World`.
+    pub place: Option<usize>,
 }
 
 /// The answers of a source of a group, as `row` has evaluated them.
@@ -194,7 +197,7 @@ impl SourceSight {
 
     // All answers, with whether the register state of (S,G) isn't NoInfo.
     #[tactic(auto, unfolding(pim_model::specs::Cache::answers))]
-    fn answers(&self, is_registered: bool) -> SourceAnswers
+    fn answers(&self, is_registered: bool, place: Option<usize>) -> SourceAnswers
         ensures { (s : State) → IsSourceSight s self.now
             → is_registered ≡ has_row s.registers (source_key 0 self.now.star.group.bits self.now.source.bits)
             → ShowsAnswers result (answers s self.now.star.group.bits self.now.source.bits) }
@@ -214,6 +217,7 @@ impl SourceSight {
             reaches_spt: self.reaches_spt(),
             watches: self.is_watched(),
             contested: self.contested().without_tunnel(),
+            place,
         }
     }
 }
@@ -240,7 +244,8 @@ pub fn row(world: &World, group: Addr, source: Addr, meter: &mut Meter, evaluate
     *evaluated = evaluated.saturating_add(1);
     let star = StarSight::of(world, group, meter);
     let sight = SourceSight::of(world, star, source, meter);
-    let answers = sight.answers(is_registered(world, group, source));
+    let place = world.store().source_place(group, source);
+    let answers = sight.answers(is_registered(world, group, source), place);
     Made {
         group,
         source,

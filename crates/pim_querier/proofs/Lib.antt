@@ -11,7 +11,6 @@ mod Naming
 mod Parts
 mod Queried
 mod Reported
-pub mod RisingRows
 mod Sent
 mod Starting
 pub mod OneSource

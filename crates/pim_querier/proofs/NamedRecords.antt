@@ -33,7 +33,7 @@ use Rattle.pim_laws.proofs.TableLaws.{any_in_filter}
 use Rattle.pim_querier.specs.Changes.{beside}
 use Rattle.pim_querier.specs.Reports.{asks_named, keeps_others, members_named}
 use Rattle.pim_querier.proofs.OneSource.{AreSources}
-use Rattle.pim_querier.proofs.RisingRows.{Up, up_of_sorted}
+use Rattle.pim_tables.proofs.RisingRows.{Up, up_of_sorted}
 use Rattle.pim_querier.specs.Queries.{bits_of}
 use Rattle.pim_querier.proofs.NamedSet.{bits_rise}
 use Rattle.pim_querier.proofs.NamedSources.{known, known_row, made, row_of, same_written}

@@ -14,7 +14,7 @@ use Rattle.pim_laws.specs.Laws.{is_under_source}
 use Rattle.pim_laws.proofs.RecordsKept.{equal_forms}
 use Rattle.pim_laws.proofs.RowLaws.{has_row_dropped, row_kept, row_put, row_put_away}
 use Rattle.pim_querier.proofs.OneSource.{AreSources, same_source}
-use Rattle.pim_querier.proofs.RisingRows.{Up, same_rows, up_filtered, up_put}
+use Rattle.pim_tables.proofs.RisingRows.{Up, same_rows, up_filtered, up_put}
 
 -- ---- rows and fates
 

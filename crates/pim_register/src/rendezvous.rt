@@ -72,7 +72,7 @@ fn register_at_rp(
     let is_stopped = is_stopped(&sight);
     let list = list_at_rp(&sight, register.is_null());
     if sight.spt || sight.is_spt_wanted {
-        world.keep_alive(group, source, &mut turn.meter)?;
+        world.keep_alive(group, source, None, &mut turn.meter)?;
     }
     if is_stopped {
         stop_registering(turn, packet, group, source)?;

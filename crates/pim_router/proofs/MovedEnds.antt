@@ -24,7 +24,7 @@ use Rattle.pim_querier.specs.Reports.{is_including, keeps_mode, keeps_others, st
 use Rattle.pim_querier.proofs.NamedRecords.{all_among, gone_of, is_member, neither, none_written}
 use Rattle.pim_querier.proofs.NamedSources.{anew, anew_elsewhere, anew_row, known, known_row, made, row_of, up_anew}
 use Rattle.pim_querier.proofs.OneSource.{AreSources, rebuilt, member_after, row_after}
-use Rattle.pim_querier.proofs.RisingRows.{Above, Up, same_rows, up_put}
+use Rattle.pim_tables.proofs.RisingRows.{Above, Up, same_rows, up_put}
 
 -- ---- tables that are alike
 

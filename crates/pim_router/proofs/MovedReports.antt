@@ -30,7 +30,7 @@ use Rattle.pim_locality.proofs.SourceMacros.{cut_source}
 use Rattle.pim_locality.proofs.StarMacros.{cut_group, some_cut}
 use Rattle.pim_querier.specs.Reports.{all_move_ends, is_including, keeps_mode, keeps_others, moves_by, moves_ends, stays}
 use Rattle.pim_querier.proofs.OneSource.{AreSources}
-use Rattle.pim_querier.proofs.RisingRows.{Up, up_of_sorted}
+use Rattle.pim_tables.proofs.RisingRows.{Up, up_of_sorted}
 use Rattle.pim_router.proofs.MovedEnds.{IsAlike, Stay, any_alike, applied_alike, cut_down, is_left, keys_alike, put_alike, row_alike, written}
 
 -- ---- tables that are alike, of the rows of some keys and changed in their places

@@ -15,8 +15,8 @@ use pim_types::{Fault, Outcome, Series, Verdict};
 use pim_world::{Meter, World};
 use std::alloc::Global;
 
-/// Takes a packet as its row says: KAT(S,G) is set or not, and copies leave on links. Nothing is looked up, opened,
-/// settled or told, where the source has a row.
+/// Takes a packet as its row says: KAT(S,G) is set or not, and copies leave on links. Nothing is opened, settled or told, where
+/// the source has a row; that is found by the place that the row of the cache keeps.
 #[tactic(auto, unfolding(pim_cached::specs::Decided::plainly_taken, pim_cached::specs::Decided::kept_if))]
 pub(crate) fn take_plain(
     alloc: Global,
@@ -35,7 +35,7 @@ pub(crate) fn take_plain(
     let olist = forward.olist.without_tunnel();
     let copies = copies(world, alloc, packet, olist)?;
     if forward.sets_keepalive {
-        world.keep_alive(packet.destination(), packet.source(), meter)?;
+        world.keep_alive(packet.destination(), packet.source(), forward.place, meter)?;
     }
     let count = copies.len() as u32;
     Ok(Outcome {

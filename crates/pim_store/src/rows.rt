@@ -8,7 +8,7 @@ ghost use Rattle.pim_store.specs.declared.marks.Mark.{Mark as MarkValue};
 use crate::index::Index;
 use crate::telling::TellsMarks;
 use pim_source_trie::Meter;
-use pim_tables::{Change, Ring, Timed, To};
+use pim_tables::{Change, Keeping, Ring, Timed, To};
 use pim_types::{IfaceId, Key};
 use std::alloc::AllocError;
 
@@ -29,12 +29,13 @@ fn says_alike<R: TellsMarks>(key: Key, before: R, row: R) -> bool
     }
 }
 
-// Changes the row under the key, where there is one, in its place; whether there is one. The row is looked up once. An
-// error is want of memory. The meter rises by the nodes that lead to the marks, where the row says something else than the
-// one before.
-pub(crate) fn update_row<R: TellsMarks, C: Change<R>>(
-    rows: &mut Timed<R, Ring>,
+// Changes the row under the key, where there is one, in its place; whether there is one. The row is looked up once, or not at
+// all where the hint is its place; whatever the hint is, the same is done. An error is want of memory. The meter rises by the
+// nodes that lead to the marks, where the row says something else than the one before.
+pub(crate) fn update_row<R: TellsMarks, K: Keeping<R>, C: Change<R>>(
+    rows: &mut Timed<R, Ring, K>,
     index: &mut Index,
+    hint: Option<usize>,
     key: Key,
     change: C,
     meter: &mut Meter,
@@ -52,7 +53,7 @@ pub(crate) fn update_row<R: TellsMarks, C: Change<R>>(
 {
     // A key stands once.
     rows.recall_rising();
-    let found = match rows.update(key, change) {
+    let found = match rows.update(hint, key, change) {
         Ok(found) => found,
         Err(refused) => {
             drop_marked(rows, index, key, meter);
@@ -74,8 +75,8 @@ pub(crate) fn update_row<R: TellsMarks, C: Change<R>>(
 }
 
 // Puts the row under the key, in place of one that is there. An error is want of memory.
-pub(crate) fn put_row<R: TellsMarks>(
-    rows: &mut Timed<R, Ring>,
+pub(crate) fn put_row<R: TellsMarks, K: Keeping<R>>(
+    rows: &mut Timed<R, Ring, K>,
     index: &mut Index,
     key: Key,
     row: R,
@@ -92,15 +93,15 @@ pub(crate) fn put_row<R: TellsMarks>(
 {
     // What is put under a key that is there stands in its place.
     rows.recall_rising();
-    if update_row(rows, index, key, To { row }, meter)? {
+    if update_row(rows, index, None, key, To { row }, meter)? {
         return Ok(());
     }
     add_row(rows, index, key, row, meter)
 }
 
 // Puts a row under a key that has none. An error is want of memory.
-fn add_row<R: TellsMarks>(
-    rows: &mut Timed<R, Ring>,
+fn add_row<R: TellsMarks, K: Keeping<R>>(
+    rows: &mut Timed<R, Ring, K>,
     index: &mut Index,
     key: Key,
     row: R,
@@ -122,8 +123,8 @@ fn add_row<R: TellsMarks>(
 }
 
 // Takes the row under the key away, and what it says, if anything is marked of it.
-fn drop_marked<R: TellsMarks>(
-    rows: &mut Timed<R, Ring>,
+fn drop_marked<R: TellsMarks, K: Keeping<R>>(
+    rows: &mut Timed<R, Ring, K>,
     index: &mut Index,
     key: Key,
     meter: &mut Meter,
@@ -138,8 +139,8 @@ fn drop_marked<R: TellsMarks>(
 }
 
 // Takes the row under the key away.
-pub(crate) fn remove_row<R: TellsMarks>(
-    rows: &mut Timed<R, Ring>,
+pub(crate) fn remove_row<R: TellsMarks, K: Keeping<R>>(
+    rows: &mut Timed<R, Ring, K>,
     index: &mut Index,
     key: Key,
     meter: &mut Meter,
@@ -156,8 +157,8 @@ pub(crate) fn remove_row<R: TellsMarks>(
 
 // Puts the row under the key, or takes away the one that is there. An error is want of memory.
 #[tactic(auto, unfolding(pim_model::specs::Tables::set_row))]
-pub(crate) fn set_row<R: TellsMarks>(
-    rows: &mut Timed<R, Ring>,
+pub(crate) fn set_row<R: TellsMarks, K: Keeping<R>>(
+    rows: &mut Timed<R, Ring, K>,
     index: &mut Index,
     key: Key,
     row: Option<R>,
@@ -183,8 +184,8 @@ pub(crate) fn set_row<R: TellsMarks>(
 }
 
 // Where there is a row under the key, puts this one in its place, or takes it away. An error is want of memory.
-pub(crate) fn change_row<R: TellsMarks>(
-    rows: &mut Timed<R, Ring>,
+pub(crate) fn change_row<R: TellsMarks, K: Keeping<R>>(
+    rows: &mut Timed<R, Ring, K>,
     index: &mut Index,
     key: Key,
     row: Option<R>,
@@ -208,8 +209,8 @@ pub(crate) fn change_row<R: TellsMarks>(
 }
 
 // Takes the row under the key away, if there is one.
-pub(crate) fn drop_row<R: TellsMarks>(
-    rows: &mut Timed<R, Ring>,
+pub(crate) fn drop_row<R: TellsMarks, K: Keeping<R>>(
+    rows: &mut Timed<R, Ring, K>,
     index: &mut Index,
     key: Key,
     meter: &mut Meter,

@@ -22,7 +22,7 @@ use crate::rows::{change_row, drop_row, drop_rows_on, put_row, remove_row, set_r
 use crate::walks::Sources;
 use pim_ip::Addr;
 use pim_source_trie::{Groups, Meter};
-use pim_tables::{GroupRows, Ring, RptKeys, Timed, earlier};
+use pim_tables::{GroupRows, Placed, PlacedRows, Ring, RptKeys, Timed, earlier};
 use pim_types::fact::{
     AssertRow, DownstreamRow, JoinTimerRow, OverrideTimerRow, RegisterRow, SourceRow,
 };
@@ -40,7 +40,7 @@ pub struct Store {
     asserts: Timed<AssertRow, Ring>,
     join_timers: Timed<JoinTimerRow, Ring>,
     override_timers: Timed<OverrideTimerRow, Ring>,
-    sources: Timed<SourceRow, Ring>,
+    sources: Timed<SourceRow, Ring, Placed<SourceRow>>,
     registers: Timed<RegisterRow, Ring>,
     index: Index,
 }
@@ -119,10 +119,10 @@ impl Store {
     }
 
     /// The sources, by rising key.
-    pub fn source_rows(&self) -> Iter<'_, Key, SourceRow>
+    pub fn source_rows(&self) -> PlacedRows<'_, SourceRow>
         ensures { result ≡ self.now.sources }
     {
-        self.sources.iter()
+        self.sources.rows()
     }
 
     /// The registers, by rising key.
@@ -172,6 +172,12 @@ impl Store {
         ensures { result ≡ row_at self.now.sources key }
     {
         self.sources.get(key)
+    }
+
+    /// The place of the source's row, while it stands there: a hint for `keep_alive`.
+    pub fn source_place(&self, group: Addr, source: Addr) -> Option<usize> {
+        self.sources
+            .place(Key::source(IfaceId::NONE, group, source))
     }
 
     /// The register under the key.
@@ -291,12 +297,14 @@ impl Store {
     }
 
     /// Gives the source of the group this end of its keepalive timer, in ms, and a row where it has none. The row that is
-    /// there is looked up once, and then the meter stays. An error is want of memory.
+    /// there is looked up once, or not at all where the hint is its place (`source_place`), and then the meter stays. Whatever
+    /// the hint is, the same is done. An error is want of memory.
     pub fn keep_alive(
         &mut self,
         group: Addr,
         source: Addr,
         end: u64,
+        hint: Option<usize>,
         meter: &mut Meter,
     ) -> Result<(), AllocError>
         ensures state { OnOk result (self.new ≡ record self.old {
@@ -312,7 +320,7 @@ impl Store {
         self.sources.recall_rising();
         let key = Key::source(IfaceId::NONE, group, source);
         let change = KeepAlive { end };
-        if update_row(&mut self.sources, &mut self.index, key, change, meter)? {
+        if update_row(&mut self.sources, &mut self.index, hint, key, change, meter)? {
             return Ok(());
         }
         let row = SourceRow {

@@ -6,7 +6,9 @@ mod GroupRuns
 mod Joined
 pub mod Lookups
 pub mod Orders
+pub mod RisingRows
 pub mod Rows
+mod Standing
 mod Steps
 pub mod Updates
 mod Walks

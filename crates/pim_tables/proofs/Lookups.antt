@@ -149,7 +149,7 @@ module _ {R : Type 0} (q k : Key) (r : R) where
 -- ---- a row that was refused
 
 module _ {R : Type 0} (k : Key) where
-  none_goes : (t : Table R) → row_at t k ≡ None → drop_at t k ≡ t
+  pub none_goes : (t : Table R) → row_at t k ≡ None → drop_at t k ≡ t
   unfolding row_at
   none_goes t none = dropped_is_changed k t ∙ sym (absent_is_unchanged k (λ _. None) t none)
 

@@ -9,6 +9,7 @@ ghost use Rattle.pim_tables.specs.RowsOf.{first_key};
 
 use crate::change::Change;
 use crate::group_rows::{GroupRows, RptKeys, push_keys};
+use crate::keeping::Keeping;
 use crate::rows_of::RowsOf;
 use pim_ip::Addr;
 use pim_types::{IfaceId, Key};
@@ -159,7 +160,7 @@ impl<R: Copy> Facts<R> {
     }
 
     // Takes the fact under the key away, and gives it.
-    pub(crate) fn take(&mut self, key: Key) -> Option<R>
+    pub(crate) fn pull(&mut self, key: Key) -> Option<R>
         ensures taken { result ≡ row_at self.old key }
         ensures left { self.new ≡ drop_at self.old key }
     {
@@ -234,5 +235,41 @@ impl<R: Copy> Facts<R> {
         while let Some(first) = self.first_on(iface) {
             self.remove(first);
         }
+    }
+}
+
+impl<R: Copy> Keeping<R> for Facts<R> {
+    ghost table = { λ f. f };
+
+    fn none(alloc: Global) -> Self {
+        Facts::new(alloc)
+    }
+
+    fn count(&self) -> usize {
+        self.len()
+    }
+
+    fn recall_rise(&self) {
+        self.recall_rising();
+    }
+
+    fn has(&self, key: Key) -> bool {
+        self.contains(key)
+    }
+
+    fn at(&self, key: Key) -> Option<R> {
+        self.get(key)
+    }
+
+    fn insert(&mut self, key: Key, row: R) -> Result<(), AllocError> {
+        self.put(key, row)
+    }
+
+    fn replace<C: Change<R>>(&mut self, _hint: Option<usize>, key: Key, change: C) -> Option<R> {
+        self.update(key, change)
+    }
+
+    fn take(&mut self, key: Key) -> Option<R> {
+        self.pull(key)
     }
 }

@@ -16,6 +16,8 @@ use crate::change::{Change, To};
 use crate::ends::Ends;
 use crate::facts::Facts;
 use crate::group_rows::{GroupRows, RptKeys};
+use crate::keeping::Keeping;
+use crate::placed::{Placed, PlacedRows};
 use crate::rows_of::RowsOf;
 use pim_ip::Addr;
 use pim_timers::Queue;
@@ -23,30 +25,35 @@ use pim_types::{IfaceId, Key, Timer};
 use std::alloc::{AllocError, Global};
 use std::collections::BTreeSet;
 use std::collections::btree_map::Iter;
-use std::marker::Model;
+use std::marker::{Model, PhantomData};
 
 /// The facts of one kind, which end.
-pub struct Timed<R: Ends, Q: Queue> {
-    rows: Facts<R>,
+pub struct Timed<R: Ends, Q: Queue, K: Keeping<R> = Facts<R>> {
+    rows: K,
     queue: Q,
+    row: PhantomData<R>,
 }
 
 // Written out, so that it is proved once (docs/PROOF_NOTES.md, Drops).
-impl<R: Ends + Drop, Q: Queue + Drop> Drop for Timed<R, Q> {
+impl<R: Ends + Drop, Q: Queue + Drop, K: Keeping<R> + Drop> Drop for Timed<R, Q, K> {
     fn drop(self) {
-        let Timed { rows: _, queue: _ } = self;
+        let Timed {
+            rows: _,
+            queue: _,
+            row: _,
+        } = self;
     }
 }
 
-impl<R: Ends, Q: Queue> Model for Timed<R, Q> {
+impl<R: Ends, Q: Queue, K: Keeping<R>> Model for Timed<R, Q, K> {
     ghost use Rattle.pim_model.specs.Tables.{Table};
     ghost use Rattle.pim_tables.specs.Ends.{InStep};
 
     ghost Value = { Table R };
 
-    ghost view = { λ a. a.rows };
+    ghost view = { λ a. K.table a.rows };
 
-    ghost invariant = { λ a. InStep R.kinds R.ends (Q.holds a.queue) a.rows };
+    ghost invariant = { λ a. InStep R.kinds R.ends (Q.holds a.queue) (K.table a.rows) };
 }
 
 // The ends of a row, if there is one.
@@ -140,31 +147,32 @@ fn drop_ends<R: Ends, Q: Queue>(queue: &mut Q, key: Key, row: Option<R>)
 
 // Changes the row under the key, where there is one, in its place, and moves its ends; what it was. The row is looked up
 // once. An error is want of memory.
-fn update_in_step<R: Ends, Q: Queue, C: Change<R>>(
-    rows: &mut Facts<R>,
+fn update_in_step<R: Ends, Q: Queue, K: Keeping<R>, C: Change<R>>(
+    rows: &mut K,
     queue: &mut Q,
+    hint: Option<usize>,
     key: Key,
     change: C,
 ) -> Result<Option<R>, AllocError>
-    requires { InStep R.kinds R.ends (Q.holds queue.old) rows.old }
-    ensures ok { OnOk result (rows.new ≡ change_row (λ before. Some (C.after change before)) key rows.old) }
-    ensures before { IfOk result (λ before. before ≡ row_at rows.old key) }
-    ensures err { OnErr result (rows.new ≡ left_at R.kinds.1 rows.old key) }
-    ensures in_step { InStep R.kinds R.ends (Q.holds queue.new) rows.new }
+    requires { InStep R.kinds R.ends (Q.holds queue.old) (K.table rows.old) }
+    ensures ok { OnOk result (K.table rows.new ≡ change_row (λ before. Some (C.after change before)) key (K.table rows.old)) }
+    ensures before { IfOk result (λ before. before ≡ row_at (K.table rows.old) key) }
+    ensures err { OnErr result (K.table rows.new ≡ left_at R.kinds.1 (K.table rows.old) key) }
+    ensures in_step { InStep R.kinds R.ends (Q.holds queue.new) (K.table rows.new) }
 {
     // A key stands once, so that the row can be put back.
-    rows.recall_rising();
-    let Some(before) = rows.update(key, change) else {
+    rows.recall_rise();
+    let Some(before) = rows.replace(hint, key, change) else {
         return Ok(None);
     };
     let row = change.after(before);
     if let Err(refused) = move_ends(queue, key, Some(before), row) {
         if R::kinds().1.is_none() {
-            rows.change(key, before);
+            rows.replace(hint, key, To { row: before });
             return Err(refused);
         }
         // The first of the two may be moved by now, and can't be moved back without memory.
-        rows.remove(key);
+        rows.take(key);
         drop_ends(queue, key, Some(before));
         drop_ends(queue, key, Some(row));
         return Err(refused);
@@ -173,24 +181,24 @@ fn update_in_step<R: Ends, Q: Queue, C: Change<R>>(
 }
 
 // Puts a row with its ends under a key that has none. An error is want of memory, and changes no row.
-fn add_in_step<R: Ends, Q: Queue>(
-    rows: &mut Facts<R>,
+fn add_in_step<R: Ends, Q: Queue, K: Keeping<R>>(
+    rows: &mut K,
     queue: &mut Q,
     key: Key,
     row: R,
 ) -> Result<(), AllocError>
-    requires absent { row_at rows.old key ≡ None }
-    requires in_step { InStep R.kinds R.ends (Q.holds queue.old) rows.old }
-    ensures ok { OnOk result (rows.new ≡ put rows.old key row) }
-    ensures err { OnErr result (rows.new ≡ rows.old) }
-    ensures in_step { InStep R.kinds R.ends (Q.holds queue.new) rows.new }
+    requires absent { row_at (K.table rows.old) key ≡ None }
+    requires in_step { InStep R.kinds R.ends (Q.holds queue.old) (K.table rows.old) }
+    ensures ok { OnOk result (K.table rows.new ≡ put (K.table rows.old) key row) }
+    ensures err { OnErr result (K.table rows.new ≡ K.table rows.old) }
+    ensures in_step { InStep R.kinds R.ends (Q.holds queue.new) (K.table rows.new) }
 {
     if let Err(refused) = move_ends(queue, key, None, row) {
         // The first of two may be in by now.
         drop_ends(queue, key, Some(row));
         return Err(refused);
     }
-    if let Err(refused) = rows.put(key, row) {
+    if let Err(refused) = rows.insert(key, row) {
         drop_ends(queue, key, Some(row));
         return Err(refused);
     }
@@ -198,34 +206,35 @@ fn add_in_step<R: Ends, Q: Queue>(
 }
 
 // Puts the row with its ends under the key, in place of one that is there. An error is want of memory.
-fn put_in_step<R: Ends, Q: Queue>(
-    rows: &mut Facts<R>,
+fn put_in_step<R: Ends, Q: Queue, K: Keeping<R>>(
+    rows: &mut K,
     queue: &mut Q,
     key: Key,
     row: R,
 ) -> Result<(), AllocError>
-    requires { InStep R.kinds R.ends (Q.holds queue.old) rows.old }
-    ensures ok { OnOk result (rows.new ≡ put rows.old key row) }
-    ensures err { OnErr result (rows.new ≡ left_at R.kinds.1 rows.old key) }
-    ensures in_step { InStep R.kinds R.ends (Q.holds queue.new) rows.new }
+    requires { InStep R.kinds R.ends (Q.holds queue.old) (K.table rows.old) }
+    ensures ok { OnOk result (K.table rows.new ≡ put (K.table rows.old) key row) }
+    ensures err { OnErr result (K.table rows.new ≡ left_at R.kinds.1 (K.table rows.old) key) }
+    ensures in_step { InStep R.kinds R.ends (Q.holds queue.new) (K.table rows.new) }
 {
     // What is put under a key that is there stands in its place.
-    rows.recall_rising();
-    match update_in_step(rows, queue, key, To { row })? {
+    rows.recall_rise();
+    match update_in_step(rows, queue, None, key, To { row })? {
         Some(_) => Ok(()),
         None => add_in_step(rows, queue, key, row),
     }
 }
 
-impl<R: Ends, Q: Queue> Timed<R, Q> {
+impl<R: Ends, Q: Queue, K: Keeping<R>> Timed<R, Q, K> {
     /// No facts, beside a queue that holds nothing.
     pub fn new(alloc: Global, queue: Q) -> Self
         requires { (d : Due) → Q.holds queue d ≡ false }
         ensures { result ≡ [] }
     {
         Timed {
-            rows: Facts::new(alloc),
+            rows: K::none(alloc),
             queue,
+            row: PhantomData,
         }
     }
 
@@ -236,28 +245,112 @@ impl<R: Ends, Q: Queue> Timed<R, Q> {
         // Of every table: the keys rise.
         ensures ascending { IsStrictlySortedBy key_cmp (keys_in self.now) }
     {
-        self.rows.len()
+        self.rows.recall_rise();
+        self.rows.count()
     }
 
     /// The keys rise. It does nothing.
     pub fn recall_rising(&self)
         ensures { IsStrictlySortedBy key_cmp (keys_in self.now) }
     {
-        self.rows.recall_rising();
-    }
-
-    /// Whether there is no fact.
-    pub fn is_empty(&self) -> bool
-        ensures { IsTrue result ↔ (self.now ≡ []) }
-    {
-        self.rows.is_empty()
+        self.rows.recall_rise();
     }
 
     /// Whether there is a fact under the key.
     pub fn contains(&self, key: Key) -> bool
         ensures { result ≡ has_row self.now key }
     {
-        self.rows.contains(key)
+        self.rows.has(key)
+    }
+
+    /// The fact under the key.
+    pub fn get(&self, key: Key) -> Option<R>
+        ensures { result ≡ row_at self.now key }
+    {
+        self.rows.at(key)
+    }
+
+    /// Which fact ends first, and when (ms): the least end by its moment, its kind and its key. `None`
+    /// where no fact ever ends.
+    pub fn next(&self) -> Option<(u64, Timer)>
+        ensures { result ≡ option_map due_of (first_by is_ending_first (row_endings R.kinds R.ends self.now)) }
+    {
+        // A key stands once, so that the queue holds all the ends.
+        self.rows.recall_rise();
+        self.queue.first()
+    }
+
+    /// Puts the fact under the key, in place of one that is there. An error is want of memory: facts with one
+    /// end are then as they were, and of those with two none is under the key.
+    pub fn put(&mut self, key: Key, row: R) -> Result<(), AllocError>
+        ensures ok { OnOk result (self.new ≡ put self.old key row) }
+        ensures err { OnErr result (self.new ≡ left_at R.kinds.1 self.old key) }
+    {
+        put_in_step(&mut self.rows, &mut self.queue, key, row)
+    }
+
+    /// Changes the fact under the key, where there is one, in its place, and answers what it was. The fact is looked up
+    /// once, or not at all where the hint is its place (`place`); whatever the hint is, the same is done. An error is want of
+    /// memory, and leaves what one of `put` leaves.
+    pub fn update<C: Change<R>>(
+        &mut self,
+        hint: Option<usize>,
+        key: Key,
+        change: C,
+    ) -> Result<Option<R>, AllocError>
+        ensures ok { OnOk result (self.new ≡ change_row (λ before. Some (C.after change before)) key self.old) }
+        ensures before { IfOk result (λ before. before ≡ row_at self.old key) }
+        ensures err { OnErr result (self.new ≡ left_at R.kinds.1 self.old key) }
+    {
+        update_in_step(&mut self.rows, &mut self.queue, hint, key, change)
+    }
+
+    /// Takes the fact under the key away.
+    pub fn remove(&mut self, key: Key)
+        ensures { self.new ≡ drop_at self.old key }
+    {
+        let before = self.rows.take(key);
+        drop_ends(&mut self.queue, key, before);
+    }
+
+    /// Puts the fact under the key, or takes away the one that is there. An error is want of memory, and leaves
+    /// what one of `put` leaves.
+    pub fn set(&mut self, key: Key, row: Option<R>) -> Result<(), AllocError>
+        ensures ok { OnOk result (self.new ≡ set_row self.old key row) }
+        ensures err { OnErr result (self.new ≡ left_at R.kinds.1 self.old key) }
+    {
+        match row {
+            Some(row) => self.put(key, row),
+            None => {
+                self.remove(key);
+                Ok(())
+            }
+        }
+    }
+
+    /// Changes the fact under the key, where there is one, to this one. An error is want of memory, and leaves
+    /// what one of `put` leaves.
+    pub fn change(&mut self, key: Key, row: R) -> Result<(), AllocError>
+        ensures to { OnOk result (self.new ≡ change_row (λ _. Some row) key self.old) }
+        ensures by { OnOk result ((change : R → Option R)
+            → IfSome (row_at self.old key) (λ before. change before ≡ Some row)
+            → self.new ≡ change_row change key self.old) }
+        ensures err { OnErr result (self.new ≡ left_at R.kinds.1 self.old key) }
+    {
+        // A key stands once.
+        self.rows.recall_rise();
+        update_in_step(&mut self.rows, &mut self.queue, None, key, To { row })?;
+        Ok(())
+    }
+}
+
+// What a table in an ordered map tells besides.
+impl<R: Ends, Q: Queue> Timed<R, Q> {
+    /// Whether there is no fact.
+    pub fn is_empty(&self) -> bool
+        ensures { IsTrue result ↔ (self.now ≡ []) }
+    {
+        self.rows.is_empty()
     }
 
     /// The facts, by rising key.
@@ -310,85 +403,11 @@ impl<R: Ends, Q: Queue> Timed<R, Q> {
         self.rows.rows_at(iface, group)
     }
 
-    /// The fact under the key.
-    pub fn get(&self, key: Key) -> Option<R>
-        ensures { result ≡ row_at self.now key }
-    {
-        self.rows.get(key)
-    }
-
     /// How many facts are of the interface.
     pub fn count_on(&self, iface: IfaceId) -> usize
         ensures { result ≡ length (rows_on iface.number self.now) }
     {
         self.rows.count_on(iface)
-    }
-
-    /// Which fact ends first, and when (ms): the least end by its moment, its kind and its key. `None`
-    /// where no fact ever ends.
-    pub fn next(&self) -> Option<(u64, Timer)>
-        ensures { result ≡ option_map due_of (first_by is_ending_first (row_endings R.kinds R.ends self.now)) }
-    {
-        // A key stands once, so that the queue holds all the ends.
-        self.rows.recall_rising();
-        self.queue.first()
-    }
-
-    /// Puts the fact under the key, in place of one that is there. An error is want of memory: facts with one
-    /// end are then as they were, and of those with two none is under the key.
-    pub fn put(&mut self, key: Key, row: R) -> Result<(), AllocError>
-        ensures ok { OnOk result (self.new ≡ put self.old key row) }
-        ensures err { OnErr result (self.new ≡ left_at R.kinds.1 self.old key) }
-    {
-        put_in_step(&mut self.rows, &mut self.queue, key, row)
-    }
-
-    /// Changes the fact under the key, where there is one, in its place, and answers what it was. The fact is looked up
-    /// once. An error is want of memory, and leaves what one of `put` leaves.
-    pub fn update<C: Change<R>>(&mut self, key: Key, change: C) -> Result<Option<R>, AllocError>
-        ensures ok { OnOk result (self.new ≡ change_row (λ before. Some (C.after change before)) key self.old) }
-        ensures before { IfOk result (λ before. before ≡ row_at self.old key) }
-        ensures err { OnErr result (self.new ≡ left_at R.kinds.1 self.old key) }
-    {
-        update_in_step(&mut self.rows, &mut self.queue, key, change)
-    }
-
-    /// Takes the fact under the key away.
-    pub fn remove(&mut self, key: Key)
-        ensures { self.new ≡ drop_at self.old key }
-    {
-        let before = self.rows.take(key);
-        drop_ends(&mut self.queue, key, before);
-    }
-
-    /// Puts the fact under the key, or takes away the one that is there. An error is want of memory, and leaves
-    /// what one of `put` leaves.
-    pub fn set(&mut self, key: Key, row: Option<R>) -> Result<(), AllocError>
-        ensures ok { OnOk result (self.new ≡ set_row self.old key row) }
-        ensures err { OnErr result (self.new ≡ left_at R.kinds.1 self.old key) }
-    {
-        match row {
-            Some(row) => self.put(key, row),
-            None => {
-                self.remove(key);
-                Ok(())
-            }
-        }
-    }
-
-    /// Changes the fact under the key, where there is one, to this one. An error is want of memory, and leaves
-    /// what one of `put` leaves.
-    pub fn change(&mut self, key: Key, row: R) -> Result<(), AllocError>
-        ensures to { OnOk result (self.new ≡ change_row (λ _. Some row) key self.old) }
-        ensures by { OnOk result ((change : R → Option R)
-            → IfSome (row_at self.old key) (λ before. change before ≡ Some row)
-            → self.new ≡ change_row change key self.old) }
-        ensures err { OnErr result (self.new ≡ left_at R.kinds.1 self.old key) }
-    {
-        // A key stands once.
-        self.rows.recall_rising();
-        update_in_step(&mut self.rows, &mut self.queue, key, To { row })?;
-        Ok(())
     }
 
     // The key of the interface's first fact.
@@ -405,5 +424,20 @@ impl<R: Ends, Q: Queue> Timed<R, Q> {
         while let Some(first) = self.first_on(iface) {
             self.remove(first);
         }
+    }
+}
+
+// What a table whose rows keep their places tells besides.
+impl<R: Ends, Q: Queue> Timed<R, Q, Placed<R>> {
+    /// The place of the fact under the key, while it stands there: a hint for `update`.
+    pub fn place(&self, key: Key) -> Option<usize> {
+        self.rows.place(key)
+    }
+
+    /// The facts, by rising key.
+    pub fn rows(&self) -> PlacedRows<'_, R>
+        ensures { result ≡ self.now }
+    {
+        self.rows.rows()
     }
 }

@@ -27,12 +27,14 @@ impl World {
     }
 
     /// KAT(S,G) runs for its whole period from now on. The meter stays where the source has a row, and rises by the nodes
-    /// that lead to its PIM facts where it gets one.
+    /// that lead to its PIM facts where it gets one. Where the hint is the place of its row (`source_place` of `Store`), no key is
+    /// looked up for it; whatever the hint is, the same is done.
     #[tactic(auto, unfolding(pim_model::specs::Registers::with_keepalive, pim_model::specs::Sets::spt_bit))]
     pub fn keep_alive(
         &mut self,
         group: Addr,
         source: Addr,
+        hint: Option<usize>,
         meter: &mut Meter,
     ) -> Result<(), AllocError>
         ensures state { OnOk result (self.new ≡ with_keepalive self.old group.bits source.bits) }
@@ -42,7 +44,7 @@ impl World {
             → meter.new ≡ raised meter.old (mark_nodes self.old group (Some source))) }
     {
         let end = self.present() + KEEPALIVE_PERIOD;
-        self.store.keep_alive(group, source, end, meter)
+        self.store.keep_alive(group, source, end, hint, meter)
     }
 
     // When KAT(S,G) ends, if it runs, in ms.

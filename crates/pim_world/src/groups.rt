@@ -8,6 +8,7 @@ ghost use Rattle.pim_world.specs.Touches.{touched_keys};
 
 use crate::touched::Touched;
 use crate::world::World;
+use pim_tables::PlacedRows;
 use pim_types::{Addr, Key};
 use std::alloc::{AllocError, Global};
 use std::collections::BTreeMap;
@@ -52,7 +53,7 @@ impl World {
         gather(self.store.assert_rows(), found)?;
         gather(self.store.join_timer_rows(), found)?;
         gather(self.store.override_timer_rows(), found)?;
-        gather(self.store.source_rows(), found)?;
+        gather_placed(self.store.source_rows(), found)?;
         gather(self.store.register_rows(), found)
     }
 }
@@ -60,6 +61,19 @@ impl World {
 // Puts the groups of facts into a set of groups.
 fn gather<R>(
     facts: Iter<'_, Key, R>,
+    found: &mut BTreeMap<Addr, (), Global>,
+) -> Result<(), AllocError>
+    ensures { OnOk result (numbers_of found.new.entries ≡ gathered (map group_in (keys_in facts.entry)) (numbers_of found.old.entries)) }
+{
+    for (key, _) in facts {
+        found.insert(key.group, ())?;
+    }
+    Ok(())
+}
+
+// The same of facts that keep their places.
+fn gather_placed<R>(
+    facts: PlacedRows<'_, R>,
     found: &mut BTreeMap<Addr, (), Global>,
 ) -> Result<(), AllocError>
     ensures { OnOk result (numbers_of found.new.entries ≡ gathered (map group_in (keys_in facts.entry)) (numbers_of found.old.entries)) }

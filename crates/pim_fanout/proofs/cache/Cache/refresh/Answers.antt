@@ -1,16 +1,24 @@
-use Rattle.std.proofs.Common.{[], ◌∷◌, ap, arith, get_or, subst, sym, take, ◌∙◌}
-use Rattle.std.proofs.lemmas.List.{map-append, take_more}
+use Rattle.std.proofs.Common.{◌≤◌, [], ◌∷◌, ap, arith, get_or, subst, sym, take, ◌∙◌}
+use Rattle.std.proofs.lemmas.List.{map-append, take_all, take_more}
+use Rattle.std.specs.List.{sum_by}
 use Rattle.pim_ip.specs.Addr.{addr}
+use Rattle.pim_trie.specs.Meter.{raised}
 use Rattle.pim_cached.specs.Kept.{is_listed, refreshed}
 use Rattle.pim_mfc.specs.Laws.{ShowsRows}
 use Rattle.pim_fanout.specs.Before.{name_key}
 use Rattle.pim_fanout.specs.Named.{keys_of}
 use Rattle.pim_fanout.specs.declared.name.SourceName.{SourceName}
+use Rattle.pim_fanout.specs.Visits.{named_nodes}
+use Rattle.pim_fanout.proofs.Visited.{next_made, raised_by_none}
 use Rattle.pim_fanout.proofs.cache.Cache.refresh.Goals as goal
 
 pub loop-name-init : goal.loop-name-init
 unfolding refreshed is_listed
-loop-name-init c = record { shown = λ cache shows. shows; few = omega arith }
+loop-name-init c = record {
+  shown = λ cache shows. shows;
+  few = omega arith;
+  visited = omega (arith, raised_by_none c.args.meter.now);
+}
 
 pub loop-name-preserved : goal.loop-name-preserved
 loop-name-preserved c =
@@ -25,4 +33,11 @@ loop-name-preserved c =
           ∙ map-append name_key (take i names) (get_or names i none ∷ [])))
           (c.in_ok-refresh_one.ensures.shown (keys_of (take i names)) cache (c.loop-name.invariant.shown cache shows));
       few = omega (arith, c.in_ok-refresh_one.ensures.few, c.loop-name.invariant.few);
+      visited = next_made (named_nodes s) names i _ _ _ none c.loop-name-test.true c.loop-name.invariant.visited
+          c.in_ok-refresh_one.ensures.at_least;
     }
+
+pub returns-clause-at_least : goal.returns-clause-at_least
+returns-clause-at_least c =
+    subst (λ ns. raised c.args.meter.now (sum_by (named_nodes c.args.world.now) ns) ≤ c.loop-name.meter)
+    (take_all c.loop-name.name-index c.args.names.now c.loop-name-test.false) c.loop-name.invariant.visited

@@ -13,7 +13,7 @@ returns c =
     let seven = gathered_more _ _ _ _ _ six c.in_ok-gather-7.ensures in
     let eight = gathered_more _ _ _ _ _ seven c.in_ok-gather-8.ensures in
     let nine = gathered_more _ _ _ _ _ eight c.in_ok-gather-9.ensures in
-    let ten = gathered_more _ _ _ _ _ nine c.in_ok-gather-10.ensures in
+    let ten = gathered_more _ _ _ _ _ nine c.in_ok-gather_placed.ensures in
     rw (
       ← c.self.view_is,
       ← c.group_record_rows.ensures.rows,
@@ -28,4 +28,4 @@ returns c =
       ← c.source_rows.ensures,
       ← c.register_rows.ensures,
     )
-    (gathered_last c.gather-11.result _ _ _ _ _ ten c.gather-11.ensures)
+    (gathered_last c.gather-10.result _ _ _ _ _ ten c.gather-10.ensures)

@@ -70,7 +70,7 @@ module _ {R : Type 0} where
   none_above k [] above = refl
   none_above k (e ∷ t) above = rw above.0 (none_above k t above.1)
 
-  head_row : (e : Key × R) (t : Table R) → row_at (e ∷ t) e.0 ≡ Some e.1
+  pub head_row : (e : Key × R) (t : Table R) → row_at (e ∷ t) e.0 ≡ Some e.1
   unfolding row_at
   head_row e t = rw (same_key_same e.0) refl
 

@@ -2,7 +2,7 @@ use Rattle.std.proofs.Common.{◌<◌, ap, length, subst, sym, ◌∙◌}
 use Rattle.pim_types.specs.Keys.{is_on}
 use Rattle.pim_model.specs.Tables.{drop_where, rows_on}
 use Rattle.pim_tables.proofs.Gone.{fewer, goes_anyhow, none_goes}
-use Rattle.pim_tables.proofs.timed.Timed.drop_on.Goals as goal
+use Rattle.pim_tables.proofs.timed.Timed+R+Q.drop_on.Goals as goal
 
 pub loop-first-smaller : goal.loop-first-smaller
 unfolding rows_on

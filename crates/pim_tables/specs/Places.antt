@@ -1,0 +1,22 @@
+-- Rows that stand at places, which a table tells by their keys.
+use Rattle.std.specs.List.{filter_map}
+use Rattle.std.specs.List.Sorted.{IsStrictlySortedBy}
+use Rattle.std.specs.Prelude.{◌≡◌, ℕ, Option, Some, option_map}
+use Rattle.pim_types.specs.declared.fact.Key.{Key}
+use Rattle.pim_types.specs.Keys.{key_cmp}
+use Rattle.pim_model.specs.Tables.{Table, keys_in, row_at}
+
+module _ {R : Type 0} where
+  -- the rows, in the order of the table of places
+  abbrev pub standing : (ℕ → Option (Key × R)) → Table ℕ → Table R
+  standing at places = filter_map (λ e. at e.1) places
+
+  -- the key of the row at a place, if one stands there
+  abbrev pub key_of : (ℕ → Option (Key × R)) → ℕ → Option Key
+  key_of at p = option_map (λ (e : Key × R). e.0) (at p)
+
+  -- the table tells of each row that stands at a place, and of no other
+  pub record ArePlaced (at : ℕ → Option (Key × R)) (places : Table ℕ) : Type 0 where
+    pub rise : IsStrictlySortedBy key_cmp (keys_in places)
+    pub there : (k : Key) (p : ℕ) → row_at places k ≡ Some p → key_of at p ≡ Some k
+    pub told : (k : Key) (p : ℕ) → key_of at p ≡ Some k → row_at places k ≡ Some p

@@ -1,0 +1,51 @@
+//! What a table of rows offers, however it keeps them.
+ghost use Rattle.std.specs.Prelude.{◌≡◌, [], length, Option, Some, None, OnOk, OnErr};
+ghost use Rattle.std.specs.List.Sorted.{IsStrictlySortedBy};
+ghost use Rattle.pim_model.specs.Tables.{Table, keys_in, row_at, has_row, put, drop_at, change_row};
+ghost use Rattle.pim_types.specs.Keys.{key_cmp};
+
+use crate::change::Change;
+use pim_types::Key;
+use std::alloc::{AllocError, Global};
+
+/// Rows, each under its key.
+pub trait Keeping<R> {
+    /// The rows, by rising key.
+    ghost table: { Self → Table R };
+
+    /// No rows; it takes no memory.
+    fn none(alloc: Global) -> Self
+        ensures { table result ≡ [] };
+
+    /// How many rows there are.
+    fn count(&self) -> usize
+        ensures { result ≡ length (table self.now) };
+
+    /// The keys rise. It does nothing.
+    fn recall_rise(&self)
+        ensures { IsStrictlySortedBy key_cmp (keys_in (table self.now)) };
+
+    /// Whether there is a row under the key.
+    fn has(&self, key: Key) -> bool
+        ensures { result ≡ has_row (table self.now) key };
+
+    /// The row under the key.
+    fn at(&self, key: Key) -> Option<R>
+        ensures { result ≡ row_at (table self.now) key };
+
+    /// Puts the row under the key, in place of one that is there. An error is want of memory, and changes nothing.
+    fn insert(&mut self, key: Key, row: R) -> Result<(), AllocError>
+        ensures ok { OnOk result (table self.new ≡ put (table self.old) key row) }
+        ensures err { OnErr result (table self.new ≡ table self.old) };
+
+    /// Changes the row under the key, where there is one, in its place; what it was. A hint may tell the place of the row,
+    /// so that its key isn't looked up; whatever it is, it changes nothing of what is done.
+    fn replace<C: Change<R>>(&mut self, hint: Option<usize>, key: Key, change: C) -> Option<R>
+        ensures before { result ≡ row_at (table self.old) key }
+        ensures changed { table self.new ≡ change_row (λ before. Some (C.after change before)) key (table self.old) };
+
+    /// Takes the row under the key away, and gives it.
+    fn take(&mut self, key: Key) -> Option<R>
+        ensures taken { result ≡ row_at (table self.old) key }
+        ensures left { table self.new ≡ drop_at (table self.old) key };
+}

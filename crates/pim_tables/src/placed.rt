@@ -1,0 +1,251 @@
+//! Rows that keep their places, so that one whose place is known is found with no look-up of its key.
+ghost use Rattle.std.specs.Prelude.{◌≡◌, ◌≢◌, ℕ, IfSome, IsSome, IsTrue, Option, Some, None, OnOk, OnErr, option_map, true};
+ghost use Rattle.std.specs.Iterator.{YieldsFirstBy, item_count};
+ghost use Rattle.slab.specs.Slab.{get};
+ghost use Rattle.pim_model.specs.Tables.{change_row, drop_at, put, row_at};
+ghost use Rattle.pim_tables.specs.Places.{ArePlaced, key_of, standing};
+ghost use Rattle.pim_tables.specs.RowsOf.{row_seen};
+ghost use Rattle.pim_types.specs.declared.fact.Key.{Key as KeyValue};
+
+use crate::change::{Change, To};
+use crate::facts::Facts;
+use crate::keeping::Keeping;
+use pim_types::Key;
+use slab::Slab;
+use std::alloc::{AllocError, Global};
+use std::collections::btree_map::Iter;
+use std::iter::FusedIterator;
+use std::marker::Model;
+
+/// Rows under their keys. Each stands at a place of its own, beside its key, until it is taken away.
+pub struct Placed<R> {
+    places: Facts<usize>,
+    rows: Slab<(Key, R)>,
+}
+
+// Written out, so that it is proved once (docs/PROOF_NOTES.md, Drops).
+impl<R: Drop> Drop for Placed<R> {
+    fn drop(self) {
+        let Placed { places: _, rows: _ } = self;
+    }
+}
+
+impl<R> Model for Placed<R> {
+    ghost use Rattle.pim_model.specs.Tables.{Table};
+    ghost use Rattle.pim_tables.specs.Places.{ArePlaced, standing};
+    ghost use Rattle.slab.specs.Slab.{get};
+
+    ghost Value = { Table R };
+
+    ghost view = { λ p. standing (get p.rows) p.places };
+
+    ghost invariant = { λ p. ArePlaced (get p.rows) p.places };
+}
+
+// Whether the row under the key stands at the place.
+fn stands_at<R>(rows: &Slab<(Key, R)>, place: usize, key: Key) -> bool
+    ensures { result ≡ true → key_of (get rows.now) place ≡ Some key }
+{
+    match rows.get(place) {
+        Some((found, _)) => *found == key,
+        None => false,
+    }
+}
+
+// The place of the row under the key: the one that the hint tells, where that is right.
+fn find<R>(
+    places: &Facts<usize>,
+    rows: &Slab<(Key, R)>,
+    hint: Option<usize>,
+    key: Key,
+) -> Option<usize>
+    requires { ArePlaced (get rows.now) places.now }
+    ensures { result ≡ row_at places.now key }
+{
+    match hint {
+        Some(place) if stands_at(rows, place, key) => hint,
+        _ => places.get(key),
+    }
+}
+
+// Changes the row at the place, where there is one; what it was.
+fn change_at<R: Copy, C: Change<R>>(rows: &mut Slab<(Key, R)>, place: usize, change: C) -> Option<R>
+    ensures before { result ≡ option_map (λ e. e.1) (get rows.old place) }
+    ensures changed { get rows.new place ≡ option_map (λ e. (e.0, C.after change e.1)) (get rows.old place) }
+    ensures others { (p : ℕ) → p ≢ place → get rows.new p ≡ get rows.old p }
+{
+    match rows.get_mut(place) {
+        Some(entry) => {
+            let (key, before) = *entry;
+            *entry = (key, change.after(before));
+            Some(before)
+        }
+        None => None,
+    }
+}
+
+// Changes the row under the key, where there is one, in its place; what it was.
+fn replace_placed<R: Copy, C: Change<R>>(
+    places: &Facts<usize>,
+    rows: &mut Slab<(Key, R)>,
+    hint: Option<usize>,
+    key: Key,
+    change: C,
+) -> Option<R>
+    requires { ArePlaced (get rows.old) places.now }
+    ensures before { result ≡ row_at (standing (get rows.old) places.now) key }
+    ensures changed { standing (get rows.new) places.now
+        ≡ change_row (λ before. Some (C.after change before)) key (standing (get rows.old) places.now) }
+    ensures placed { ArePlaced (get rows.new) places.now }
+{
+    match find(places, rows, hint, key) {
+        Some(place) => change_at(rows, place, change),
+        None => None,
+    }
+}
+
+// Puts a row under a key that has none. An error is want of memory, and changes nothing.
+fn add_placed<R: Copy>(
+    places: &mut Facts<usize>,
+    rows: &mut Slab<(Key, R)>,
+    key: Key,
+    row: R,
+) -> Result<(), AllocError>
+    requires placed { ArePlaced (get rows.old) places.old }
+    requires absent { row_at places.old key ≡ None }
+    ensures ok { OnOk result (standing (get rows.new) places.new ≡ put (standing (get rows.old) places.old) key row) }
+    ensures err { OnErr result (standing (get rows.new) places.new ≡ standing (get rows.old) places.old) }
+    ensures placed { ArePlaced (get rows.new) places.new }
+{
+    rows.reserve(1)?;
+    let place = rows.vacant_key();
+    places.put(key, place)?;
+    // The keys still rise.
+    places.recall_rising();
+    rows.insert_reserved((key, row));
+    Ok(())
+}
+
+// Takes the row under the key away, and gives it.
+fn take_placed<R: Copy>(places: &mut Facts<usize>, rows: &mut Slab<(Key, R)>, key: Key) -> Option<R>
+    requires { ArePlaced (get rows.old) places.old }
+    ensures taken { result ≡ row_at (standing (get rows.old) places.old) key }
+    ensures left { standing (get rows.new) places.new ≡ drop_at (standing (get rows.old) places.old) key }
+    ensures placed { ArePlaced (get rows.new) places.new }
+{
+    match places.pull(key) {
+        Some(place) => {
+            // The keys still rise.
+            places.recall_rising();
+            match rows.try_remove(place) {
+                Some(entry) => Some(entry.1),
+                None => None,
+            }
+        }
+        None => None,
+    }
+}
+
+impl<R> Placed<R> {
+    /// The place of the row under the key. A call that changes a row takes it for a hint, so that nothing rests on it.
+    pub fn place(&self, key: Key) -> Option<usize> {
+        self.places.get(key)
+    }
+
+    /// The rows, by rising key.
+    pub fn rows(&self) -> PlacedRows<'_, R>
+        ensures { result ≡ self.now }
+    {
+        PlacedRows {
+            places: self.places.iter(),
+            rows: &self.rows,
+        }
+    }
+}
+
+impl<R: Copy> Keeping<R> for Placed<R> {
+    ghost table = { λ p. p };
+
+    fn none(alloc: Global) -> Self {
+        Placed {
+            places: Facts::new(alloc),
+            rows: Slab::new(alloc),
+        }
+    }
+
+    fn count(&self) -> usize {
+        self.places.len()
+    }
+
+    fn recall_rise(&self) {
+        let _ = &self.places;
+    }
+
+    fn has(&self, key: Key) -> bool {
+        self.places.contains(key)
+    }
+
+    fn at(&self, key: Key) -> Option<R> {
+        let place = self.places.get(key)?;
+        let (_, row) = self.rows.get(place)?;
+        Some(*row)
+    }
+
+    fn insert(&mut self, key: Key, row: R) -> Result<(), AllocError> {
+        if self.places.contains(key) {
+            replace_placed(&self.places, &mut self.rows, None, key, To { row });
+            return Ok(());
+        }
+        add_placed(&mut self.places, &mut self.rows, key, row)
+    }
+
+    fn replace<C: Change<R>>(&mut self, hint: Option<usize>, key: Key, change: C) -> Option<R> {
+        replace_placed(&self.places, &mut self.rows, hint, key, change)
+    }
+
+    fn take(&mut self, key: Key) -> Option<R> {
+        take_placed(&mut self.places, &mut self.rows, key)
+    }
+}
+
+/// The rows that are left, by rising key.
+pub struct PlacedRows<'a, R> {
+    places: Iter<'a, Key, usize>,
+    rows: &'a Slab<(Key, R)>,
+}
+
+// Written out, so that it is proved once (docs/PROOF_NOTES.md, Drops).
+impl<'a, R> Drop for PlacedRows<'a, R> {
+    fn drop(self) {
+        let PlacedRows { places: _, rows: _ } = self;
+    }
+}
+
+impl<'a, R> Model for PlacedRows<'a, R> {
+    ghost use Rattle.pim_model.specs.Tables.{Table};
+    ghost use Rattle.pim_tables.specs.Places.{standing};
+    ghost use Rattle.slab.specs.Slab.{get};
+
+    ghost Value = { Table R };
+
+    ghost view = { λ w. standing (get w.rows.now) w.places };
+}
+
+impl<'a, R> Iterator for PlacedRows<'a, R> {
+    type Item = (&'a Key, &'a R);
+
+    ghost next_gives = { YieldsFirstBy row_seen (λ rest. rest) };
+
+    ghost remaining = { item_count (λ rest. rest) };
+
+    fn next(&mut self) -> Option<(&'a Key, &'a R)> {
+        while let Some((_, place)) = self.places.next() {
+            if let Some((key, row)) = self.rows.get(*place) {
+                return Some((key, row));
+            }
+        }
+        None
+    }
+}
+
+impl<'a, R> FusedIterator for PlacedRows<'a, R> {}
