@@ -1,13 +1,15 @@
 //! What must go after a change: asserts, and SPTbits with the asserts that they kept.
-ghost use Rattle.std.specs.Prelude.{◌≡◌, ◌∷◌, [], OnOk, Some, false};
+ghost use Rattle.std.specs.Prelude.{◌≡◌, ◌≤◌, ◌∷◌, [], OnOk, Some, false};
 ghost use Rattle.pim_macros.specs.Sights.{IsSourceSight};
 ghost use Rattle.pim_world.specs.Turns.{saying};
+ghost use Rattle.pim_world.specs.Visits.{raised, sight_nodes};
 ghost use Rattle.pim_model.specs.Asserts.{without_spt_bit};
 ghost use Rattle.pim_model.specs.Querier.{each_in_turn};
 ghost use Rattle.pim_model.specs.Desires.{join_desired};
 ghost use Rattle.pim_model.specs.Tables.{row_at};
 ghost use Rattle.pim_types.specs.Keys.{source_key};
 ghost use Rattle.pim_asserts.specs.Opened.{clear_asserts, clear_bit, clear_bits, clear_by, clear_source, clear_star};
+ghost use Rattle.pim_asserts.specs.Visits.{alone_nodes, clear_all_asserts_nodes, clear_all_bits_nodes, clear_asserts_nodes, clear_bit_nodes, clear_bits_nodes, clear_nodes, clear_source_nodes, clear_sources_nodes, clear_star_nodes, gone_bit_nodes, seen_bit_nodes, seen_source_nodes};
 
 use crate::going::first_of_source;
 use crate::part::{Part, clear_part};
@@ -20,9 +22,15 @@ use std::alloc::AllocError;
 
 // The asserts of (*,G), where all of the group was opened.
 #[tactic(auto, unfolding(crate::specs::Opened::clear_star))]
-fn clear_star(world: &mut World, turn: &mut Turn, opened: &GroupOpening) -> Result<(), AllocError>
+fn clear_star(
+    world: &mut World,
+    turn: &mut Turn,
+    meter: &mut Meter,
+    opened: &GroupOpening,
+) -> Result<(), AllocError>
     ensures state { OnOk result (world.new ≡ (clear_star world.old opened.now).0) }
     ensures messages { OnOk result (turn.new ≡ saying turn.old (clear_star world.old opened.now).1) }
+    ensures at_least { OnOk result (raised meter.old (clear_star_nodes world.old opened.now) ≤ meter.new) }
 {
     if !opened.is_whole {
         return Ok(());
@@ -32,7 +40,7 @@ fn clear_star(world: &mut World, turn: &mut Turn, opened: &GroupOpening) -> Resu
         source: None,
         was: opened.star.iface,
     };
-    clear_part(world, turn, part)
+    clear_part(world, turn, meter, part)
 }
 
 // The asserts of a source.
@@ -40,33 +48,37 @@ fn clear_star(world: &mut World, turn: &mut Turn, opened: &GroupOpening) -> Resu
 fn clear_source(
     world: &mut World,
     turn: &mut Turn,
+    meter: &mut Meter,
     group: Addr,
     opened: SourceOpening,
 ) -> Result<(), AllocError>
     ensures state { OnOk result (world.new ≡ (clear_source group.bits world.old opened).0) }
     ensures messages { OnOk result (turn.new ≡ saying turn.old (clear_source group.bits world.old opened).1) }
+    ensures at_least { OnOk result (raised meter.old (clear_source_nodes group world.old opened) ≤ meter.new) }
 {
     let part = Part {
         group,
         source: Some(opened.source),
         was: opened.view.iface,
     };
-    clear_part(world, turn, part)
+    clear_part(world, turn, meter, part)
 }
 
 // The asserts of these sources, one source after the other.
 fn clear_sources(
     world: &mut World,
     turn: &mut Turn,
+    meter: &mut Meter,
     group: Addr,
     sources: &[SourceOpening],
 ) -> Result<(), AllocError>
     ensures state { OnOk result (world.new ≡ (each_in_turn (clear_source group.bits) world.old sources.now).0) }
     ensures messages { OnOk result (turn.new ≡ saying turn.old
         (each_in_turn (clear_source group.bits) world.old sources.now).1) }
+    ensures at_least { OnOk result (raised meter.old (clear_sources_nodes group world.old sources.now) ≤ meter.new) }
 {
     for opened in sources {
-        clear_source(world, turn, group, *opened)?;
+        clear_source(world, turn, meter, group, *opened)?;
     }
     Ok(())
 }
@@ -76,26 +88,30 @@ fn clear_sources(
 fn clear_asserts(
     world: &mut World,
     turn: &mut Turn,
+    meter: &mut Meter,
     opened: &GroupOpening,
 ) -> Result<(), AllocError>
     ensures state { OnOk result (world.new ≡ (clear_asserts world.old opened.now).0) }
     ensures messages { OnOk result (turn.new ≡ saying turn.old (clear_asserts world.old opened.now).1) }
+    ensures at_least { OnOk result (raised meter.old (clear_asserts_nodes world.old opened.now) ≤ meter.new) }
 {
-    clear_star(world, turn, opened)?;
-    clear_sources(world, turn, opened.group, opened.sources.as_slice())
+    clear_star(world, turn, meter, opened)?;
+    clear_sources(world, turn, meter, opened.group, opened.sources.as_slice())
 }
 
 // The asserts of these groups, one group after the other.
 fn clear_all_asserts(
     world: &mut World,
     turn: &mut Turn,
+    meter: &mut Meter,
     groups: &[GroupOpening],
 ) -> Result<(), AllocError>
     ensures state { OnOk result (world.new ≡ (each_in_turn clear_asserts world.old groups.now).0) }
     ensures messages { OnOk result (turn.new ≡ saying turn.old (each_in_turn clear_asserts world.old groups.now).1) }
+    ensures at_least { OnOk result (raised meter.old (clear_all_asserts_nodes world.old groups.now) ≤ meter.new) }
 {
     for opened in groups {
-        clear_asserts(world, turn, opened)?;
+        clear_asserts(world, turn, meter, opened)?;
     }
     Ok(())
 }
@@ -109,7 +125,8 @@ fn forget_spt_bit(
     row: SourceRow,
 ) -> Result<(), AllocError>
     requires { row_at world.old.sources (source_key 0 group.bits source.bits) ≡ Some row }
-    ensures { OnOk result (world.new ≡ without_spt_bit world.old (source_key 0 group.bits source.bits)) }
+    ensures state { OnOk result (world.new ≡ without_spt_bit world.old (source_key 0 group.bits source.bits)) }
+    ensures at_least { OnOk result (raised meter.old (gone_bit_nodes world.old group source) ≤ meter.new) }
 {
     // It tells that a key stands once.
     world.recall_keyed();
@@ -125,11 +142,13 @@ fn forget_spt_bit(
 fn clear_bit(
     world: &mut World,
     turn: &mut Turn,
+    meter: &mut Meter,
     group: Addr,
     opened: SourceOpening,
 ) -> Result<(), AllocError>
     ensures state { OnOk result (world.new ≡ (clear_bit group.bits world.old opened).0) }
     ensures messages { OnOk result (turn.new ≡ saying turn.old (clear_bit group.bits world.old opened).1) }
+    ensures at_least { OnOk result (raised meter.old (clear_bit_nodes group world.old opened) ≤ meter.new) }
 {
     let Some(row) = world
         .store()
@@ -137,31 +156,37 @@ fn clear_bit(
     else {
         return Ok(());
     };
-    if !row.spt || is_joined(world, turn, group, opened.source) {
+    if !row.spt || is_joined(world, meter, group, opened.source) {
         return Ok(());
     }
-    forget_spt_bit(world, &mut turn.meter, group, opened.source, row)?;
-    clear_source(world, turn, group, opened)
+    forget_spt_bit(world, meter, group, opened.source, row)?;
+    clear_source(world, turn, meter, group, opened)
 }
 
 // JoinDesired(S,G).
-fn is_joined(world: &World, turn: &mut Turn, group: Addr, source: Addr) -> bool
+fn is_joined(world: &World, meter: &mut Meter, group: Addr, source: Addr) -> bool
     ensures desired { result ≡ join_desired world.now group.bits source.bits }
-    ensures silent { turn.new ≡ turn.old }
+    ensures at_least { raised meter.old (sight_nodes world.now group (Some source)) ≤ meter.new }
 {
-    let star = StarSight::of(world, group, &mut turn.meter);
-    let sight = SourceSight::of(world, star, source, &mut turn.meter);
+    let star = StarSight::of(world, group, meter);
+    let sight = SourceSight::of(world, star, source, meter);
     sight.join_desired()
 }
 
 // The SPTbits of a group's sources, one source after the other.
 #[tactic(auto, unfolding(crate::specs::Opened::clear_bits))]
-fn clear_bits(world: &mut World, turn: &mut Turn, opened: &GroupOpening) -> Result<(), AllocError>
+fn clear_bits(
+    world: &mut World,
+    turn: &mut Turn,
+    meter: &mut Meter,
+    opened: &GroupOpening,
+) -> Result<(), AllocError>
     ensures state { OnOk result (world.new ≡ (clear_bits world.old opened.now).0) }
     ensures messages { OnOk result (turn.new ≡ saying turn.old (clear_bits world.old opened.now).1) }
+    ensures at_least { OnOk result (raised meter.old (clear_bits_nodes world.old opened.now) ≤ meter.new) }
 {
     for source in opened.sources.as_slice() {
-        clear_bit(world, turn, opened.group, *source)?;
+        clear_bit(world, turn, meter, opened.group, *source)?;
     }
     Ok(())
 }
@@ -170,27 +195,36 @@ fn clear_bits(world: &mut World, turn: &mut Turn, opened: &GroupOpening) -> Resu
 fn clear_all_bits(
     world: &mut World,
     turn: &mut Turn,
+    meter: &mut Meter,
     groups: &[GroupOpening],
 ) -> Result<(), AllocError>
     ensures state { OnOk result (world.new ≡ (each_in_turn clear_bits world.old groups.now).0) }
     ensures messages { OnOk result (turn.new ≡ saying turn.old (each_in_turn clear_bits world.old groups.now).1) }
+    ensures at_least { OnOk result (raised meter.old (clear_all_bits_nodes world.old groups.now) ≤ meter.new) }
 {
     for opened in groups {
-        clear_bits(world, turn, opened)?;
+        clear_bits(world, turn, meter, opened)?;
     }
     Ok(())
 }
 
 /// What must go of what was opened: group after group the asserts of (*,G) and of its sources, then source after source
-/// the SPTbit and the asserts that must go with it; all macros are evaluated afresh after each. An error is want of
+/// the SPTbit and the asserts that must go with it; all macros are evaluated afresh after each. The meter rises by the nodes
+/// that the look-ups visit, at least those of each sight, and those that lead to the facts of what goes. An error is want of
 /// memory.
 #[tactic(auto, unfolding(crate::specs::Opened::clear_by))]
-pub fn clear(world: &mut World, turn: &mut Turn, opening: &Opening) -> Result<(), AllocError>
+pub fn clear(
+    world: &mut World,
+    turn: &mut Turn,
+    meter: &mut Meter,
+    opening: &Opening,
+) -> Result<(), AllocError>
     ensures state { OnOk result (world.new ≡ (clear_by opening.now world.old).0) }
     ensures messages { OnOk result (turn.new ≡ saying turn.old (clear_by opening.now world.old).1) }
+    ensures at_least { OnOk result (raised meter.old (clear_nodes opening.now world.old) ≤ meter.new) }
 {
-    clear_all_asserts(world, turn, opening.groups())?;
-    clear_all_bits(world, turn, opening.groups())
+    clear_all_asserts(world, turn, meter, opening.groups())?;
+    clear_all_bits(world, turn, meter, opening.groups())
 }
 
 // The asserts of the sight's source. The sight is true of the state before, and then of the state after.
@@ -198,6 +232,7 @@ pub fn clear(world: &mut World, turn: &mut Turn, opening: &Opening) -> Result<()
 fn clear_source_seen(
     world: &mut World,
     turn: &mut Turn,
+    meter: &mut Meter,
     opened: SourceOpening,
     sight: &mut SourceSight,
 ) -> Result<(), AllocError>
@@ -209,14 +244,15 @@ fn clear_source_seen(
     ensures sight { OnOk result (IsSourceSight world.new sight.new) }
     ensures group { OnOk result (sight.new.star.group ≡ sight.old.star.group) }
     ensures source { OnOk result (sight.new.source ≡ sight.old.source) }
+    ensures at_least { OnOk result (raised meter.old (seen_source_nodes sight.old.star.group world.old opened) ≤ meter.new) }
 {
     // It tells that asserts are under keys of their kind, each of which stands once.
     world.recall_keyed();
     let Some(_) = first_of_source(world, sight, opened.view.iface) else {
         return Ok(());
     };
-    clear_source(world, turn, sight.star.group, opened)?;
-    *sight = sight.anew(world, &mut turn.meter);
+    clear_source(world, turn, meter, sight.star.group, opened)?;
+    *sight = sight.anew(world, meter);
     Ok(())
 }
 
@@ -225,6 +261,7 @@ fn clear_source_seen(
 fn clear_bit_seen(
     world: &mut World,
     turn: &mut Turn,
+    meter: &mut Meter,
     opened: SourceOpening,
     sight: &mut SourceSight,
 ) -> Result<(), AllocError>
@@ -236,21 +273,24 @@ fn clear_bit_seen(
     ensures sight { OnOk result (IsSourceSight world.new sight.new) }
     ensures group { OnOk result (sight.new.star.group ≡ sight.old.star.group) }
     ensures source { OnOk result (sight.new.source ≡ sight.old.source) }
+    ensures at_least { OnOk result (raised meter.old (seen_bit_nodes sight.old.star.group world.old opened) ≤ meter.new) }
 {
     if !sight.spt || sight.join_desired() {
         return Ok(());
     }
-    clear_bit(world, turn, sight.star.group, opened)?;
-    *sight = sight.anew(world, &mut turn.meter);
+    clear_bit(world, turn, meter, sight.star.group, opened)?;
+    *sight = sight.anew(world, meter);
     Ok(())
 }
 
 /// The same where one source alone was opened, by its sight, which is gathered anew only where something goes: it is
-/// true of the state before, and then of the state after.
+/// true of the state before, and then of the state after. The meter rises where something goes, by
+/// the nodes that the look-ups visit.
 #[tactic(auto, unfolding(crate::specs::Opened::clear_by, crate::specs::Opened::clear_asserts, crate::specs::Opened::clear_star, crate::specs::Opened::clear_bits))]
 pub fn clear_alone(
     world: &mut World,
     turn: &mut Turn,
+    meter: &mut Meter,
     group: &GroupOpening,
     opened: SourceOpening,
     sight: &mut SourceSight,
@@ -265,7 +305,8 @@ pub fn clear_alone(
     ensures sight { OnOk result (IsSourceSight world.new sight.new) }
     ensures group { OnOk result (sight.new.star.group ≡ sight.old.star.group) }
     ensures source { OnOk result (sight.new.source ≡ sight.old.source) }
+    ensures at_least { OnOk result (raised meter.old (alone_nodes sight.old.star.group world.old opened) ≤ meter.new) }
 {
-    clear_source_seen(world, turn, opened, sight)?;
-    clear_bit_seen(world, turn, opened, sight)
+    clear_source_seen(world, turn, meter, opened, sight)?;
+    clear_bit_seen(world, turn, meter, opened, sight)
 }

@@ -1,11 +1,13 @@
 //! An Assert, and data that asks for one (RFC 7761, sections 4.6.1 and 4.6.2).
-ghost use Rattle.std.specs.Prelude.{◌≡◌, ◌<◌, ◌^◌, IfOk, OnOk, false, not, ◌&&◌};
+ghost use Rattle.std.specs.Prelude.{◌≡◌, ◌≤◌, ◌<◌, ◌^◌, ◌+◌, IfOk, OnOk, false, not, ◌&&◌};
 ghost use Rattle.pim_types.specs.Keys.{source_in, source_key, star_key};
 ghost use Rattle.pim_model.specs.Asserts.{assert_at, assert_received, asserted_metric, data_seen, loses, theirs_of};
 ghost use Rattle.pim_model.specs.Tables.{has_row};
+ghost use Rattle.pim_world.specs.Visits.{raised};
 ghost use Rattle.pim_world.specs.Turns.{saying};
 ghost use Rattle.pim_macros.specs.Sights.{IsSourceSight, IsStarSight};
 ghost use Rattle.pim_asserts.specs.Receiving.{after_action, goes_on_to_star, source_asserted, stance_at, wins_with};
+ghost use Rattle.pim_asserts.specs.Visits.{action_nodes, data_nodes, key_nodes, new_assert_nodes, received_nodes, source_asserted_nodes, taken_nodes};
 
 use crate::action::{Action, action_of};
 use crate::assert_timer::{WINNER_TIME, asserted_metric, win_again};
@@ -25,6 +27,7 @@ const LOSER_TIME: u64 = 180_000;
 fn win_with(
     world: &mut World,
     turn: &mut Turn,
+    meter: &mut Meter,
     key: Key,
     mine: AssertMetric,
     asserted: AssertMetric,
@@ -35,6 +38,7 @@ fn win_with(
     requires within { asserted.preference < 2 ^ 31 }
     ensures state { OnOk result (world.new ≡ (wins_with world.old key mine).0) }
     ensures messages { OnOk result (turn.new ≡ saying turn.old (wins_with world.old key mine).1) }
+    ensures at_least { OnOk result (raised meter.old (new_assert_nodes world.old key) ≤ meter.new) }
 {
     turn.out.assert(key.iface, key.group, key.source, asserted)?;
     let row = AssertRow {
@@ -42,18 +46,27 @@ fn win_with(
         winner: mine,
         end: world.present() + WINNER_TIME,
     };
-    world.store_mut().set_assert(key.iface, key.group, key.source, Some(row), &mut turn.meter)
+    world
+        .store_mut()
+        .set_assert(key.iface, key.group, key.source, Some(row), meter)
 }
 
 // The router wins with this metric of its own.
-fn win(world: &mut World, turn: &mut Turn, key: Key, mine: AssertMetric) -> Result<(), AllocError>
+fn win(
+    world: &mut World,
+    turn: &mut Turn,
+    meter: &mut Meter,
+    key: Key,
+    mine: AssertMetric,
+) -> Result<(), AllocError>
     requires plain { key.rpt ≡ false }
     requires below { key.iface.number < 120 }
     ensures state { OnOk result (world.new ≡ (wins_with world.old key mine).0) }
     ensures messages { OnOk result (turn.new ≡ saying turn.old (wins_with world.old key mine).1) }
+    ensures at_least { OnOk result (raised meter.old (key_nodes world.old key + new_assert_nodes world.old key) ≤ meter.new) }
 {
-    let asserted = asserted_metric(world, turn, key);
-    win_with(world, turn, key, mine, asserted)
+    let asserted = asserted_metric(world, meter, key);
+    win_with(world, turn, meter, key, mine, asserted)
 }
 
 // The router lost to this metric.
@@ -66,7 +79,8 @@ fn lose(
 ) -> Result<(), AllocError>
     requires plain { key.rpt ≡ false }
     requires below { key.iface.number < 120 }
-    ensures { OnOk result (world.new ≡ loses world.old key theirs) }
+    ensures state { OnOk result (world.new ≡ loses world.old key theirs) }
+    ensures at_least { OnOk result (raised meter.old (new_assert_nodes world.old key) ≤ meter.new) }
 {
     let row = AssertRow {
         role: AssertRole::Loser,
@@ -90,6 +104,7 @@ fn source_of(key: Key) -> Addr
 fn act(
     world: &mut World,
     turn: &mut Turn,
+    meter: &mut Meter,
     key: Key,
     theirs: AssertMetric,
     action: Action,
@@ -98,18 +113,19 @@ fn act(
     requires below { key.iface.number < 120 }
     ensures state { OnOk result (world.new ≡ (after_action world.old key theirs action).0) }
     ensures messages { OnOk result (turn.new ≡ saying turn.old (after_action world.old key theirs action).1) }
+    ensures at_least { OnOk result (raised meter.old (action_nodes world.old key theirs action) ≤ meter.new) }
 {
     match action {
         Action::Stay => Ok(()),
-        Action::Win(mine) => win(world, turn, key, mine),
-        Action::WinAgain(row) => win_again(world, turn, key, row),
-        Action::Lose => lose(world, &mut turn.meter, key, theirs),
+        Action::Win(mine) => win(world, turn, meter, key, mine),
+        Action::WinAgain(row) => win_again(world, turn, meter, key, row),
+        Action::Lose => lose(world, meter, key, theirs),
         Action::LoseAndSwitch => {
-            lose(world, &mut turn.meter, key, theirs)?;
-            world.set_spt_bit(key.group, source_of(key), &mut turn.meter)
+            lose(world, meter, key, theirs)?;
+            world.set_spt_bit(key.group, source_of(key), meter)
         }
         Action::Forget => {
-            world.store_mut().drop_assert(key, &mut turn.meter);
+            world.store_mut().drop_assert(key, meter);
             Ok(())
         }
     }
@@ -127,6 +143,7 @@ pub(crate) fn has_assert(world: &World, key: Key) -> bool
 fn take(
     world: &mut World,
     turn: &mut Turn,
+    meter: &mut Meter,
     key: Key,
     theirs: AssertMetric,
 ) -> Result<(), AllocError>
@@ -134,10 +151,11 @@ fn take(
     requires below { key.iface.number < 120 }
     ensures state { OnOk result (world.new ≡ (assert_at world.old key theirs).0) }
     ensures messages { OnOk result (turn.new ≡ saying turn.old (assert_at world.old key theirs).1) }
+    ensures at_least { OnOk result (raised meter.old (taken_nodes world.old key theirs) ≤ meter.new) }
 {
-    let stance = stance_of(world, turn, key);
+    let stance = stance_of(world, meter, key);
     let action = action_of(stance, world.store().assert_at(key), theirs);
-    act(world, turn, key, theirs, action)
+    act(world, turn, meter, key, theirs, action)
 }
 
 // An Assert of a source, as an event of (S,G): whether it goes on to (*,G). With R set it does where (S,G) was and stays
@@ -145,6 +163,7 @@ fn take(
 fn take_by_source(
     world: &mut World,
     turn: &mut Turn,
+    meter: &mut Meter,
     iface: IfaceId,
     from: Addr,
     assert: &Assert,
@@ -155,13 +174,15 @@ fn take_by_source(
         ≡ (source_asserted world.old iface.number from.bits assert.now).0) }
     ensures messages { IfOk result (λ goes_on. turn.new
         ≡ saying turn.old (source_asserted world.old iface.number from.bits assert.now).1) }
+    ensures at_least { OnOk result (raised meter.old
+        (source_asserted_nodes world.old iface.number from.bits assert.now) ≤ meter.new) }
 {
     if assert.source == Addr::NONE {
         return Ok(assert.rpt);
     }
     let key = Key::source(iface, assert.group, assert.source);
     let was_silent = !has_assert(world, key);
-    take(world, turn, key, metric_of(from, assert))?;
+    take(world, turn, meter, key, metric_of(from, assert))?;
     Ok(assert.rpt && was_silent && !has_assert(world, key))
 }
 
@@ -178,10 +199,13 @@ pub(crate) fn metric_of(from: Addr, assert: &Assert) -> AssertMetric
 }
 
 /// Takes an Assert that came from an address: one of a source goes to (S,G), and with R set on to (*,G) where (S,G) was
-/// and stays in NoInfo; one without a source goes to (*,G) alone. An error is want of memory.
+/// and stays in NoInfo; one without a source goes to (*,G) alone. The meter rises by the nodes that the look-ups visit, at
+/// least those of the sight of each machine that it goes to, and those that lead to the facts of what gets an assert or loses
+/// one. An error is want of memory.
 pub fn received(
     world: &mut World,
     turn: &mut Turn,
+    meter: &mut Meter,
     iface: IfaceId,
     from: Addr,
     assert: &Assert,
@@ -190,13 +214,15 @@ pub fn received(
     ensures state { OnOk result (world.new ≡ (assert_received world.old iface.number from.bits assert.now).0) }
     ensures messages { OnOk result (turn.new
         ≡ saying turn.old (assert_received world.old iface.number from.bits assert.now).1) }
+    ensures at_least { OnOk result (raised meter.old
+        (received_nodes world.old iface.number from.bits assert.now) ≤ meter.new) }
 {
-    let goes_on = take_by_source(world, turn, iface, from, assert)?;
+    let goes_on = take_by_source(world, turn, meter, iface, from, assert)?;
     if !goes_on {
         return Ok(());
     }
     let star = Key::star(iface, assert.group);
-    take(world, turn, star, metric_of(from, assert))
+    take(world, turn, meter, star, metric_of(from, assert))
 }
 
 // Whether data makes a winner.
@@ -210,6 +236,7 @@ fn asserts_by_data(world: &World, key: Key, stance: Stance) -> bool
 fn data_seen(
     world: &mut World,
     turn: &mut Turn,
+    meter: &mut Meter,
     key: Key,
     stance: Stance,
     asserted: AssertMetric,
@@ -221,18 +248,21 @@ fn data_seen(
     requires within { asserted.preference < 2 ^ 31 }
     ensures state { OnOk result (world.new ≡ (data_seen world.old key).0) }
     ensures messages { OnOk result (turn.new ≡ saying turn.old (data_seen world.old key).1) }
+    ensures at_least { OnOk result (raised meter.old (data_nodes world.old key) ≤ meter.new) }
 {
     if !asserts_by_data(world, key, stance) {
         return Ok(());
     }
-    win_with(world, turn, key, stance.metric, asserted)
+    win_with(world, turn, meter, key, stance.metric, asserted)
 }
 
 /// Takes data on an interface on which the router forwards the group, as an event of the machine of (*,G): where it
-/// could assert and none has won or lost yet, it wins. An error is want of memory.
+/// could assert and none has won or lost yet, it wins, and the meter rises by the nodes that lead to the facts of the group.
+/// An error is want of memory.
 pub fn data_seen_of_group(
     world: &mut World,
     turn: &mut Turn,
+    meter: &mut Meter,
     star: &StarSight,
     iface: IfaceId,
 ) -> Result<(), AllocError>
@@ -241,16 +271,26 @@ pub fn data_seen_of_group(
     ensures state { OnOk result (world.new ≡ (data_seen world.old (star_key iface.number star.now.group.bits)).0) }
     ensures messages { OnOk result (turn.new
         ≡ saying turn.old (data_seen world.old (star_key iface.number star.now.group.bits)).1) }
+    ensures at_least { OnOk result (raised meter.old
+        (data_nodes world.old (star_key iface.number star.now.group.bits)) ≤ meter.new) }
 {
     let stance = star_stance(world, star, iface);
     let asserted = star.metric(world.address(iface));
-    data_seen(world, turn, Key::star(iface, star.group), stance, asserted)
+    data_seen(
+        world,
+        turn,
+        meter,
+        Key::star(iface, star.group),
+        stance,
+        asserted,
+    )
 }
 
 /// The same of a source of a group, as an event of the machine of (S,G).
 pub fn data_seen_of_source(
     world: &mut World,
     turn: &mut Turn,
+    meter: &mut Meter,
     sight: &SourceSight,
     iface: IfaceId,
 ) -> Result<(), AllocError>
@@ -260,9 +300,11 @@ pub fn data_seen_of_source(
         ≡ (data_seen world.old (source_key iface.number sight.now.star.group.bits sight.now.source.bits)).0) }
     ensures messages { OnOk result (turn.new ≡ saying turn.old
         (data_seen world.old (source_key iface.number sight.now.star.group.bits sight.now.source.bits)).1) }
+    ensures at_least { OnOk result (raised meter.old
+        (data_nodes world.old (source_key iface.number sight.now.star.group.bits sight.now.source.bits)) ≤ meter.new) }
 {
     let stance = source_stance(world, sight, iface);
     let asserted = sight.metric(world.address(iface));
     let key = Key::source(iface, sight.star.group, sight.source);
-    data_seen(world, turn, key, stance, asserted)
+    data_seen(world, turn, meter, key, stance, asserted)
 }

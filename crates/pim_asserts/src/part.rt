@@ -1,18 +1,20 @@
 //! The asserts of a group, or of a source, that must go: one after the other.
-ghost use Rattle.std.specs.Prelude.{◌≡◌, ◌<◌, ◌∷◌, [], IfOk, OnOk, false, if◌then◌else◌, is_some};
+ghost use Rattle.std.specs.Prelude.{◌≡◌, ◌≤◌, ◌<◌, ◌∷◌, [], IfOk, OnOk, false, if◌then◌else◌, is_some};
 ghost use Rattle.pim_world.specs.Turns.{saying};
+ghost use Rattle.pim_world.specs.Visits.{mark_nodes, raised, sight_nodes};
 ghost use Rattle.pim_model.specs.Asserts.{assert_cancel, assert_forgotten};
 ghost use Rattle.pim_model.specs.Sets.{is_winner};
 ghost use Rattle.pim_model.specs.Tables.{row_at};
 ghost use Rattle.pim_asserts.specs.Going.{bits_of, clear_once, first_below, goes_at, number_of, part_key};
 ghost use Rattle.pim_asserts.specs.Opened.{clear_part, part_to_clear};
+ghost use Rattle.pim_asserts.specs.Visits.{part_nodes, turn_nodes};
 
 use crate::going::{first_of_source, first_of_star};
 use pim_macros::asserts::infinite;
 use pim_macros::{SourceSight, StarSight};
 use pim_types::fact::AssertRole;
 use pim_types::{Addr, IfaceId, Key};
-use pim_world::{Turn, World};
+use pim_world::{Meter, Turn, World};
 use std::alloc::AllocError;
 
 /// The asserts of (*,G), where there is no source, or of (S,G).
@@ -25,16 +27,16 @@ pub(crate) struct Part {
 }
 
 // The first interface on which the assert must go.
-fn first_to_go(world: &World, turn: &mut Turn, part: Part) -> Option<IfaceId>
+fn first_to_go(world: &World, meter: &mut Meter, part: Part) -> Option<IfaceId>
     ensures first { number_of result
         ≡ first_below (goes_at part.was part.group.bits (bits_of part.source) world.now) }
-    ensures silent { turn.new ≡ turn.old }
+    ensures at_least { raised meter.old (sight_nodes world.now part.group part.source) ≤ meter.new }
 {
-    let star = StarSight::of(world, part.group, &mut turn.meter);
+    let star = StarSight::of(world, part.group, meter);
     match part.source {
         None => first_of_star(world, &star, part.was),
         Some(source) => {
-            let sight = SourceSight::of(world, star, source, &mut turn.meter);
+            let sight = SourceSight::of(world, star, source, meter);
             first_of_source(world, &sight, part.was)
         }
     }
@@ -42,13 +44,20 @@ fn first_to_go(world: &World, turn: &mut Turn, part: Part) -> Option<IfaceId>
 
 // Forgets the assert on the interface; a winner cancels it.
 #[tactic(auto, unfolding(pim_model::specs::Asserts::assert_forgotten, pim_model::specs::Tables::set_row, pim_model::specs::Asserts::assert_message))]
-fn forget(world: &mut World, turn: &mut Turn, part: Part, iface: IfaceId) -> Result<(), AllocError>
+fn forget(
+    world: &mut World,
+    turn: &mut Turn,
+    meter: &mut Meter,
+    part: Part,
+    iface: IfaceId,
+) -> Result<(), AllocError>
     requires { iface.number < 120 }
     ensures state { OnOk result (world.new
         ≡ assert_forgotten world.old (part_key part.group.bits (bits_of part.source) iface.number)) }
     ensures messages { OnOk result (turn.new ≡ saying turn.old
         (if is_winner (row_at world.old.asserts (part_key part.group.bits (bits_of part.source) iface.number))
         then assert_cancel (part_key part.group.bits (bits_of part.source) iface.number) ∷ [] else [])) }
+    ensures at_least { OnOk result (raised meter.old (mark_nodes world.old part.group part.source) ≤ meter.new) }
 {
     let row = world.store().assert_at(Key {
         iface,
@@ -58,7 +67,7 @@ fn forget(world: &mut World, turn: &mut Turn, part: Part, iface: IfaceId) -> Res
     });
     world
         .store_mut()
-        .set_assert(iface, part.group, part.source, None, &mut turn.meter)?;
+        .set_assert(iface, part.group, part.source, None, meter)?;
     if row.is_some_and(|row| matches!(row.role, AssertRole::Winner)) {
         turn.out.assert(iface, part.group, part.source, infinite())?;
     }
@@ -67,30 +76,42 @@ fn forget(world: &mut World, turn: &mut Turn, part: Part, iface: IfaceId) -> Res
 
 // Clears the first assert that must go, and tells whether there was one.
 #[tactic(auto, unfolding(crate::specs::Going::clear_once))]
-fn clear_next(world: &mut World, turn: &mut Turn, part: Part) -> Result<bool, AllocError>
+fn clear_next(
+    world: &mut World,
+    turn: &mut Turn,
+    meter: &mut Meter,
+    part: Part,
+) -> Result<bool, AllocError>
     ensures more { IfOk result (λ more. more
         ≡ is_some (part_to_clear part.was part.group.bits (bits_of part.source) world.old)) }
     ensures state { IfOk result (λ more. world.new
         ≡ (clear_once part.was part.group.bits (bits_of part.source) world.old).0) }
     ensures messages { IfOk result (λ more. turn.new ≡ saying turn.old
         (clear_once part.was part.group.bits (bits_of part.source) world.old).1) }
+    ensures at_least { OnOk result (raised meter.old (turn_nodes part.was part.group part.source world.old) ≤ meter.new) }
 {
     // It tells that asserts are under keys of their kind, each of which stands once.
     world.recall_keyed();
-    let Some(iface) = first_to_go(world, turn, part) else {
+    let Some(iface) = first_to_go(world, meter, part) else {
         return Ok(false);
     };
-    forget(world, turn, part, iface)?;
+    forget(world, turn, meter, part, iface)?;
     Ok(true)
 }
 
 /// Clears what must go of these asserts: the first by interface, and all macros afresh after each.
-pub(crate) fn clear_part(world: &mut World, turn: &mut Turn, part: Part) -> Result<(), AllocError>
+pub(crate) fn clear_part(
+    world: &mut World,
+    turn: &mut Turn,
+    meter: &mut Meter,
+    part: Part,
+) -> Result<(), AllocError>
     ensures state { OnOk result (world.new
         ≡ (clear_part part.was part.group.bits (bits_of part.source) world.old).0) }
     ensures messages { OnOk result (turn.new ≡ saying turn.old
         (clear_part part.was part.group.bits (bits_of part.source) world.old).1) }
+    ensures at_least { OnOk result (raised meter.old (part_nodes part.was part.group part.source world.old) ≤ meter.new) }
 {
-    while clear_next(world, turn, part)? {}
+    while clear_next(world, turn, meter, part)? {}
     Ok(())
 }

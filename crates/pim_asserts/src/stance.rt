@@ -1,13 +1,15 @@
 //! How the router stands in an assert machine (RFC 7761, sections 4.6.1 to 4.6.3).
-ghost use Rattle.std.specs.Prelude.{◌≡◌, ◌<◌, false};
+ghost use Rattle.std.specs.Prelude.{◌≡◌, ◌≤◌, ◌<◌, false};
 ghost use Rattle.pim_types.specs.Keys.{source_key, star_key};
+ghost use Rattle.pim_world.specs.Visits.{raised};
 ghost use Rattle.pim_macros.specs.Sights.{IsSourceSight, IsStarSight};
 ghost use Rattle.pim_asserts.specs.Receiving.{stance_at};
+ghost use Rattle.pim_asserts.specs.Visits.{key_nodes};
 
 use pim_macros::{SourceSight, StarSight};
 use pim_types::fact::AssertMetric;
 use pim_types::{IfaceId, Key};
-use pim_world::{Turn, World};
+use pim_world::{Meter, World};
 
 /// What the transitions ask of the router's state.
 #[derive(Clone, Copy)]
@@ -54,17 +56,17 @@ pub(crate) fn source_stance(world: &World, sight: &SourceSight, iface: IfaceId) 
 }
 
 /// How the router stands in the machine of a key.
-pub(crate) fn stance_of(world: &World, turn: &mut Turn, key: Key) -> Stance
+pub(crate) fn stance_of(world: &World, meter: &mut Meter, key: Key) -> Stance
     requires plain { key.rpt ≡ false }
     requires below { key.iface.number < 120 }
     ensures stance { result ≡ stance_at world.now key }
-    ensures silent { turn.new ≡ turn.old }
+    ensures at_least { raised meter.old (key_nodes world.now key) ≤ meter.new }
 {
-    let star = StarSight::of(world, key.group, &mut turn.meter);
+    let star = StarSight::of(world, key.group, meter);
     match key.source {
         None => star_stance(world, &star, key.iface),
         Some(source) => {
-            let sight = SourceSight::of(world, star, source, &mut turn.meter);
+            let sight = SourceSight::of(world, star, source, meter);
             source_stance(world, &sight, key.iface)
         }
     }

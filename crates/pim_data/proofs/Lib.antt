@@ -1,2 +1,3 @@
 mod Few
 mod Lists
+mod Visited

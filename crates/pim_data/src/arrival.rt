@@ -1,27 +1,30 @@
 //! A data packet that came.
-ghost use Rattle.std.specs.Prelude.{◌≡◌, ◌<◌, IfOk, OnOk};
+ghost use Rattle.std.specs.Prelude.{◌≡◌, ◌<◌, ◌≤◌, IfOk, OnOk};
 ghost use Rattle.pim_macros.specs.Sights.{IsSourceSight};
 ghost use Rattle.pim_world.specs.Turns.{saying};
 ghost use Rattle.pim_model.specs.Forwarding.{forwarded};
 ghost use Rattle.pim_register.specs.Outgoing.{LeavesOn};
+ghost use Rattle.pim_data.specs.Visits.{arrived_nodes};
+ghost use Rattle.pim_world.specs.Visits.{raised};
 
 use crate::list::choose_list;
 use crate::source::{source_here, source_joined, update_spt_bit};
 use pim_ifset::IfSet;
 use pim_macros::SourceSight;
 use pim_types::IfaceId;
-use pim_world::{Turn, World};
+use pim_world::{Meter, Turn, World};
 use std::alloc::AllocError;
 
 /// Takes a data packet of a source and a group that came on an interface below 120; the sight is what their macros read
 /// now, and is kept up to date by what the packet changes. A source on a link of the router's own is kept alive and
 /// registered, one that is joined is kept alive, the SPTbit is set where the shortest path tree is reached, and a packet
-/// that came on no tree's interface asks for an assert. The answer is where the packet leaves: never where it came. An
-/// error is want of memory.
+/// that came on no tree's interface asks for an assert. The answer is where the packet leaves: never where it came. The meter
+/// rises by the nodes that the look-ups visit, at least those that lead to facts that come or go. An error is want of memory.
 #[tactic(auto, unfolding(pim_model::specs::Forwarding::forwarded))]
 pub fn arrived(
     world: &mut World,
     turn: &mut Turn,
+    meter: &mut Meter,
     iface: IfaceId,
     sight: SourceSight,
 ) -> Result<IfSet, AllocError>
@@ -33,12 +36,14 @@ pub fn arrived(
         ≡ (forwarded world.old sight.star.group.bits sight.source.bits iface.number).state) }
     ensures messages { OnOk result (turn.new
         ≡ saying turn.old (forwarded world.old sight.star.group.bits sight.source.bits iface.number).messages) }
+    ensures at_least { OnOk result (raised meter.old
+        (arrived_nodes world.old sight.star.group.bits sight.source.bits iface.number) ≤ meter.new) }
 {
     let mut sight = sight;
-    source_here(world, &mut turn.meter, &mut sight, iface)?;
-    source_joined(world, &mut turn.meter, &mut sight, iface)?;
-    update_spt_bit(world, &mut turn.meter, &mut sight, iface)?;
-    let mut list = choose_list(world, turn, &sight, iface)?;
+    source_here(world, meter, &mut sight, iface)?;
+    source_joined(world, meter, &mut sight, iface)?;
+    update_spt_bit(world, meter, &mut sight, iface)?;
+    let mut list = choose_list(world, turn, meter, &sight, iface)?;
     list.remove(iface);
     Ok(list)
 }

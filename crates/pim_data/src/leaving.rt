@@ -1,12 +1,14 @@
 //! The packets that leave.
 ghost use Rattle.std.specs.Option.{option_map_or};
-ghost use Rattle.std.specs.Prelude.{◌≡◌, ◌≤◌, ℕ, [], Bool, IfOk, length, map};
+ghost use Rattle.std.specs.Prelude.{◌≡◌, ◌≤◌, ℕ, [], Bool, IfOk, OnOk, length, map};
 ghost use Rattle.pim_ip.specs.Ipv4.{copy_text};
 ghost use Rattle.pim_world.specs.Shown.{Shows};
 ghost use Rattle.pim_model.specs.Forwarding.{Forwarded};
 ghost use Rattle.pim_model.specs.Writing.{copies_of, leaves, on_link, register_of_packet, tunnel_of};
 ghost use Rattle.pim_model.specs.Unicast.{rp_of};
 ghost use Rattle.pim_register.specs.Outgoing.{LeavesOn};
+ghost use Rattle.pim_data.specs.Visits.{leave_nodes, registered_nodes};
+ghost use Rattle.pim_world.specs.Visits.{raised};
 ghost use Rattle.pim_types.specs.declared.config.IfaceId.{IfaceId as IfaceValue};
 
 use pim_ifset::{IfSet, Iter};
@@ -15,7 +17,7 @@ use pim_macros::interfaces::members;
 use pim_messages::{copy_on_link, register_of_copy};
 use pim_register::registering_address;
 use pim_types::{Addr, Emission};
-use pim_world::{Turn, World};
+use pim_world::{Meter, Turn, World};
 use std::alloc::{AllocError, Global};
 
 /// What leaves of a packet.
@@ -91,26 +93,30 @@ pub fn copies(
 fn registered(
     world: &World,
     turn: &mut Turn,
+    meter: &mut Meter,
     packet: &Ipv4View<'_>,
 ) -> Result<Vec<Emission>, AllocError>
     ensures registered { IfOk result (λ sent. sent.items
         ≡ option_map_or (register_of_packet world.now packet.now) (rp_of world.now packet.now.destination) []) }
     ensures silent { turn.new ≡ turn.old }
+    ensures at_least { OnOk result (raised meter.old (registered_nodes world.now packet.now) ≤ meter.new) }
 {
     let mut sent = Vec::new(turn.alloc);
-    if let Some(rp) = world.rp(packet.destination(), &mut turn.meter) {
-        let from = registering_address(world, turn, packet.source());
+    if let Some(rp) = world.rp(packet.destination(), meter) {
+        let from = registering_address(world, meter, packet.source());
         sent.push(register_of_copy(turn.alloc, from, rp, packet)?)?;
     }
     Ok(sent)
 }
 
-/// What leaves of a packet whose list of outgoing interfaces this is: nothing where its TTL has run out. An error is want
-/// of memory.
+/// What leaves of a packet whose list of outgoing interfaces this is: nothing where its TTL has run out. The meter rises by
+/// the nodes that the look-ups visit, at least those that lead to the RP and to the route to the source where the packet goes
+/// through the tunnel. An error is want of memory.
 #[tactic(auto, unfolding(pim_model::specs::Writing::tunnel_of))]
 pub fn leave(
     world: &World,
     turn: &mut Turn,
+    meter: &mut Meter,
     packet: &Ipv4View<'_>,
     list: IfSet,
 ) -> Result<Leaving, AllocError>
@@ -120,6 +126,7 @@ pub fn leave(
         → sent.registered.items ≡ tunnel_of world.now packet.now f.to_tunnel) }
     ensures limit { IfOk result (λ sent. length sent.copies.items ≤ 120) }
     ensures silent { turn.new ≡ turn.old }
+    ensures at_least { OnOk result (raised meter.old (leave_nodes world.now packet.now list.tunnel) ≤ meter.new) }
 {
     let copies = copies(world, turn.alloc, packet, list)?;
     if !(list.has_tunnel() && leaves(packet)) {
@@ -128,6 +135,6 @@ pub fn leave(
             registered: Vec::new(turn.alloc),
         });
     }
-    let registered = registered(world, turn, packet)?;
+    let registered = registered(world, turn, meter, packet)?;
     Ok(Leaving { copies, registered })
 }

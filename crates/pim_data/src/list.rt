@@ -1,10 +1,12 @@
 //! Which list of outgoing interfaces a packet takes (RFC 7761, section 4.2), by the sight of its source.
-ghost use Rattle.std.specs.Prelude.{◌≡◌, ◌<◌, IfOk, OnOk, if◌then◌else◌};
+ghost use Rattle.std.specs.Prelude.{◌≡◌, ◌<◌, ◌≤◌, IfOk, OnOk, if◌then◌else◌};
 ghost use Rattle.pim_model.specs.Sets.{inherited_olist, inherited_olist_rpt, spt_bit};
 ghost use Rattle.pim_macros.specs.Sights.{InSource, IsSourceSight};
 ghost use Rattle.pim_world.specs.Turns.{saying};
 ghost use Rattle.pim_model.specs.Forwarding.{list_chosen, stray, watched};
 ghost use Rattle.pim_register.specs.Outgoing.{LeavesOn};
+ghost use Rattle.pim_data.specs.Visits.{chosen_nodes, stray_nodes, watched_nodes};
+ghost use Rattle.pim_world.specs.Visits.{raised};
 
 use pim_asserts::{data_seen_of_group, data_seen_of_source};
 use pim_ifset::IfSet;
@@ -17,7 +19,9 @@ use std::alloc::AllocError;
 #[tactic(auto, unfolding(pim_model::specs::Forwarding::watched))]
 fn watch(world: &mut World, meter: &mut Meter, sight: &SourceSight) -> Result<(), AllocError>
     requires { IsSourceSight world.old sight.now }
-    ensures { OnOk result (world.new ≡ watched world.old sight.now.star.group.bits sight.now.source.bits) }
+    ensures state { OnOk result (world.new ≡ watched world.old sight.now.star.group.bits sight.now.source.bits) }
+    ensures at_least { OnOk result (raised meter.old
+        (watched_nodes world.old sight.now.star.group.bits sight.now.source.bits) ≤ meter.new) }
 {
     if !(sight.has_local_receivers() && sight.is_spt_wanted) {
         return Ok(());
@@ -44,6 +48,7 @@ fn is_on_list(sight: &SourceSight, iface: IfaceId) -> bool
 fn take_stray(
     world: &mut World,
     turn: &mut Turn,
+    meter: &mut Meter,
     sight: &SourceSight,
     iface: IfaceId,
 ) -> Result<(), AllocError>
@@ -53,14 +58,16 @@ fn take_stray(
         ≡ (stray world.old sight.now.star.group.bits sight.now.source.bits iface.number).state) }
     ensures messages { OnOk result (turn.new
         ≡ saying turn.old (stray world.old sight.now.star.group.bits sight.now.source.bits iface.number).messages) }
+    ensures at_least { OnOk result (raised meter.old
+        (stray_nodes world.old sight.now.star.group.bits sight.now.source.bits iface.number) ≤ meter.new) }
 {
     if !is_on_list(sight, iface) {
         return Ok(());
     }
     if sight.spt {
-        return data_seen_of_source(world, turn, sight, iface);
+        return data_seen_of_source(world, turn, meter, sight, iface);
     }
-    data_seen_of_group(world, turn, &sight.star, iface)
+    data_seen_of_group(world, turn, meter, &sight.star, iface)
 }
 
 /// The list on the shortest path tree, on the shared tree, or of neither; with what the packet changes there.
@@ -68,6 +75,7 @@ fn take_stray(
 pub(crate) fn choose_list(
     world: &mut World,
     turn: &mut Turn,
+    meter: &mut Meter,
     sight: &SourceSight,
     iface: IfaceId,
 ) -> Result<IfSet, AllocError>
@@ -79,15 +87,17 @@ pub(crate) fn choose_list(
         ≡ (list_chosen world.old sight.now.star.group.bits sight.now.source.bits iface.number).state) }
     ensures messages { OnOk result (turn.new ≡ saying turn.old
         (list_chosen world.old sight.now.star.group.bits sight.now.source.bits iface.number).messages) }
+    ensures at_least { OnOk result (raised meter.old
+        (chosen_nodes world.old sight.now.star.group.bits sight.now.source.bits iface.number) ≤ meter.new) }
 {
     if sight.is_rpf_interface(iface) && sight.spt {
         return Ok(sight.inherited_olist());
     }
     if sight.star.is_rpf_interface(iface) && !sight.spt {
         let list = sight.inherited_olist_rpt().without_tunnel();
-        watch(world, &mut turn.meter, sight)?;
+        watch(world, meter, sight)?;
         return Ok(list);
     }
-    take_stray(world, turn, sight, iface)?;
+    take_stray(world, turn, meter, sight, iface)?;
     Ok(IfSet::new())
 }

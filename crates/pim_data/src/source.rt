@@ -1,9 +1,11 @@
 //! What a packet tells of its source (RFC 7761, sections 4.2 and 4.2.2). Each step takes the sight of the source, which is
 //! true of the state before it, and then of the state after it.
-ghost use Rattle.std.specs.Prelude.{◌≡◌, ◌<◌, OnOk};
+ghost use Rattle.std.specs.Prelude.{◌≡◌, ◌<◌, ◌≤◌, OnOk};
 ghost use Rattle.pim_macros.specs.Sights.{IsSourceSight};
 ghost use Rattle.pim_model.specs.Forwarding.{source_here, source_joined, spt_updated};
 ghost use Rattle.pim_model.specs.Registers.{with_keepalive};
+ghost use Rattle.pim_data.specs.Visits.{here_nodes, joined_nodes, kept_nodes, reached_nodes};
+ghost use Rattle.pim_world.specs.Visits.{raised};
 
 use pim_macros::SourceSight;
 use pim_register::settle_register;
@@ -23,6 +25,8 @@ fn keep_alive(
     ensures sight { OnOk result (IsSourceSight world.new sight.new) }
     ensures group { OnOk result (sight.new.star.group ≡ sight.old.star.group) }
     ensures source { OnOk result (sight.new.source ≡ sight.old.source) }
+    ensures at_least { OnOk result (raised meter.old
+        (kept_nodes world.old sight.old.star.group.bits sight.old.source.bits) ≤ meter.new) }
 {
     world.keep_alive(sight.star.group, sight.source, None, meter)?;
     *sight = sight.kept_alive();
@@ -43,6 +47,8 @@ pub(crate) fn source_here(
     ensures sight { OnOk result (IsSourceSight world.new sight.new) }
     ensures group { OnOk result (sight.new.star.group ≡ sight.old.star.group) }
     ensures source { OnOk result (sight.new.source ≡ sight.old.source) }
+    ensures at_least { OnOk result (raised meter.old
+        (here_nodes world.old sight.old.star.group.bits sight.old.source.bits iface.number) ≤ meter.new) }
 {
     if !(sight.is_connected() && sight.is_rpf_interface(iface)) {
         return Ok(());
@@ -65,6 +71,8 @@ pub(crate) fn source_joined(
     ensures sight { OnOk result (IsSourceSight world.new sight.new) }
     ensures group { OnOk result (sight.new.star.group ≡ sight.old.star.group) }
     ensures source { OnOk result (sight.new.source ≡ sight.old.source) }
+    ensures at_least { OnOk result (raised meter.old
+        (joined_nodes world.old sight.old.star.group.bits sight.old.source.bits iface.number) ≤ meter.new) }
 {
     let is_forwarded = sight.is_rpf_interface(iface)
         && sight.join_desired()
@@ -90,6 +98,8 @@ pub(crate) fn update_spt_bit(
     ensures sight { OnOk result (IsSourceSight world.new sight.new) }
     ensures group { OnOk result (sight.new.star.group ≡ sight.old.star.group) }
     ensures source { OnOk result (sight.new.source ≡ sight.old.source) }
+    ensures at_least { OnOk result (raised meter.old
+        (reached_nodes world.old sight.old.star.group.bits sight.old.source.bits iface.number) ≤ meter.new) }
 {
     if !sight.is_spt_reached(iface) {
         return Ok(());

@@ -3,3 +3,4 @@ mod Loops
 pub mod OnInterface
 mod Rows
 mod RptGroups
+mod Visited

@@ -1,13 +1,15 @@
 //! What the ends of a downstream state's timers change (RFC 7761, sections 4.5.1 to 4.5.3).
-ghost use Rattle.std.specs.Prelude.{◌≡◌, ◌∷◌, [], OnOk, true};
+ghost use Rattle.std.specs.Prelude.{◌≡◌, ◌≤◌, ◌∷◌, [], OnOk, true};
 ghost use Rattle.pim_types.specs.Keys.{group_in, iface_in};
 ghost use Rattle.pim_types.specs.declared.timer.TimerKind.{TimerKind};
 ghost use Rattle.pim_model.specs.Downstream.{entry_kind, prune_echo};
 ghost use Rattle.pim_model.specs.Firing.{fired};
 ghost use Rattle.pim_model.specs.Messages.{Message, entry};
 ghost use Rattle.pim_model.specs.State.{my_address};
+ghost use Rattle.pim_trie.specs.Meter.{raised};
 ghost use Rattle.pim_world.specs.Turns.{saying};
 ghost use Rattle.pim_downstream.specs.Ends.{is_downstream_kind};
+ghost use Rattle.pim_downstream.specs.Visits.{echo_nodes, expired_nodes, fired_nodes, prune_pending_due_nodes};
 
 use pim_trie::Meter;
 use pim_types::fact::DownstreamRow;
@@ -47,13 +49,14 @@ fn echo_of(world: &World, turn: &mut Turn, key: Key, address: Addr) -> Result<()
 
 // The PruneEcho: a Prune to the router itself, for a neighbour on the link that still wants the traffic and lost the
 // Prune that came. There is none of (*,G) without an RP.
-#[tactic(auto, unfolding(pim_model::specs::Downstream::prune_echo))]
-fn echo(world: &World, turn: &mut Turn, key: Key) -> Result<(), AllocError>
-    ensures { OnOk result (turn.new ≡ saying turn.old (prune_echo world.now key)) }
+#[tactic(auto, using(pim_world::proofs::Visits::raised_by_none), unfolding(pim_model::specs::Downstream::prune_echo))]
+fn echo(world: &World, turn: &mut Turn, meter: &mut Meter, key: Key) -> Result<(), AllocError>
+    ensures said { OnOk result (turn.new ≡ saying turn.old (prune_echo world.now key)) }
+    ensures visited { meter.new ≡ raised meter.old (echo_nodes world.now key) }
 {
     let address = match key.source {
         Some(source) => Some(source),
-        None => world.rp(key.group, &mut turn.meter),
+        None => world.rp(key.group, meter),
     };
     match address {
         Some(address) => echo_of(world, turn, key, address),
@@ -63,9 +66,15 @@ fn echo(world: &World, turn: &mut Turn, key: Key) -> Result<(), AllocError>
 
 // Prune-Pending ends: (S,G,rpt) is pruned from now on, (*,G) and (S,G) go with an echo.
 #[tactic(auto, unfolding(pim_model::specs::Firing::fired, pim_model::specs::Firing::fire_row, pim_model::specs::Downstream::prune_pending_due))]
-fn prune_pending_due(world: &mut World, turn: &mut Turn, key: Key) -> Result<(), AllocError>
+fn prune_pending_due(
+    world: &mut World,
+    turn: &mut Turn,
+    meter: &mut Meter,
+    key: Key,
+) -> Result<(), AllocError>
     ensures state { OnOk result (world.new ≡ (fired world.old TimerKind.PrunePending key).0) }
     ensures messages { OnOk result (turn.new ≡ saying turn.old (fired world.old TimerKind.PrunePending key).1) }
+    ensures at_least { OnOk result (raised meter.old (prune_pending_due_nodes world.old key) ≤ meter.new) }
 {
     let Some(row) = world.store().downstream(key) else {
         return Ok(());
@@ -75,40 +84,43 @@ fn prune_pending_due(world: &mut World, turn: &mut Turn, key: Key) -> Result<(),
             pending: None,
             ..row
         };
-        return world
-            .store_mut()
-            .change_downstream(key, pruned, &mut turn.meter);
+        return world.store_mut().change_downstream(key, pruned, meter);
     }
-    echo(world, turn, key)?;
-    world.store_mut().drop_downstream(key, &mut turn.meter);
+    echo(world, turn, meter, key)?;
+    world.store_mut().drop_downstream(key, meter);
     Ok(())
 }
 
 // The state expires.
 #[tactic(auto, unfolding(pim_model::specs::Firing::fired, pim_model::specs::Downstream::downstream_expired))]
 fn expired(world: &mut World, meter: &mut Meter, key: Key)
-    ensures { world.new ≡ (fired world.old TimerKind.DownstreamExpiry key).0 }
+    ensures state { world.new ≡ (fired world.old TimerKind.DownstreamExpiry key).0 }
+    ensures visited { meter.new ≡ raised meter.old (expired_nodes world.old key) }
 {
     world.store_mut().drop_downstream(key, meter);
 }
 
 /// What the end of a Prune-Pending timer, or of an expiry timer, changes: where Prune-Pending ends, (S,G,rpt) is pruned
-/// from now on, and (*,G) and (S,G) go with a PruneEcho; what expires goes in silence. An error is want of memory.
+/// from now on, and (*,G) and (S,G) go with a PruneEcho; what expires goes in silence. The meter rises by the nodes that
+/// its look-ups visit, at least those that lead to RP(G) for a PruneEcho of (*,G), and to the facts of the group or source
+/// whose state goes. An error is want of memory.
 #[tactic(auto, unfolding(pim_model::specs::Firing::fired))]
 pub fn fired(
     world: &mut World,
     turn: &mut Turn,
+    meter: &mut Meter,
     kind: TimerKind,
     key: Key,
 ) -> Result<(), AllocError>
     requires { is_downstream_kind kind ≡ true }
     ensures state { OnOk result (world.new ≡ (fired world.old kind key).0) }
     ensures messages { OnOk result (turn.new ≡ saying turn.old (fired world.old kind key).1) }
+    ensures at_least { OnOk result (raised meter.old (fired_nodes world.old kind key) ≤ meter.new) }
 {
     match kind {
-        TimerKind::PrunePending => prune_pending_due(world, turn, key),
+        TimerKind::PrunePending => prune_pending_due(world, turn, meter, key),
         TimerKind::DownstreamExpiry => {
-            expired(world, &mut turn.meter, key);
+            expired(world, meter, key);
             Ok(())
         }
         _ => unreachable!(),

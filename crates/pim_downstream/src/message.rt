@@ -1,9 +1,11 @@
 //! A message as a whole.
 ghost use Rattle.std.specs.List.{list_all};
-ghost use Rattle.std.specs.Prelude.{◌≡◌, ◌<◌, IfOk, OnOk, map, true};
+ghost use Rattle.std.specs.Prelude.{◌≡◌, ◌≤◌, ◌<◌, IfOk, OnOk, map, true};
 ghost use Rattle.pim_types.specs.Keys.{is_on};
 ghost use Rattle.pim_downstream.specs.Naming.{are_on, rows_set};
+ghost use Rattle.pim_downstream.specs.Visits.{rows_set_nodes, to_me_nodes};
 ghost use Rattle.pim_model.specs.Downstream.{keys_taken, row_after, touched_keys};
+ghost use Rattle.pim_trie.specs.Meter.{raised};
 
 use crate::named::Named;
 use crate::row::row_after;
@@ -71,7 +73,8 @@ fn set_rows(
 ) -> Result<(), AllocError>
     requires within { iface.number < 120 }
     requires on { list_all (λ change. is_on iface.number change.key) changes.now ≡ true }
-    ensures { OnOk result (world.new ≡ rows_set world.old changes.now) }
+    ensures set { OnOk result (world.new ≡ rows_set world.old changes.now) }
+    ensures at_least { OnOk result (raised meter.old (rows_set_nodes world.old changes.now) ≤ meter.new) }
 {
     for change in changes {
         world
@@ -82,10 +85,12 @@ fn set_rows(
 }
 
 /// Takes a Join/Prune to the router that came on an interface and names keys on it, as one message: each key asks the
-/// whole message, and the state that it finds. Where memory is refused, some keys may be taken and others not.
+/// whole message, and the state that it finds. The meter rises by the nodes that its look-ups visit, at least those that lead
+/// to the facts of each key whose row comes or goes. Where memory is refused, some keys may be taken and others not.
 pub fn to_me(
     world: &mut World,
     turn: &mut Turn,
+    meter: &mut Meter,
     iface: IfaceId,
     holdtime: u16,
     named: &Named,
@@ -96,10 +101,12 @@ pub fn to_me(
     ensures state { OnOk result (world.new
         ≡ keys_taken world.old iface.number holdtime named.now.joined.items named.now.pruned.items) }
     ensures silent { turn.new ≡ turn.old }
+    ensures at_least { OnOk result (raised meter.old
+        (to_me_nodes world.old iface.number holdtime named.now.joined.items named.now.pruned.items) ≤ meter.new) }
 {
     let keys = touched_keys(turn.alloc, world, iface, named)?;
     let changes = rows_after(turn.alloc, world, iface, holdtime, named, &keys)?;
-    set_rows(world, &mut turn.meter, iface, &changes)?;
-    world.store_mut().end_losses(&named.joined, &mut turn.meter);
+    set_rows(world, meter, iface, &changes)?;
+    world.store_mut().end_losses(&named.joined, meter);
     Ok(())
 }

@@ -1,12 +1,14 @@
 //! The keys that a Join/Prune names.
-ghost use Rattle.std.specs.Prelude.{◌≡◌, ◌++◌, IfOk, OnOk};
+ghost use Rattle.std.specs.Prelude.{◌≡◌, ◌≤◌, ◌++◌, IfOk, OnOk};
 ghost use Rattle.pim_downstream.specs.Naming.{entry_keys, is_counted};
+ghost use Rattle.pim_downstream.specs.Visits.{joins_nodes, named_nodes};
 ghost use Rattle.pim_model.specs.Downstream.{is_used, joined_keys, key_by, pruned_keys};
+ghost use Rattle.pim_trie.specs.Meter.{raised};
 
 use crate::entry::{is_counted, is_used};
 use pim_types::{Addr, IfaceId, Key, Series};
 use pim_wire::{Entry, EntryKind, GroupView, JoinPruneView};
-use pim_world::{Turn, World};
+use pim_world::{Meter, Turn, World};
 use std::alloc::{AllocError, Global};
 
 /// The keys that the entries of a message name, in its order: those that it joins, and those that it prunes. Entries
@@ -31,18 +33,18 @@ fn key_by(iface: IfaceId, group: Addr, entry: Entry) -> Key
 // Puts the keys of a group's joins behind the others.
 fn push_joined(
     world: &World,
-    turn: &mut Turn,
+    meter: &mut Meter,
     iface: IfaceId,
     group: &GroupView<'_>,
     keys: &mut Vec<Key>,
 ) -> Result<(), AllocError>
     ensures keys { OnOk result (keys.new.items
         ≡ keys.old.items ++ entry_keys (is_counted world.now) iface.number group.now.group group.now.joins) }
-    ensures silent { turn.new ≡ turn.old }
+    ensures at_least { OnOk result (raised meter.old (joins_nodes world.now group.now) ≤ meter.new) }
 {
     let address = group.group();
     for join in group.joins() {
-        if is_counted(world, address, join, &mut turn.meter) {
+        if is_counted(world, address, join, meter) {
             keys.push(key_by(iface, address, join))?;
         }
     }
@@ -64,21 +66,23 @@ fn push_pruned(iface: IfaceId, group: &GroupView<'_>, keys: &mut Vec<Key>) -> Re
 }
 
 impl Named {
-    /// The keys that the message names on an interface.
+    /// The keys that the message names on an interface. The meter rises by the nodes that its look-ups visit, at least those
+    /// that lead to RP(G) for each join of (*,G) that is used.
     pub fn of(
         world: &World,
-        turn: &mut Turn,
+        turn: &Turn,
+        meter: &mut Meter,
         iface: IfaceId,
         message: &JoinPruneView<'_>,
     ) -> Result<Named, AllocError>
         ensures joined { IfOk result (λ named. named.joined.items ≡ joined_keys world.now iface.number message.now) }
         ensures pruned { IfOk result (λ named. named.pruned.items ≡ pruned_keys iface.number message.now) }
-        ensures silent { turn.new ≡ turn.old }
+        ensures at_least { OnOk result (raised meter.old (named_nodes world.now message.now) ≤ meter.new) }
     {
         let mut joined = Vec::new(turn.alloc);
         let mut pruned = Vec::new(turn.alloc);
         for group in message.groups() {
-            push_joined(world, turn, iface, &group, &mut joined)?;
+            push_joined(world, meter, iface, &group, &mut joined)?;
             push_pruned(iface, &group, &mut pruned)?;
         }
         Ok(Named { joined, pruned })

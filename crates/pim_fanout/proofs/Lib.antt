@@ -6,5 +6,5 @@ mod Others
 mod Refreshed
 mod Same
 mod SameSets
+mod Seen
 pub mod Shown
-mod Visited

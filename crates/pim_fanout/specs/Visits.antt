@@ -1,12 +1,79 @@
--- How many nodes of tries are visited, at least, where the rows of named sources are made anew.
-use Rattle.std.specs.Prelude.{if◌then◌else◌, ℕ, ◌+◌}
+-- How many nodes of tries are visited, at least, where sources are gathered to be compared, and where the rows of named
+-- sources are made anew.
+use Rattle.std.specs.Prelude.{Bool, List, None, Option, Some, false, if◌then◌else◌, map, option_map, sum_by, ℕ, ◌+◌, ◌==◌}
+use Rattle.pim_ip.specs.Addr.{addr}
+use Rattle.pim_ip.specs.declared.addr.Addr.{Addr}
 use Rattle.pim_model.specs.State.{State}
 use Rattle.pim_model.specs.Tables.{has_row}
-use Rattle.pim_world.specs.Visits.{source_nodes, star_nodes}
+use Rattle.pim_model.specs.Upstream.{groups_of}
+use Rattle.pim_macros.specs.declared.sight.StarSight.{StarSight}
+use Rattle.pim_world.specs.Touches.{touched_keys}
+use Rattle.pim_world.specs.Visits.{nodes_in_turn, source_nodes, star_nodes}
+use Rattle.pim_world.specs.declared.touched.Touched.{Touched}
+use Rattle.pim_opening.specs.Openings.{touched_sources}
+use Rattle.pim_opening.specs.Visits.{touched_nodes}
 use Rattle.pim_fanout.specs.Before.{name_key}
+use Rattle.pim_fanout.specs.declared.before.KnownSource.{KnownSource}
+use Rattle.pim_fanout.specs.declared.before.SourceBefore.{SourceBefore}
 use Rattle.pim_fanout.specs.declared.name.SourceName.{SourceName}
 
 -- the row of a source is evaluated where there is a fact of it
 abbrev pub named_nodes : State → SourceName → ℕ
 named_nodes s name =
     if has_row s.sources (name_key name) then star_nodes s name.group + source_nodes s name.group name.source else 0
+
+-- ---- sources, one after the other
+
+-- whose group's sight was gathered last
+abbrev pub last_group : Option StarSight → Option Addr
+last_group last = option_map (λ (star : StarSight). star.group) last
+
+abbrev pub is_last : Option Addr → Addr → Bool
+is_last None group = false
+is_last (Some last) group = last.bits == group.bits
+
+-- the sight of a group, where it isn't the last one
+abbrev pub last_star_nodes : State → Option Addr → Addr → ℕ
+last_star_nodes s last group = if is_last last group then 0 else star_nodes s group
+
+-- a source, which is gathered where there is a fact of it
+abbrev pub seen_nodes : State → Option Addr → SourceName → ℕ
+seen_nodes s last name =
+    if has_row s.sources (name_key name)
+    then last_star_nodes s last name.group + source_nodes s name.group name.source else 0
+
+abbrev pub next_last : State → Option Addr → SourceName → Option Addr
+next_last s last name = if has_row s.sources (name_key name) then Some name.group else last
+
+abbrev pub seen_in_turn : State → Option Addr → List SourceName → ℕ
+seen_in_turn s last names = nodes_in_turn (next_last s) (seen_nodes s) last names
+
+-- ---- as they are at the opening
+
+abbrev pub name_in : ℕ → ℕ → SourceName
+name_in g src = record { group = addr g; source = addr src }
+
+-- which sources of the group are touched, and these
+abbrev pub group_before_nodes : State → Touched → ℕ → ℕ
+group_before_nodes s touched g =
+    touched_nodes s touched g + seen_in_turn s None (map (name_in g) (touched_sources s touched g))
+
+unfoldable pub before_nodes : State → Touched → ℕ
+before_nodes s touched = sum_by (group_before_nodes s touched) (groups_of (touched_keys s touched))
+
+-- ---- as they are to be compared
+
+abbrev pub known_name : KnownSource → SourceName
+known_name known = record { group = known.sight.star.group; source = known.sight.source }
+
+-- a source is gathered where it had a fact
+abbrev pub asked_nodes : State → Option Addr → SourceBefore → ℕ
+asked_nodes s last (SourceBefore.Unknown name) = 0
+asked_nodes s last (SourceBefore.Known known) = seen_nodes s last (known_name known)
+
+abbrev pub next_asked : State → Option Addr → SourceBefore → Option Addr
+next_asked s last (SourceBefore.Unknown name) = last
+next_asked s last (SourceBefore.Known known) = next_last s last (known_name known)
+
+abbrev pub naming_nodes : State → List SourceBefore → ℕ
+naming_nodes s sources = nodes_in_turn (next_asked s) (asked_nodes s) None sources

@@ -1,20 +1,23 @@
 //! The sources that an event touches, as they are before its own change.
 ghost use Rattle.std.specs.List.{flat_map};
-ghost use Rattle.std.specs.Prelude.{◌≡◌, ◌++◌, true, IfOk, IfSome, OnOk, map};
+ghost use Rattle.std.specs.Prelude.{◌≡◌, ◌≤◌, ◌++◌, None, true, IfOk, IfSome, OnOk, map, sum_by};
 ghost use Rattle.pim_fanout.specs.Before.{AreBefore, IsBefore, IsSourceBefore, IsKnown, key_before, name_key, seen_key};
+ghost use Rattle.pim_fanout.specs.Visits.{before_nodes, group_before_nodes, last_group, last_star_nodes, name_in, next_last, seen_in_turn, seen_nodes};
 ghost use Rattle.pim_macros.specs.Sights.{IsSourceSight, IsStarSight};
 ghost use Rattle.pim_model.specs.Sets.{register_state};
 ghost use Rattle.pim_model.specs.Tables.{has_row};
 ghost use Rattle.pim_opening.specs.Openings.{touched_sources};
+ghost use Rattle.pim_trie.specs.Meter.{raised};
 ghost use Rattle.pim_types.specs.Keys.{source_key};
 ghost use Rattle.pim_world.specs.Groups.{numbers_of};
+ghost use Rattle.pim_world.specs.Visits.{source_nodes};
 
 use crate::name::SourceName;
 use pim_macros::{SourceSight, StarSight};
 use pim_opening::touched_sources;
 use pim_types::fact::RegisterState;
 use pim_types::{Addr, IfaceId, Key, Series};
-use pim_world::{Touched, Turn, World};
+use pim_world::{Meter, Touched, World};
 use std::alloc::{AllocError, Global};
 use std::collections::BTreeMap;
 use std::marker::Model;
@@ -80,14 +83,20 @@ impl SourceBefore {
 }
 
 impl Before {
-    /// The sources that the event touches, as they are now.
-    pub fn of(world: &World, turn: &mut Turn, touched: &Touched) -> Result<Before, AllocError>
+    /// The sources that the event touches, as they are now. The meter rises by the nodes that the look-ups visit, at least those
+    /// of the sight of each of these sources that has a fact, and of its group's.
+    pub fn of(
+        world: &World,
+        alloc: Global,
+        meter: &mut Meter,
+        touched: &Touched,
+    ) -> Result<Before, AllocError>
         ensures before { IfOk result (λ before. IsBefore world.now touched.now before) }
-        ensures silent { turn.new ≡ turn.old }
+        ensures at_least { OnOk result (raised meter.old (before_nodes world.now touched.now) ≤ meter.new) }
     {
-        let mut groups = BTreeMap::new(turn.alloc);
+        let mut groups = BTreeMap::new(alloc);
         world.gather_touched(touched, &mut groups)?;
-        let sources = gather_groups(world, turn, touched, &groups)?;
+        let sources = gather_groups(world, alloc, meter, touched, &groups)?;
         Ok(Before {
             sources: Series::from_vec(sources),
         })
@@ -104,7 +113,8 @@ impl Before {
 // The touched sources of these groups.
 fn gather_groups(
     world: &World,
-    turn: &mut Turn,
+    alloc: Global,
+    meter: &mut Meter,
     touched: &Touched,
     groups: &BTreeMap<Addr, (), Global>,
 ) -> Result<Vec<SourceBefore>, AllocError>
@@ -112,11 +122,12 @@ fn gather_groups(
         ≡ flat_map (λ g. map (source_key 0 g) (touched_sources world.now touched.now g))
         (numbers_of groups.now.entries)) }
     ensures each { IfOk result (λ found. AreBefore world.now found.items) }
-    ensures silent { turn.new ≡ turn.old }
+    ensures at_least { OnOk result (raised meter.old
+        (sum_by (group_before_nodes world.now touched.now) (numbers_of groups.now.entries)) ≤ meter.new) }
 {
-    let mut found = Vec::new(turn.alloc);
+    let mut found = Vec::new(alloc);
     for (group, ()) in groups.iter() {
-        gather_group(world, turn, touched, *group, &mut found)?;
+        gather_group(world, alloc, meter, touched, *group, &mut found)?;
     }
     Ok(found)
 }
@@ -124,7 +135,8 @@ fn gather_groups(
 // Puts the touched sources of a group behind others.
 fn gather_group(
     world: &World,
-    turn: &mut Turn,
+    alloc: Global,
+    meter: &mut Meter,
     touched: &Touched,
     group: Addr,
     found: &mut Vec<SourceBefore>,
@@ -133,16 +145,16 @@ fn gather_group(
     ensures keys { OnOk result (map key_before found.new.items ≡ map key_before found.old.items
         ++ map (source_key 0 group.bits) (touched_sources world.now touched.now group.bits)) }
     ensures each { OnOk result (AreBefore world.now found.new.items) }
-    ensures silent { turn.new ≡ turn.old }
+    ensures at_least { OnOk result (raised meter.old (group_before_nodes world.now touched.now group.bits) ≤ meter.new) }
 {
-    let sources = touched_sources(turn.alloc, world, touched, group, &mut turn.meter)?;
-    gather_sources(world, turn, group, &sources, found)
+    let sources = touched_sources(alloc, world, touched, group, meter)?;
+    gather_sources(world, meter, group, &sources, found)
 }
 
 // Puts these sources of a group behind others.
 fn gather_sources(
     world: &World,
-    turn: &mut Turn,
+    meter: &mut Meter,
     group: Addr,
     sources: &BTreeMap<Addr, (), Global>,
     found: &mut Vec<SourceBefore>,
@@ -151,7 +163,8 @@ fn gather_sources(
     ensures keys { OnOk result (map key_before found.new.items ≡ map key_before found.old.items
         ++ map (source_key 0 group.bits) (numbers_of sources.now.entries)) }
     ensures each { OnOk result (AreBefore world.now found.new.items) }
-    ensures silent { turn.new ≡ turn.old }
+    ensures at_least { OnOk result (raised meter.old
+        (seen_in_turn world.now None (map (name_in group.bits) (numbers_of sources.now.entries))) ≤ meter.new) }
 {
     let mut last = None;
     for (source, ()) in sources.iter() {
@@ -159,15 +172,16 @@ fn gather_sources(
             group,
             source: *source,
         };
-        found.push(seen(world, turn, &mut last, name))?;
+        found.push(seen(world, meter, &mut last, name))?;
     }
     Ok(())
 }
 
-/// A source as it is now. The sight of its group is gathered where it isn't the last one.
+/// A source as it is now. The sight of its group is gathered where it isn't the last one. The meter rises by the nodes that the
+/// look-ups visit, at least those of the sights that are gathered.
 pub(crate) fn seen(
     world: &World,
-    turn: &mut Turn,
+    meter: &mut Meter,
     last: &mut Option<StarSight>,
     name: SourceName,
 ) -> SourceBefore
@@ -175,27 +189,28 @@ pub(crate) fn seen(
     ensures key { key_before result ≡ name_key name }
     ensures before { IsSourceBefore world.now result }
     ensures last { IfSome last.new (IsStarSight world.now) }
-    ensures silent { turn.new ≡ turn.old }
+    ensures group { last_group last.new ≡ next_last world.now (last_group last.old) name }
+    ensures at_least { raised meter.old (seen_nodes world.now (last_group last.old) name) ≤ meter.new }
 {
     if !has_fact(world, name) {
         return SourceBefore::Unknown(name);
     }
-    let star = star_of(world, turn, last, name.group);
-    let known = known(world, turn, &star, name.source);
+    let star = star_of(world, meter, last, name.group);
+    let known = known(world, meter, &star, name.source);
     *last = Some(star);
     SourceBefore::Known(known)
 }
 
 // A source with a fact as it is now.
-fn known(world: &World, turn: &mut Turn, star: &StarSight, source: Addr) -> KnownSource
+fn known(world: &World, meter: &mut Meter, star: &StarSight, source: Addr) -> KnownSource
     requires sight { IsStarSight world.now star.now }
     requires fact { has_row world.now.sources (source_key 0 star.now.group.bits source.bits) ≡ true }
     ensures known { IsKnown world.now result }
     ensures star { result.sight.star ≡ star.now }
     ensures source { result.sight.source ≡ source }
-    ensures silent { turn.new ≡ turn.old }
+    ensures at_least { raised meter.old (source_nodes world.now star.now.group source) ≤ meter.new }
 {
-    let sight = SourceSight::of(world, *star, source, &mut turn.meter);
+    let sight = SourceSight::of(world, *star, source, meter);
     let may_register = sight.may_register();
     let could_register = sight.could_register();
     let is_desired = sight.join_desired();
@@ -226,14 +241,14 @@ fn register_of(world: &World, group: Addr, source: Addr) -> Option<RegisterState
 }
 
 // What the macros of (*,G) read now: the last that was gathered, where it is the same group's.
-fn star_of(world: &World, turn: &mut Turn, last: &Option<StarSight>, group: Addr) -> StarSight
+fn star_of(world: &World, meter: &mut Meter, last: &Option<StarSight>, group: Addr) -> StarSight
     requires { IfSome last.now (IsStarSight world.now) }
     ensures sight { IsStarSight world.now result }
     ensures group { result.group ≡ group }
-    ensures silent { turn.new ≡ turn.old }
+    ensures at_least { raised meter.old (last_star_nodes world.now (last_group last.now) group) ≤ meter.new }
 {
     match last {
         Some(star) if star.group == group => *star,
-        _ => StarSight::of(world, group, &mut turn.meter),
+        _ => StarSight::of(world, group, meter),
     }
 }

@@ -1,9 +1,11 @@
 //! Which of the touched sources are named, to be made anew.
-ghost use Rattle.std.specs.Prelude.{◌≡◌, IfOk, IfSome, filter, map};
+ghost use Rattle.std.specs.Prelude.{◌≡◌, ◌≤◌, IfOk, IfSome, OnOk, filter, map};
 ghost use Rattle.pim_fanout.specs.Before.{AreBefore, IsBefore, IsSourceBefore, IsKnown, key_before, seen_key};
 ghost use Rattle.pim_fanout.specs.Named.{is_changed, keys_of, named_among};
+ghost use Rattle.pim_fanout.specs.Visits.{asked_nodes, known_name, last_group, naming_nodes, next_asked, next_last, seen_nodes};
 ghost use Rattle.pim_macros.specs.Sights.{IsStarSight};
 ghost use Rattle.pim_model.specs.State.{State};
+ghost use Rattle.pim_trie.specs.Meter.{raised};
 ghost use Rattle.pim_world.specs.declared.touched.Touched.{Touched};
 
 use crate::before::{Before, KnownSource, SourceBefore, has_fact, seen};
@@ -11,22 +13,23 @@ use crate::compare::is_same_source;
 use crate::name::SourceName;
 use pim_macros::StarSight;
 use pim_types::Series;
-use pim_world::{Turn, World};
-use std::alloc::AllocError;
+use pim_world::{Meter, World};
+use std::alloc::{AllocError, Global};
 
 // Whether a source that had a fact has none now, or differs in what is compared.
 fn has_changed(
     world: &World,
-    turn: &mut Turn,
+    meter: &mut Meter,
     last: &mut Option<StarSight>,
     known: &KnownSource,
 ) -> bool
     requires { IfSome last.old (IsStarSight world.now) }
     ensures changed { (o : State) → IsKnown o known.now → result ≡ is_changed o world.now (seen_key known.now.sight) }
     ensures last { IfSome last.new (IsStarSight world.now) }
-    ensures silent { turn.new ≡ turn.old }
+    ensures group { last_group last.new ≡ next_last world.now (last_group last.old) (known_name known.now) }
+    ensures at_least { raised meter.old (seen_nodes world.now (last_group last.old) (known_name known.now)) ≤ meter.new }
 {
-    match seen(world, turn, last, known.name()) {
+    match seen(world, meter, last, known.name()) {
         SourceBefore::Unknown(_) => true,
         SourceBefore::Known(after) => !is_same_source(known, &after),
     }
@@ -35,7 +38,7 @@ fn has_changed(
 // Whether a source is named. Where it had no fact, and where it has none now, nothing is gathered.
 fn is_named(
     world: &World,
-    turn: &mut Turn,
+    meter: &mut Meter,
     last: &mut Option<StarSight>,
     before: &SourceBefore,
 ) -> bool
@@ -43,28 +46,30 @@ fn is_named(
     ensures changed { (o : State) → IsSourceBefore o before.now
         → result ≡ is_changed o world.now (key_before before.now) }
     ensures last { IfSome last.new (IsStarSight world.now) }
-    ensures silent { turn.new ≡ turn.old }
+    ensures group { last_group last.new ≡ next_asked world.now (last_group last.old) before.now }
+    ensures at_least { raised meter.old (asked_nodes world.now (last_group last.old) before.now) ≤ meter.new }
 {
     match before {
         SourceBefore::Unknown(name) => has_fact(world, *name),
-        SourceBefore::Known(known) => has_changed(world, turn, last, known),
+        SourceBefore::Known(known) => has_changed(world, meter, last, known),
     }
 }
 
 // Those of these sources that are named.
 fn named_of(
     world: &World,
-    turn: &mut Turn,
+    alloc: Global,
+    meter: &mut Meter,
     sources: &[SourceBefore],
 ) -> Result<Vec<SourceName>, AllocError>
     ensures named { IfOk result (λ names. (o : State) → AreBefore o sources.now
         → keys_of names.items ≡ filter (is_changed o world.now) (map key_before sources.now)) }
-    ensures silent { turn.new ≡ turn.old }
+    ensures at_least { OnOk result (raised meter.old (naming_nodes world.now sources.now) ≤ meter.new) }
 {
-    let mut names = Vec::new(turn.alloc);
+    let mut names = Vec::new(alloc);
     let mut last = None;
     for source in sources {
-        if is_named(world, turn, &mut last, source) {
+        if is_named(world, meter, &mut last, source) {
             names.push(source.name())?;
         }
     }
@@ -73,17 +78,19 @@ fn named_of(
 
 /// The sources, by group, then by source, whose rows are to be made anew where the world is as clearing left it: their
 /// fact was there before and isn't now, or the other way; or it is there, and something differs of what their macros
-/// read, of CouldRegister(S,G) with KAT(S,G) or without it, of the register state, or of JoinDesired(S,G).
+/// read, of CouldRegister(S,G) with KAT(S,G) or without it, of the register state, or of JoinDesired(S,G). The meter rises by the
+/// nodes that the look-ups visit, at least those of the sight of each source that had a fact and has one, and of its group's.
 #[tactic(auto, unfolding(crate::specs::Named::named_among))]
 pub fn named(
     world: &World,
-    turn: &mut Turn,
+    alloc: Global,
+    meter: &mut Meter,
     before: &Before,
 ) -> Result<Series<SourceName>, AllocError>
     ensures named { IfOk result (λ names. (o : State) (touched : Touched) → IsBefore o touched before.now
         → keys_of names ≡ named_among o world.now touched) }
-    ensures silent { turn.new ≡ turn.old }
+    ensures at_least { OnOk result (raised meter.old (naming_nodes world.now before.now) ≤ meter.new) }
 {
-    let names = named_of(world, turn, before.sources())?;
+    let names = named_of(world, alloc, meter, before.sources())?;
     Ok(Series::from_vec(names))
 }

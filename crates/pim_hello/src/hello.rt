@@ -1,13 +1,15 @@
 //! A Hello that came from a neighbour, or from one that is new.
-ghost use Rattle.std.specs.Prelude.{◌≡◌, ◌<◌, ◌+◌, OnOk};
+ghost use Rattle.std.specs.Prelude.{◌≡◌, ◌≤◌, ◌<◌, ◌+◌, OnOk};
 ghost use Rattle.pim_model.specs.Hellos.{hello_received, hello_triggered, neighbour_replaced, neighbour_restarted, triggered_hello_delay};
 ghost use Rattle.pim_model.specs.Tables.{delay_in};
+ghost use Rattle.pim_hello.specs.Visits.{received_nodes, timers_towards_nodes};
+ghost use Rattle.pim_world.specs.Visits.{raised};
 
 use crate::restarted::{asserts_lost_to, lower_timers, timers_towards};
 use pim_neighbours::delay_in;
 use pim_types::{Addr, Hop, IfaceId};
 use pim_wire::Hello;
-use pim_world::{Turn, World};
+use pim_world::{Meter, Turn, World};
 use std::alloc::AllocError;
 
 // Triggered_Hello_Delay (RFC 7761, section 4.11), in ms.
@@ -16,20 +18,24 @@ const TRIGGERED_HELLO_DELAY: u32 = 5000;
 /// Takes a Hello that came on an interface from an address, with a draw (RFC 7761, section 4.3.1): one
 /// from a new neighbour, or from one that started anew, makes a Hello owed; then the neighbour stands
 /// as the Hello says. Where it started anew, the asserts lost to it end, and the Join timers towards it are
-/// lowered. With holdtime 0 the neighbour goes. Where memory is refused, the Hello may be taken in part.
-#[tactic(auto, unfolding(pim_model::specs::Hellos::hello_received, pim_model::specs::Hellos::is_generation_changed))]
+/// lowered. With holdtime 0 the neighbour goes. The meter rises by the nodes that its look-ups visit, at least those of the
+/// sight of each Join timer's group and source where the neighbour started anew. Where memory is refused, the Hello may be
+/// taken in part.
+#[tactic(auto, using(pim_world::proofs::Visits::raised_by_none), unfolding(pim_model::specs::Hellos::hello_received, pim_model::specs::Hellos::is_generation_changed))]
 pub fn received(
     world: &mut World,
     turn: &mut Turn,
+    meter: &mut Meter,
     iface: IfaceId,
     from: Addr,
     hello: &Hello,
 ) -> Result<(), AllocError>
     ensures state { OnOk result (world.new ≡ hello_received world.old iface.number from.bits hello.now turn.old.draw) }
     ensures silent { turn.new ≡ turn.old }
+    ensures at_least { OnOk result (raised meter.old (received_nodes world.old iface.number from.bits hello.now) ≤ meter.new) }
 {
     if world.neighbours().is_generation_changed(iface, from, hello) {
-        return restart(world, turn, iface, from, hello);
+        return restart(world, turn, meter, iface, from, hello);
     }
     if !world.neighbours().contains(iface, from) {
         trigger(world, iface, turn.draw)?;
@@ -59,6 +65,7 @@ pub fn triggered_end(world: &World, draw: u32) -> u64
 fn restart(
     world: &mut World,
     turn: &mut Turn,
+    meter: &mut Meter,
     iface: IfaceId,
     from: Addr,
     hello: &Hello,
@@ -66,20 +73,21 @@ fn restart(
     ensures state { OnOk result (world.new ≡ neighbour_restarted world.old iface.number from.bits turn.old.draw
         (neighbour_replaced (hello_triggered world.old iface.number turn.old.draw) iface.number from.bits hello.now)) }
     ensures silent { turn.new ≡ turn.old }
+    ensures at_least { OnOk result (raised meter.old (timers_towards_nodes world.old) ≤ meter.new) }
 {
     let neighbour = Hop {
         iface,
         address: from,
     };
     // which timers they are is judged by what was known of the neighbour, their end by what is known now
-    let towards = timers_towards(world, turn, neighbour)?;
+    let towards = timers_towards(world, turn.alloc, meter, neighbour)?;
     trigger(world, iface, turn.draw)?;
     world.replace_neighbour(iface, from, hello)?;
     // It tells that the keys of asserts rise, so that each stands once.
     world.recall_keyed();
     let lost = asserts_lost_to(world, turn, neighbour)?;
-    world.store_mut().end_losses(&lost, &mut turn.meter);
+    world.store_mut().end_losses(&lost, meter);
     let end = world.present() + world.override_delay(iface, turn.draw);
-    lower_timers(world, &mut turn.meter, &towards, end)?;
+    lower_timers(world, meter, &towards, end)?;
     Ok(())
 }

@@ -1,31 +1,35 @@
 //! What ends with a neighbour that started anew: the asserts lost to it, and the wait for the next Join to it.
-ghost use Rattle.std.specs.Prelude.{◌≡◌, IfOk, OnOk, Some, filter};
+ghost use Rattle.std.specs.Prelude.{◌≡◌, ◌≤◌, IfOk, OnOk, Some, filter};
 ghost use Rattle.pim_model.specs.Hellos.{is_lost_to, upstream_of};
 ghost use Rattle.pim_model.specs.Tables.{change_row, keys_in, same_hop};
 ghost use Rattle.pim_hello.specs.Towards.{is_towards};
+ghost use Rattle.pim_hello.specs.Visits.{timers_towards_nodes};
 ghost use Rattle.pim_laws.specs.Rows.{all_changed};
 ghost use Rattle.pim_store.specs.PimTables.{lowered};
+ghost use Rattle.pim_world.specs.Visits.{raised};
 
 use pim_macros::desires::is_same_hop;
 use pim_macros::upstream_of;
 use pim_types::fact::{AssertRole, AssertRow};
 use pim_types::{Hop, Key};
 use pim_world::{Meter, Turn, World};
-use std::alloc::AllocError;
+use std::alloc::{AllocError, Global};
 
-/// The keys of the Join timers whose upstream neighbour it is.
+/// The keys of the Join timers whose upstream neighbour it is. The meter rises by the nodes that the look-ups visit, at least
+/// those of the sight of each timer's group and source.
 pub(crate) fn timers_towards(
     world: &World,
-    turn: &mut Turn,
+    alloc: Global,
+    meter: &mut Meter,
     neighbour: Hop,
 ) -> Result<Vec<Key>, AllocError>
-    ensures silent { turn.new ≡ turn.old }
     ensures keys { IfOk result (λ keys. keys.items
         ≡ keys_in (filter (λ e. is_towards world.now neighbour e.0) world.now.join_timers)) }
+    ensures at_least { OnOk result (raised meter.old (timers_towards_nodes world.now) ≤ meter.new) }
 {
-    let mut keys = Vec::new(turn.alloc);
+    let mut keys = Vec::new(alloc);
     for (key, _) in world.store().join_timer_rows() {
-        let upstream = upstream_of(world, *key, &mut turn.meter);
+        let upstream = upstream_of(world, *key, meter);
         if is_same_hop(upstream, Some(neighbour)) {
             keys.push(*key)?;
         }
@@ -60,15 +64,16 @@ pub(crate) fn asserts_lost_to(
     Ok(keys)
 }
 
-/// Lowers the Join timers with these keys to an end, in ms.
+/// Lowers the Join timers with these keys to an end, in ms. The meter stays.
 pub(crate) fn lower_timers(
     world: &mut World,
     meter: &mut Meter,
     keys: &[Key],
     end: u64,
 ) -> Result<(), AllocError>
-    ensures { OnOk result (world.new
+    ensures lowered { OnOk result (world.new
         ≡ record world.old { join_timers = all_changed (lowered end) world.old.join_timers keys.now }) }
+    ensures kept { OnOk result (meter.new ≡ meter.old) }
 {
     for key in keys {
         world.store_mut().lower_join_timer(*key, end, meter)?;

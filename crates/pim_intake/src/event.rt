@@ -2,7 +2,9 @@
 ghost use Rattle.std.specs.Prelude.{◌≡◌, IfErr, IfOk, IsOk, false, true};
 ghost use Rattle.pim_ip.specs.declared.fault.Fault.{Fault};
 ghost use Rattle.pim_intake.specs.Memory.{is_frame, is_tested_in_memory};
+ghost use Rattle.pim_intake.specs.Visits.{judged_nodes};
 ghost use Rattle.pim_model.specs.Judging.{advance_judged, down_judged, judged, routes_judged, rps_judged, up_judged};
+ghost use Rattle.pim_trie.specs.Meter.{raised};
 
 use crate::frame::judge_frame;
 use crate::unicast::judge_unicast;
@@ -90,8 +92,9 @@ fn judge_rps<'a>(alloc: Global, ranges: &'a [RpRange]) -> Result<Result<Accepted
 }
 
 /// Judges an event: what the router is to act on, or the first test that fails. Only routes and RP ranges are
-/// tested in memory. Look-ups of RPs raise the meter; for a packet that came on a link nothing is looked up.
-#[tactic(auto, unfolding(pim_model::specs::Judging::judged))]
+/// tested in memory. The meter rises by the nodes that lead to the RP of the group of a Register-Stop to the router; for a
+/// packet that came on a link nothing is looked up.
+#[tactic(auto, using(pim_world::proofs::Visits::raised_by_none), unfolding(pim_model::specs::Judging::judged))]
 pub fn judge<'a>(
     alloc: Global,
     world: &World,
@@ -102,6 +105,7 @@ pub fn judge<'a>(
     ensures memory { IfErr result (λ fault. fault ≡ Fault.Memory) }
     ensures sure { is_tested_in_memory event.now.kind ≡ false → IsOk result }
     ensures uncounted { is_frame event.now.kind ≡ true → meter.new ≡ meter.old }
+    ensures visited { meter.new ≡ raised meter.old (judged_nodes world.now event.now.kind) }
 {
     match &event.kind {
         EventKind::Advance { moment } => Ok(judge_advance(world, *moment)),

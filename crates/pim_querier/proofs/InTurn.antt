@@ -8,6 +8,22 @@ use Rattle.pim_model.specs.Querier.{each_in_turn}
 use Rattle.pim_model.specs.State.{State}
 use Rattle.pim_querier.proofs.Starting.{nothing_said, said_twice}
 
+-- the first of a list, where it passes a test, and where it doesn't
+module _ {A : Type 0} (test : A → Bool) (a : A) (left rest : List A) (is : left ≡ a ∷ rest) where
+  kept : (b : Bool) → b ≡ true → (if b then a ∷ filter test rest else filter test rest) ≡ a ∷ filter test rest
+  kept true e = refl
+  kept false e = cc
+
+  passed : (b : Bool) → b ≡ false → (if b then a ∷ filter test rest else filter test rest) ≡ filter test rest
+  passed true e = cc
+  passed false e = refl
+
+  pub first_taken : test a ≡ true → filter test left ≡ a ∷ filter test rest
+  first_taken hit = ap (filter test) is ∙ kept (test a) hit
+
+  pub first_passed : test a ≡ false → filter test left ≡ filter test rest
+  first_passed miss = ap (filter test) is ∙ passed (test a) miss
+
 module _ {A : Type 0} (change : State → A → State × List Message) where
   -- of all that is to be done from the beginning, what is left is still to come
   pub record Comes (s : State) (t : Taking) (whole : List A) (w : State) (u : Taking) (left : List A) : Type 0 where
@@ -34,19 +50,11 @@ module _ {A : Type 0} (change : State → A → State × List Message) where
     all_done (a ∷ later) none comes = cc
 
     module _ (test : A → Bool) (a : A) (left rest : List A) (is : left ≡ a ∷ rest) where
-      kept : (b : Bool) → b ≡ true → (if b then a ∷ filter test rest else filter test rest) ≡ a ∷ filter test rest
-      kept true e = refl
-      kept false e = cc
-
-      passed : (b : Bool) → b ≡ false → (if b then a ∷ filter test rest else filter test rest) ≡ filter test rest
-      passed true e = cc
-      passed false e = refl
-
       pub one_taken : test a ≡ true → (w' : State) (u' : Taking) → w' ≡ (change w a).0
           → u' ≡ saying u (change w a).1 → Comes s t whole w u (filter test left) → Comes s t whole w' u' (filter test rest)
       one_taken hit w' u' state said comes =
           one_done a (filter test rest) w' u' state said
-          (rw (ap (filter test) is ∙ kept (test a) hit) at comes)
+          (rw (first_taken test a left rest is hit) at comes)
 
       pub one_passed : test a ≡ false → Comes s t whole w u (filter test left) → Comes s t whole w u (filter test rest)
-      one_passed miss comes = rw (ap (filter test) is ∙ passed (test a) miss) at comes
+      one_passed miss comes = rw (first_passed test a left rest is miss) at comes

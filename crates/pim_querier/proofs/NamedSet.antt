@@ -7,9 +7,10 @@ use Rattle.std.specs.declared.cmp.Ordering.TheVariants.{Less}
 use Rattle.std.proofs.lemmas.Bool.Decides.{nat_tests}
 use Rattle.std.proofs.lemmas.List.Folds.{list_any_more}
 use Rattle.pim_filters.specs.Members.{is_named}
+use Rattle.pim_filters.proofs.Orders.{Rises-ascending, Rises-from_sorted, is_among-ascending, same_rising}
 use Rattle.pim_ip.specs.declared.addr.Addr.{Addr}
 use Rattle.pim_types.specs.Keys.{addr_cmp}
-use Rattle.pim_model.specs.Tables.{is_among}
+use Rattle.pim_model.specs.Tables.{ascending, is_among}
 use Rattle.pim_querier.specs.Queries.{bits_of}
 
 -- ---- the sources as a set
@@ -65,3 +66,11 @@ pub bits_rise : (set : List Addr) → IsStrictlySortedBy addr_cmp set → IsStri
 unfolding IsStrictlySortedBy
 bits_rise [] sorted = tt
 bits_rise (a ∷ set) sorted = (below_bits a set sorted.0, bits_rise set sorted.1)
+
+-- so the set is the sources in order, each once
+pub set_ascends : (set sources : List Addr) → IsStrictlySortedBy addr_cmp set
+    → ((n : ℕ) → is_named n set ≡ is_named n sources) → bits_of set ≡ ascending (bits_of sources)
+set_ascends set sources rise same =
+    same_rising (bits_of set) (ascending (bits_of sources)) (Rises-from_sorted (bits_of set) (bits_rise set rise))
+    (Rises-ascending (bits_of sources))
+    (λ n. set_among set sources same n ∙ sym (is_among-ascending n (bits_of sources)))

@@ -44,7 +44,7 @@ one_more_less es k e d s after whole row inside is less changed so_far =
     } in t) less)
     ∙ ap (λ (xs : Table SendingRow). fold (sending_changed one_less) s xs) (sym split) ∙ so_far
 
-members_in_table : (i g : ℕ) (ms : List Member) (s : State)
+pub members_in_table : (i g : ℕ) (ms : List Member) (s : State)
     → members_put i g s ms ≡ record s { source_records = fold (put_member i g) s.source_records (entries_of ms) }
 unfolding members_put member_put
 members_in_table i g [] s = refl

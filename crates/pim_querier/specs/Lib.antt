@@ -2,3 +2,4 @@ pub mod Changes
 pub mod Kinds
 pub mod Queries
 pub mod Reports
+pub mod Visits

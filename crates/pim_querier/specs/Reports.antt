@@ -7,10 +7,10 @@ use Rattle.igmp_wire.specs.declared.report.RecordType.{RecordType}
 use Rattle.pim_types.specs.declared.fact.GroupRecordRow.{GroupRecordRow}
 use Rattle.pim_types.specs.declared.fact.SourceRecordRow.{SourceRecordRow}
 use Rattle.pim_types.specs.Keys.{source_key, star_key}
-use Rattle.pim_model.specs.Querier.{is_skipped}
-use Rattle.pim_model.specs.Records.{Member, is_at_group}
+use Rattle.pim_model.specs.Querier.{group_end, is_skipped}
+use Rattle.pim_model.specs.Records.{GroupRecord, Member, is_at_group}
 use Rattle.pim_model.specs.State.{State}
-use Rattle.pim_model.specs.Tables.{Table, has_row, is_empty_list, row_at}
+use Rattle.pim_model.specs.Tables.{Table, ascending, has_row, is_empty_list, row_at}
 
 -- a source that isn't named stays as it is
 abbrev pub keeps_others : RecordType → Bool
@@ -32,6 +32,11 @@ member_named i g t n =
 
 abbrev pub members_named : ℕ → ℕ → Table SourceRecordRow → List ℕ → List Member
 members_named i g t ns = filter_map (member_named i g t) ns
+
+-- what is known of the group, with those of its sources alone that are named
+unfoldable pub record_named : State → ℕ → ℕ → List ℕ → GroupRecord
+record_named s i g sources =
+    record { timer = group_end s i g; members = members_named i g s.source_records (ascending sources) }
 
 -- ---- a record that moves ends alone
 

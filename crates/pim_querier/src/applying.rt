@@ -1,13 +1,15 @@
 //! A record of a report, applied to what is known of its group (RFC 3376, section 6.4).
 ghost use Rattle.std.specs.List.{list_any};
-ghost use Rattle.std.specs.Prelude.{◌≡◌, ◌<◌, ◌&&◌, ℕ, IfOk, OnOk, if◌then◌else◌, is_none, not, option_map, true};
+ghost use Rattle.std.specs.Prelude.{◌≡◌, ◌≤◌, ◌<◌, ◌&&◌, ℕ, IfOk, OnOk, if◌then◌else◌, is_none, not, option_map, true};
 ghost use Rattle.pim_filters.specs.Members.{IsAscending, entries_of, entry_of, is_named};
 ghost use Rattle.pim_model.specs.Querier.{group_end};
 ghost use Rattle.pim_model.specs.Records.{Gone, apply_record, fate_in, is_at_group, record_of, with_record};
 ghost use Rattle.pim_model.specs.Tables.{is_among};
 ghost use Rattle.pim_querier.specs.Changes.{beside};
 ghost use Rattle.pim_querier.specs.Queries.{bits_of};
-ghost use Rattle.pim_querier.specs.Reports.{asks_named, keeps_others, member_named, members_named};
+ghost use Rattle.pim_querier.specs.Reports.{asks_named, keeps_others, member_named, members_named, record_named};
+ghost use Rattle.pim_querier.specs.Visits.{apply_nodes, apply_to_all_nodes, apply_to_named_nodes, write_beside_nodes};
+ghost use Rattle.pim_world.specs.Visits.{raised};
 
 use crate::records::{drop_empty, drop_repeats, has_sources, put_members, record_of, set_record};
 use igmp_wire::RecordType;
@@ -79,10 +81,14 @@ fn named_record(
     ensures fates { IfOk result (λ known. (src : ℕ) → fate_in known src
         ≡ (if is_among src (bits_of sources.now) then fate_in (record_of world.now iface.number group.bits) src
         else Gone)) }
+    ensures named { IfOk result (λ known. known
+        ≡ record_named world.now iface.number group.bits (bits_of sources.now)) }
 {
     // It tells that each is under the key of a source.
     world.membership().recall_keyed_source_records();
     let named = set_of(alloc, sources)?;
+    // It tells that the sources rise.
+    let _ = named.len();
     let members = members_among(world, alloc, iface, group, &named)?;
     GroupRecord::with(alloc, world.group_end(iface, group), &members)
 }
@@ -107,7 +113,9 @@ fn write_beside(
     known: &GroupRecord,
 ) -> Result<(), AllocError>
     requires { iface.number < 120 }
-    ensures { OnOk result (world.new ≡ beside iface.number group.bits world.old known.now) }
+    ensures beside { OnOk result (world.new ≡ beside iface.number group.bits world.old known.now) }
+    ensures at_least { OnOk result (raised meter.old
+        (write_beside_nodes iface.number group.bits world.old known.now) ≤ meter.new) }
 {
     let end = known.timer();
     let row = GroupRecordRow { end };
@@ -138,6 +146,8 @@ fn apply_to_named(
         (apply_record full (record_of world.old iface.number group.bits) record_type (bits_of sources.now)).0) }
     ensures asked { asks_named record_type ≡ true → IfOk result (λ asked. asked
         ≡ (apply_record full (record_of world.old iface.number group.bits) record_type (bits_of sources.now)).1) }
+    ensures at_least { OnOk result (raised meter.old
+        (apply_to_named_nodes full iface.number group.bits world.old record_type (bits_of sources.now)) ≤ meter.new) }
 {
     // They tell that each source has one record, under its own key, and that the sources rise.
     world.membership().recall_rising_source_records();
@@ -185,6 +195,8 @@ fn apply_to_all(
         (apply_record full (record_of world.old iface.number group.bits) record_type (bits_of sources.now)).0) }
     ensures asked { IfOk result (λ asked. asked
         ≡ (apply_record full (record_of world.old iface.number group.bits) record_type (bits_of sources.now)).1) }
+    ensures at_least { OnOk result (raised meter.old
+        (apply_to_all_nodes full iface.number group.bits world.old record_type (bits_of sources.now)) ≤ meter.new) }
 {
     let mut known = record_of(world, alloc, iface, group)?;
     let mut asked = Asking::new();
@@ -212,6 +224,8 @@ fn asks_named(record_type: RecordType) -> bool
 
 /// Applies a record of a report, of an interface below 120, whose timers end then, in ms, where they are set. It tells the
 /// queries that the record asks for. Where it deletes no source, the records of those that it doesn't name aren't written.
+/// The meter rises by the nodes that its look-ups visit, at least those that lead to the group and the sources whose records
+/// come or go, or whose timers begin or end to run.
 pub fn apply(
     world: &mut World,
     meter: &mut Meter,
@@ -227,6 +241,8 @@ pub fn apply(
         (apply_record full (record_of world.old iface.number group.bits) record_type (bits_of sources.now)).0) }
     ensures asked { IfOk result (λ asked. asked
         ≡ (apply_record full (record_of world.old iface.number group.bits) record_type (bits_of sources.now)).1) }
+    ensures at_least { OnOk result (raised meter.old
+        (apply_nodes full iface.number group.bits world.old record_type (bits_of sources.now)) ≤ meter.new) }
 {
     if !keeps_others(record_type) {
         return apply_to_all(

@@ -13,7 +13,7 @@ use crate::repeats::send_sources;
 use pim_filters::Asking;
 use pim_types::fact::{GroupRepeatRow, SendingRow};
 use pim_types::{Addr, IfaceId};
-use pim_world::{Turn, World};
+use pim_world::{Meter, Turn, World};
 use std::alloc::{AllocError, Global};
 
 // Queries the group at once, and again [Last Member Query Count] - 1 times; lowers its timer (RFC 3376, section
@@ -22,18 +22,20 @@ use std::alloc::{AllocError, Global};
 fn query_group(
     world: &mut World,
     turn: &mut Turn,
+    meter: &mut Meter,
     iface: IfaceId,
     group: Addr,
 ) -> Result<(), AllocError>
     ensures state { OnOk result (world.new ≡ (query_group world.old iface.number group.bits).0) }
     ensures messages { OnOk result (turn.new ≡ saying turn.old (query_group world.old iface.number group.bits).1) }
+    ensures kept { OnOk result (meter.new ≡ meter.old) }
 {
     let query = specific_query(world, iface, group, false);
     let repeat = GroupRepeatRow {
         next: world.present() + last_member_query_interval(world),
         left: u32::from(robustness(world, iface)).saturating_sub(1),
     };
-    world.lower_group(iface, group, query_end(world, iface), &mut turn.meter)?;
+    world.lower_group(iface, group, query_end(world, iface), meter)?;
     world
         .membership_mut()
         .set_group_repeat(iface, group, Some(repeat))?;
@@ -86,6 +88,7 @@ fn put_sendings(
 fn query_sources(
     world: &mut World,
     turn: &mut Turn,
+    meter: &mut Meter,
     iface: IfaceId,
     group: Addr,
     asked: &[Addr],
@@ -94,6 +97,7 @@ fn query_sources(
         ≡ (query_sources world.old iface.number group.bits (bits_of asked.now)).0) }
     ensures messages { OnOk result (turn.new
         ≡ saying turn.old (query_sources world.old iface.number group.bits (bits_of asked.now)).1) }
+    ensures kept { OnOk result (meter.new ≡ meter.old) }
 {
     let end = query_end(world, iface);
     let sources = running_past(world, turn.alloc, iface, group, asked, end)?;
@@ -103,7 +107,7 @@ fn query_sources(
     let row = SendingRow {
         left: u32::from(robustness(world, iface)),
     };
-    lower_sources(world, &mut turn.meter, iface, group, &sources, end)?;
+    lower_sources(world, meter, iface, group, &sources, end)?;
     put_sendings(world, iface, group, &sources, row)?;
     send_sources(world, turn, iface, group)
 }
@@ -113,6 +117,7 @@ fn query_sources(
 fn query_named(
     world: &mut World,
     turn: &mut Turn,
+    meter: &mut Meter,
     iface: IfaceId,
     group: Addr,
     sources: Option<&[Addr]>,
@@ -121,17 +126,19 @@ fn query_named(
         (source_queries (option_map (λ named. bits_of named.now) sources.entry))).0) }
     ensures messages { OnOk result (turn.new ≡ saying turn.old (each_in_turn (query_asked iface.number group.bits)
         world.old (source_queries (option_map (λ named. bits_of named.now) sources.entry))).1) }
+    ensures kept { OnOk result (meter.new ≡ meter.old) }
 {
     match sources {
-        Some(sources) => query_sources(world, turn, iface, group, sources),
+        Some(sources) => query_sources(world, turn, meter, iface, group, sources),
         None => Ok(()),
     }
 }
 
-/// Queries what a record of a report asks for: of the group's sources first, and then the group.
+/// Queries what a record of a report asks for: of the group's sources first, and then the group. The meter stays.
 pub fn query_asked(
     world: &mut World,
     turn: &mut Turn,
+    meter: &mut Meter,
     iface: IfaceId,
     group: Addr,
     asked: &Asking,
@@ -140,10 +147,11 @@ pub fn query_asked(
         ≡ (each_in_turn (query_asked iface.number group.bits) world.old asked.now).0) }
     ensures messages { OnOk result (turn.new
         ≡ saying turn.old (each_in_turn (query_asked iface.number group.bits) world.old asked.now).1) }
+    ensures kept { OnOk result (meter.new ≡ meter.old) }
 {
-    query_named(world, turn, iface, group, asked.sources())?;
+    query_named(world, turn, meter, iface, group, asked.sources())?;
     if asked.asks_group() {
-        return query_group(world, turn, iface, group);
+        return query_group(world, turn, meter, iface, group);
     }
     Ok(())
 }

@@ -1,9 +1,11 @@
 //! The ends of a querier's timers.
-ghost use Rattle.std.specs.Prelude.{◌≡◌, OnOk, true};
+ghost use Rattle.std.specs.Prelude.{◌≡◌, ◌≤◌, OnOk, true};
 ghost use Rattle.pim_world.specs.Turns.{saying};
 ghost use Rattle.pim_model.specs.Firing.{fired, startup_left};
 ghost use Rattle.pim_types.specs.declared.timer.TimerKind.{TimerKind};
 ghost use Rattle.pim_querier.specs.Kinds.{is_igmp_kind};
+ghost use Rattle.pim_querier.specs.Visits.{fired_nodes};
+ghost use Rattle.pim_world.specs.Visits.{raised};
 
 use crate::election::other_querier_gone;
 use crate::records::{group_record_due, source_record_due};
@@ -12,7 +14,7 @@ use crate::sendings::source_in;
 use crate::startup::general_query_due;
 use pim_types::fact::QuerierRole;
 use pim_types::{Key, TimerKind};
-use pim_world::{Turn, World};
+use pim_world::{Meter, Turn, World};
 use std::alloc::AllocError;
 
 // How many of the startup queries are still to leave.
@@ -50,30 +52,27 @@ fn general_query_fired(world: &mut World, turn: &mut Turn, key: Key) -> Result<(
 }
 
 /// A timer of a querier ends: of a group or a source of its records, of the other querier, or one by which a query
-/// leaves. Where memory is refused, some of what it changes may be changed.
-#[tactic(auto, unfolding(pim_model::specs::Firing::fired))]
+/// leaves. The meter rises by the nodes that its look-ups visit, at least those that lead to a group and to sources whose
+/// records go or stop. Where memory is refused, some of what it changes may be changed.
+#[tactic(auto, using(pim_world::proofs::Visits::raised_by_none), unfolding(pim_model::specs::Firing::fired))]
 pub fn fired(
     world: &mut World,
     turn: &mut Turn,
+    meter: &mut Meter,
     kind: TimerKind,
     key: Key,
 ) -> Result<(), AllocError>
     requires { is_igmp_kind kind ≡ true }
     ensures state { OnOk result (world.new ≡ (fired world.old kind key).0) }
     ensures messages { OnOk result (turn.new ≡ saying turn.old (fired world.old kind key).1) }
+    ensures at_least { OnOk result (raised meter.old (fired_nodes world.old kind key) ≤ meter.new) }
 {
     match kind {
-        TimerKind::GroupRecord => group_record_due(
-            world,
-            &mut turn.meter,
-            turn.alloc,
-            key.iface,
-            key.group,
-        ),
+        TimerKind::GroupRecord => group_record_due(world, meter, turn.alloc, key.iface, key.group),
         TimerKind::SourceRecord => {
             source_record_due(
                 world,
-                &mut turn.meter,
+                meter,
                 turn.alloc,
                 key.iface,
                 key.group,

@@ -19,7 +19,8 @@ fn lower_source(
     source: Addr,
     end: u64,
 ) -> Result<(), AllocError>
-    ensures { OnOk result (world.new ≡ one_lowered iface.number group.bits end world.old source) }
+    ensures lowered { OnOk result (world.new ≡ one_lowered iface.number group.bits end world.old source) }
+    ensures kept { OnOk result (meter.new ≡ meter.old) }
 {
     // It tells that each key stands once.
     world.membership().recall_rising_source_records();
@@ -44,7 +45,8 @@ fn lower_each(
     sources: &[Addr],
     end: u64,
 ) -> Result<(), AllocError>
-    ensures { OnOk result (world.new ≡ each_lowered iface.number group.bits end world.old sources.now) }
+    ensures lowered { OnOk result (world.new ≡ each_lowered iface.number group.bits end world.old sources.now) }
+    ensures kept { OnOk result (meter.new ≡ meter.old) }
 {
     for source in sources {
         lower_source(world, meter, iface, group, *source, end)?;
@@ -53,7 +55,7 @@ fn lower_each(
 }
 
 /// Lowers the timers of these sources of the group on the interface to an end, in ms, where they run and end later. The
-/// records of other sources aren't looked at.
+/// records of other sources aren't looked at. The meter stays.
 pub fn lower_sources(
     world: &mut World,
     meter: &mut Meter,
@@ -62,8 +64,9 @@ pub fn lower_sources(
     sources: &[Addr],
     end: u64,
 ) -> Result<(), AllocError>
-    ensures { OnOk result (world.new
+    ensures lowered { OnOk result (world.new
         ≡ lower_sources world.old iface.number group.bits (bits_of sources.now) end) }
+    ensures kept { OnOk result (meter.new ≡ meter.old) }
 {
     // It tells that each is under the key of a source.
     world.membership().recall_keyed_source_records();

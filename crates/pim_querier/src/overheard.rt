@@ -39,7 +39,8 @@ fn lower_queried(
     iface: IfaceId,
     query: &QueryView<'_>,
 ) -> Result<(), AllocError>
-    ensures { OnOk result (world.new ≡ lower_queried world.old iface.number query.now) }
+    ensures lowered { OnOk result (world.new ≡ lower_queried world.old iface.number query.now) }
+    ensures kept { OnOk result (meter.new ≡ meter.old) }
 {
     let group = query.group();
     if query.is_suppress() || group.bits == 0 {
@@ -63,20 +64,23 @@ fn elect(world: &mut World, iface: IfaceId, query: &QueryView<'_>) -> Result<(),
 }
 
 /// Takes a query that came on an interface from an address: of a router with a lower address than the router's own it
-/// makes that one the querier, whose values are adopted, and with S clear it lowers the timers of what it asks for.
+/// makes that one the querier, whose values are adopted, and with S clear it lowers the timers of what it asks for. The meter
+/// stays.
 #[tactic(auto, unfolding(pim_model::specs::Querier::query_seen))]
 pub fn query_seen(
     world: &mut World,
     turn: &mut Turn,
+    meter: &mut Meter,
     iface: IfaceId,
     from: Addr,
     query: &QueryView<'_>,
 ) -> Result<(), AllocError>
     ensures state { OnOk result (world.new ≡ query_seen world.old iface.number from.bits query.now) }
     ensures silent { turn.new ≡ turn.old }
+    ensures kept { OnOk result (meter.new ≡ meter.old) }
 {
     if is_lower_querier(world, iface, from) {
         elect(world, iface, query)?;
     }
-    lower_queried(world, &mut turn.meter, turn.alloc, iface, query)
+    lower_queried(world, meter, turn.alloc, iface, query)
 }

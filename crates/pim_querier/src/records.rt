@@ -1,11 +1,13 @@
 //! The record of a group, and what the ends of its timers change (RFC 3376, sections 6.2, 6.3 and 6.5).
 ghost use Rattle.std.specs.List.{list_any};
-ghost use Rattle.std.specs.Prelude.{◌≡◌, ◌<◌, None, IfOk, OnOk, filter, length, not};
+ghost use Rattle.std.specs.Prelude.{◌≡◌, ◌≤◌, ◌<◌, None, IfOk, OnOk, filter, length, not};
 ghost use Rattle.pim_filters.specs.Members.{IsAscending, entries_of};
 ghost use Rattle.pim_model.specs.Querier.{group_record_due, source_record_due};
 ghost use Rattle.pim_model.specs.Records.{is_at_group, record_of, with_members, with_record, with_repeats_of_rows};
 ghost use Rattle.pim_model.specs.Tables.{has_row};
 ghost use Rattle.pim_querier.specs.Changes.{members_put, sendings_changed, with_excluded, without_empty, without_group_repeat, without_source, without_source_repeat};
+ghost use Rattle.pim_querier.specs.Visits.{drop_source_nodes, empty_nodes, exclude_source_nodes, group_record_due_nodes, members_nodes, set_members_nodes, set_record_nodes, source_record_due_nodes};
+ghost use Rattle.pim_world.specs.Visits.{raised};
 
 use crate::sendings::{sendings_at, source_in};
 use pim_filters::{GroupRecord, Member};
@@ -51,7 +53,9 @@ pub(crate) fn put_members(
     members: &[Member],
 ) -> Result<(), AllocError>
     requires { 0 < length members.now → iface.number < 120 }
-    ensures { OnOk result (world.new ≡ members_put iface.number group.bits world.old members.now) }
+    ensures put { OnOk result (world.new ≡ members_put iface.number group.bits world.old members.now) }
+    ensures at_least { OnOk result (raised meter.old
+        (members_nodes iface.number group.bits world.old (entries_of members.now)) ≤ meter.new) }
 {
     for member in members {
         let row = SourceRecordRow { end: member.end };
@@ -63,6 +67,7 @@ pub(crate) fn put_members(
 }
 
 // Takes the group's record away, where it is none.
+#[tactic(auto, using(pim_world::proofs::Visits::raised_by_none))]
 pub(crate) fn drop_empty(
     world: &mut World,
     meter: &mut Meter,
@@ -70,7 +75,8 @@ pub(crate) fn drop_empty(
     group: Addr,
     is_none: bool,
 )
-    ensures { world.new ≡ without_empty is_none iface.number group.bits world.old }
+    ensures dropped { world.new ≡ without_empty is_none iface.number group.bits world.old }
+    ensures at_least { raised meter.old (empty_nodes is_none group.bits world.old) ≤ meter.new }
 {
     if is_none {
         world
@@ -155,7 +161,9 @@ fn set_members(
     known: &GroupRecord,
 ) -> Result<(), AllocError>
     requires { 0 < length known.now.members → iface.number < 120 }
-    ensures { OnOk result (world.new ≡ with_members world.old iface.number group.bits known.now) }
+    ensures set { OnOk result (world.new ≡ with_members world.old iface.number group.bits known.now) }
+    ensures at_least { OnOk result (raised meter.old
+        (set_members_nodes iface.number group.bits world.old known.now) ≤ meter.new) }
 {
     drop_empty(world, meter, iface, group, known.is_no_record());
     world
@@ -180,7 +188,9 @@ pub fn record_of(
     GroupRecord::with(alloc, world.group_end(iface, group), &members)
 }
 
-/// Gives the group this record on the interface.
+/// Gives the group this record on the interface. The meter rises by the nodes that its look-ups visit, at least those that
+/// lead to the group where it comes or goes or its timer begins or ends to run, to each source that goes, and to each that
+/// comes.
 #[tactic(auto, unfolding(pim_model::specs::Records::with_record, pim_model::specs::Tables::set_row))]
 pub fn set_record(
     world: &mut World,
@@ -191,7 +201,9 @@ pub fn set_record(
     known: &GroupRecord,
 ) -> Result<(), AllocError>
     requires { iface.number < 120 }
-    ensures { OnOk result (world.new ≡ with_record world.old iface.number group.bits known.now) }
+    ensures set { OnOk result (world.new ≡ with_record world.old iface.number group.bits known.now) }
+    ensures at_least { OnOk result (raised meter.old
+        (set_record_nodes iface.number group.bits world.old known.now) ≤ meter.new) }
 {
     let row = GroupRecordRow { end: known.timer() };
     world
@@ -202,7 +214,8 @@ pub fn set_record(
 
 // ---- the ends of its timers
 
-/// The group's timer ended: INCLUDE of the sources whose timers run past now (RFC 3376, section 6.5).
+/// The group's timer ended: INCLUDE of the sources whose timers run past now (RFC 3376, section 6.5). The meter rises by the
+/// nodes that its look-ups visit, at least those that lead to the group, to each of its sources, and to each that is left.
 #[tactic(auto, unfolding(pim_model::specs::Querier::group_record_due))]
 pub fn group_record_due(
     world: &mut World,
@@ -211,7 +224,9 @@ pub fn group_record_due(
     iface: IfaceId,
     group: Addr,
 ) -> Result<(), AllocError>
-    ensures { OnOk result (world.new ≡ group_record_due world.old iface.number group.bits) }
+    ensures state { OnOk result (world.new ≡ group_record_due world.old iface.number group.bits) }
+    ensures at_least { OnOk result (raised meter.old
+        (group_record_due_nodes iface.number group.bits world.old) ≤ meter.new) }
 {
     let mut known = record_of(world, alloc, iface, group)?;
     known.group_expired(world.present());
@@ -234,7 +249,9 @@ pub(crate) fn has_sources(world: &World, iface: IfaceId, group: Addr) -> bool
 
 // Takes the source's record away, and that of the group with the last of them.
 fn drop_source(world: &mut World, meter: &mut Meter, iface: IfaceId, group: Addr, source: Addr)
-    ensures { world.new ≡ without_source iface.number group.bits source.bits world.old }
+    ensures dropped { world.new ≡ without_source iface.number group.bits source.bits world.old }
+    ensures at_least { raised meter.old
+        (drop_source_nodes iface.number group.bits source.bits world.old) ≤ meter.new }
 {
     world
         .membership_mut()
@@ -252,7 +269,9 @@ fn exclude_source(
     group: Addr,
     source: Addr,
 ) -> Result<(), AllocError>
-    ensures { OnOk result (world.new ≡ with_excluded iface.number group.bits source.bits world.old) }
+    ensures excluded { OnOk result (world.new ≡ with_excluded iface.number group.bits source.bits world.old) }
+    ensures at_least { OnOk result (raised meter.old
+        (exclude_source_nodes iface.number group.bits source.bits world.old) ≤ meter.new) }
 {
     let key = Key::source(iface, group, source);
     world
@@ -268,8 +287,10 @@ fn end_source(
     group: Addr,
     source: Addr,
 ) -> Result<(), AllocError>
-    ensures { OnOk result (with_repeats_of_rows world.new iface.number group.bits
+    ensures ended { OnOk result (with_repeats_of_rows world.new iface.number group.bits
         ≡ source_record_due world.old iface.number group.bits source.bits) }
+    ensures at_least { OnOk result (raised meter.old
+        (source_record_due_nodes iface.number group.bits source.bits world.old) ≤ meter.new) }
 {
     // They tell that each source has one record, under its own key.
     world.membership().recall_rising_source_records();
@@ -282,7 +303,8 @@ fn end_source(
 }
 
 /// The source's timer ended: in INCLUDE the source goes, in EXCLUDE its packets are refused from now on (RFC 3376,
-/// section 6.3). The records of other sources aren't looked at.
+/// section 6.3). The records of other sources aren't looked at. The meter rises by the nodes that its look-ups visit, at least
+/// those that lead to the source where it goes or its timer ends to run, and to a group that goes with it.
 pub fn source_record_due(
     world: &mut World,
     meter: &mut Meter,
@@ -291,7 +313,9 @@ pub fn source_record_due(
     group: Addr,
     source: Addr,
 ) -> Result<(), AllocError>
-    ensures { OnOk result (world.new ≡ source_record_due world.old iface.number group.bits source.bits) }
+    ensures state { OnOk result (world.new ≡ source_record_due world.old iface.number group.bits source.bits) }
+    ensures at_least { OnOk result (raised meter.old
+        (source_record_due_nodes iface.number group.bits source.bits world.old) ≤ meter.new) }
 {
     end_source(world, meter, iface, group, source)?;
     drop_repeats(world, alloc, iface, group)

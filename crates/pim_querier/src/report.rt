@@ -1,10 +1,12 @@
 //! A report of a host (RFC 3376, sections 4.2 and 6.4).
-ghost use Rattle.std.specs.Prelude.{◌≡◌, ◌<◌, IfOk, OnOk};
+ghost use Rattle.std.specs.Prelude.{◌≡◌, ◌≤◌, ◌<◌, IfOk, OnOk};
 ghost use Rattle.pim_world.specs.Turns.{saying};
 ghost use Rattle.pim_model.specs.Querier.{is_skipped, record_seen, report_seen};
 ghost use Rattle.pim_model.specs.Records.{with_record};
 ghost use Rattle.pim_querier.specs.Changes.{applied};
 ghost use Rattle.pim_querier.specs.Queries.{bits_of};
+ghost use Rattle.pim_querier.specs.Visits.{record_seen_nodes, report_seen_nodes};
+ghost use Rattle.pim_world.specs.Visits.{raised};
 
 use crate::applying::apply;
 use crate::asked::query_asked;
@@ -40,6 +42,8 @@ fn apply_record(
     ensures state { OnOk result (world.new ≡ with_record world.old iface.number group_record.now.group
         (applied world.old iface.number group_record.now).0) }
     ensures asked { IfOk result (λ asked. asked ≡ (applied world.old iface.number group_record.now).1) }
+    ensures at_least { OnOk result (raised meter.old
+        (record_seen_nodes iface.number world.old group_record.now) ≤ meter.new) }
 {
     let full = world.present() + group_membership_interval(world, iface);
     let sources = sources_of(alloc, group_record)?;
@@ -60,6 +64,7 @@ fn apply_record(
 fn record_seen(
     world: &mut World,
     turn: &mut Turn,
+    meter: &mut Meter,
     iface: IfaceId,
     group_record: &RecordView<'_>,
 ) -> Result<(), AllocError>
@@ -67,13 +72,15 @@ fn record_seen(
     ensures state { OnOk result (world.new ≡ (record_seen iface.number world.old group_record.now).0) }
     ensures messages { OnOk result (turn.new
         ≡ saying turn.old (record_seen iface.number world.old group_record.now).1) }
+    ensures at_least { OnOk result (raised meter.old
+        (record_seen_nodes iface.number world.old group_record.now) ≤ meter.new) }
 {
     let queries = is_querier(world, iface);
-    let asked = apply_record(world, &mut turn.meter, turn.alloc, iface, group_record)?;
+    let asked = apply_record(world, meter, turn.alloc, iface, group_record)?;
     if !queries {
         return Ok(());
     }
-    query_asked(world, turn, iface, group_record.group(), &asked)
+    query_asked(world, turn, meter, iface, group_record.group(), &asked)
 }
 
 /// Whether a group record is skipped: one that would exclude sources of a source-specific group (RFC 4604, section
@@ -90,21 +97,24 @@ pub fn is_skipped(group_record: &RecordView<'_>) -> bool
 
 /// Takes a report that came on an interface below 120: its group records in their order, but for those that are
 /// skipped. Each changes what is known of its group, and where the router is the querier it sends the queries that the
-/// record asks for, and lowers the timers of what it queries.
+/// record asks for, and lowers the timers of what it queries. The meter rises by the nodes that its look-ups visit, at
+/// least those that lead to the groups and the sources whose records come or go, or whose timers begin or end to run.
 #[tactic(auto, unfolding(pim_model::specs::Querier::report_seen))]
 pub fn report_seen(
     world: &mut World,
     turn: &mut Turn,
+    meter: &mut Meter,
     iface: IfaceId,
     report: &ReportView<'_>,
 ) -> Result<(), AllocError>
     requires { iface.number < 120 }
     ensures state { OnOk result (world.new ≡ (report_seen world.old iface.number report.now).0) }
     ensures messages { OnOk result (turn.new ≡ saying turn.old (report_seen world.old iface.number report.now).1) }
+    ensures at_least { OnOk result (raised meter.old (report_seen_nodes world.old iface.number report.now) ≤ meter.new) }
 {
     for group_record in report.records() {
         if !is_skipped(&group_record) {
-            record_seen(world, turn, iface, &group_record)?;
+            record_seen(world, turn, meter, iface, &group_record)?;
         }
     }
     Ok(())

@@ -4,11 +4,13 @@ ghost use Rattle.pim_model.specs.Full.{needed, source_is_full};
 ghost use Rattle.pim_model.specs.Registers.{registered_group, registered_source};
 ghost use Rattle.pim_model.specs.Unicast.{is_rp};
 ghost use Rattle.pim_types.specs.Keys.{source_key};
+ghost use Rattle.pim_mrib.specs.Routes.{rp_nodes};
+ghost use Rattle.pim_world.specs.Visits.{raised};
 
 use pim_ip::Ipv4View;
 use pim_types::{Addr, IfaceId, Key};
 use pim_wire::RegisterView;
-use pim_world::{Turn, World};
+use pim_world::{Meter, World};
 
 // How many rows the source needs that it hasn't: one, or none.
 #[tactic(auto, using(crate::proofs::Needed::one_needed))]
@@ -27,18 +29,18 @@ pub fn source_is_full(world: &World, group: Addr, source: Addr) -> bool
     world.passes_limit(missing(world, group, source))
 }
 
-/// Whether the row that a Register may make passes it: at another router than the RP a Register makes none.
+/// Whether the row that a Register may make passes it: at another router than the RP a Register makes none. The meter rises
+/// by the nodes that lead to the RP.
 pub fn is_full(
     world: &World,
-    turn: &mut Turn,
+    meter: &mut Meter,
     packet: &Ipv4View<'_>,
     register: &RegisterView<'_>,
 ) -> bool
     ensures full { result ≡ (is_rp world.now (registered_group register.now) packet.now.destination
         && source_is_full world.now (registered_group register.now) (registered_source register.now)) }
-    ensures silent { turn.new ≡ turn.old }
+    ensures visited { meter.new ≡ raised meter.old (rp_nodes world.now.ranges (registered_group register.now)) }
 {
     let (group, source) = (register.group(), register.source());
-    world.is_rp(group, packet.destination(), &mut turn.meter)
-        && source_is_full(world, group, source)
+    world.is_rp(group, packet.destination(), meter) && source_is_full(world, group, source)
 }

@@ -1,5 +1,5 @@
 //! Registers that came to one of the router's addresses (RFC 7761, section 4.4.2).
-ghost use Rattle.std.specs.Prelude.{◌≡◌, ◌&&◌, ◌||◌, IfOk, OnOk, false, if◌then◌else◌};
+ghost use Rattle.std.specs.Prelude.{◌≡◌, ◌≤◌, ◌&&◌, ◌||◌, IfOk, OnOk, false, if◌then◌else◌};
 ghost use Rattle.pim_world.specs.Shown.{Shows};
 ghost use Rattle.pim_macros.specs.Sights.{InSource};
 ghost use Rattle.pim_world.specs.Turns.{saying};
@@ -8,13 +8,15 @@ ghost use Rattle.pim_model.specs.Forwarding.{no_interface, register_at_rp, regis
 ghost use Rattle.pim_model.specs.Registers.{is_null, is_spt_wanted, registered_group, registered_source};
 ghost use Rattle.pim_model.specs.Sets.{inherited_olist_rpt, spt_bit};
 ghost use Rattle.pim_register.specs.Outgoing.{LeavesOn};
+ghost use Rattle.pim_register.specs.Visits.{at_rp_nodes, register_nodes};
+ghost use Rattle.pim_world.specs.Visits.{raised};
 
 use pim_ifset::IfSet;
 use pim_ip::Ipv4View;
 use pim_macros::{SourceSight, StarSight};
 use pim_types::Addr;
 use pim_wire::RegisterView;
-use pim_world::{Turn, World};
+use pim_world::{Meter, Turn, World};
 use std::alloc::AllocError;
 
 // A Register-Stop, from the address that the Register came to back to where it came from.
@@ -56,6 +58,7 @@ fn list_at_rp(sight: &SourceSight, is_null: bool) -> IfSet
 fn register_at_rp(
     world: &mut World,
     turn: &mut Turn,
+    meter: &mut Meter,
     packet: &Ipv4View<'_>,
     register: &RegisterView<'_>,
 ) -> Result<IfSet, AllocError>
@@ -65,14 +68,15 @@ fn register_at_rp(
         (registered_group register.now) (registered_source register.now) (is_null register.now)).state) }
     ensures messages { OnOk result (turn.new ≡ saying turn.old (register_at_rp world.old packet.now
         (registered_group register.now) (registered_source register.now) (is_null register.now)).messages) }
+    ensures at_least { OnOk result (raised meter.old (at_rp_nodes world.old register.now) ≤ meter.new) }
 {
     let (group, source) = (register.group(), register.source());
-    let star = StarSight::of(world, group, &mut turn.meter);
-    let sight = SourceSight::of(world, star, source, &mut turn.meter);
+    let star = StarSight::of(world, group, meter);
+    let sight = SourceSight::of(world, star, source, meter);
     let is_stopped = is_stopped(&sight);
     let list = list_at_rp(&sight, register.is_null());
     if sight.spt || sight.is_spt_wanted {
-        world.keep_alive(group, source, None, &mut turn.meter)?;
+        world.keep_alive(group, source, None, meter)?;
     }
     if is_stopped {
         stop_registering(turn, packet, group, source)?;
@@ -83,11 +87,13 @@ fn register_at_rp(
 /// Takes a Register that came in this packet. At the RP of its group its packet goes down the shared tree, the source is
 /// watched, and the source's router is told to stop where the source comes without Registers, or nobody wants it; any
 /// other router tells it to stop. The answer is where the packet leaves, without the tunnel; a Null-Register's leaves
-/// nowhere. An error is want of memory.
+/// nowhere. The meter rises by the nodes that the look-ups visit, at least those that lead to the RP and, at it, those of
+/// the sight of the source. An error is want of memory.
 #[tactic(auto, unfolding(pim_model::specs::Forwarding::register_received))]
 pub fn register_seen(
     world: &mut World,
     turn: &mut Turn,
+    meter: &mut Meter,
     packet: &Ipv4View<'_>,
     register: &RegisterView<'_>,
 ) -> Result<IfSet, AllocError>
@@ -97,10 +103,11 @@ pub fn register_seen(
         (registered_group register.now) (registered_source register.now) (is_null register.now)).state) }
     ensures messages { OnOk result (turn.new ≡ saying turn.old (register_received world.old packet.now
         (registered_group register.now) (registered_source register.now) (is_null register.now)).messages) }
+    ensures at_least { OnOk result (raised meter.old (register_nodes world.old packet.now register.now) ≤ meter.new) }
 {
     let (group, source) = (register.group(), register.source());
-    if world.is_rp(group, packet.destination(), &mut turn.meter) {
-        return register_at_rp(world, turn, packet, register);
+    if world.is_rp(group, packet.destination(), meter) {
+        return register_at_rp(world, turn, meter, packet, register);
     }
     stop_registering(turn, packet, group, source)?;
     Ok(IfSet::new())

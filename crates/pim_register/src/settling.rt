@@ -1,20 +1,23 @@
 //! Registers, settled after an event's own change.
-ghost use Rattle.std.specs.Prelude.{◌≡◌, OnOk, fold, map};
+ghost use Rattle.std.specs.Prelude.{◌≡◌, ◌≤◌, ◌+◌, OnOk, fold, map};
 ghost use Rattle.pim_types.specs.Keys.{source_key};
 ghost use Rattle.pim_model.specs.Registers.{settle_register};
 ghost use Rattle.pim_macros.specs.Sights.{IsSourceSight, IsStarSight};
 ghost use Rattle.pim_register.specs.Settling.{registers_by};
 ghost use Rattle.pim_register.specs.Steps.{source_keys};
+ghost use Rattle.pim_register.specs.Visits.{register_mark_nodes, settled_group_nodes, settled_nodes, settled_source_nodes, source_settled};
+ghost use Rattle.pim_world.specs.Visits.{nodes_in_turn, raised, source_nodes};
 
 use pim_macros::{SourceSight, StarSight};
 use pim_opening::{GroupOpening, Opening, SourceOpening};
 use pim_types::fact::{RegisterRow, RegisterState};
 use pim_types::{Addr, IfaceId, Key};
-use pim_world::{Meter, Turn, World};
+use pim_world::{Meter, World};
 use std::alloc::AllocError;
 
 /// Settles the register of one source: NoInfo becomes Join where CouldRegister(S,G) holds, any state NoInfo where it
-/// ceases. The sight is true of the state before, and then of the state after. An error is want of memory.
+/// ceases. The sight is true of the state before, and then of the state after. The meter rises by the nodes that lead to the
+/// facts of the source, but where it has a register that stays. An error is want of memory.
 pub fn settle_register(
     world: &mut World,
     meter: &mut Meter,
@@ -26,6 +29,8 @@ pub fn settle_register(
     ensures sight { OnOk result (IsSourceSight world.new sight.new) }
     ensures star { OnOk result (sight.new.star ≡ sight.old.star) }
     ensures source { OnOk result (sight.new.source ≡ sight.old.source) }
+    ensures at_least { OnOk result (raised meter.old
+        (register_mark_nodes world.old sight.old.star.group sight.old.source) ≤ meter.new) }
 {
     let (group, source) = (sight.star.group, sight.source);
     if !sight.could_register() {
@@ -50,55 +55,62 @@ pub fn settle_register(
 // The same, of a source of a group.
 fn settle_source(
     world: &mut World,
-    turn: &mut Turn,
+    meter: &mut Meter,
     star: &StarSight,
     source: Addr,
 ) -> Result<(), AllocError>
     requires { IsStarSight world.old star.now }
     ensures state { OnOk result (world.new
         ≡ settle_register world.old (source_key 0 star.now.group.bits source.bits)) }
-    ensures silent { turn.new ≡ turn.old }
+    ensures at_least { OnOk result (raised meter.old (source_nodes world.old star.now.group source
+        + register_mark_nodes world.old star.now.group source) ≤ meter.new) }
 {
-    let mut sight = SourceSight::of(world, *star, source, &mut turn.meter);
-    settle_register(world, &mut turn.meter, &mut sight)
+    let mut sight = SourceSight::of(world, *star, source, meter);
+    settle_register(world, meter, &mut sight)
 }
 
 // These sources of a group, one after the other.
 fn settle_sources(
     world: &mut World,
-    turn: &mut Turn,
+    meter: &mut Meter,
     star: &StarSight,
     sources: &[SourceOpening],
 ) -> Result<(), AllocError>
     requires { IsStarSight world.old star.now }
     ensures state { OnOk result (world.new
         ≡ fold settle_register world.old (source_keys star.now.group.bits sources.now)) }
-    ensures silent { turn.new ≡ turn.old }
+    ensures at_least { OnOk result (raised meter.old (nodes_in_turn (source_settled star.now.group)
+        (settled_source_nodes star.now.group) world.old sources.now) ≤ meter.new) }
 {
     for opened in sources {
-        settle_source(world, turn, star, opened.source)?;
+        settle_source(world, meter, star, opened.source)?;
     }
     Ok(())
 }
 
 // The opened sources of a group.
-fn settle_group(world: &mut World, turn: &mut Turn, opened: &GroupOpening) -> Result<(), AllocError>
+fn settle_group(
+    world: &mut World,
+    meter: &mut Meter,
+    opened: &GroupOpening,
+) -> Result<(), AllocError>
     ensures state { OnOk result (world.new
         ≡ fold settle_register world.old (source_keys opened.now.group.bits opened.now.sources)) }
-    ensures silent { turn.new ≡ turn.old }
+    ensures at_least { OnOk result (raised meter.old (settled_group_nodes world.old opened.now) ≤ meter.new) }
 {
-    let star = StarSight::of(world, opened.group, &mut turn.meter);
-    settle_sources(world, turn, &star, opened.sources.as_slice())
+    let star = StarSight::of(world, opened.group, meter);
+    settle_sources(world, meter, &star, opened.sources.as_slice())
 }
 
 /// Registers are settled: an opened source for which CouldRegister(S,G) holds has a register, in Join if it had none;
-/// no other opened source has one. An error is want of memory.
-pub fn changed(world: &mut World, turn: &mut Turn, opening: &Opening) -> Result<(), AllocError>
+/// no other opened source has one. The meter rises by the nodes that the look-ups visit, at least those of the sight of each
+/// opened group and source. An error is want of memory.
+pub fn changed(world: &mut World, meter: &mut Meter, opening: &Opening) -> Result<(), AllocError>
     ensures state { OnOk result (world.new ≡ registers_by opening.now world.old) }
-    ensures silent { turn.new ≡ turn.old }
+    ensures at_least { OnOk result (raised meter.old (settled_nodes world.old opening.now) ≤ meter.new) }
 {
     for opened in opening.groups() {
-        settle_group(world, turn, opened)?;
+        settle_group(world, meter, opened)?;
     }
     Ok(())
 }

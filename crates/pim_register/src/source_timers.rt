@@ -1,6 +1,6 @@
 //! What the ends of register timers and of keepalive timers change (RFC 7761, sections 4.4.1 and 4.2).
 ghost use Rattle.std.specs.Option.{option_map_or};
-ghost use Rattle.std.specs.Prelude.{◌≡◌, ◌∷◌, [], OnOk, unwrap_or};
+ghost use Rattle.std.specs.Prelude.{◌≡◌, ◌≤◌, ◌∷◌, [], OnOk, Some, unwrap_or};
 ghost use Rattle.pim_types.specs.Keys.{group_in, source_in};
 ghost use Rattle.pim_types.specs.declared.timer.TimerKind.{TimerKind};
 ghost use Rattle.pim_model.specs.Firing.{fired};
@@ -8,6 +8,9 @@ ghost use Rattle.pim_model.specs.Messages.{Message};
 ghost use Rattle.pim_model.specs.Registers.{registering_address};
 ghost use Rattle.pim_model.specs.Unicast.{rp_of};
 ghost use Rattle.pim_world.specs.Turns.{saying};
+ghost use Rattle.pim_world.specs.Visits.{path_nodes, raised};
+ghost use Rattle.pim_mrib.specs.Routes.{rp_nodes};
+ghost use Rattle.pim_register.specs.Visits.{ended_nodes, fired_nodes, probe_nodes};
 
 use pim_types::fact::{RegisterRow, RegisterState, SourceRow};
 use pim_types::{Addr, Key};
@@ -17,51 +20,60 @@ use std::alloc::AllocError;
 // Register_Probe_Time (RFC 7761, section 4.11), in ms.
 const REGISTER_PROBE_TIME: u64 = 5_000;
 
-/// The router's address on RPF_interface(S), from which it registers the source; 0.0.0.0 without a route.
+/// The router's address on RPF_interface(S), from which it registers the source; 0.0.0.0 without a route. The meter rises by
+/// the nodes that lead to the route.
 #[tactic(auto, unfolding(pim_model::specs::Unicast::rpf_interface))]
-pub fn registering_address(world: &World, turn: &mut Turn, source: Addr) -> Addr
+pub fn registering_address(world: &World, meter: &mut Meter, source: Addr) -> Addr
     ensures address { result.bits ≡ registering_address world.now source.bits }
-    ensures silent { turn.new ≡ turn.old }
+    ensures visited { meter.new ≡ raised meter.old (path_nodes world.now (Some source.bits)) }
 {
-    match world.route(source, &mut turn.meter) {
+    match world.route(source, meter) {
         Some(path) => world.address(path.iface),
         None => Addr::NONE,
     }
 }
 
 // RP(G), or 0.0.0.0.
-fn rp_or_none(world: &World, turn: &mut Turn, group: Addr) -> Addr
+fn rp_or_none(world: &World, meter: &mut Meter, group: Addr) -> Addr
     ensures address { result.bits ≡ unwrap_or (rp_of world.now group.bits) 0 }
-    ensures silent { turn.new ≡ turn.old }
+    ensures visited { meter.new ≡ raised meter.old (rp_nodes world.now.ranges group.bits) }
 {
-    world.rp(group, &mut turn.meter).unwrap_or(Addr::NONE)
+    world.rp(group, meter).unwrap_or(Addr::NONE)
 }
 
 // A Null-Register asks the RP whether it still wants no Registers of the key's source.
-fn probe(world: &World, turn: &mut Turn, key: Key) -> Result<(), AllocError>
-    ensures { OnOk result (turn.new ≡ saying turn.old (Message.NullRegister
+fn probe(world: &World, turn: &mut Turn, meter: &mut Meter, key: Key) -> Result<(), AllocError>
+    ensures sent { OnOk result (turn.new ≡ saying turn.old (Message.NullRegister
         (registering_address world.now (source_in key)) (unwrap_or (rp_of world.now (group_in key)) 0)
         (source_in key) (group_in key) ∷ [])) }
+    ensures at_least { OnOk result (raised meter.old (probe_nodes world.now key) ≤ meter.new) }
 {
     let source = key.source.unwrap_or(Addr::NONE);
-    let from = registering_address(world, turn, source);
-    let to = rp_or_none(world, turn, key.group);
+    let from = registering_address(world, meter, source);
+    let to = rp_or_none(world, meter, key.group);
     turn.out.null_register(from, to, source, key.group)
 }
 
 /// What the end of a register timer changes: in Prune the RP is probed by a Null-Register, and without an answer in
-/// Register_Probe_Time the tunnel opens again. An error is want of memory.
+/// Register_Probe_Time the tunnel opens again. The meter rises by the nodes that the look-ups visit, at least, of a probe, those
+/// that lead to the route to the source and to the RP. An error is want of memory.
 #[tactic(auto, unfolding(pim_model::specs::Firing::fired, pim_model::specs::Firing::fire_row, pim_model::specs::Registers::register_due))]
-pub fn fired(world: &mut World, turn: &mut Turn, key: Key) -> Result<(), AllocError>
+pub fn fired(
+    world: &mut World,
+    turn: &mut Turn,
+    meter: &mut Meter,
+    key: Key,
+) -> Result<(), AllocError>
     ensures state { OnOk result (world.new ≡ (fired world.old TimerKind.Register key).0) }
     ensures messages { OnOk result (turn.new ≡ saying turn.old (fired world.old TimerKind.Register key).1) }
+    ensures at_least { OnOk result (raised meter.old (fired_nodes world.old key) ≤ meter.new) }
 {
     let Some(row) = world.store().register(key) else {
         return Ok(());
     };
     let state = match row.state {
         RegisterState::Prune { .. } => {
-            probe(world, turn, key)?;
+            probe(world, turn, meter, key)?;
             RegisterState::JoinPending {
                 end: world.present() + REGISTER_PROBE_TIME,
             }
@@ -70,13 +82,15 @@ pub fn fired(world: &mut World, turn: &mut Turn, key: Key) -> Result<(), AllocEr
     };
     world
         .store_mut()
-        .change_register(key, RegisterRow { state }, &mut turn.meter)
+        .change_register(key, RegisterRow { state }, meter)
 }
 
-/// What the end of KAT(S,G) changes: the source's row goes, unless SPTbit(S,G) is set. An error is want of memory.
+/// What the end of KAT(S,G) changes: the source's row goes, unless SPTbit(S,G) is set. The meter rises by the nodes that lead
+/// to the facts of a source whose row goes. An error is want of memory.
 #[tactic(auto, unfolding(pim_model::specs::Firing::fired, pim_model::specs::Firing::fire_row, pim_model::specs::Firing::keepalive_due))]
 pub fn keepalive_due(world: &mut World, meter: &mut Meter, key: Key) -> Result<(), AllocError>
-    ensures { OnOk result (world.new ≡ (fired world.old TimerKind.Keepalive key).0) }
+    ensures state { OnOk result (world.new ≡ (fired world.old TimerKind.Keepalive key).0) }
+    ensures at_least { OnOk result (raised meter.old (ended_nodes world.old key) ≤ meter.new) }
 {
     let Some(row) = world.store().source(key) else {
         return Ok(());

@@ -1,11 +1,13 @@
 //! What a Register-Stop and new RP ranges change of the tunnels (RFC 7761, section 4.4.1).
-ghost use Rattle.std.specs.Prelude.{◌≡◌, ◌==◌, IfOk, OnOk, filter, if◌then◌else◌, not, option_map};
+ghost use Rattle.std.specs.Prelude.{◌≡◌, ◌≤◌, ◌==◌, IfOk, OnOk, filter, if◌then◌else◌, not, option_map, sum_by};
 ghost use Rattle.pim_laws.specs.Rows.{all_changed};
 ghost use Rattle.pim_model.specs.Limits.{are_rps};
 ghost use Rattle.pim_model.specs.Registers.{register_stop_seen, state_after_stop};
 ghost use Rattle.pim_model.specs.Step.{rps_replaced};
 ghost use Rattle.pim_model.specs.Tables.{change_row, keys_in, same_option};
 ghost use Rattle.pim_register.specs.Tunnel.{is_rp_changed, joining, stopping};
+ghost use Rattle.pim_register.specs.Visits.{replaced_nodes, rps_nodes};
+ghost use Rattle.pim_world.specs.Visits.{raised};
 ghost use Rattle.pim_types.specs.Keys.{is_of_group};
 
 use pim_mrib::Mrib;
@@ -45,8 +47,9 @@ fn stopped(row: RegisterRow, end: u64) -> RegisterRow
 
 // Lets a register, if there is one, wait until the end, in ms, where it doesn't wait already.
 fn stop(world: &mut World, meter: &mut Meter, key: Key, end: u64) -> Result<(), AllocError>
-    ensures { OnOk result (world.new
+    ensures state { OnOk result (world.new
         ≡ record world.old { registers = change_row (stopping end) key world.old.registers }) }
+    ensures rises { OnOk result (meter.old ≤ meter.new) }
 {
     // It tells that their keys rise, so that the key stands once.
     world.recall_keyed();
@@ -60,8 +63,9 @@ fn stop(world: &mut World, meter: &mut Meter, key: Key, end: u64) -> Result<(), 
 
 // Lets these registers wait.
 fn stop_all(world: &mut World, meter: &mut Meter, keys: &[Key], end: u64) -> Result<(), AllocError>
-    ensures { OnOk result (world.new
+    ensures state { OnOk result (world.new
         ≡ record world.old { registers = all_changed (stopping end) world.old.registers keys.now }) }
+    ensures rises { OnOk result (meter.old ≤ meter.new) }
 {
     for key in keys {
         stop(world, meter, *key, end)?;
@@ -82,25 +86,22 @@ fn is_any(source: Addr) -> bool
 pub fn stop_seen(
     world: &mut World,
     turn: &mut Turn,
+    meter: &mut Meter,
     group: Addr,
     source: Addr,
 ) -> Result<(), AllocError>
     ensures state { OnOk result (world.new ≡ register_stop_seen world.old turn.old.draw group.bits source.bits) }
     ensures silent { turn.new ≡ turn.old }
+    ensures rises { OnOk result (meter.old ≤ meter.new) }
 {
     // It tells that each register is under the key of its source.
     world.recall_keyed();
     let end = world.present() + delay_in(LEAST_SUPPRESSION, MOST_SUPPRESSION, turn.draw);
     if is_any(source) {
         let keys = keys_of(world, turn, group)?;
-        return stop_all(world, &mut turn.meter, &keys, end);
+        return stop_all(world, meter, &keys, end);
     }
-    stop(
-        world,
-        &mut turn.meter,
-        Key::source(IfaceId::NONE, group, source),
-        end,
-    )
+    stop(world, meter, Key::source(IfaceId::NONE, group, source), end)
 }
 
 // Whether they aren't the same RP, nor both none.
@@ -115,15 +116,22 @@ fn is_other_rp(first: Option<Addr>, second: Option<Addr>) -> bool
 }
 
 // The keys of the registers whose RP is another one by the next table.
-fn keys_with_new_rp(world: &World, turn: &mut Turn, next: &Mrib) -> Result<Vec<Key>, AllocError>
+fn keys_with_new_rp(
+    world: &World,
+    turn: &mut Turn,
+    meter: &mut Meter,
+    next: &Mrib,
+) -> Result<Vec<Key>, AllocError>
     ensures keys { IfOk result (λ keys. keys.items
         ≡ keys_in (filter (λ e. is_rp_changed world.now next.now.ranges e.0) world.now.registers)) }
     ensures silent { turn.new ≡ turn.old }
+    ensures at_least { OnOk result (raised meter.old
+        (sum_by (rps_nodes world.now next.now.ranges) world.now.registers) ≤ meter.new) }
 {
     let mut keys = Vec::new(turn.alloc);
     for (key, _) in world.store().register_rows() {
-        let before = world.rp(key.group, &mut turn.meter);
-        let after = next.rp(key.group, &mut turn.meter);
+        let before = world.rp(key.group, meter);
+        let after = next.rp(key.group, meter);
         if is_other_rp(before, after) {
             keys.push(*key)?;
         }
@@ -133,8 +141,9 @@ fn keys_with_new_rp(world: &World, turn: &mut Turn, next: &Mrib) -> Result<Vec<K
 
 // Lets these registers begin anew.
 fn join_all(world: &mut World, meter: &mut Meter, keys: &[Key]) -> Result<(), AllocError>
-    ensures { OnOk result (world.new
+    ensures state { OnOk result (world.new
         ≡ record world.old { registers = all_changed joining world.old.registers keys.now }) }
+    ensures rises { OnOk result (meter.old ≤ meter.new) }
 {
     for key in keys {
         let row = RegisterRow {
@@ -146,16 +155,19 @@ fn join_all(world: &mut World, meter: &mut Meter, keys: &[Key]) -> Result<(), Al
 }
 
 /// Puts RP ranges that pass their test in the place of those there are: where the RP of a group becomes another one, its
-/// registers begin anew. An error is want of memory.
+/// registers begin anew. The meter rises by the nodes that the look-ups visit, at least those that lead to the RP of each
+/// register, by the old ranges and by the new. An error is want of memory.
 #[tactic(auto, unfolding(pim_model::specs::Step::rps_replaced))]
 pub fn rps_replaced(
     world: &mut World,
     turn: &mut Turn,
+    meter: &mut Meter,
     ranges: &[RpRange],
 ) -> Result<(), AllocError>
     ensures state { OnOk result (world.new
         ≡ (if are_rps ranges.now then rps_replaced world.old ranges.now else world.old)) }
     ensures silent { turn.new ≡ turn.old }
+    ensures at_least { OnOk result (raised meter.old (replaced_nodes world.old ranges.now) ≤ meter.new) }
 {
     let mut next = Mrib::new(turn.alloc);
     match next.replace_rps(ranges) {
@@ -163,7 +175,7 @@ pub fn rps_replaced(
         Ok(Err(_)) => return Ok(()),
         Err(_) => return Err(AllocError),
     }
-    let keys = keys_with_new_rp(world, turn, &next)?;
+    let keys = keys_with_new_rp(world, turn, meter, &next)?;
     world.take_ranges(next);
-    join_all(world, &mut turn.meter, &keys)
+    join_all(world, meter, &keys)
 }

@@ -23,3 +23,4 @@ mod Packets
 mod Plans
 mod Touching
 mod Tunnelled
+mod Visited

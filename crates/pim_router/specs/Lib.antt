@@ -8,3 +8,4 @@ pub mod Sending
 pub mod Settling
 pub mod Standing
 pub mod Stops
+pub mod Visits

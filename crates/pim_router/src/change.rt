@@ -1,5 +1,9 @@
 //! The own change of what was accepted.
-ghost use Rattle.std.specs.Prelude.{◌≡◌, ◌<◌, IfOk, OnOk};
+ghost use Rattle.std.specs.Prelude.{◌≡◌, ◌≤◌, ◌<◌, IfOk, OnOk};
+ghost use Rattle.pim_data.specs.Visits.{arrived_nodes};
+ghost use Rattle.pim_register.specs.Visits.{register_nodes};
+ghost use Rattle.pim_router.specs.Visits.{change_nodes};
+ghost use Rattle.pim_trie.specs.Meter.{raised};
 ghost use Rattle.pim_world.specs.Turns.{saying};
 ghost use Rattle.pim_model.specs.Forwarding.{forwarded, register_received};
 ghost use Rattle.pim_model.specs.Registers.{is_null, registered_group, registered_source};
@@ -21,7 +25,7 @@ use pim_register::register_seen;
 use pim_types::IfaceId;
 use pim_types::fact::InterfaceRow;
 use pim_wire::RegisterView;
-use pim_world::{Turn, World};
+use pim_world::{Meter, Turn, World};
 use std::alloc::AllocError;
 
 // The interface announces itself, and asks who is there.
@@ -44,33 +48,38 @@ fn go_up(world: &mut World, turn: &mut Turn, iface: IfaceId) -> Result<(), Alloc
 fn forward(
     world: &mut World,
     turn: &mut Turn,
+    meter: &mut Meter,
     iface: IfaceId,
     packet: &Ipv4View<'_>,
     sight: SourceSight,
 ) -> Result<Leaving, AllocError>
     requires below { iface.number < 120 }
     requires sight { IsSightOf world.old packet.now.destination packet.now.source sight }
-    ensures { IfOk result (λ leaving. Sends leaving world.new turn.old turn.new (packet_forwarded packet.now
+    ensures sends { IfOk result (λ leaving. Sends leaving world.new turn.old turn.new (packet_forwarded packet.now
         (forwarded world.old packet.now.destination packet.now.source iface.number))) }
+    ensures at_least { OnOk result (raised meter.old
+        (arrived_nodes world.old packet.now.destination packet.now.source iface.number) ≤ meter.new) }
 {
-    let list = arrived(world, turn, iface, sight)?;
-    leave(world, turn, packet, list)
+    let list = arrived(world, turn, meter, iface, sight)?;
+    leave(world, turn, meter, packet, list)
 }
 
 // The packet in a Register goes on.
 fn decapsulate(
     world: &mut World,
     turn: &mut Turn,
+    meter: &mut Meter,
     packet: &Ipv4View<'_>,
     register: &RegisterView<'_>,
 ) -> Result<Leaving, AllocError>
-    ensures { IfOk result (λ leaving. Sends leaving world.new turn.old turn.new (decapsulated register.now
+    ensures sends { IfOk result (λ leaving. Sends leaving world.new turn.old turn.new (decapsulated register.now
         (register_received world.old packet.now (registered_group register.now) (registered_source register.now)
         (is_null register.now)))) }
+    ensures at_least { OnOk result (raised meter.old (register_nodes world.old packet.now register.now) ≤ meter.new) }
 {
-    let list = register_seen(world, turn, packet, register)?;
+    let list = register_seen(world, turn, meter, packet, register)?;
     match register.inner() {
-        Some(inner) => leave(world, turn, inner, list),
+        Some(inner) => leave(world, turn, meter, inner, list),
         None => Ok(Leaving::nothing(turn.alloc)),
     }
 }
@@ -104,21 +113,25 @@ impl Means {
 pub(crate) fn apply(
     world: &mut World,
     turn: &mut Turn,
+    meter: &mut Meter,
     accepted: &Accepted<'_>,
     means: &Means,
 ) -> Result<Leaving, AllocError>
     requires configured { IsConfigured world.old accepted.now }
     requires means { Supplies world.old accepted.now means.now }
-    ensures { IfOk result (λ leaving. Sends leaving world.new turn.old turn.new
+    ensures sends { IfOk result (λ leaving. Sends leaving world.new turn.old turn.new
         (change world.old turn.old.draw accepted.now)) }
+    ensures at_least { OnOk result (raised meter.old (change_nodes world.old accepted.now) ≤ meter.new) }
 {
     match accepted {
         Accepted::Data { iface, packet } => {
             // It tells that the interface is below 120.
             world.interfaces().recall_few();
-            forward(world, turn, *iface, packet, means.sight())
+            forward(world, turn, meter, *iface, packet, means.sight())
         }
-        Accepted::Register { packet, register } => decapsulate(world, turn, packet, register),
+        Accepted::Register { packet, register } => decapsulate(
+            world, turn, meter, packet, register,
+        ),
         Accepted::Advance { .. }
         | Accepted::Up { .. }
         | Accepted::Down { .. }
@@ -131,7 +144,7 @@ pub(crate) fn apply(
         | Accepted::Query { .. }
         | Accepted::Report { .. }
         | Accepted::RegisterStop { .. } => {
-            apply_without_packet(world, turn, accepted, means)?;
+            apply_without_packet(world, turn, meter, accepted, means)?;
             Ok(Leaving::nothing(turn.alloc))
         }
     }
@@ -142,6 +155,7 @@ pub(crate) fn apply(
 fn apply_without_packet(
     world: &mut World,
     turn: &mut Turn,
+    meter: &mut Meter,
     accepted: &Accepted<'_>,
     means: &Means,
 ) -> Result<(), AllocError>
@@ -150,25 +164,28 @@ fn apply_without_packet(
     requires means { Supplies world.old accepted.now means.now }
     ensures state { OnOk result (world.new ≡ (change world.old turn.old.draw accepted.now).state) }
     ensures messages { OnOk result (turn.new ≡ saying turn.old (change world.old turn.old.draw accepted.now).messages) }
+    ensures at_least { OnOk result (raised meter.old (change_nodes world.old accepted.now) ≤ meter.new) }
 {
     match accepted {
         Accepted::Up { iface } => go_up(world, turn, *iface),
         Accepted::Down { iface } => {
-            world.set_down(*iface, &mut turn.meter);
+            world.set_down(*iface, meter);
             Ok(())
         }
         Accepted::Routes { routes } => world.replace_routes(routes.as_slice()),
-        Accepted::Rps { ranges } => { pim_register::rps_replaced(world, turn, ranges.as_slice()) }
+        Accepted::Rps { ranges } => {
+            pim_register::rps_replaced(world, turn, meter, ranges.as_slice())
+        }
         Accepted::Hello { iface, from, hello } => {
-            pim_hello::received(world, turn, *iface, *from, hello)
+            pim_hello::received(world, turn, meter, *iface, *from, hello)
         }
         Accepted::JoinPruneToMe { iface, message } => {
             // It tells that the interface is below 120.
             world.interfaces().recall_few();
-            to_me(world, turn, *iface, message.holdtime(), means.keys())
+            to_me(world, turn, meter, *iface, message.holdtime(), means.keys())
         }
         Accepted::JoinPruneSeen { iface, message } => {
-            pim_upstream::seen(world, turn, *iface, message, means.keys())
+            pim_upstream::seen(world, turn, meter, *iface, message, means.keys())
         }
         Accepted::Assert {
             iface,
@@ -176,18 +193,18 @@ fn apply_without_packet(
             assert,
         } => {
             world.interfaces().recall_few();
-            pim_asserts::received(world, turn, *iface, *from, assert)
+            pim_asserts::received(world, turn, meter, *iface, *from, assert)
         }
         Accepted::Query { iface, from, query } => {
-            pim_querier::query_seen(world, turn, *iface, *from, query)
+            pim_querier::query_seen(world, turn, meter, *iface, *from, query)
         }
         Accepted::Report { iface, report } => {
             // It tells that the interface is below 120.
             world.interfaces().recall_few();
-            pim_querier::report_seen(world, turn, *iface, report)
+            pim_querier::report_seen(world, turn, meter, *iface, report)
         }
         Accepted::RegisterStop { stop, .. } => {
-            pim_register::stop_seen(world, turn, stop.group, stop.source)
+            pim_register::stop_seen(world, turn, meter, stop.group, stop.source)
         }
         // Time passes by itself, in `advance`.
         Accepted::Advance { .. } => Ok(()),

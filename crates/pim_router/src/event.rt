@@ -23,6 +23,8 @@ ghost use Rattle.pim_router.specs.Naming.{IsConfigured};
 ghost use Rattle.pim_router.specs.Planning.{Fits};
 ghost use Rattle.pim_router.specs.Settling.{AreNames};
 ghost use Rattle.pim_router.specs.Stops.{stop_outcome};
+ghost use Rattle.pim_router.specs.Visits.{taken_nodes};
+ghost use Rattle.pim_trie.specs.Meter.{raised};
 
 use crate::change::apply;
 use crate::plain::take_plain;
@@ -40,7 +42,6 @@ use pim_trie::Meter;
 use pim_types::{Event, Fault, IfaceId, Outcome, Refusal, Series, Stop, Verdict};
 use pim_world::{Turn, World};
 use std::alloc::Global;
-use std::mem::replace;
 
 // The outcome of an event that changes nothing.
 fn stopped(alloc: Global, stop: Stop) -> Outcome
@@ -68,6 +69,7 @@ struct Changed {
 fn change_world(
     world: &mut World,
     turn: &mut Turn,
+    meter: &mut Meter,
     accepted: &Accepted<'_>,
     plan: &Plan,
 ) -> Result<Changed, Fault>
@@ -81,18 +83,19 @@ fn change_world(
     ensures names { IfOk result (λ changed. AreNames world.old (change world.old turn.old.draw accepted.now).state
         (keys_of changed.names)) }
     ensures fault { IsOkUnless result Fault.Memory }
+    ensures at_least { OnOk result (raised meter.old (taken_nodes world.old plan.now.touched accepted.now) ≤ meter.new) }
 {
-    let opening = Opening::of(world, turn.alloc, &plan.touched, &mut turn.meter)?;
-    let before = Before::of(world, turn, &plan.touched)?;
+    let opening = Opening::of(world, turn.alloc, &plan.touched, meter)?;
+    let before = Before::of(world, turn.alloc, meter, &plan.touched)?;
     let Leaving {
         mut copies,
         mut registered,
-    } = apply(world, turn, accepted, &plan.means)?;
+    } = apply(world, turn, meter, accepted, &plan.means)?;
     // It tells that asserts, sources and registers are under keys of their kind.
     world.recall_keyed();
     let count = copies.len() as u32;
     let mut emissions = Vec::new(turn.alloc);
-    let names = settle(world, turn, &opening, &before, &mut emissions)?;
+    let names = settle(world, turn, meter, &opening, &before, &mut emissions)?;
     emissions.append(&mut copies)?;
     emissions.append(&mut registered)?;
     let outcome = Outcome {
@@ -108,6 +111,7 @@ fn take_change(
     world: &mut World,
     cache: &mut Cache,
     turn: &mut Turn,
+    meter: &mut Meter,
     accepted: &Accepted<'_>,
     plan: &Plan,
 ) -> Result<Outcome, Fault>
@@ -123,11 +127,12 @@ fn take_change(
     ensures few { OnOk result (touches cache.new
         ≤ touches cache.old + 2 * length (named_of world.old turn.old.draw accepted.now)) }
     ensures fault { IsOkUnless result Fault.Memory }
+    ensures at_least { OnOk result (raised meter.old (taken_nodes world.old plan.now.touched accepted.now) ≤ meter.new) }
 {
     // It tells that there are at most 120 interfaces.
     world.interfaces().recall_few();
-    let Changed { outcome, names } = change_world(world, turn, accepted, plan)?;
-    cache.refresh(world, &mut turn.meter, names.as_slice())?;
+    let Changed { outcome, names } = change_world(world, turn, meter, accepted, plan)?;
+    cache.refresh(world, meter, names.as_slice())?;
     Ok(outcome)
 }
 
@@ -137,6 +142,7 @@ fn take_unless_full(
     world: &mut World,
     cache: &mut Cache,
     turn: &mut Turn,
+    meter: &mut Meter,
     accepted: &Accepted<'_>,
 ) -> Result<Outcome, Fault>
     requires rest { IsAtRest world.old }
@@ -149,12 +155,13 @@ fn take_unless_full(
     ensures few { OnOk result (touches cache.new ≤ touches cache.old
         + 2 * length (where_accepted world.old (named_of world.old turn.old.draw) (Ok accepted.now))) }
     ensures fault { IsOkUnless result Fault.Memory }
+    ensures rises { OnOk result (meter.old ≤ meter.new) }
 {
     if let Accepted::Advance { moment } = accepted {
-        return advance(world, cache, turn, *moment);
+        return advance(world, cache, turn, meter, *moment);
     }
-    match planned(world, turn, accepted)? {
-        Some(plan) => take_change(world, cache, turn, accepted, &plan),
+    match planned(world, turn, meter, accepted)? {
+        Some(plan) => take_change(world, cache, turn, meter, accepted, &plan),
         None => Ok(stopped(turn.alloc, Stop::Refuse(Refusal::Full))),
     }
 }
@@ -177,11 +184,10 @@ fn take_turn(
     ensures shown { OnOk result (ShowsRows cache.new.mfc.rows (cached world.new)) }
     ensures few { OnOk result (touches cache.new ≤ touches cache.old + 2 * length (event_named world.old event.now)) }
     ensures fault { IsOkUnless result Fault.Memory }
+    ensures rises { OnOk result (meter.old ≤ meter.new) }
 {
-    let mut turn = Turn::new(alloc, event.draw, replace(meter, Meter::new()));
-    let outcome = take_unless_full(world, cache, &mut turn, accepted);
-    *meter = turn.meter;
-    outcome
+    let mut turn = Turn::new(alloc, event.draw);
+    take_unless_full(world, cache, &mut turn, meter, accepted)
 }
 
 // What the row of its source decides of a packet of data.
@@ -194,6 +200,7 @@ fn by_row(
     ensures decided { ForwardsAs result (decided cache.now.mfc packet.now.destination packet.now.source iface.number
         packet.now.time_to_live) }
     ensures visited { meter.old ≡ 0 → has_row cache.now.mfc.rows (fact_key packet.now) ≡ true → IsWithinPath meter.new }
+    ensures rises { meter.old ≤ meter.new }
 {
     cache.mfc().forward(
         packet.destination(),
@@ -227,6 +234,7 @@ fn take_data(
     ensures shown { OnOk result (ShowsRows cache.new.mfc.rows (cached world.new)) }
     ensures cheap { OnOk result (IsCheap world.old event.now meter.new (touches cache.new)) }
     ensures fault { IsOkUnless result Fault.Memory }
+    ensures rises { OnOk result (meter.old ≤ meter.new) }
 {
     match by_row(cache, iface, packet, meter) {
         Some(forward) => take_plain(alloc, world, packet, forward, meter),
@@ -253,6 +261,7 @@ fn take_other(
     ensures shown { OnOk result (ShowsRows cache.new.mfc.rows (cached world.new)) }
     ensures cheap { OnOk result (IsCheap world.old event.now meter.new (touches cache.new)) }
     ensures fault { IsOkUnless result Fault.Memory }
+    ensures rises { OnOk result (meter.old ≤ meter.new) }
 {
     take_turn(alloc, world, cache, event, accepted, meter)
 }
@@ -276,6 +285,7 @@ fn take_accepted(
     ensures shown { OnOk result (ShowsRows cache.new.mfc.rows (cached world.new)) }
     ensures cheap { OnOk result (IsCheap world.old event.now meter.new (touches cache.new)) }
     ensures fault { IsOkUnless result Fault.Memory }
+    ensures rises { OnOk result (meter.old ≤ meter.new) }
 {
     match accepted {
         Accepted::Data { iface, packet } => {

@@ -1,13 +1,17 @@
 //! What is planned of an event before its change: whether there is room for the facts that it names, what its change
 //! touches, and what that needs. Each kind of event says all three in one place.
-ghost use Rattle.std.specs.Prelude.{◌≡◌, ◌∷◌, [], IfOk, filter, not};
+ghost use Rattle.std.specs.Prelude.{◌≡◌, ◌≤◌, ◌∷◌, [], IfOk, IfSome, OnOk, filter, not};
 ghost use Rattle.pim_types.specs.Keys.{is_star, source_key};
 ghost use Rattle.pim_model.specs.Registers.{registered_group, registered_source};
 ghost use Rattle.pim_model.specs.declared.accepted.Accepted.{Accepted as AcceptedValue};
 ghost use Rattle.pim_locality.specs.Rest.{IsAtRest};
 ghost use Rattle.pim_locality.specs.Touches.{packet_keys};
 ghost use Rattle.pim_macros.specs.Sights.{IsSourceSight};
+ghost use Rattle.pim_downstream.specs.Visits.{named_nodes};
+ghost use Rattle.pim_mrib.specs.Routes.{rp_nodes};
 ghost use Rattle.pim_router.specs.Planning.{IsPlanned, IsSightOf};
+ghost use Rattle.pim_router.specs.Visits.{data_plan_nodes, routes_nodes, rps_nodes, where_told};
+ghost use Rattle.pim_trie.specs.Meter.{raised};
 
 use crate::rerouted::{touched_by_routes, touched_by_rps};
 use igmp_wire::{QueryView, ReportView};
@@ -18,7 +22,7 @@ use pim_model::Accepted;
 use pim_register::source_is_full;
 use pim_types::{Addr, IfaceId, Key, Route, RpRange, Series};
 use pim_wire::{Assert, Hello, JoinPruneView, RegisterStop, RegisterView};
-use pim_world::{Touched, Turn, World};
+use pim_world::{Meter, Touched, Turn, World};
 use std::alloc::{AllocError, Global};
 
 /// What the change of an event needs beside the event.
@@ -99,14 +103,15 @@ fn plan_hello(world: &World, turn: &Turn, iface: IfaceId, from: Addr, hello: &He
 // A Join/Prune to the router touches all keys that it names.
 fn plan_join_prune(
     world: &World,
-    turn: &mut Turn,
+    turn: &Turn,
+    meter: &mut Meter,
     iface: IfaceId,
     message: &JoinPruneView<'_>,
 ) -> Result<Option<Plan>, AllocError>
     ensures plan { IfOk result (λ plan. IsPlanned world.now (AcceptedValue.JoinPruneToMe iface message.now) plan) }
-    ensures silent { turn.new ≡ turn.old }
+    ensures at_least { OnOk result (raised meter.old (named_nodes world.now message.now) ≤ meter.new) }
 {
-    let named = Named::of(world, turn, iface, message)?;
+    let named = Named::of(world, turn, meter, iface, message)?;
     if pim_downstream::is_full(world, turn, message.holdtime(), &named)? {
         return Ok(None);
     }
@@ -119,14 +124,15 @@ fn plan_join_prune(
 // prunes.
 fn plan_seen(
     world: &World,
-    turn: &mut Turn,
+    turn: &Turn,
+    meter: &mut Meter,
     iface: IfaceId,
     message: &JoinPruneView<'_>,
 ) -> Result<Option<Plan>, AllocError>
     ensures plan { IfOk result (λ plan. IsPlanned world.now (AcceptedValue.JoinPruneSeen iface message.now) plan) }
-    ensures silent { turn.new ≡ turn.old }
+    ensures at_least { OnOk result (raised meter.old (named_nodes world.now message.now) ≤ meter.new) }
 {
-    let named = Named::of(world, turn, iface, message)?;
+    let named = Named::of(world, turn, meter, iface, message)?;
     let touched = Touched::Keys(of_sources(turn.alloc, &named.pruned)?);
     let means = Means::Keys(named);
     Ok(Some(Plan { touched, means }))
@@ -205,19 +211,20 @@ fn packet_keys(
 // A packet of data goes by the sight of its source.
 fn plan_data(
     world: &World,
-    turn: &mut Turn,
+    turn: &Turn,
+    meter: &mut Meter,
     iface: IfaceId,
     packet: &Ipv4View<'_>,
 ) -> Result<Option<Plan>, AllocError>
     ensures plan { IfOk result (λ plan. IsPlanned world.now (AcceptedValue.Data iface packet.now) plan) }
-    ensures silent { turn.new ≡ turn.old }
+    ensures at_least { OnOk result (raised meter.old (data_plan_nodes world.now packet.now) ≤ meter.new) }
 {
     let (group, source) = (packet.destination(), packet.source());
     if source_is_full(world, group, source) {
         return Ok(None);
     }
-    let star = StarSight::of(world, group, &mut turn.meter);
-    let sight = SourceSight::of(world, star, source, &mut turn.meter);
+    let star = StarSight::of(world, group, meter);
+    let sight = SourceSight::of(world, star, source, meter);
     let touched = Touched::Keys(packet_keys(world, turn.alloc, iface, &sight)?);
     let means = Means::Sight(sight);
     Ok(Some(Plan { touched, means }))
@@ -233,14 +240,15 @@ fn registered_key(register: &RegisterView<'_>) -> Key
 // A Register touches the source of its packet.
 fn plan_register(
     world: &World,
-    turn: &mut Turn,
+    turn: &Turn,
+    meter: &mut Meter,
     packet: &Ipv4View<'_>,
     register: &RegisterView<'_>,
 ) -> Result<Option<Plan>, AllocError>
     ensures plan { IfOk result (λ plan. IsPlanned world.now (AcceptedValue.Register packet.now register.now) plan) }
-    ensures silent { turn.new ≡ turn.old }
+    ensures at_least { OnOk result (raised meter.old (rp_nodes world.now.ranges (registered_group register.now)) ≤ meter.new) }
 {
-    if pim_register::is_full(world, turn, packet, register) {
+    if pim_register::is_full(world, meter, packet, register) {
         return Ok(None);
     }
     let keys = only(turn.alloc, registered_key(register))?;
@@ -264,21 +272,35 @@ fn plan_stop(
 }
 
 // New routes touch what they move, and make no facts.
-fn plan_routes(world: &World, turn: &mut Turn, routes: &[Route]) -> Result<Option<Plan>, AllocError>
+fn plan_routes(
+    world: &World,
+    turn: &Turn,
+    meter: &mut Meter,
+    routes: &[Route],
+) -> Result<Option<Plan>, AllocError>
     ensures plan { IfOk result (λ plan. IsPlanned world.now (AcceptedValue.Routes routes.now) plan) }
-    ensures silent { turn.new ≡ turn.old }
+    ensures at_least { IfOk result (λ plan. IfSome plan (λ plan.
+        raised meter.old (where_told plan.touched (routes_nodes world.now routes.now)) ≤ meter.new)) }
+    ensures rises { OnOk result (meter.old ≤ meter.new) }
 {
-    let touched = touched_by_routes(world, turn, routes)?;
+    let touched = touched_by_routes(world, turn.alloc, meter, routes)?;
     let means = Means::Nothing;
     Ok(Some(Plan { touched, means }))
 }
 
 // So do new RP ranges.
-fn plan_rps(world: &World, turn: &mut Turn, ranges: &[RpRange]) -> Result<Option<Plan>, AllocError>
+fn plan_rps(
+    world: &World,
+    turn: &Turn,
+    meter: &mut Meter,
+    ranges: &[RpRange],
+) -> Result<Option<Plan>, AllocError>
     ensures plan { IfOk result (λ plan. IsPlanned world.now (AcceptedValue.Rps ranges.now) plan) }
-    ensures silent { turn.new ≡ turn.old }
+    ensures at_least { IfOk result (λ plan. IfSome plan (λ plan.
+        raised meter.old (where_told plan.touched (rps_nodes world.now ranges.now)) ≤ meter.new)) }
+    ensures rises { OnOk result (meter.old ≤ meter.new) }
 {
-    let touched = touched_by_rps(world, turn, ranges)?;
+    let touched = touched_by_rps(world, turn.alloc, meter, ranges)?;
     let means = Means::Nothing;
     Ok(Some(Plan { touched, means }))
 }
@@ -287,22 +309,27 @@ fn plan_rps(world: &World, turn: &mut Turn, ranges: &[RpRange]) -> Result<Option
 /// names.
 pub(crate) fn planned(
     world: &World,
-    turn: &mut Turn,
+    turn: &Turn,
+    meter: &mut Meter,
     accepted: &Accepted<'_>,
 ) -> Result<Option<Plan>, AllocError>
     requires { IsAtRest world.now }
     ensures plan { IfOk result (λ plan. IsPlanned world.now accepted.now plan) }
-    ensures silent { turn.new ≡ turn.old }
+    ensures rises { OnOk result (meter.old ≤ meter.new) }
 {
     match accepted {
         Accepted::Advance { .. } | Accepted::Up { .. } | Accepted::Down { .. } => {
             Ok(Some(Plan::of_all()))
         }
-        Accepted::Routes { routes } => plan_routes(world, turn, routes.as_slice()),
-        Accepted::Rps { ranges } => plan_rps(world, turn, ranges.as_slice()),
+        Accepted::Routes { routes } => plan_routes(world, turn, meter, routes.as_slice()),
+        Accepted::Rps { ranges } => plan_rps(world, turn, meter, ranges.as_slice()),
         Accepted::Hello { iface, from, hello } => Ok(plan_hello(world, turn, *iface, *from, hello)),
-        Accepted::JoinPruneToMe { iface, message } => plan_join_prune(world, turn, *iface, message),
-        Accepted::JoinPruneSeen { iface, message } => plan_seen(world, turn, *iface, message),
+        Accepted::JoinPruneToMe { iface, message } => plan_join_prune(
+            world, turn, meter, *iface, message,
+        ),
+        Accepted::JoinPruneSeen { iface, message } => plan_seen(
+            world, turn, meter, *iface, message,
+        ),
         Accepted::Assert {
             iface,
             from,
@@ -312,8 +339,10 @@ pub(crate) fn planned(
             Ok(plan_query(world, turn, *iface, *from, query))
         }
         Accepted::Report { iface, report } => plan_report(world, turn, *iface, report),
-        Accepted::Data { iface, packet } => plan_data(world, turn, *iface, packet),
-        Accepted::Register { packet, register } => plan_register(world, turn, packet, register),
+        Accepted::Data { iface, packet } => plan_data(world, turn, meter, *iface, packet),
+        Accepted::Register { packet, register } => plan_register(
+            world, turn, meter, packet, register,
+        ),
         Accepted::RegisterStop { from, stop } => plan_stop(world, turn, *from, stop),
     }
 }

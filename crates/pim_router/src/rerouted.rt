@@ -1,20 +1,22 @@
 //! Which keys new routes, or new RP ranges, touch: those of what they move, of which there are facts. The new ones stand
 //! in a table of their own, beside those there are.
 ghost use Rattle.std.specs.List.{flat_map};
-ghost use Rattle.std.specs.Prelude.{◌≡◌, ◌++◌, IfOk, IfSome, OnOk, filter, map, not};
+ghost use Rattle.std.specs.Prelude.{◌≡◌, ◌≤◌, ◌++◌, IfOk, IfSome, OnOk, filter, map, not, sum_by};
 ghost use Rattle.pim_types.specs.Keys.{source_key, star_key};
 ghost use Rattle.pim_model.specs.Rows.{same_both, same_path};
 ghost use Rattle.pim_model.specs.Step.{rps_replaced};
 ghost use Rattle.pim_model.specs.Unicast.{route};
 ghost use Rattle.pim_reach.specs.Moved.{keys_by_routes, keys_by_rps, moved_of_group};
 ghost use Rattle.pim_reach.specs.Named.{has_same_rp};
+ghost use Rattle.pim_trie.specs.Meter.{raised};
 ghost use Rattle.pim_world.specs.Groups.{numbers_of};
 ghost use Rattle.pim_router.specs.OtherRoutes.{IsTouched, has_other_route, has_other_rp, with_routes};
+ghost use Rattle.pim_router.specs.Visits.{both_routes_nodes, both_rps_nodes, moved_group_nodes, moved_nodes, routes_nodes, rps_nodes, where_told};
 
 use pim_fanout::{is_same_address, is_same_path};
 use pim_mrib::Mrib;
 use pim_types::{Addr, IfaceId, Key, Route, RpRange, Series};
-use pim_world::{Touched, Turn, World};
+use pim_world::{Meter, Touched, World};
 use std::alloc::{AllocError, Global};
 use std::collections::BTreeMap;
 
@@ -48,41 +50,41 @@ fn table_of_ranges(alloc: Global, ranges: &[RpRange]) -> Result<Option<Mrib>, Al
 
 // Whether the address has another route in the new table.
 #[tactic(auto, unfolding(pim_model::specs::Unicast::route))]
-fn has_other_route(world: &World, turn: &mut Turn, next: &Mrib, address: Addr) -> bool
+fn has_other_route(world: &World, meter: &mut Meter, next: &Mrib, address: Addr) -> bool
     ensures moved { result ≡ has_other_route world.now (with_routes world.now next.now.routes) address.bits }
-    ensures silent { turn.new ≡ turn.old }
+    ensures at_least { raised meter.old (both_routes_nodes world.now next.now.routes address.bits) ≤ meter.new }
 {
-    let before = world.route(address, &mut turn.meter);
-    let after = next.route(world.interfaces(), address, &mut turn.meter);
+    let before = world.route(address, meter);
+    let after = next.route(world.interfaces(), address, meter);
     !is_same_path(before, after)
 }
 
 // Whether the RP of the group has another route in the new table.
-fn is_group_moved(world: &World, turn: &mut Turn, next: &Mrib, group: Addr) -> bool
+fn is_group_moved(world: &World, meter: &mut Meter, next: &Mrib, group: Addr) -> bool
     ensures moved { result ≡ not (has_same_rp group.bits world.now (with_routes world.now next.now.routes)) }
-    ensures silent { turn.new ≡ turn.old }
+    ensures at_least { raised meter.old (moved_group_nodes world.now next.now.routes group.bits) ≤ meter.new }
 {
-    match world.rp(group, &mut turn.meter) {
-        Some(rp) => has_other_route(world, turn, next, rp),
+    match world.rp(group, meter) {
+        Some(rp) => has_other_route(world, meter, next, rp),
         None => false,
     }
 }
 
 // Whether the group has another RP by the new ranges.
 #[tactic(auto, unfolding(pim_model::specs::Unicast::rp_of, pim_model::specs::Step::rps_replaced))]
-fn has_other_rp(world: &World, turn: &mut Turn, next: &Mrib, group: Addr) -> bool
+fn has_other_rp(world: &World, meter: &mut Meter, next: &Mrib, group: Addr) -> bool
     ensures moved { result ≡ has_other_rp world.now (rps_replaced world.now next.now.ranges) group.bits }
-    ensures silent { turn.new ≡ turn.old }
+    ensures at_least { raised meter.old (both_rps_nodes world.now next.now.ranges group.bits) ≤ meter.new }
 {
-    let before = world.rp(group, &mut turn.meter);
-    let after = next.rp(group, &mut turn.meter);
+    let before = world.rp(group, meter);
+    let after = next.rp(group, meter);
     !is_same_address(before, after)
 }
 
 // Puts those of the sources of a group that have another route behind other keys.
 fn put_sources(
     world: &World,
-    turn: &mut Turn,
+    meter: &mut Meter,
     next: &Mrib,
     group: Addr,
     sources: &BTreeMap<Addr, (), Global>,
@@ -90,10 +92,11 @@ fn put_sources(
 ) -> Result<(), AllocError>
     ensures keys { OnOk result (keys.new.items ≡ keys.old.items ++ map (source_key 0 group.bits)
         (filter (has_other_route world.now (with_routes world.now next.now.routes)) (numbers_of sources.now.entries))) }
-    ensures silent { turn.new ≡ turn.old }
+    ensures at_least { OnOk result (raised meter.old
+        (sum_by (both_routes_nodes world.now next.now.routes) (numbers_of sources.now.entries)) ≤ meter.new) }
 {
     for (source, ()) in sources.iter() {
-        if has_other_route(world, turn, next, *source) {
+        if has_other_route(world, meter, next, *source) {
             keys.push(Key::source(IfaceId::NONE, group, *source))?;
         }
     }
@@ -104,37 +107,40 @@ fn put_sources(
 // source with any fact that has one.
 fn put_group(
     world: &World,
-    turn: &mut Turn,
+    alloc: Global,
+    meter: &mut Meter,
     next: &Mrib,
     group: Addr,
     keys: &mut Vec<Key>,
 ) -> Result<(), AllocError>
     ensures keys { OnOk result (keys.new.items ≡ keys.old.items
         ++ moved_of_group world.now (with_routes world.now next.now.routes) group.bits) }
-    ensures silent { turn.new ≡ turn.old }
+    ensures at_least { OnOk result (raised meter.old (moved_nodes world.now next.now.routes group.bits) ≤ meter.new) }
 {
-    if is_group_moved(world, turn, next, group) {
+    if is_group_moved(world, meter, next, group) {
         keys.push(Key::group(group))?;
         return Ok(());
     }
-    let sources = world.sources(turn.alloc, group, &mut turn.meter)?;
-    put_sources(world, turn, next, group, &sources, keys)
+    let sources = world.sources(alloc, group, meter)?;
+    put_sources(world, meter, next, group, &sources, keys)
 }
 
 // The keys of what the new routes move of these groups.
 fn keys_of_groups(
     world: &World,
-    turn: &mut Turn,
+    alloc: Global,
+    meter: &mut Meter,
     next: &Mrib,
     groups: &BTreeMap<Addr, (), Global>,
 ) -> Result<Series<Key>, AllocError>
     ensures keys { IfOk result (λ keys. keys
         ≡ flat_map (moved_of_group world.now (with_routes world.now next.now.routes)) (numbers_of groups.now.entries)) }
-    ensures silent { turn.new ≡ turn.old }
+    ensures at_least { OnOk result (raised meter.old
+        (sum_by (moved_nodes world.now next.now.routes) (numbers_of groups.now.entries)) ≤ meter.new) }
 {
-    let mut keys = Vec::new(turn.alloc);
+    let mut keys = Vec::new(alloc);
     for (group, ()) in groups.iter() {
-        put_group(world, turn, next, *group, &mut keys)?;
+        put_group(world, alloc, meter, next, *group, &mut keys)?;
     }
     Ok(Series::from_vec(keys))
 }
@@ -142,17 +148,19 @@ fn keys_of_groups(
 // The keys of those of these groups that have another RP by the new ranges.
 fn keys_with_other_rp(
     world: &World,
-    turn: &mut Turn,
+    alloc: Global,
+    meter: &mut Meter,
     next: &Mrib,
     groups: &BTreeMap<Addr, (), Global>,
 ) -> Result<Series<Key>, AllocError>
     ensures keys { IfOk result (λ keys. keys ≡ map (star_key 0)
         (filter (has_other_rp world.now (rps_replaced world.now next.now.ranges)) (numbers_of groups.now.entries))) }
-    ensures silent { turn.new ≡ turn.old }
+    ensures at_least { OnOk result (raised meter.old
+        (sum_by (both_rps_nodes world.now next.now.ranges) (numbers_of groups.now.entries)) ≤ meter.new) }
 {
-    let mut keys = Vec::new(turn.alloc);
+    let mut keys = Vec::new(alloc);
     for (group, ()) in groups.iter() {
-        if has_other_rp(world, turn, next, *group) {
+        if has_other_rp(world, meter, next, *group) {
             keys.push(Key::group(*group))?;
         }
     }
@@ -160,38 +168,43 @@ fn keys_with_other_rp(
 }
 
 /// What new routes touch: the groups with any fact whose RP has another route, and of the other groups the sources with any
-/// fact that have one. All may be touched by routes that the router doesn't take.
+/// fact that have one. All may be touched by routes that the router doesn't take. The meter rises by the nodes that the look-ups
+/// visit, at least those of the RP of each group and of the routes that are compared.
 pub(crate) fn touched_by_routes(
     world: &World,
-    turn: &mut Turn,
+    alloc: Global,
+    meter: &mut Meter,
     routes: &[Route],
 ) -> Result<Touched, AllocError>
     ensures touched { IfOk result (λ touched. IsTouched touched (keys_by_routes world.now (with_routes world.now routes.now))) }
-    ensures silent { turn.new ≡ turn.old }
+    ensures at_least { IfOk result (λ touched. raised meter.old (where_told touched (routes_nodes world.now routes.now)) ≤ meter.new) }
+    ensures rises { OnOk result (meter.old ≤ meter.new) }
 {
-    match table_of_routes(world, turn.alloc, routes)? {
+    match table_of_routes(world, alloc, routes)? {
         Some(next) => {
-            let groups = world.groups(turn.alloc)?;
-            Ok(Touched::Keys(keys_of_groups(world, turn, &next, &groups)?))
+            let groups = world.groups(alloc)?;
+            Ok(Touched::Keys(keys_of_groups(world, alloc, meter, &next, &groups)?))
         }
         None => Ok(Touched::All),
     }
 }
 
 /// What new RP ranges touch: the groups with any fact that have another RP. All may be touched by ranges that the router
-/// doesn't take.
+/// doesn't take. The meter rises by the nodes that the look-ups visit, at least those of the RPs of each group.
 pub(crate) fn touched_by_rps(
     world: &World,
-    turn: &mut Turn,
+    alloc: Global,
+    meter: &mut Meter,
     ranges: &[RpRange],
 ) -> Result<Touched, AllocError>
     ensures touched { IfOk result (λ touched. IsTouched touched (keys_by_rps world.now (rps_replaced world.now ranges.now))) }
-    ensures silent { turn.new ≡ turn.old }
+    ensures at_least { IfOk result (λ touched. raised meter.old (where_told touched (rps_nodes world.now ranges.now)) ≤ meter.new) }
+    ensures rises { OnOk result (meter.old ≤ meter.new) }
 {
-    match table_of_ranges(turn.alloc, ranges)? {
+    match table_of_ranges(alloc, ranges)? {
         Some(next) => {
-            let groups = world.groups(turn.alloc)?;
-            Ok(Touched::Keys(keys_with_other_rp(world, turn, &next, &groups)?))
+            let groups = world.groups(alloc)?;
+            Ok(Touched::Keys(keys_with_other_rp(world, alloc, meter, &next, &groups)?))
         }
         None => Ok(Touched::All),
     }

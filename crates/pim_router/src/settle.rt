@@ -1,25 +1,34 @@
 //! What follows of an event's own change.
-ghost use Rattle.std.specs.Prelude.{◌≡◌, ◌++◌, ◌∷◌, [], IfOk, IsOkUnless, OnOk, false};
+ghost use Rattle.std.specs.Prelude.{◌≡◌, ◌≤◌, ◌++◌, ◌∷◌, [], IfOk, IsOkUnless, OnOk, false};
 ghost use Rattle.pim_fanout.specs.Named.{keys_of};
 ghost use Rattle.pim_ip.specs.declared.fault.Fault.{Fault};
+ghost use Rattle.pim_fanout.specs.Visits.{naming_nodes};
 ghost use Rattle.pim_router.specs.Settling.{AreNamed, cleared_by, followed_by, settled_by};
+ghost use Rattle.pim_router.specs.Visits.{cleared_nodes, followed_alone_nodes, followed_nodes};
+ghost use Rattle.pim_trie.specs.Meter.{raised};
 ghost use Rattle.pim_world.specs.Turns.{saying};
 
 use pim_fanout::{Before, SourceName, named};
 use pim_macros::{SourceSight, StarSight};
 use pim_opening::{GroupOpening, Opening, SourceOpening};
 use pim_types::{Emission, Fault, Series};
-use pim_world::{Turn, World};
+use pim_world::{Meter, Turn, World};
 use std::alloc::AllocError;
 
 // The registers are settled, then goes what must.
 #[tactic(auto, unfolding(crate::specs::Settling::cleared_by))]
-fn clear(world: &mut World, turn: &mut Turn, opening: &Opening) -> Result<(), AllocError>
+fn clear(
+    world: &mut World,
+    turn: &mut Turn,
+    meter: &mut Meter,
+    opening: &Opening,
+) -> Result<(), AllocError>
     ensures state { OnOk result (world.new ≡ (cleared_by opening.now world.old).0) }
     ensures messages { OnOk result (turn.new ≡ saying turn.old (cleared_by opening.now world.old).1) }
+    ensures at_least { OnOk result (raised meter.old (cleared_nodes opening.now world.old) ≤ meter.new) }
 {
-    pim_register::changed(world, turn, opening)?;
-    pim_asserts::clear(world, turn, opening)
+    pim_register::changed(world, meter, opening)?;
+    pim_asserts::clear(world, turn, meter, opening)
 }
 
 // What follows, group after group of the opening. It tells the sources whose rows of the forwarding cache are to be made
@@ -28,16 +37,18 @@ fn clear(world: &mut World, turn: &mut Turn, opening: &Opening) -> Result<(), Al
 fn follow_all(
     world: &mut World,
     turn: &mut Turn,
+    meter: &mut Meter,
     opening: &Opening,
     before: &Before,
 ) -> Result<Series<SourceName>, AllocError>
     ensures state { OnOk result (world.new ≡ (followed_by opening.now world.old turn.old.draw).0) }
     ensures messages { OnOk result (turn.new ≡ saying turn.old (followed_by opening.now world.old turn.old.draw).1) }
     ensures named { IfOk result (λ names. AreNamed before.now (cleared_by opening.now world.old).0 (keys_of names)) }
+    ensures at_least { OnOk result (raised meter.old (followed_nodes opening.now before.now world.old) ≤ meter.new) }
 {
-    clear(world, turn, opening)?;
-    let names = named(world, turn, before)?;
-    pim_upstream::changed(world, turn, opening)?;
+    clear(world, turn, meter, opening)?;
+    let names = named(world, turn.alloc, meter, before)?;
+    pim_upstream::changed(world, turn, meter, opening)?;
     Ok(names)
 }
 
@@ -46,6 +57,7 @@ fn follow_all(
 fn follow_source(
     world: &mut World,
     turn: &mut Turn,
+    meter: &mut Meter,
     group: &GroupOpening,
     opened: SourceOpening,
     before: &Before,
@@ -56,13 +68,14 @@ fn follow_source(
     ensures messages { OnOk result (turn.new
         ≡ saying turn.old (followed_by (group.now ∷ []) world.old turn.old.draw).1) }
     ensures named { IfOk result (λ names. AreNamed before.now (cleared_by (group.now ∷ []) world.old).0 (keys_of names)) }
+    ensures at_least { OnOk result (raised meter.old (followed_alone_nodes group.now opened before.now world.old) ≤ meter.new) }
 {
-    let star = StarSight::of(world, group.group, &mut turn.meter);
-    let mut sight = SourceSight::of(world, star, opened.source, &mut turn.meter);
-    pim_register::settle_register(world, &mut turn.meter, &mut sight)?;
-    pim_asserts::clear_alone(world, turn, group, opened, &mut sight)?;
-    let names = named(world, turn, before)?;
-    pim_upstream::changed_alone(world, turn, group, opened, &sight)?;
+    let star = StarSight::of(world, group.group, meter);
+    let mut sight = SourceSight::of(world, star, opened.source, meter);
+    pim_register::settle_register(world, meter, &mut sight)?;
+    pim_asserts::clear_alone(world, turn, meter, group, opened, &mut sight)?;
+    let names = named(world, turn.alloc, meter, before)?;
+    pim_upstream::changed_alone(world, turn, meter, group, opened, &sight)?;
     Ok(names)
 }
 
@@ -70,16 +83,18 @@ fn follow_source(
 fn follow(
     world: &mut World,
     turn: &mut Turn,
+    meter: &mut Meter,
     opening: &Opening,
     before: &Before,
 ) -> Result<Series<SourceName>, AllocError>
     ensures state { OnOk result (world.new ≡ (followed_by opening.now world.old turn.old.draw).0) }
     ensures messages { OnOk result (turn.new ≡ saying turn.old (followed_by opening.now world.old turn.old.draw).1) }
     ensures named { IfOk result (λ names. AreNamed before.now (cleared_by opening.now world.old).0 (keys_of names)) }
+    ensures at_least { OnOk result (raised meter.old (naming_nodes (cleared_by opening.now world.old).0 before.now) ≤ meter.new) }
 {
     match opening.only_source() {
-        Some((group, opened)) => follow_source(world, turn, group, opened, before),
-        None => follow_all(world, turn, opening, before),
+        Some((group, opened)) => follow_source(world, turn, meter, group, opened, before),
+        None => follow_all(world, turn, meter, opening, before),
     }
 }
 
@@ -89,6 +104,7 @@ fn follow(
 pub(crate) fn settle(
     world: &mut World,
     turn: &mut Turn,
+    meter: &mut Meter,
     opening: &Opening,
     before: &Before,
     emissions: &mut Vec<Emission>,
@@ -99,8 +115,9 @@ pub(crate) fn settle(
     ensures named { IfOk result (λ names. AreNamed before.now (cleared_by opening.now world.old).0 (keys_of names)) }
     ensures draw { OnOk result (turn.new.draw ≡ turn.old.draw) }
     ensures fault { IsOkUnless result Fault.Memory }
+    ensures at_least { OnOk result (raised meter.old (naming_nodes (cleared_by opening.now world.old).0 before.now) ≤ meter.new) }
 {
-    let names = follow(world, turn, opening, before)?;
+    let names = follow(world, turn, meter, opening, before)?;
     world.write(&turn.out, emissions)?;
     Ok(names)
 }

@@ -11,6 +11,8 @@ ghost use Rattle.pim_reach.specs.Named.{named_by};
 ghost use Rattle.pim_router.specs.Settling.{AreNames};
 ghost use Rattle.pim_locality.specs.Locality.{IsQuiet};
 ghost use Rattle.pim_locality.specs.Rest.{IsAtRest};
+ghost use Rattle.pim_router.specs.Visits.{end_nodes, firing_nodes};
+ghost use Rattle.pim_trie.specs.Meter.{raised};
 ghost use Rattle.pim_world.specs.Turns.{saying};
 ghost use Rattle.pim_model.specs.Firing.{fire_all, fire_instant, fire_once, fired};
 ghost use Rattle.pim_model.specs.Step.{advanced, outcome_of};
@@ -24,7 +26,7 @@ use pim_fanout::{Before, Cache, SourceName};
 use pim_messages::Outbox;
 use pim_opening::Opening;
 use pim_types::{Addr, Emission, Fault, IfaceId, Key, Outcome, Series, Timer, TimerKind, Verdict};
-use pim_world::{Touched, Turn, World};
+use pim_world::{Meter, Touched, Turn, World};
 use std::alloc::{AllocError, Global};
 
 // The timer that ends first, with its end in ms, where that is due by the moment.
@@ -96,27 +98,33 @@ fn touched_by_end(world: &World, alloc: Global, timer: Timer) -> Result<Touched,
 }
 
 // The change of a timer's end.
-fn fired(world: &mut World, turn: &mut Turn, timer: Timer) -> Result<(), AllocError>
+fn fired(
+    world: &mut World,
+    turn: &mut Turn,
+    meter: &mut Meter,
+    timer: Timer,
+) -> Result<(), AllocError>
     ensures state { OnOk result (world.new ≡ (fired world.old timer.kind timer.key).0) }
     ensures messages { OnOk result (turn.new ≡ saying turn.old (fired world.old timer.kind timer.key).1) }
+    ensures at_least { OnOk result (raised meter.old (end_nodes world.old timer.kind timer.key) ≤ meter.new) }
 {
     let Timer { kind, key } = timer;
     match kind {
         TimerKind::Neighbour | TimerKind::Hello => pim_hello::fired(world, turn, kind, key),
         TimerKind::PrunePending | TimerKind::DownstreamExpiry => {
-            pim_downstream::fired(world, turn, kind, key)
+            pim_downstream::fired(world, turn, meter, kind, key)
         }
-        TimerKind::Assert => pim_asserts::fired(world, turn, key),
-        TimerKind::Keepalive => pim_register::keepalive_due(world, &mut turn.meter, key),
-        TimerKind::Register => pim_register::fired(world, turn, key),
-        TimerKind::Override => pim_rpt::fired(world, turn, key),
-        TimerKind::Join => pim_upstream::fired(world, turn, key),
+        TimerKind::Assert => pim_asserts::fired(world, turn, meter, key),
+        TimerKind::Keepalive => pim_register::keepalive_due(world, meter, key),
+        TimerKind::Register => pim_register::fired(world, turn, meter, key),
+        TimerKind::Override => pim_rpt::fired(world, turn, meter, key),
+        TimerKind::Join => pim_upstream::fired(world, turn, meter, key),
         TimerKind::GroupRecord
         | TimerKind::SourceRecord
         | TimerKind::OtherQuerier
         | TimerKind::GroupRepeat
         | TimerKind::SourceRepeat
-        | TimerKind::GeneralQuery => pim_querier::fired(world, turn, kind, key),
+        | TimerKind::GeneralQuery => pim_querier::fired(world, turn, meter, kind, key),
     }
 }
 
@@ -125,6 +133,7 @@ fn fired(world: &mut World, turn: &mut Turn, timer: Timer) -> Result<(), AllocEr
 fn fire_world(
     world: &mut World,
     turn: &mut Turn,
+    meter: &mut Meter,
     due: (u64, Timer),
     emissions: &mut Vec<Emission>,
 ) -> Result<Series<SourceName>, Fault>
@@ -138,15 +147,16 @@ fn fire_world(
     ensures names { IfOk result (λ names. AreNames world.old (own_firing world.old (ending_of due)) (keys_of names)) }
     ensures draw { OnOk result (turn.new.draw ≡ turn.old.draw) }
     ensures fault { IsOkUnless result Fault.Memory }
+    ensures at_least { OnOk result (raised meter.old (firing_nodes world.old due) ≤ meter.new) }
 {
     let touched = touched_by_end(world, turn.alloc, due.1)?;
-    let opening = Opening::of(world, turn.alloc, &touched, &mut turn.meter)?;
-    let before = Before::of(world, turn, &touched)?;
+    let opening = Opening::of(world, turn.alloc, &touched, meter)?;
+    let before = Before::of(world, turn.alloc, meter, &touched)?;
     world.set_present(due.0);
-    fired(world, turn, due.1)?;
+    fired(world, turn, meter, due.1)?;
     // It tells that asserts, sources and registers are under keys of their kind.
     world.recall_keyed();
-    settle(world, turn, &opening, &before, emissions)
+    settle(world, turn, meter, &opening, &before, emissions)
 }
 
 // The same, and then the rows of the named sources; whatever was sent in the turn before.
@@ -154,6 +164,7 @@ fn fire_once(
     world: &mut World,
     cache: &mut Cache,
     turn: &mut Turn,
+    meter: &mut Meter,
     due: (u64, Timer),
     emissions: &mut Vec<Emission>,
 ) -> Result<(), Fault>
@@ -169,12 +180,13 @@ fn fire_once(
         ≤ touches cache.old + 2 * length (named_by world.old (own_firing world.old (ending_of due)))) }
     ensures draw { OnOk result (turn.new.draw ≡ turn.old.draw) }
     ensures fault { IsOkUnless result Fault.Memory }
+    ensures at_least { OnOk result (raised meter.old (firing_nodes world.old due) ≤ meter.new) }
 {
     // It tells that there are at most 120 interfaces.
     world.interfaces().recall_few();
     turn.out = Outbox::new(turn.alloc);
-    let names = fire_world(world, turn, due, emissions)?;
-    cache.refresh(world, &mut turn.meter, names.as_slice())?;
+    let names = fire_world(world, turn, meter, due, emissions)?;
+    cache.refresh(world, meter, names.as_slice())?;
     Ok(())
 }
 
@@ -183,6 +195,7 @@ fn fire_instant(
     world: &mut World,
     cache: &mut Cache,
     turn: &mut Turn,
+    meter: &mut Meter,
     first: (u64, Timer),
     emissions: &mut Vec<Emission>,
 ) -> Result<(), Fault>
@@ -199,9 +212,10 @@ fn fire_instant(
         ≤ touches cache.old + 2 * length (told_instant named_by turn.old.draw world.old (ending_of first)).1) }
     ensures draw { OnOk result (turn.new.draw ≡ turn.old.draw) }
     ensures fault { IsOkUnless result Fault.Memory }
+    ensures rises { OnOk result (meter.old ≤ meter.new) }
 {
     'firings: while let Some(due) = next_due(world, first.0) {
-        fire_once(world, cache, turn, due, emissions)?;
+        fire_once(world, cache, turn, meter, due, emissions)?;
     }
     Ok(())
 }
@@ -211,6 +225,7 @@ fn fire_all(
     world: &mut World,
     cache: &mut Cache,
     turn: &mut Turn,
+    meter: &mut Meter,
     moment: u64,
     emissions: &mut Vec<Emission>,
 ) -> Result<(), Fault>
@@ -226,9 +241,10 @@ fn fire_all(
     ensures few { OnOk result (touches cache.new
         ≤ touches cache.old + 2 * length (told_all named_by turn.old.draw moment world.old).1) }
     ensures fault { IsOkUnless result Fault.Memory }
+    ensures rises { OnOk result (meter.old ≤ meter.new) }
 {
     'instants: while let Some(first) = next_due(world, moment) {
-        fire_instant(world, cache, turn, first, emissions)?;
+        fire_instant(world, cache, turn, meter, first, emissions)?;
     }
     Ok(())
 }
@@ -239,6 +255,7 @@ pub(crate) fn advance(
     world: &mut World,
     cache: &mut Cache,
     turn: &mut Turn,
+    meter: &mut Meter,
     moment: u64,
 ) -> Result<Outcome, Fault>
     requires rest { IsAtRest world.old }
@@ -250,9 +267,10 @@ pub(crate) fn advance(
     ensures few { OnOk result (touches cache.new
         ≤ touches cache.old + 2 * length (told_all named_by turn.old.draw moment world.old).1) }
     ensures fault { IsOkUnless result Fault.Memory }
+    ensures rises { OnOk result (meter.old ≤ meter.new) }
 {
     let mut emissions = Vec::new(turn.alloc);
-    fire_all(world, cache, turn, moment, &mut emissions)?;
+    fire_all(world, cache, turn, meter, moment, &mut emissions)?;
     // It tells that there are at most 120 interfaces.
     world.interfaces().recall_few();
     world.set_present(moment);

@@ -1,37 +1,46 @@
 //! What the end of an override timer changes (RFC 7761, section 4.5.7).
-ghost use Rattle.std.specs.Prelude.{◌≡◌, OnOk};
+ghost use Rattle.std.specs.Prelude.{◌≡◌, ◌≤◌, OnOk, Some};
 ghost use Rattle.pim_types.specs.declared.timer.TimerKind.{TimerKind};
 ghost use Rattle.pim_model.specs.Desires.{rpf_rpt};
 ghost use Rattle.pim_model.specs.Firing.{fired};
+ghost use Rattle.pim_rpt.specs.Visits.{override_nodes};
 ghost use Rattle.pim_world.specs.Turns.{saying};
+ghost use Rattle.pim_world.specs.Visits.{raised, sight_nodes};
 
 use crate::machine::entry;
 use pim_macros::{SourceSight, StarSight};
 use pim_telling::message::say;
 use pim_types::{Addr, Hop, Key};
-use pim_world::{Turn, World};
+use pim_world::{Meter, Turn, World};
 use std::alloc::AllocError;
 
 // RPF'(S,G,rpt).
-fn rpf_rpt(world: &World, turn: &mut Turn, group: Addr, source: Addr) -> Option<Hop>
+fn rpf_rpt(world: &World, meter: &mut Meter, group: Addr, source: Addr) -> Option<Hop>
     ensures upstream { result ≡ rpf_rpt world.now group.bits source.bits }
-    ensures silent { turn.new ≡ turn.old }
+    ensures at_least { raised meter.old (sight_nodes world.now group (Some source)) ≤ meter.new }
 {
-    let star = StarSight::of(world, group, &mut turn.meter);
-    let sight = SourceSight::of(world, star, source, &mut turn.meter);
+    let star = StarSight::of(world, group, meter);
+    let sight = SourceSight::of(world, star, source, meter);
     sight.rpf_neighbour_rpt()
 }
 
 /// What the end of an override timer changes: it goes, and a Join(S,G,rpt) overrides the Prune of another router. An
-/// error is want of memory.
+/// error is want of memory. The meter rises by the nodes that the look-ups visit, at least those of the sight of the
+/// source, and those that lead to its PIM facts where the timer is among them.
 #[tactic(auto, unfolding(pim_model::specs::Firing::fired, pim_model::specs::Upstream::override_timer_due))]
-pub fn fired(world: &mut World, turn: &mut Turn, key: Key) -> Result<(), AllocError>
+pub fn fired(
+    world: &mut World,
+    turn: &mut Turn,
+    meter: &mut Meter,
+    key: Key,
+) -> Result<(), AllocError>
     ensures state { OnOk result (world.new ≡ (fired world.old TimerKind.Override key).0) }
     ensures messages { OnOk result (turn.new ≡ saying turn.old (fired world.old TimerKind.Override key).1) }
+    ensures at_least { OnOk result (raised meter.old (override_nodes world.old key) ≤ meter.new) }
 {
     let source = key.source.unwrap_or(Addr::NONE);
-    let upstream = rpf_rpt(world, turn, key.group, source);
+    let upstream = rpf_rpt(world, meter, key.group, source);
     say(turn, upstream, key.group, &[entry(source)], &[])?;
-    world.store_mut().drop_override_timer(key, &mut turn.meter);
+    world.store_mut().drop_override_timer(key, meter);
     Ok(())
 }

@@ -1,10 +1,11 @@
 -- What was looked up of the marks, by the facts that they are about.
-use Rattle.std.proofs.Common.{◌≡◌, ℕ, Bool, true, false, Option, Some, None, Result, Ok, Err, OnOk, is_some, refl, sym, ap, subst, ◌∙◌}
+use Rattle.std.proofs.Common.{◌≡◌, ◌≤◌, ℕ, arith, Bool, true, false, Option, Some, None, Result, Ok, Err, OnOk, is_some, refl, sym, ap, subst, ◌∙◌}
 use Rattle.std.specs.Prelude.{IsSome}
 use Rattle.pim_ip.specs.declared.addr.Addr.{Addr}
 use Rattle.pim_types.specs.declared.fact.Key.{Key}
 use Rattle.pim_model.specs.Tables.{Table, has_row, row_at}
 use Rattle.pim_source_trie.proofs.Visited.{raised_alike}
+use Rattle.pim_trie.specs.Meter.{raised}
 use Rattle.pim_store.specs.PimTables.{PimTables, fact_key}
 use Rattle.pim_store.specs.Said.{AreLookedUp, SaysAlike}
 use Rattle.pim_store.specs.Stored.{IsIndexed}
@@ -26,6 +27,11 @@ module _ (marks : Table Marks) (f : PimTables) (is : IsIndexed marks f) (k q : K
       → OnOk r (row_at t m ≡ None → Visits f q.group q.source old new)
   looked_up_new (Ok x) t m same new_row = λ none. looked_up (new_row (ap (row_at t) same ∙ none))
   looked_up_new (Err e) t m same new_row = tt
+
+-- a look-up never lowers the meter
+pub raised_rises : (old new nodes : ℕ) → new ≡ raised old nodes → old ≤ new
+unfolding raised
+raised_rises old new nodes e = omega (arith, e)
 
 -- the same, where nothing had changed before the look-up
 pub looked_up_unchanged : {R T E : Type 0} (r : Result T E) (k : Key) (marks marks' : Table Marks) (t t' : Table R)

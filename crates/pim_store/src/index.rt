@@ -149,6 +149,7 @@ impl Index {
         ensures ok { OnOk result (SetsMarks R.tells R.says self.old self.new key (Some row)) }
         ensures err { OnErr result (self.new ≡ self.old) }
         ensures visited { AreLookedUp self.old key meter.old meter.new }
+        ensures rises { meter.old ≤ meter.new }
     {
         let marks = self.get(key.group, key.source, meter);
         self.write(key.group, key.source, marked(marks, key, Some(row)))
@@ -159,6 +160,7 @@ impl Index {
         requires { IsTrue (R.fits key) }
         ensures marks { SetsMarks R.tells R.says self.old self.new key None }
         ensures visited { AreLookedUp self.old key meter.old meter.new }
+        ensures rises { meter.old ≤ meter.new }
     {
         let marks = self.get(key.group, key.source, meter);
         // Where it fails there are no marks.

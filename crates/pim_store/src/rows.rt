@@ -1,5 +1,5 @@
 //! A table's rows, changed with the marks that they tell.
-ghost use Rattle.std.specs.Prelude.{◌≡◌, ◌&&◌, ℕ, None, Some, IfOk, IsTrue, OnErr, OnOk, false, true};
+ghost use Rattle.std.specs.Prelude.{◌≡◌, ◌≤◌, ◌&&◌, ℕ, None, Some, IfOk, IsTrue, OnErr, OnOk, false, true};
 ghost use Rattle.pim_model.specs.Tables.{change_row, drop_at, drop_where, has_row, put, row_at, set_row};
 ghost use Rattle.pim_types.specs.Keys.{is_on};
 ghost use Rattle.pim_store.specs.Said.{AreLookedUp, IsTold, KeepsOtherMarks, SaysAlike, SetsMarks, is_about, row_says};
@@ -50,6 +50,7 @@ pub(crate) fn update_row<R: TellsMarks, K: Keeping<R>, C: Change<R>>(
         → SaysAlike R.tells R.says (C.after change before) before → meter.new ≡ meter.old) }
     ensures index { IfOk result (λ there. there ≡ false → index.new ≡ index.old) }
     ensures meter { IfOk result (λ there. there ≡ false → meter.new ≡ meter.old) }
+    ensures rises { OnOk result (meter.old ≤ meter.new) }
 {
     // A key stands once.
     rows.recall_rising();
@@ -90,6 +91,7 @@ pub(crate) fn put_row<R: TellsMarks, K: Keeping<R>>(
     ensures alike { OnOk result ((before : R) → row_at rows.old key ≡ Some before → SaysAlike R.tells R.says row before
         → meter.new ≡ meter.old) }
     ensures new { OnOk result (row_at rows.old key ≡ None → AreLookedUp index.old key meter.old meter.new) }
+    ensures rises { OnOk result (meter.old ≤ meter.new) }
 {
     // What is put under a key that is there stands in its place.
     rows.recall_rising();
@@ -113,6 +115,7 @@ fn add_row<R: TellsMarks, K: Keeping<R>>(
     ensures told { IsTold R.tells R.says R.fits index.new rows.new }
     ensures others { KeepsOtherMarks R.tells index.old index.new }
     ensures visited { OnOk result (AreLookedUp index.old key meter.old meter.new) }
+    ensures rises { OnOk result (meter.old ≤ meter.new) }
 {
     index.mark(key, row, meter)?;
     if let Err(refused) = rows.put(key, row) {
@@ -133,6 +136,7 @@ fn drop_marked<R: TellsMarks, K: Keeping<R>>(
     ensures removed { rows.new ≡ drop_at rows.old key }
     ensures unmarked { SetsMarks R.tells R.says index.old index.new key None }
     ensures visited { AreLookedUp index.old key meter.old meter.new }
+    ensures rises { meter.old ≤ meter.new }
 {
     rows.remove(key);
     index.unmark::<R>(key, meter);
@@ -151,6 +155,7 @@ pub(crate) fn remove_row<R: TellsMarks, K: Keeping<R>>(
     ensures told { IsTold R.tells R.says R.fits index.new rows.new }
     ensures others { KeepsOtherMarks R.tells index.old index.new }
     ensures visited { AreLookedUp index.old key meter.old meter.new }
+    ensures rises { meter.old ≤ meter.new }
 {
     drop_marked(rows, index, key, meter);
 }
@@ -173,6 +178,7 @@ pub(crate) fn set_row<R: TellsMarks, K: Keeping<R>>(
         → SaysAlike R.tells R.says after before → meter.new ≡ meter.old) }
     ensures new { OnOk result (row_at rows.old key ≡ None → AreLookedUp index.old key meter.old meter.new) }
     ensures gone { row ≡ None → AreLookedUp index.old key meter.old meter.new }
+    ensures rises { OnOk result (meter.old ≤ meter.new) }
 {
     match row {
         Some(row) => put_row(rows, index, key, row, meter),
@@ -199,6 +205,7 @@ pub(crate) fn change_row<R: TellsMarks, K: Keeping<R>>(
     ensures alike { OnOk result ((after before : R) → row ≡ Some after → row_at rows.old key ≡ Some before
         → SaysAlike R.tells R.says after before → meter.new ≡ meter.old) }
     ensures gone { row ≡ None → has_row rows.old key ≡ true → AreLookedUp index.old key meter.old meter.new }
+    ensures rises { OnOk result (meter.old ≤ meter.new) }
 {
     // What is put under a key that is there stands in its place.
     rows.recall_rising();
@@ -221,6 +228,7 @@ pub(crate) fn drop_row<R: TellsMarks, K: Keeping<R>>(
     ensures others { KeepsOtherMarks R.tells index.old index.new }
     ensures absent { has_row rows.old key ≡ false → meter.new ≡ meter.old }
     ensures there { has_row rows.old key ≡ true → AreLookedUp index.old key meter.old meter.new }
+    ensures rises { meter.old ≤ meter.new }
 {
     if rows.contains(key) {
         remove_row(rows, index, key, meter);
@@ -237,6 +245,7 @@ fn unmark_on<R: TellsMarks>(
     requires { IsTold R.tells R.says R.fits index.old rows.now }
     ensures told { IsTold R.tells R.says R.fits index.new (drop_where (is_on iface.number) rows.now) }
     ensures others { KeepsOtherMarks R.tells index.old index.new }
+    ensures rises { meter.old ≤ meter.new }
 {
     for (key, _) in rows.iter() {
         if key.iface == iface {
@@ -256,6 +265,7 @@ pub(crate) fn drop_rows_on<R: TellsMarks>(
     ensures dropped { rows.new ≡ drop_where (is_on iface.number) rows.old }
     ensures told { IsTold R.tells R.says R.fits index.new rows.new }
     ensures others { KeepsOtherMarks R.tells index.old index.new }
+    ensures rises { meter.old ≤ meter.new }
 {
     unmark_on(rows, index, iface, meter);
     rows.drop_on(iface);

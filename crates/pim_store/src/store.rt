@@ -199,6 +199,7 @@ impl Store {
         ensures new { OnOk result (row_at self.old.downstream key ≡ None
             → Visits self.old key.group key.source meter.old meter.new) }
         ensures gone { row ≡ None → Visits self.old key.group key.source meter.old meter.new }
+        ensures rises { OnOk result (meter.old ≤ meter.new) }
     {
         set_row(&mut self.downstream, &mut self.index, key, row, meter)
     }
@@ -220,6 +221,7 @@ impl Store {
         ensures new { OnOk result (row_at self.old.asserts (fact_key iface.number group source false) ≡ None
             → Visits self.old group source meter.old meter.new) }
         ensures gone { row ≡ None → Visits self.old group source meter.old meter.new }
+        ensures rises { OnOk result (meter.old ≤ meter.new) }
     {
         let key = Key {
             iface,
@@ -245,6 +247,7 @@ impl Store {
         ensures new { OnOk result (row_at self.old.join_timers (fact_key 0 group source false) ≡ None
             → Visits self.old group source meter.old meter.new) }
         ensures gone { row ≡ None → Visits self.old group source meter.old meter.new }
+        ensures rises { OnOk result (meter.old ≤ meter.new) }
     {
         let key = Key {
             iface: IfaceId::NONE,
@@ -269,6 +272,7 @@ impl Store {
         ensures new { OnOk result (row_at self.old.override_timers (rpt_key 0 group.bits source.bits) ≡ None
             → Visits self.old group (Some source) meter.old meter.new) }
         ensures gone { row ≡ None → Visits self.old group (Some source) meter.old meter.new }
+        ensures rises { OnOk result (meter.old ≤ meter.new) }
     {
         let key = Key::source_rpt(IfaceId::NONE, group, source);
         set_row(&mut self.override_timers, &mut self.index, key, row, meter)
@@ -291,6 +295,7 @@ impl Store {
         ensures new { OnOk result (row_at self.old.sources (source_key 0 group.bits source.bits) ≡ None
             → Visits self.old group (Some source) meter.old meter.new) }
         ensures gone { row ≡ None → Visits self.old group (Some source) meter.old meter.new }
+        ensures rises { OnOk result (meter.old ≤ meter.new) }
     {
         let key = Key::source(IfaceId::NONE, group, source);
         set_row(&mut self.sources, &mut self.index, key, row, meter)
@@ -315,6 +320,7 @@ impl Store {
             → meter.new ≡ meter.old) }
         ensures new { OnOk result (row_at self.old.sources (source_key 0 group.bits source.bits) ≡ None
             → Visits self.old group (Some source) meter.old meter.new) }
+        ensures rises { OnOk result (meter.old ≤ meter.new) }
     {
         // A key stands once.
         self.sources.recall_rising();
@@ -344,6 +350,7 @@ impl Store {
         ensures new { OnOk result (row_at self.old.registers (source_key 0 group.bits source.bits) ≡ None
             → Visits self.old group (Some source) meter.old meter.new) }
         ensures gone { row ≡ None → Visits self.old group (Some source) meter.old meter.new }
+        ensures rises { OnOk result (meter.old ≤ meter.new) }
     {
         let key = Key::source(IfaceId::NONE, group, source);
         set_row(&mut self.registers, &mut self.index, key, row, meter)
@@ -359,6 +366,7 @@ impl Store {
         ensures changed { OnOk result (self.new
             ≡ record self.old { downstream = change_row (λ before. Some row) key self.old.downstream }) }
         ensures absent { has_row self.old.downstream key ≡ false → meter.new ≡ meter.old }
+        ensures rises { OnOk result (meter.old ≤ meter.new) }
     {
         change_row(&mut self.downstream, &mut self.index, key, Some(row), meter)
     }
@@ -368,6 +376,7 @@ impl Store {
         ensures dropped { self.new ≡ record self.old { downstream = drop_at self.old.downstream key } }
         ensures absent { has_row self.old.downstream key ≡ false → meter.new ≡ meter.old }
         ensures there { has_row self.old.downstream key ≡ true → Visits self.old key.group key.source meter.old meter.new }
+        ensures rises { meter.old ≤ meter.new }
     {
         drop_row(&mut self.downstream, &mut self.index, key, meter);
     }
@@ -382,6 +391,7 @@ impl Store {
         ensures changed { OnOk result (self.new
             ≡ record self.old { asserts = change_row (λ before. Some row) key self.old.asserts }) }
         ensures absent { has_row self.old.asserts key ≡ false → meter.new ≡ meter.old }
+        ensures rises { OnOk result (meter.old ≤ meter.new) }
     {
         change_row(&mut self.asserts, &mut self.index, key, Some(row), meter)
     }
@@ -391,6 +401,7 @@ impl Store {
         ensures dropped { self.new ≡ record self.old { asserts = drop_at self.old.asserts key } }
         ensures absent { has_row self.old.asserts key ≡ false → meter.new ≡ meter.old }
         ensures there { has_row self.old.asserts key ≡ true → Visits self.old key.group key.source meter.old meter.new }
+        ensures rises { meter.old ≤ meter.new }
     {
         drop_row(&mut self.asserts, &mut self.index, key, meter);
     }
@@ -407,6 +418,7 @@ impl Store {
         ensures kept { OnOk result (IsSome row → meter.new ≡ meter.old) }
         ensures absent { has_row self.old.sources key ≡ false → meter.new ≡ meter.old }
         ensures gone { row ≡ None → has_row self.old.sources key ≡ true → Visits self.old key.group key.source meter.old meter.new }
+        ensures rises { OnOk result (meter.old ≤ meter.new) }
     {
         change_row(&mut self.sources, &mut self.index, key, row, meter)
     }
@@ -450,6 +462,7 @@ impl Store {
         ensures dropped { self.new ≡ record self.old { override_timers = drop_at self.old.override_timers key } }
         ensures absent { has_row self.old.override_timers key ≡ false → meter.new ≡ meter.old }
         ensures there { has_row self.old.override_timers key ≡ true → Visits self.old key.group key.source meter.old meter.new }
+        ensures rises { meter.old ≤ meter.new }
     {
         drop_row(&mut self.override_timers, &mut self.index, key, meter);
     }
@@ -478,9 +491,10 @@ impl Store {
 
     /// Ends the lost asserts under these keys.
     pub fn end_losses(&mut self, keys: &[Key], meter: &mut Meter)
-        ensures { self.new ≡ record self.old {
+        ensures ended { self.new ≡ record self.old {
           asserts = filter (λ e. not (is_loser (Some e.1) && is_named keys.now e.0)) self.old.asserts;
         } }
+        ensures rises { meter.old ≤ meter.new }
     {
         for key in keys {
             self.end_loss(*key, meter);
@@ -489,9 +503,10 @@ impl Store {
 
     // Ends the assert under the key, if it is lost.
     fn end_loss(&mut self, key: Key, meter: &mut Meter)
-        ensures { self.new ≡ record self.old {
+        ensures ended { self.new ≡ record self.old {
           asserts = filter (λ e. not (is_loser (Some e.1) && same_key e.0 key)) self.old.asserts;
         } }
+        ensures rises { meter.old ≤ meter.new }
     {
         // The key stands once.
         self.asserts.recall_rising();
@@ -502,10 +517,11 @@ impl Store {
 
     /// Takes the downstream states and the asserts of the interface away.
     pub fn drop_on(&mut self, iface: IfaceId, meter: &mut Meter)
-        ensures { self.new ≡ record self.old {
+        ensures dropped { self.new ≡ record self.old {
           downstream = drop_where (is_on iface.number) self.old.downstream;
           asserts = drop_where (is_on iface.number) self.old.asserts;
         } }
+        ensures rises { meter.old ≤ meter.new }
     {
         drop_rows_on(&mut self.downstream, &mut self.index, iface, meter);
         drop_rows_on(&mut self.asserts, &mut self.index, iface, meter);

@@ -8,3 +8,4 @@ pub mod Progress
 pub mod Pruned
 pub mod Steps
 pub mod UpstreamLaws
+mod Visited

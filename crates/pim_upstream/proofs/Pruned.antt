@@ -1,5 +1,5 @@
 -- The first of those that pass a test, one after the other.
-use Rattle.std.proofs.Common.{◌≡◌, ℕ, suc, Bool, true, List, [], ◌∷◌, ◌++◌, map, refl, ap, ◌∙◌, append_assoc, take}
+use Rattle.std.proofs.Common.{◌≡◌, ℕ, suc, Bool, true, false, List, [], ◌∷◌, ◌++◌, map, refl, ap, ◌∙◌, append_assoc, take}
 use Rattle.std.specs.List.{filter}
 
 module _ {E : Type 0} (made : ℕ → E) (passes : ℕ → Bool) where
@@ -12,3 +12,8 @@ module _ {E : Type 0} (made : ℕ → E) (passes : ℕ → Bool) where
   taken room ns left n is passed found =
       append_assoc found (made n ∷ []) (first_of room left)
       ∙ ap (λ es. found ++ es) (rw (is, passed) refl)
+
+  -- one that doesn't pass
+  pub passed_over : (room : ℕ) (ns left : List ℕ) (n : ℕ) → ns ≡ n ∷ left → passes n ≡ false
+      → first_of room left ≡ first_of room ns
+  passed_over room ns left n is failed = rw (is, failed) refl

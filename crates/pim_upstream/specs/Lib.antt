@@ -2,3 +2,4 @@ pub mod Hearing
 pub mod Laws
 pub mod Timers
 pub mod Told
+pub mod Visits

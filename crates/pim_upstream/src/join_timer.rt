@@ -1,40 +1,51 @@
 //! What the end of a Join timer changes (RFC 7761, sections 4.5.4 and 4.5.5).
-ghost use Rattle.std.specs.Prelude.{◌≡◌, OnOk};
+ghost use Rattle.std.specs.Prelude.{◌≡◌, ◌≤◌, OnOk};
 ghost use Rattle.pim_types.specs.declared.timer.TimerKind.{TimerKind};
 ghost use Rattle.pim_model.specs.Firing.{fired};
+ghost use Rattle.pim_world.specs.Visits.{raised};
+ghost use Rattle.pim_upstream.specs.Visits.{join_again_nodes};
 ghost use Rattle.pim_world.specs.Turns.{saying};
 
 use crate::{source, star};
 use pim_macros::{SourceSight, StarSight};
 use pim_types::Key;
 use pim_types::fact::JoinTimerRow;
-use pim_world::{Turn, World};
+use pim_world::{Meter, Turn, World};
 use std::alloc::AllocError;
 
 // Join(*,G) with its prunes, or Join(S,G), to the upstream neighbour.
 #[tactic(auto, unfolding(pim_model::specs::Firing::fired, pim_model::specs::Upstream::join_timer_due))]
-fn join_again(world: &World, turn: &mut Turn, key: Key) -> Result<(), AllocError>
-    ensures { OnOk result (turn.new ≡ saying turn.old (fired world.now TimerKind.Join key).1) }
+fn join_again(world: &World, turn: &mut Turn, meter: &mut Meter, key: Key) -> Result<(), AllocError>
+    ensures messages { OnOk result (turn.new ≡ saying turn.old (fired world.now TimerKind.Join key).1) }
+    ensures at_least { OnOk result (raised meter.old (join_again_nodes world.now key.group key.source) ≤ meter.new) }
 {
-    let star = StarSight::of(world, key.group, &mut turn.meter);
+    let star = StarSight::of(world, key.group, meter);
     match key.source {
-        None => star::join(world, turn, &star, star.rp, star.rpf_neighbour()),
+        None => star::join(world, turn, meter, &star, star.rp, star.rpf_neighbour()),
         Some(source) => {
-            let sight = SourceSight::of(world, star, source, &mut turn.meter);
+            let sight = SourceSight::of(world, star, source, meter);
             source::join(turn, sight.rpf_neighbour(), key.group, source)
         }
     }
 }
 
 /// What the end of a Join timer changes: the Join leaves again, and the timer starts anew. An error is want of memory.
+/// The meter rises by the nodes that the look-ups visit, at least those of the sight of the group, and of the sources
+/// that its Join may prune, or of the source.
 #[tactic(auto, unfolding(pim_model::specs::Firing::fired, pim_model::specs::Upstream::join_timer_due))]
-pub fn fired(world: &mut World, turn: &mut Turn, key: Key) -> Result<(), AllocError>
+pub fn fired(
+    world: &mut World,
+    turn: &mut Turn,
+    meter: &mut Meter,
+    key: Key,
+) -> Result<(), AllocError>
     ensures state { OnOk result (world.new ≡ (fired world.old TimerKind.Join key).0) }
     ensures messages { OnOk result (turn.new ≡ saying turn.old (fired world.old TimerKind.Join key).1) }
+    ensures at_least { OnOk result (raised meter.old (join_again_nodes world.old key.group key.source) ≤ meter.new) }
 {
-    join_again(world, turn, key)?;
+    join_again(world, turn, meter, key)?;
     let end = world.periodic_end();
     world
         .store_mut()
-        .change_join_timer(key, JoinTimerRow { end }, &mut turn.meter)
+        .change_join_timer(key, JoinTimerRow { end }, meter)
 }

@@ -1,6 +1,7 @@
 //! A Join/Prune between other routers (RFC 7761, sections 4.5.4, 4.5.5 and 4.5.7): a Join to the router's own upstream
 //! neighbour suppresses the router's, and a Prune to it is overridden.
-ghost use Rattle.std.specs.Prelude.{◌≡◌, ◌++◌, OnOk, Some};
+ghost use Rattle.std.specs.Option.{option_map_or};
+ghost use Rattle.std.specs.Prelude.{◌≡◌, ◌≤◌, ◌+◌, ◌++◌, [], OnOk, Some, sum_by};
 ghost use Rattle.pim_types.specs.Keys.{is_star};
 ghost use Rattle.pim_macros.specs.Sights.{IsSourceSight, IsStarSight};
 ghost use Rattle.pim_model.specs.Downstream.{joined_keys, pruned_keys};
@@ -8,6 +9,8 @@ ghost use Rattle.pim_model.specs.Seen.{is_unpruned_towards, override_end, seen, 
 ghost use Rattle.pim_model.specs.Tables.{same_hop};
 ghost use Rattle.pim_upstream.specs.Hearing.{heard_in_joins, heard_in_prunes, heard_of_join, heard_of_prune, heard_of_source, heard_of_timer, heard_of_timers, is_source_towards, is_star_towards, timers_of};
 ghost use Rattle.pim_upstream.specs.Timers.{after_moves};
+ghost use Rattle.pim_upstream.specs.Visits.{joined_nodes, pruned_key_nodes, pruned_keys_nodes, seen_nodes, timers_nodes};
+ghost use Rattle.pim_world.specs.Visits.{raised, sight_nodes, source_nodes, star_nodes};
 
 use crate::timer::{TimerMove, move_timers, note_if};
 use pim_downstream::Named;
@@ -16,28 +19,28 @@ use pim_macros::{SourceSight, StarSight};
 use pim_telling::Change;
 use pim_types::{Addr, Hop, IfaceId, Key, TreeState};
 use pim_wire::JoinPruneView;
-use pim_world::{Turn, World};
+use pim_world::{Meter, Turn, World};
 use std::alloc::AllocError;
 use std::collections::BTreeSet;
 
 // Whether RPF'(*,G) is the neighbour.
-fn is_star_towards(world: &World, turn: &mut Turn, hop: Hop, group: Addr) -> bool
+fn is_star_towards(world: &World, meter: &mut Meter, hop: Hop, group: Addr) -> bool
     ensures towards { result ≡ is_star_towards world.now hop group.bits }
-    ensures silent { turn.new ≡ turn.old }
+    ensures at_least { raised meter.old (star_nodes world.now group) ≤ meter.new }
 {
-    let star = StarSight::of(world, group, &mut turn.meter);
+    let star = StarSight::of(world, group, meter);
     is_same_hop(star.rpf_neighbour(), Some(hop))
 }
 
 // What the macros of (S,G) read.
-fn sight_of(world: &World, turn: &mut Turn, group: Addr, source: Addr) -> SourceSight
+fn sight_of(world: &World, meter: &mut Meter, group: Addr, source: Addr) -> SourceSight
     ensures sight { IsSourceSight world.now result }
     ensures group { result.star.group ≡ group }
     ensures source { result.source ≡ source }
-    ensures silent { turn.new ≡ turn.old }
+    ensures at_least { raised meter.old (sight_nodes world.now group (Some source)) ≤ meter.new }
 {
-    let star = StarSight::of(world, group, &mut turn.meter);
-    SourceSight::of(world, star, source, &mut turn.meter)
+    let star = StarSight::of(world, group, meter);
+    SourceSight::of(world, star, source, meter)
 }
 
 // Whether RPF'(S,G) is the neighbour.
@@ -65,7 +68,7 @@ fn is_unpruned_towards(world: &World, sight: &SourceSight, hop: Hop) -> bool
 #[tactic(auto, unfolding(crate::specs::Hearing::heard_of_join))]
 fn hear_join(
     world: &World,
-    turn: &mut Turn,
+    meter: &mut Meter,
     hop: Hop,
     end: u64,
     key: Key,
@@ -73,16 +76,16 @@ fn hear_join(
 ) -> Result<(), AllocError>
     ensures heard { OnOk result (moves.new.items
         ≡ moves.old.items ++ heard_of_join world.now hop end key.group key.source key.rpt) }
-    ensures silent { turn.new ≡ turn.old }
+    ensures at_least { OnOk result (raised meter.old (sight_nodes world.now key.group key.source) ≤ meter.new) }
 {
     let group = key.group;
     match (key.source, key.rpt) {
         (None, _) => {
-            let is_heard = is_star_towards(world, turn, hop, group);
+            let is_heard = is_star_towards(world, meter, hop, group);
             note_if(moves, is_heard, TimerMove::RaiseJoin(group, None, end))
         }
         (Some(source), true) => {
-            let sight = sight_of(world, turn, group, source);
+            let sight = sight_of(world, meter, group, source);
             let is_heard = is_unpruned_towards(world, &sight, hop);
             note_if(
                 moves,
@@ -91,7 +94,7 @@ fn hear_join(
             )
         }
         (Some(source), false) => {
-            let sight = sight_of(world, turn, group, source);
+            let sight = sight_of(world, meter, group, source);
             let is_heard = is_source_towards(world, &sight, hop);
             note_if(
                 moves,
@@ -106,7 +109,7 @@ fn hear_join(
 #[tactic(auto, using(std::proofs::lemmas::List::flat_map_more), unfolding(crate::specs::Hearing::heard_in_joins))]
 fn hear_joins(
     world: &World,
-    turn: &mut Turn,
+    meter: &mut Meter,
     hop: Hop,
     end: u64,
     is_star: bool,
@@ -115,11 +118,11 @@ fn hear_joins(
 ) -> Result<(), AllocError>
     ensures heard { OnOk result (moves.new.items
         ≡ moves.old.items ++ heard_in_joins world.now hop end is_star keys.now) }
-    ensures silent { turn.new ≡ turn.old }
+    ensures at_least { OnOk result (raised meter.old (joined_nodes world.now is_star keys.now) ≤ meter.new) }
 {
     for key in keys {
         if key.source.is_none() == is_star {
-            hear_join(world, turn, hop, end, *key, moves)?;
+            hear_join(world, meter, hop, end, *key, moves)?;
         }
     }
     Ok(())
@@ -129,7 +132,7 @@ fn hear_joins(
 #[tactic(auto, unfolding(crate::specs::Hearing::heard_of_source))]
 fn hear_source(
     world: &World,
-    turn: &mut Turn,
+    meter: &mut Meter,
     star: &StarSight,
     hop: Hop,
     end: u64,
@@ -139,9 +142,9 @@ fn hear_source(
     requires { IsStarSight world.now star.now }
     ensures heard { OnOk result (moves.new.items
         ≡ moves.old.items ++ heard_of_source world.now hop end star.now.group source) }
-    ensures silent { turn.new ≡ turn.old }
+    ensures at_least { OnOk result (raised meter.old (source_nodes world.now star.now.group source) ≤ meter.new) }
 {
-    let sight = SourceSight::of(world, *star, source, &mut turn.meter);
+    let sight = SourceSight::of(world, *star, source, meter);
     let is_heard = is_source_towards(world, &sight, hop);
     note_if(
         moves,
@@ -154,7 +157,7 @@ fn hear_source(
 #[tactic(auto, unfolding(crate::specs::Hearing::heard_of_timer))]
 fn hear_timer(
     world: &World,
-    turn: &mut Turn,
+    meter: &mut Meter,
     star: &StarSight,
     hop: Hop,
     end: u64,
@@ -164,10 +167,11 @@ fn hear_timer(
     requires { IsStarSight world.now star.now }
     ensures heard { OnOk result (moves.new.items
         ≡ moves.old.items ++ heard_of_timer world.now hop end star.now.group key) }
-    ensures silent { turn.new ≡ turn.old }
+    ensures at_least { OnOk result
+        (raised meter.old (option_map_or (source_nodes world.now star.now.group) key.source 0) ≤ meter.new) }
 {
     match key.source {
-        Some(source) => hear_source(world, turn, star, hop, end, source, moves),
+        Some(source) => hear_source(world, meter, star, hop, end, source, moves),
         None => Ok(()),
     }
 }
@@ -176,7 +180,7 @@ fn hear_timer(
 #[tactic(auto, unfolding(crate::specs::Hearing::heard_of_timers))]
 fn hear_timers(
     world: &World,
-    turn: &mut Turn,
+    meter: &mut Meter,
     hop: Hop,
     end: u64,
     group: Addr,
@@ -184,11 +188,11 @@ fn hear_timers(
 ) -> Result<(), AllocError>
     ensures heard { OnOk result (moves.new.items
         ≡ moves.old.items ++ heard_of_timers world.now hop end group (timers_of world.now group.bits)) }
-    ensures silent { turn.new ≡ turn.old }
+    ensures at_least { OnOk result (raised meter.old (timers_nodes world.now group) ≤ meter.new) }
 {
-    let star = StarSight::of(world, group, &mut turn.meter);
+    let star = StarSight::of(world, group, meter);
     for (key, _) in world.store().join_timers_of(group) {
-        hear_timer(world, turn, &star, hop, end, key, moves)?;
+        hear_timer(world, meter, &star, hop, end, key, moves)?;
     }
     Ok(())
 }
@@ -197,7 +201,7 @@ fn hear_timers(
 #[tactic(auto, unfolding(crate::specs::Hearing::heard_of_prune, crate::specs::Hearing::heard_of_source))]
 fn hear_prune(
     world: &World,
-    turn: &mut Turn,
+    meter: &mut Meter,
     hop: Hop,
     end: u64,
     key: Key,
@@ -205,17 +209,17 @@ fn hear_prune(
 ) -> Result<(), AllocError>
     ensures heard { OnOk result (moves.new.items
         ≡ moves.old.items ++ heard_of_prune world.now hop end key.group key.source) }
-    ensures silent { turn.new ≡ turn.old }
+    ensures at_least { OnOk result (raised meter.old (pruned_key_nodes world.now key.group key.source) ≤ meter.new) }
 {
     let group = key.group;
     match key.source {
         None => {
-            let is_heard = is_star_towards(world, turn, hop, group);
+            let is_heard = is_star_towards(world, meter, hop, group);
             note_if(moves, is_heard, TimerMove::LowerJoin(group, None, end))?;
-            hear_timers(world, turn, hop, end, group, moves)
+            hear_timers(world, meter, hop, end, group, moves)
         }
         Some(source) => {
-            let sight = sight_of(world, turn, group, source);
+            let sight = sight_of(world, meter, group, source);
             let is_joined = is_source_towards(world, &sight, hop);
             note_if(
                 moves,
@@ -236,6 +240,7 @@ fn hear_prune(
 fn hear_prunes(
     world: &World,
     turn: &mut Turn,
+    meter: &mut Meter,
     hop: Hop,
     end: u64,
     keys: &[Key],
@@ -244,11 +249,12 @@ fn hear_prunes(
     ensures heard { OnOk result (after_moves world.now moves.new.items
         ≡ after_moves world.now (moves.old.items ++ heard_in_prunes world.now hop end keys.now)) }
     ensures silent { turn.new ≡ turn.old }
+    ensures at_least { OnOk result (raised meter.old (pruned_keys_nodes world.now [] keys.now) ≤ meter.new) }
 {
     let mut heard = BTreeSet::new(turn.alloc);
     for key in keys {
         if heard.insert(*key)? {
-            hear_prune(world, turn, hop, end, *key, moves)?;
+            hear_prune(world, meter, hop, end, *key, moves)?;
         }
     }
     Ok(())
@@ -273,10 +279,13 @@ fn overriding_end(world: &World, iface: IfaceId, draw: u32) -> u64
 /// Takes a Join/Prune to another router that came on an interface and names these keys. Where that router is the
 /// upstream neighbour, a Join suppresses the router's own and cancels an override, and a Prune is overridden: the Joins
 /// of (*,G) first, then the other Joins, then the Prunes; all of it is judged by the state that the message finds. An
-/// error is want of memory.
+/// error is want of memory. The meter rises by the nodes that the look-ups visit, at least those of the sight of each
+/// group and source that the message names, of a Prune that stands again but once, and those of the sources with a Join
+/// timer of each group that is pruned.
 pub fn seen(
     world: &mut World,
     turn: &mut Turn,
+    meter: &mut Meter,
     iface: IfaceId,
     message: &JoinPruneView<'_>,
     named: &Named,
@@ -285,6 +294,7 @@ pub fn seen(
     requires pruned { named.now.pruned.items ≡ pruned_keys iface.number message.now }
     ensures state { OnOk result (world.new ≡ seen world.old turn.old.draw iface.number message.now) }
     ensures silent { turn.new ≡ turn.old }
+    ensures at_least { OnOk result (raised meter.old (seen_nodes world.old iface.number message.now) ≤ meter.new) }
 {
     let hop = Hop {
         iface,
@@ -295,7 +305,7 @@ pub fn seen(
     let mut moves = Vec::new(turn.alloc);
     hear_joins(
         world,
-        turn,
+        meter,
         hop,
         suppressed,
         true,
@@ -304,13 +314,21 @@ pub fn seen(
     )?;
     hear_joins(
         world,
-        turn,
+        meter,
         hop,
         suppressed,
         false,
         &named.joined,
         &mut moves,
     )?;
-    hear_prunes(world, turn, hop, overriding, &named.pruned, &mut moves)?;
-    move_timers(world, &mut turn.meter, &moves)
+    hear_prunes(
+        world,
+        turn,
+        meter,
+        hop,
+        overriding,
+        &named.pruned,
+        &mut moves,
+    )?;
+    move_timers(world, meter, &moves)
 }

@@ -1,9 +1,11 @@
 //! What is told of (*,G) (RFC 7761, section 4.5.4).
-ghost use Rattle.std.specs.Prelude.{◌≡◌, [], IfOk, OnOk, if◌then◌else◌, is_none};
+ghost use Rattle.std.specs.Prelude.{◌≡◌, ◌≤◌, [], IfOk, OnOk, if◌then◌else◌, is_none};
 ghost use Rattle.pim_model.specs.Upstream.{join_star_to, prune_star_to, star_stays, star_told};
 ghost use Rattle.pim_macros.specs.Sights.{IsStarSight};
 ghost use Rattle.pim_world.specs.Turns.{saying};
 ghost use Rattle.pim_telling.specs.Changes.{change_of};
+ghost use Rattle.pim_world.specs.Visits.{raised};
+ghost use Rattle.pim_upstream.specs.Visits.{join_star_nodes, star_stays_nodes, star_told_nodes};
 
 use crate::compound::pruned_with_star;
 use pim_macros::StarSight;
@@ -12,7 +14,7 @@ use pim_telling::Change;
 use pim_telling::message::{if_neighbour, is_due_to_assert, override_end, say};
 use pim_types::{Addr, Hop, StarView};
 use pim_wire::{Entry, EntryKind};
-use pim_world::{Turn, World};
+use pim_world::{Meter, Turn, World};
 use std::alloc::AllocError;
 
 // The entry that names the RP.
@@ -30,16 +32,19 @@ fn entry(rp: Addr) -> Entry
 pub(crate) fn join(
     world: &World,
     turn: &mut Turn,
+    meter: &mut Meter,
     star: &StarSight,
     rp: Option<Addr>,
     upstream: Option<Hop>,
 ) -> Result<(), AllocError>
     requires { IsStarSight world.now star.now }
-    ensures { OnOk result (turn.new ≡ saying turn.old (join_star_to world.now rp upstream star.now.group.bits)) }
+    ensures messages { OnOk result (turn.new ≡ saying turn.old
+        (join_star_to world.now rp upstream star.now.group.bits)) }
+    ensures at_least { OnOk result (raised meter.old (join_star_nodes world.now star.now.group rp upstream) ≤ meter.new) }
 {
     match (rp, upstream) {
         (Some(rp), Some(_)) => {
-            let prunes = pruned_with_star(world, turn, star)?;
+            let prunes = pruned_with_star(world, turn.alloc, meter, star)?;
             say(turn, upstream, star.group, &[entry(rp)], prunes.as_slice())
         }
         _ => Ok(()),
@@ -74,6 +79,7 @@ fn prune(
 fn stay(
     world: &World,
     turn: &mut Turn,
+    meter: &mut Meter,
     star: &StarSight,
     old: StarView,
     new: StarView,
@@ -83,19 +89,20 @@ fn stay(
         ≡ (star_stays world.now turn.old.draw star.now.group.bits old new).timer) }
     ensures messages { OnOk result (turn.new ≡ saying turn.old
         (star_stays world.now turn.old.draw star.now.group.bits old new).messages) }
+    ensures at_least { OnOk result (raised meter.old (star_stays_nodes world.now star.now.group old new) ≤ meter.new) }
 {
     if !is_same_hop(old.upstream, new.upstream) {
         if is_due_to_assert(old.iface, new.iface, old.next_hop, new.next_hop) {
             return Ok(Change::LowerTo(override_end(world, turn.draw, new.iface)));
         }
-        join(world, turn, star, new.rp, new.upstream)?;
+        join(world, turn, meter, star, new.rp, new.upstream)?;
         prune(world, turn, new.rp, old.upstream, star.group)?;
         return Ok(Change::SetTo(world.periodic_end()));
     }
     if old.rp == new.rp {
         return Ok(Change::Keep);
     }
-    join(world, turn, star, new.rp, new.upstream)?;
+    join(world, turn, meter, star, new.rp, new.upstream)?;
     Ok(Change::SetTo(world.periodic_end()))
 }
 
@@ -121,6 +128,7 @@ fn cease(
 pub(crate) fn tell(
     world: &World,
     turn: &mut Turn,
+    meter: &mut Meter,
     star: &StarSight,
     old: StarView,
     new: StarView,
@@ -130,6 +138,7 @@ pub(crate) fn tell(
         ≡ (star_told world.now turn.old.draw star.now.group.bits old new).timer) }
     ensures messages { OnOk result (turn.new ≡ saying turn.old
         (star_told world.now turn.old.draw star.now.group.bits old new).messages) }
+    ensures at_least { OnOk result (raised meter.old (star_told_nodes world.now star.now.group old new) ≤ meter.new) }
 {
     match (old.is_desired, new.is_desired) {
         (false, false) => Ok(Change::Keep),
@@ -137,9 +146,9 @@ pub(crate) fn tell(
             cease(world, turn, star.group, old, new)?;
             Ok(Change::Cancel)
         }
-        (true, true) => stay(world, turn, star, old, new),
+        (true, true) => stay(world, turn, meter, star, old, new),
         (false, true) => {
-            join(world, turn, star, new.rp, new.upstream)?;
+            join(world, turn, meter, star, new.rp, new.upstream)?;
             Ok(Change::SetTo(world.periodic_end()))
         }
     }

@@ -1,5 +1,5 @@
 //! The Join timers of (*,G) and (S,G), and the override timers of (S,G,rpt).
-ghost use Rattle.std.specs.Prelude.{◌≡◌, ◌++◌, OnOk, Some};
+ghost use Rattle.std.specs.Prelude.{◌≡◌, ◌≤◌, ◌++◌, OnOk, Some};
 ghost use Rattle.pim_types.specs.Keys.{rpt_key};
 ghost use Rattle.pim_model.specs.Seen.{lowered_row, raised_row};
 ghost use Rattle.pim_model.specs.State.{State};
@@ -78,8 +78,9 @@ fn move_join_timer(
     source: Option<Addr>,
     change: Change,
 ) -> Result<(), AllocError>
-    ensures { OnOk result (world.new
+    ensures moved { OnOk result (world.new
         ≡ with_join_timer world.old (join_key group source) (change_of change)) }
+    ensures rises { OnOk result (meter.old ≤ meter.new) }
 {
     match change {
         Change::Keep => Ok(()),
@@ -105,8 +106,9 @@ fn move_override_timer(
     source: Addr,
     change: Change,
 ) -> Result<(), AllocError>
-    ensures { OnOk result (world.new
+    ensures moved { OnOk result (world.new
         ≡ with_override_timer world.old (rpt_key 0 group.bits source.bits) (change_of change)) }
+    ensures rises { OnOk result (meter.old ≤ meter.new) }
 {
     match change {
         Change::Keep => Ok(()),
@@ -131,7 +133,8 @@ fn move_override_timer(
 // Moves a timer.
 #[tactic(auto, unfolding(crate::specs::Timers::after_move, pim_model::specs::Seen::raise_join_timer, pim_model::specs::Seen::lower_join_timer))]
 fn move_timer(world: &mut World, meter: &mut Meter, moved: TimerMove) -> Result<(), AllocError>
-    ensures { OnOk result (world.new ≡ after_move world.old moved) }
+    ensures moved { OnOk result (world.new ≡ after_move world.old moved) }
+    ensures rises { OnOk result (meter.old ≤ meter.new) }
 {
     match moved {
         TimerMove::Join(group, source, change) => {
@@ -158,7 +161,8 @@ pub(crate) fn move_timers(
     meter: &mut Meter,
     moves: &[TimerMove],
 ) -> Result<(), AllocError>
-    ensures { OnOk result (world.new ≡ after_moves world.old moves.now) }
+    ensures moved { OnOk result (world.new ≡ after_moves world.old moves.now) }
+    ensures rises { OnOk result (meter.old ≤ meter.new) }
 {
     for moved in moves {
         move_timer(world, meter, *moved)?;

@@ -1,21 +1,23 @@
 //! What is told upstream after an event's own change.
-ghost use Rattle.std.specs.Prelude.{◌≡◌, ◌∷◌, [], ◌||◌, OnOk};
+ghost use Rattle.std.specs.Prelude.{◌≡◌, ◌≤◌, ◌∷◌, [], ◌||◌, OnOk, sum_by};
 ghost use Rattle.pim_types.specs.Keys.{star_key};
-ghost use Rattle.pim_model.specs.Upstream.{with_join_timer};
+ghost use Rattle.pim_model.specs.Upstream.{star_view, with_join_timer};
 ghost use Rattle.pim_opening.specs.Openings.{has_facts};
 ghost use Rattle.pim_model.specs.Querier.{each_in_turn};
 ghost use Rattle.pim_model.specs.State.{State};
 ghost use Rattle.pim_macros.specs.Sights.{IsSourceSight, IsStarSight};
 ghost use Rattle.pim_world.specs.Turns.{saying};
 ghost use Rattle.pim_upstream.specs.Told.{group_step, source_moved, source_step, star_changed, upstream_by};
+ghost use Rattle.pim_world.specs.Visits.{raised};
 ghost use Rattle.pim_upstream.specs.Timers.{after_moves};
+ghost use Rattle.pim_upstream.specs.Visits.{group_told_nodes, is_told_nodes, source_told_nodes, star_told_nodes, told_alone_nodes, told_nodes};
 
 use crate::timer::{TimerMove, move_timers, note_join, note_override};
 use crate::{source, star};
 use pim_macros::{SourceSight, StarSight};
 use pim_opening::{GroupOpening, Opening, SourceOpening};
 use pim_types::{Addr, SourceView, StarView};
-use pim_world::{Turn, World};
+use pim_world::{Meter, Turn, World};
 use std::alloc::AllocError;
 
 // Sends what is told of a source by its sight, and notes what becomes of its timers.
@@ -44,11 +46,11 @@ fn tell_views(
 }
 
 // Whether something may be told of the source of a group: it has a fact, before or after the change.
-fn is_told(world: &World, turn: &mut Turn, group: Addr, before: SourceOpening) -> bool
+fn is_told(world: &World, meter: &mut Meter, group: Addr, before: SourceOpening) -> bool
     ensures told { result ≡ (before.has_facts || has_facts world.now group.bits before.source.bits) }
-    ensures silent { turn.new ≡ turn.old }
+    ensures at_least { raised meter.old (is_told_nodes world.now group before) ≤ meter.new }
 {
-    before.has_facts || world.has_facts(group, before.source, &mut turn.meter)
+    before.has_facts || world.has_facts(group, before.source, meter)
 }
 
 // Sends what is told of a source that has facts, before or after the change; its sight shows it after the change.
@@ -56,6 +58,7 @@ fn is_told(world: &World, turn: &mut Turn, group: Addr, before: SourceOpening) -
 fn tell_seen(
     world: &World,
     turn: &mut Turn,
+    meter: &mut Meter,
     sight: &SourceSight,
     before: SourceOpening,
     moves: &mut Vec<TimerMove>,
@@ -66,8 +69,9 @@ fn tell_seen(
         ≡ (source_step world.now turn.old.draw sight.now.star.group.bits (after_moves s moves.old.items) before).0) }
     ensures messages { OnOk result ((s : State) → turn.new ≡ saying turn.old
         (source_step world.now turn.old.draw sight.now.star.group.bits (after_moves s moves.old.items) before).1) }
+    ensures at_least { OnOk result (raised meter.old (is_told_nodes world.now sight.now.star.group before) ≤ meter.new) }
 {
-    if is_told(world, turn, sight.star.group, before) {
+    if is_told(world, meter, sight.star.group, before) {
         return tell_views(world, turn, sight, before.view, moves);
     }
     Ok(())
@@ -78,6 +82,7 @@ fn tell_seen(
 fn tell_source(
     world: &World,
     turn: &mut Turn,
+    meter: &mut Meter,
     star: &StarSight,
     before: SourceOpening,
     moves: &mut Vec<TimerMove>,
@@ -87,9 +92,10 @@ fn tell_source(
         ≡ (source_step world.now turn.old.draw star.now.group.bits (after_moves s moves.old.items) before).0) }
     ensures messages { OnOk result ((s : State) → turn.new ≡ saying turn.old
         (source_step world.now turn.old.draw star.now.group.bits (after_moves s moves.old.items) before).1) }
+    ensures at_least { OnOk result (raised meter.old (source_told_nodes world.now star.now.group before) ≤ meter.new) }
 {
-    if is_told(world, turn, star.group, before) {
-        let sight = SourceSight::of(world, *star, before.source, &mut turn.meter);
+    if is_told(world, meter, star.group, before) {
+        let sight = SourceSight::of(world, *star, before.source, meter);
         return tell_views(world, turn, &sight, before.view, moves);
     }
     Ok(())
@@ -99,6 +105,7 @@ fn tell_source(
 fn tell_sources(
     world: &World,
     turn: &mut Turn,
+    meter: &mut Meter,
     star: &StarSight,
     sources: &[SourceOpening],
     moves: &mut Vec<TimerMove>,
@@ -110,9 +117,11 @@ fn tell_sources(
     ensures messages { OnOk result ((s : State) → turn.new ≡ saying turn.old
         (each_in_turn (source_step world.now turn.old.draw star.now.group.bits)
         (after_moves s moves.old.items) sources.now).1) }
+    ensures at_least { OnOk result (raised meter.old
+        (sum_by (source_told_nodes world.now star.now.group) sources.now) ≤ meter.new) }
 {
     for before in sources {
-        tell_source(world, turn, star, *before, moves)?;
+        tell_source(world, turn, meter, star, *before, moves)?;
     }
     Ok(())
 }
@@ -121,6 +130,7 @@ fn tell_sources(
 fn tell_star(
     world: &World,
     turn: &mut Turn,
+    meter: &mut Meter,
     star: &StarSight,
     old: StarView,
     moves: &mut Vec<TimerMove>,
@@ -131,9 +141,11 @@ fn tell_star(
         (star_changed world.now turn.old.draw star.now.group.bits old).timer) }
     ensures messages { OnOk result (turn.new ≡ saying turn.old
         (star_changed world.now turn.old.draw star.now.group.bits old).messages) }
+    ensures at_least { OnOk result (raised meter.old
+        (star_told_nodes world.now star.now.group old (star_view world.now star.now.group.bits)) ≤ meter.new) }
 {
     let new = star.view();
-    let change = star::tell(world, turn, star, old, new)?;
+    let change = star::tell(world, turn, meter, star, old, new)?;
     note_join(moves, star.group, None, change)
 }
 
@@ -142,6 +154,7 @@ fn tell_star(
 fn tell_group(
     world: &World,
     turn: &mut Turn,
+    meter: &mut Meter,
     before: &GroupOpening,
     moves: &mut Vec<TimerMove>,
 ) -> Result<(), AllocError>
@@ -149,16 +162,18 @@ fn tell_group(
         ≡ (group_step world.now turn.old.draw (after_moves s moves.old.items) before.now).0) }
     ensures messages { OnOk result ((s : State) → turn.new ≡ saying turn.old
         (group_step world.now turn.old.draw (after_moves s moves.old.items) before.now).1) }
+    ensures at_least { OnOk result (raised meter.old (group_told_nodes world.now before.now) ≤ meter.new) }
 {
-    let star = StarSight::of(world, before.group, &mut turn.meter);
-    tell_star(world, turn, &star, before.star, moves)?;
-    tell_sources(world, turn, &star, before.sources.as_slice(), moves)
+    let star = StarSight::of(world, before.group, meter);
+    tell_star(world, turn, meter, &star, before.star, moves)?;
+    tell_sources(world, turn, meter, &star, before.sources.as_slice(), moves)
 }
 
 // Sends what is told of these groups, one after the other, and notes what becomes of their timers.
 fn tell_groups(
     world: &World,
     turn: &mut Turn,
+    meter: &mut Meter,
     groups: &[GroupOpening],
     moves: &mut Vec<TimerMove>,
 ) -> Result<(), AllocError>
@@ -166,30 +181,42 @@ fn tell_groups(
         ≡ (each_in_turn (group_step world.now turn.old.draw) (after_moves s moves.old.items) groups.now).0) }
     ensures messages { OnOk result ((s : State) → turn.new ≡ saying turn.old
         (each_in_turn (group_step world.now turn.old.draw) (after_moves s moves.old.items) groups.now).1) }
+    ensures at_least { OnOk result (raised meter.old (told_nodes world.now groups.now) ≤ meter.new) }
 {
     for before in groups {
-        tell_group(world, turn, before, moves)?;
+        tell_group(world, turn, meter, before, moves)?;
     }
     Ok(())
 }
 
 /// What is told upstream after a change, and what becomes of the timers: for each touched group ascending, and for each
 /// of its touched sources ascending. All of it follows of the state as the change left it; the timers move last.
+/// The meter rises by the nodes that the look-ups visit, at least those of the sight of each group, of each of its
+/// sources with a fact, and of those that its Join may prune.
 #[tactic(auto, unfolding(crate::specs::Told::upstream_by, crate::specs::Timers::after_moves))]
-pub fn changed(world: &mut World, turn: &mut Turn, opening: &Opening) -> Result<(), AllocError>
+pub fn changed(
+    world: &mut World,
+    turn: &mut Turn,
+    meter: &mut Meter,
+    opening: &Opening,
+) -> Result<(), AllocError>
     ensures state { OnOk result (world.new ≡ (upstream_by opening.now world.old turn.old.draw).0) }
     ensures messages { OnOk result (turn.new ≡ saying turn.old (upstream_by opening.now world.old turn.old.draw).1) }
+    ensures at_least { OnOk result (raised meter.old (told_nodes world.old opening.now) ≤ meter.new) }
 {
     let mut moves = Vec::new(turn.alloc);
-    tell_groups(world, turn, opening.groups(), &mut moves)?;
-    move_timers(world, &mut turn.meter, moves.as_slice())
+    tell_groups(world, turn, meter, opening.groups(), &mut moves)?;
+    move_timers(world, meter, moves.as_slice())
 }
 
-/// The same where one source alone was opened, by its sight of the state as the change left it.
+/// The same where one source alone was opened, by its sight of the state as the change left it: neither that nor the
+/// group's is gathered again. The meter rises by the nodes that the look-ups visit, at least those of the sources that
+/// the group's Join may prune, and those that lead to the facts of the source where it had none.
 #[tactic(auto, unfolding(crate::specs::Timers::after_moves))]
 pub fn changed_alone(
     world: &mut World,
     turn: &mut Turn,
+    meter: &mut Meter,
     group: &GroupOpening,
     opened: SourceOpening,
     sight: &SourceSight,
@@ -201,9 +228,10 @@ pub fn changed_alone(
     ensures state { OnOk result (world.new ≡ (upstream_by (group.now ∷ []) world.old turn.old.draw).0) }
     ensures messages { OnOk result (turn.new
         ≡ saying turn.old (upstream_by (group.now ∷ []) world.old turn.old.draw).1) }
+    ensures at_least { OnOk result (raised meter.old (told_alone_nodes world.old group.now opened) ≤ meter.new) }
 {
     let mut moves = Vec::new(turn.alloc);
-    tell_star(world, turn, &sight.star, group.star, &mut moves)?;
-    tell_seen(world, turn, sight, opened, &mut moves)?;
-    move_timers(world, &mut turn.meter, moves.as_slice())
+    tell_star(world, turn, meter, &sight.star, group.star, &mut moves)?;
+    tell_seen(world, turn, meter, sight, opened, &mut moves)?;
+    move_timers(world, meter, moves.as_slice())
 }

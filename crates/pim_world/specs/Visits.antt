@@ -1,7 +1,7 @@
 -- How many nodes of tries look-ups visit: of the route to an address, and at least those that lead to the facts of a
 -- group and of a source of it.
 use Rattle.std.specs.List.{list_any}
-use Rattle.std.specs.Prelude.{None, Option, Some, if◌then◌else◌, ℕ, ◌+◌}
+use Rattle.std.specs.Prelude.{List, None, Option, Some, [], if◌then◌else◌, ℕ, ◌∷◌, ◌+◌}
 use Rattle.pim_ip.specs.declared.addr.Addr.{Addr}
 use Rattle.pim_types.specs.Keys.{names_source}
 use Rattle.pim_model.specs.State.{State}
@@ -12,6 +12,7 @@ use Rattle.pim_membership.specs.Visits.{nodes_to_sources}
 use Rattle.pim_mrib.specs.Routes.{route_nodes, rp_nodes}
 use Rattle.pim_store.specs.PimTables.{pim_tables, stored_keys}
 use Rattle.pim_store.specs.Visits.{nodes_visited}
+pub use Rattle.pim_trie.specs.Meter.{raised}
 use Rattle.pim_world.specs.Lending.{membership_tables}
 
 -- the route to the address, none where there is no address
@@ -58,3 +59,8 @@ source_nodes s group source =
 abbrev pub sight_nodes : State → Addr → Option Addr → ℕ
 sight_nodes s group None = star_nodes s group
 sight_nodes s group (Some source) = star_nodes s group + source_nodes s group source
+
+-- what each of these looks up in its turn, in the state that those before it leave
+unfoldable pub nodes_in_turn : {S A : Type 0} → (S → A → S) → (S → A → ℕ) → S → List A → ℕ
+nodes_in_turn step nodes s [] = 0
+nodes_in_turn step nodes s (x ∷ xs) = nodes s x + nodes_in_turn step nodes (step s x) xs

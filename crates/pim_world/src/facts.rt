@@ -1,5 +1,5 @@
 //! What the machines change of sources: the keepalive timer, and the SPTbit.
-ghost use Rattle.std.specs.Prelude.{◌≡◌, IsTrue, None, OnOk, Some, option_and_then};
+ghost use Rattle.std.specs.Prelude.{◌≡◌, ◌≤◌, IsTrue, None, OnOk, Some, option_and_then};
 ghost use Rattle.pim_model.specs.Asserts.{with_spt_bit};
 ghost use Rattle.pim_model.specs.Registers.{with_keepalive};
 ghost use Rattle.pim_model.specs.Tables.{has_row, row_at};
@@ -42,6 +42,7 @@ impl World {
             → meter.new ≡ meter.old) }
         ensures new { OnOk result (row_at self.old.sources (source_key 0 group.bits source.bits) ≡ None
             → meter.new ≡ raised meter.old (mark_nodes self.old group (Some source))) }
+        ensures rises { OnOk result (meter.old ≤ meter.new) }
     {
         let end = self.present() + KEEPALIVE_PERIOD;
         self.store.keep_alive(group, source, end, hint, meter)
@@ -70,6 +71,7 @@ impl World {
             → meter.new ≡ meter.old) }
         ensures new { OnOk result (row_at self.old.sources (source_key 0 group.bits source.bits) ≡ None
             → meter.new ≡ raised meter.old (mark_nodes self.old group (Some source))) }
+        ensures rises { OnOk result (meter.old ≤ meter.new) }
     {
         let row = SourceRow {
             keepalive: self.keepalive_end(group, source),

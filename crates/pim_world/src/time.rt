@@ -51,7 +51,8 @@ impl World {
     /// Makes the interface down: all that is known on it goes. Without neighbours there the router is the DR.
     #[tactic(auto, unfolding(pim_model::specs::Step::iface_down))]
     pub fn set_down(&mut self, iface: IfaceId, meter: &mut Meter)
-        ensures { self.new ≡ iface_down self.old iface.number }
+        ensures down { self.new ≡ iface_down self.old iface.number }
+        ensures rises { meter.old ≤ meter.new }
     {
         self.interfaces.set_down(iface);
         self.neighbours.drop_on(iface);

@@ -2,16 +2,14 @@
 ghost use Rattle.std.specs.Prelude.{◌≡◌, []};
 
 use pim_messages::Outbox;
-use pim_trie::Meter;
 use std::alloc::Global;
 use std::marker::Model;
 
-/// An event's turn: its draw, the meter that its look-ups raise, and what it sends, so far.
+/// An event's turn: its draw, and what it sends, so far.
 #[derive(Drop)]
 pub struct Turn {
     pub alloc: Global,
     pub draw: u32,
-    pub meter: Meter,
     pub out: Outbox,
 }
 
@@ -25,13 +23,12 @@ impl Model for Turn {
 
 impl Turn {
     /// A turn that has sent nothing yet.
-    pub fn new(alloc: Global, draw: u32, meter: Meter) -> Turn
+    pub fn new(alloc: Global, draw: u32) -> Turn
         ensures { result ≡ record { draw = draw; messages = [] } }
     {
         Turn {
             alloc,
             draw,
-            meter,
             out: Outbox::new(alloc),
         }
     }

@@ -7,6 +7,8 @@ use Rattle.pim_world.specs.Turns.{Taking, saying}
 use Rattle.pim_asserts.specs.Opened.{clear_bit, clear_source}
 use Rattle.pim_asserts.proofs.Alone.{both, cleared_alone}
 use Rattle.pim_world.proofs.Said.{said_both}
+use Rattle.pim_world.proofs.Visits.{two_in_turn}
+use Rattle.pim_asserts.specs.Visits.{alone_nodes}
 use Rattle.pim_asserts.proofs.clearing.clear_alone.Goals as goal
 
 pub returns-clause-state : goal.returns-clause-state
@@ -41,3 +43,9 @@ returns-clause-messages c =
     ∙ sym (ap (λ (p : State × List Message). saying t p.1)
     (cleared_alone s c.args.group.now x c.requires.whole c.requires.alone)))
     c.clear_bit_seen.ensures.messages
+
+pub returns-clause-at_least : goal.returns-clause-at_least
+unfolding alone_nodes
+returns-clause-at_least c =
+    on_ok_weaker c.clear_bit_seen.result (two_in_turn _ _ _ _ _ c.in_ok-clear_source_seen.ensures.at_least)
+    (rw (c.in_ok-clear_source_seen.ensures.group, c.in_ok-clear_source_seen.ensures.state) at c.clear_bit_seen.ensures.at_least)

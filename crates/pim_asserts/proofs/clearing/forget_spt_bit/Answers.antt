@@ -3,16 +3,18 @@ use Rattle.std.proofs.lemmas.Result.{on_ok_weaker}
 use Rattle.pim_types.specs.Keys.{source_key}
 use Rattle.pim_types.specs.declared.fact.SourceRow.{SourceRow}
 use Rattle.pim_model.specs.Asserts.{without_spt_bit}
+use Rattle.pim_model.specs.Sets.{is_kept_alive}
 use Rattle.pim_model.specs.State.{State}
 use Rattle.pim_model.specs.Tables.{Table, set_row}
 use Rattle.pim_store.specs.PimTables.{PimTables}
 use Rattle.pim_world.proofs.Lent.{stored_on_ok}
 use Rattle.pim_asserts.proofs.SptBit.{bit_forgotten}
+use Rattle.pim_asserts.proofs.Visited.{kept_or_gone}
 use Rattle.pim_asserts.proofs.clearing.forget_spt_bit.Goals as goal
 
-pub returns : goal.returns
+pub returns-clause-state : goal.returns-clause-state
 unfolding without_spt_bit
-returns c =
+returns-clause-state c =
     let s = c.args.world.now in
     let key = source_key 0 c.args.group.bits c.args.source.bits in
     on_ok_weaker c.set_source.result
@@ -22,3 +24,10 @@ returns c =
     (stored_on_ok s c.set_source.result _ _ (λ (f : PimTables). record f {
       sources = set_row f.sources key c.then_some-left.result;
     }) c.store_mut.ensures.value c.set_source.ensures.set)
+
+pub returns-clause-at_least : goal.returns-clause-at_least
+unfolding is_kept_alive
+returns-clause-at_least c =
+    rw (c.requires, ← c.is_some.ensures)
+    (kept_or_gone c.set_source.result _ _ _ c.is_some.result _ c.then_some-left.result c.then_some-left.ensures
+    (rw c.store_mut.ensures.value at c.set_source.ensures.gone) c.set_source.ensures.rises)

@@ -1,11 +1,14 @@
-use Rattle.std.proofs.Common.{Bool, List, [], ap, sym, ◌∙◌}
+use Rattle.std.proofs.Common.{Bool, List, [], ap, not, refl, sym, ◌&&◌, ◌∙◌}
 use Rattle.std.proofs.lemmas.Result.{on_ok_weaker}
 use Rattle.std.specs.Prelude.{if◌then◌else◌}
 use Rattle.pim_world.specs.Turns.{saying}
 use Rattle.pim_model.specs.Messages.{Message}
 use Rattle.pim_model.specs.State.{State}
+use Rattle.pim_model.specs.Tables.{has_row}
 use Rattle.pim_asserts.specs.Receiving.{wins_with}
 use Rattle.pim_world.proofs.Said.{said_nothing}
+use Rattle.pim_world.proofs.Visits.{none_asked}
+use Rattle.pim_asserts.specs.declared.stance.Stance.{Stance}
 use Rattle.pim_asserts.proofs.Receiving.{data_asserts}
 use Rattle.pim_asserts.proofs.message.data_seen.Goals as goal
 
@@ -53,3 +56,11 @@ returns-clause-messages c =
     c.asserts_by_data.ensures
     ∙ ap (λ (b : Bool). if b then won else (s, [])) c.if-not-asserts_by_data.false)))
     c.win_with.ensures.messages
+
+pub returns-then-not-asserts_by_data-clause-at_least :
+    goal.returns-then-not-asserts_by_data-clause-at_least
+returns-then-not-asserts_by_data-clause-at_least c =
+    none_asked _ _ _ _
+    (sym (c.asserts_by_data.ensures
+    ∙ ap (λ (st : Stance). st.could_assert && not (has_row c.args.world.now.asserts c.args.key)) c.requires.stance)
+    ∙ c.if-not-asserts_by_data.true) refl

@@ -9,6 +9,7 @@ use Rattle.pim_model.specs.Messages.{Message}
 use Rattle.pim_model.specs.State.{State}
 use Rattle.pim_asserts.specs.Receiving.{source_asserted}
 use Rattle.pim_world.proofs.Said.{said_both}
+use Rattle.pim_world.proofs.Visits.{two_in_turn, whether_or_not}
 use Rattle.pim_asserts.proofs.Receiving.{goes_further, stops_there}
 use Rattle.pim_asserts.proofs.message.received.Goals as goal
 
@@ -55,3 +56,8 @@ returns-clause-messages c =
     (goes_further c.args.world.now t c.args.iface.number c.args.from.bits c.args.assert.now c.in_ok-goes_on.goes_on
     c.in_ok-goes_on.ensures.state c.in_ok-goes_on.ensures.further c.if-not-goes_on.false)))
     c.take.ensures.messages
+
+pub returns-clause-at_least : goal.returns-clause-at_least
+returns-clause-at_least c =
+    on_ok_weaker c.take.result (λ e. two_in_turn _ _ _ _ _ c.in_ok-goes_on.ensures.at_least (whether_or_not _ _ _ _ e))
+    (rw (c.star-star.ensures, c.metric_of.ensures, c.in_ok-goes_on.ensures.state) at c.take.ensures.at_least)

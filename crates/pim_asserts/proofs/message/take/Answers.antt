@@ -1,12 +1,16 @@
-use Rattle.std.proofs.Common.{List, ap, subst, ◌≡◌, ◌∙◌}
+use Rattle.std.proofs.Common.{List, ap, subst, ◌≡◌, ◌≤◌, ◌∙◌}
+use Rattle.std.proofs.lemmas.Result.{on_ok_weaker}
 use Rattle.std.specs.Prelude.{OnOk}
-use Rattle.pim_world.specs.Turns.{Taking, saying}
-use Rattle.pim_model.specs.Asserts.{assert_at}
+use Rattle.pim_world.specs.Visits.{raised}
+use Rattle.pim_world.specs.Turns.{saying}
 use Rattle.pim_model.specs.Messages.{Message}
 use Rattle.pim_model.specs.State.{State}
 use Rattle.pim_model.specs.Tables.{row_at}
 use Rattle.pim_store.specs.PimTables.{PimTables}
-use Rattle.pim_asserts.proofs.Receiving.{acts}
+use Rattle.pim_world.proofs.Visits.{two_in_turn}
+use Rattle.pim_asserts.specs.Visits.{action_nodes, taken_nodes}
+use Rattle.pim_asserts.specs.declared.action.Action.{Action}
+use Rattle.pim_asserts.proofs.Receiving.{acts, acts_so}
 use Rattle.pim_asserts.proofs.message.take.Goals as goal
 
 pub returns-clause-state : goal.returns-clause-state
@@ -19,10 +23,21 @@ returns-clause-state c =
 
 pub returns-clause-messages : goal.returns-clause-messages
 returns-clause-messages c =
-    subst (λ (t : Taking). OnOk c.act.result (c.act.new.turn ≡ saying t (assert_at c.args.world.now c.args.key c.args.theirs).1))
-    c.stance_of-stance.ensures.silent
-    (subst (λ (x : State × List Message). OnOk c.act.result (c.act.new.turn ≡ saying c.stance_of-stance.new.turn x.1))
+    subst (λ (x : State × List Message). OnOk c.act.result (c.act.new.turn ≡ saying c.args.turn.now x.1))
     (acts c.args.world.now c.args.key c.args.theirs c.stance_of-stance.result c.assert_at.result
     c.action_of-action.result c.stance_of-stance.ensures.stance
     (c.assert_at.ensures ∙ ap (λ (f : PimTables). row_at f.asserts c.args.key) c.store.ensures) c.action_of-action.ensures)
-    c.act.ensures.messages)
+    c.act.ensures.messages
+
+pub returns-clause-at_least : goal.returns-clause-at_least
+unfolding taken_nodes
+returns-clause-at_least c =
+    let s = c.args.world.now in
+    let k = c.args.key in
+    on_ok_weaker c.act.result
+    (λ e. two_in_turn _ _ _ _ _ c.stance_of-stance.ensures.at_least
+    (subst (λ (a : Action). raised c.stance_of-stance.new.meter (action_nodes s k c.args.theirs a) ≤ c.act.new.meter)
+    (acts_so s k c.args.theirs c.stance_of-stance.result c.assert_at.result c.action_of-action.result
+    c.stance_of-stance.ensures.stance
+    (c.assert_at.ensures ∙ ap (λ (f : PimTables). row_at f.asserts k) c.store.ensures) c.action_of-action.ensures) e))
+    c.act.ensures.at_least

@@ -1,6 +1,10 @@
-use Rattle.std.proofs.Common.{sym, ◌∙◌}
+use Rattle.std.proofs.Common.{ap, false, not, refl, sym, ◌&&◌, ◌≡◌, ◌∙◌}
+use Rattle.pim_model.specs.Sets.{spt_bit}
+use Rattle.pim_model.specs.Unicast.{is_rpf_interface, is_rpf_interface_rp}
 use Rattle.pim_data.proofs.Lists.{on_shared_tree, on_source_tree}
+use Rattle.pim_data.proofs.Visited.{chosen_nowhere, chosen_on_shared_tree, chosen_on_source_tree, first_off, second_off}
 use Rattle.pim_data.proofs.list.choose_list.Goals as goal
+use Rattle.pim_data.proofs.list.choose_list.Goals.{else-is_rpf_interface-via-then-is_rpf_interface+else-sight, else-is_rpf_interface-via-else-is_rpf_interface, else-is_rpf_interface-2-via-then-is_rpf_interface-2+else-not-sight, else-is_rpf_interface-2-via-else-is_rpf_interface-2}
 
 pub returns-then-sight-clause-list : goal.returns-then-sight-clause-list
 returns-then-sight-clause-list c =
@@ -23,3 +27,40 @@ returns-then-not-sight-clause-list c =
       interfaces = λ i. c.without_tunnel-list.ensures.interfaces i ∙ c.inherited_olist_rpt.ensures s h i;
       tunnel = c.without_tunnel-list.ensures.tunnel;
     })
+
+pub returns-then-sight-clause-at_least : goal.returns-then-sight-clause-at_least
+returns-then-sight-clause-at_least c =
+    let s = c.args.world.now in
+    let h = c.requires.sight in
+    chosen_on_source_tree s c.args.sight.now.star.group.bits c.args.sight.now.source.bits c.args.iface.number _ _
+    (sym (c.is_rpf_interface.ensures s h) ∙ c.if-is_rpf_interface.true) (sym h.spt ∙ c.if-sight.true) refl
+
+pub returns-then-not-sight-clause-at_least : goal.returns-then-not-sight-clause-at_least
+returns-then-not-sight-clause-at_least c =
+    let s = c.args.world.now in
+    let h = c.requires.sight in
+    chosen_on_shared_tree s c.args.sight.now.star.group.bits c.args.sight.now.source.bits c.args.iface.number _ _
+    (sym (c.is_rpf_interface-2.ensures s h.star) ∙ c.if-is_rpf_interface-2.true) (sym h.spt ∙ c.if-not-sight.true)
+    c.in_ok-watch.ensures.at_least
+
+pub returns-clause-at_least : goal.returns-clause-at_least
+returns-clause-at_least c =
+    let s = c.args.world.now in
+    let h = c.requires.sight in
+    let g = c.args.sight.now.star.group.bits in
+    let src = c.args.sight.now.source.bits in
+    let i = c.args.iface.number in
+    let first : (is_rpf_interface s src i && spt_bit s g src) ≡ false =
+    elim c.else-is_rpf_interface.branch [
+      | else-is_rpf_interface-via-then-is_rpf_interface+else-sight w ↦ second_off _ _ (sym h.spt ∙ w.if-sight.false)
+      | else-is_rpf_interface-via-else-is_rpf_interface w ↦
+          first_off _ _ (sym (c.is_rpf_interface.ensures s h) ∙ w.if-is_rpf_interface.false)
+    ] in
+    let second : (is_rpf_interface_rp s g i && not (spt_bit s g src)) ≡ false =
+    elim c.else-is_rpf_interface-2.branch [
+      | else-is_rpf_interface-2-via-then-is_rpf_interface-2+else-not-sight w ↦
+          second_off _ _ (ap not (sym h.spt ∙ w.if-not-sight.false))
+      | else-is_rpf_interface-2-via-else-is_rpf_interface-2 w ↦
+          first_off _ _ (sym (c.is_rpf_interface-2.ensures s h.star) ∙ w.if-is_rpf_interface-2.false)
+    ] in
+    chosen_nowhere s g src i _ _ first second c.in_ok-take_stray.ensures.at_least

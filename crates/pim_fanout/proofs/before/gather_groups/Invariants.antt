@@ -1,9 +1,11 @@
-use Rattle.std.proofs.Common.{◌≡◌, ◌++◌, map}
-use Rattle.std.specs.List.{flat_map}
+use Rattle.std.proofs.Common.{◌≡◌, ◌≤◌, ◌++◌, map}
+use Rattle.std.specs.List.{flat_map, sum_by}
+use Rattle.pim_trie.specs.Meter.{raised}
 use Rattle.pim_types.specs.Keys.{source_key}
 use Rattle.pim_world.specs.Groups.{numbers_of}
 use Rattle.pim_opening.specs.Openings.{touched_sources}
 use Rattle.pim_fanout.specs.Before.{AreBefore, key_before}
+use Rattle.pim_fanout.specs.Visits.{group_before_nodes}
 use Rattle.pim_fanout.proofs.before.gather_groups.Given as goal
 
 abbrev pub invariant-loop-group : goal.invariant-loop-group
@@ -12,5 +14,6 @@ invariant-loop-group l = record {
       ++ flat_map (λ g. map (source_key 0 g) (touched_sources l.world l.touched g)) (numbers_of l.group-iterator)
       ≡ flat_map (λ g. map (source_key 0 g) (touched_sources l.world l.touched g)) (numbers_of l.fn.groups.entries);
   each : AreBefore l.world l.found.items;
-  silent : l.turn ≡ l.fn.turn;
+  visited : raised l.fn.meter (sum_by (group_before_nodes l.world l.touched) (numbers_of l.fn.groups.entries))
+      ≤ raised l.meter (sum_by (group_before_nodes l.world l.touched) (numbers_of l.group-iterator));
 }

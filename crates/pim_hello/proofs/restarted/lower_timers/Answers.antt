@@ -17,17 +17,19 @@ loop-key-preserved c =
     let i = c.loop-key.key-index in
     let lowered_in =
     ap (with_store c.loop-key.world) (rw c.store_mut.ensures.value at c.in_ok-lower_join_timer.ensures.lowered) in
-    let timers = ap (λ (s : State). s.join_timers) lowered_in in (
-      ap (λ (t : Table JoinTimerRow). all_changed (lowered end) t (drop (i + 1) keys)) timers
+    let timers = ap (λ (s : State). s.join_timers) lowered_in in record {
+      timers =
+          ap (λ (t : Table JoinTimerRow). all_changed (lowered end) t (drop (i + 1) keys)) timers
           ∙ one_more_changed (lowered end) keys i (star_key 0 0) c.loop-key.world.join_timers c.loop-key-test.true
-          ∙ c.loop-key.invariant.0,
-      kept c.args.world.now c.loop-key.world _ _ c.loop-key.invariant.1 lowered_in,
-    )
+          ∙ c.loop-key.invariant.timers;
+      rest = kept c.args.world.now c.loop-key.world _ _ c.loop-key.invariant.rest lowered_in;
+      kept = c.in_ok-lower_join_timer.ensures.kept ∙ c.loop-key.invariant.kept;
+    }
 
-pub returns : goal.returns
-returns c =
+pub returns-clause-lowered : goal.returns-clause-lowered
+returns-clause-lowered c =
     let timers = sym (none_left_changed (lowered c.args.end) c.args.keys.now c.loop-key.key-index c.loop-key.world.join_timers
     c.loop-key-test.false)
-    ∙ c.loop-key.invariant.0 in
-    c.loop-key.invariant.1
+    ∙ c.loop-key.invariant.timers in
+    c.loop-key.invariant.rest
     ∙ ap (λ (t : Table JoinTimerRow). let s : State = record c.args.world.now { join_timers = t } in s) timers

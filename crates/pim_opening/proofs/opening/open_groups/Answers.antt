@@ -3,7 +3,7 @@ use Rattle.pim_world.specs.Groups.{numbers_of}
 use Rattle.pim_opening.specs.Openings.{group_opening}
 use Rattle.pim_opening.specs.declared.opening.GroupOpening.{GroupOpening}
 use Rattle.pim_opening.specs.Visits.{group_opening_nodes}
-use Rattle.pim_opening.proofs.Visited.{all_gathered, next_gathered}
+use Rattle.pim_world.proofs.Visits.{all_gathered, next_gathered}
 use Rattle.pim_opening.proofs.opening.open_groups.Goals as goal
 
 pub loop-group-preserved : goal.loop-group-preserved

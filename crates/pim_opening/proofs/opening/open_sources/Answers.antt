@@ -3,7 +3,7 @@ use Rattle.pim_world.specs.Groups.{numbers_of}
 use Rattle.pim_opening.specs.Openings.{source_opening}
 use Rattle.pim_opening.specs.declared.opening.SourceOpening.{SourceOpening}
 use Rattle.pim_opening.specs.Visits.{source_opening_nodes}
-use Rattle.pim_opening.proofs.Visited.{all_gathered, next_gathered}
+use Rattle.pim_world.proofs.Visits.{all_gathered, next_gathered}
 use Rattle.pim_opening.proofs.opening.open_sources.Goals as goal
 
 pub loop-source-preserved : goal.loop-source-preserved

@@ -2,7 +2,7 @@ use Rattle.std.proofs.Common.{ap, refl, sym, ◌∙◌}
 use Rattle.pim_world.specs.Groups.{numbers_of}
 use Rattle.pim_opening.proofs.Named.{none_of_part}
 use Rattle.pim_opening.specs.Openings.{is_whole}
-use Rattle.pim_opening.proofs.Visited.{all_asked, none_asked}
+use Rattle.pim_world.proofs.Visits.{none_asked, one_asked_on_ok}
 use Rattle.pim_opening.proofs.sources.sources_of_whole.Goals as goal
 
 pub returns-clause-sources : goal.returns-clause-sources
@@ -17,4 +17,4 @@ returns-clause-at_least c = none_asked _ _ _ _ (sym c.is_whole.ensures ∙ c.if-
 pub returns-then-is_whole-clause-at_least : goal.returns-then-is_whole-clause-at_least
 unfolding is_whole
 returns-then-is_whole-clause-at_least c =
-    all_asked c.sources.result _ _ _ _ (sym c.is_whole.ensures ∙ c.if-is_whole.true) c.sources.ensures.at_least
+    one_asked_on_ok c.sources.result _ _ _ _ (sym c.is_whole.ensures ∙ c.if-is_whole.true) c.sources.ensures.at_least

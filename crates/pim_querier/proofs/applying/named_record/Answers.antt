@@ -4,9 +4,11 @@ use Rattle.pim_filters.specs.Members.{IsAscending, entries_of}
 use Rattle.pim_model.specs.Querier.{group_end}
 use Rattle.pim_model.specs.Records.{Gone, fate_in, record_of}
 use Rattle.pim_model.specs.Tables.{is_among}
+use Rattle.pim_types.specs.Keys.{addr_cmp}
 use Rattle.pim_querier.specs.Queries.{bits_of}
+use Rattle.pim_querier.specs.Reports.{members_named, record_named}
 use Rattle.pim_querier.proofs.NamedRecords.{gathered_fares, made_so}
-use Rattle.pim_querier.proofs.NamedSet.{set_among}
+use Rattle.pim_querier.proofs.NamedSet.{set_among, set_ascends}
 use Rattle.pim_querier.proofs.applying.named_record.Goals as goal
 
 pub returns-clause-timer : goal.returns-clause-timer
@@ -28,3 +30,17 @@ returns-clause-fates c =
     (bits_of c.args.sources.now) _ (rw c.membership.ensures at c.recall_keyed_source_records.ensures)
     (set_among c.in_ok-named.named.keys c.args.sources.now c.in_ok-named.ensures)
     (ap (λ ms. entries_of ms) c.deref.ensures.value ∙ c.in_ok-members.ensures.members))
+
+pub returns-clause-named : goal.returns-clause-named
+unfolding record_named addr_cmp
+returns-clause-named c =
+    let s = c.args.world.now in
+    let i = c.args.iface.number in
+    let g = c.args.group.bits in
+    made_so (λ known. known ≡ record_named s i g (bits_of c.args.sources.now)) c.with.result _ c.with.ensures
+    (λ j. record {
+      timer = c.group_end.ensures j;
+      members = (ap (λ ms. entries_of ms) c.deref.ensures.value ∙ c.in_ok-members.ensures.members
+          ∙ ap (members_named i g s.source_records)
+          (set_ascends c.in_ok-named.named.keys c.args.sources.now c.len.ensures.ordered c.in_ok-named.ensures)) j;
+    })

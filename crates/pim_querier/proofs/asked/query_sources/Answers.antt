@@ -1,4 +1,4 @@
-use Rattle.std.proofs.Common.{List, ap, arith, sym, ◌==◌, ◌∙◌}
+use Rattle.std.proofs.Common.{List, ap, arith, refl, sym, ◌==◌, ◌∙◌}
 use Rattle.pim_ip.specs.declared.addr.Addr.{Addr}
 use Rattle.pim_world.specs.Turns.{saying}
 use Rattle.pim_model.specs.Querier.{lower_sources}
@@ -33,7 +33,7 @@ returns-clause-state c =
     (sources_queried i g c.args.world.now c.lower_sources.new.world c.put_sendings.new.world (bits_of c.args.asked.now)
     c.in_ok-sources.sources.items c.query_end-end.result c.from.result c.query_end-end.ensures
     (c.from.ensures ∙ c.robustness.ensures.value) c.in_ok-sources.ensures (ap (λ n. n == 0) (omega (arith, c.in_ok-sources.sources.ok.0)) ∙ sym c.is_empty.ensures ∙ c.if-is_empty.false)
-    (c.in_ok-lower_sources.ensures
+    (c.in_ok-lower_sources.ensures.lowered
     ∙ ap (λ (xs : List Addr). lower_sources c.args.world.now i g (bits_of xs) c.query_end-end.result) c.deref.ensures.value)
     (c.in_ok-put_sendings.ensures
     ∙ ap (λ (xs : List Addr). sendings_put i g (record { left = c.from.result }) c.lower_sources.new.world xs)
@@ -45,11 +45,11 @@ returns-clause-messages c =
     let i = c.args.iface.number in
     let g = c.args.group.bits in
     then_ok c.send_sources.result
-    (λ e. said_as _ _ _ _ _ e c.turn.view_is
+    (λ e. said_as _ _ _ _ _ e refl
     (sources_queried i g c.args.world.now c.lower_sources.new.world c.put_sendings.new.world (bits_of c.args.asked.now)
     c.in_ok-sources.sources.items c.query_end-end.result c.from.result c.query_end-end.ensures
     (c.from.ensures ∙ c.robustness.ensures.value) c.in_ok-sources.ensures (ap (λ n. n == 0) (omega (arith, c.in_ok-sources.sources.ok.0)) ∙ sym c.is_empty.ensures ∙ c.if-is_empty.false)
-    (c.in_ok-lower_sources.ensures
+    (c.in_ok-lower_sources.ensures.lowered
     ∙ ap (λ (xs : List Addr). lower_sources c.args.world.now i g (bits_of xs) c.query_end-end.result) c.deref.ensures.value)
     (c.in_ok-put_sendings.ensures
     ∙ ap (λ (xs : List Addr). sendings_put i g (record { left = c.from.result }) c.lower_sources.new.world xs)

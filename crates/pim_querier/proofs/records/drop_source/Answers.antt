@@ -1,11 +1,20 @@
-use Rattle.std.proofs.Common.{ap}
+use Rattle.std.proofs.Common.{ap, not}
 use Rattle.pim_world.specs.Lending.{with_membership}
 use Rattle.pim_querier.proofs.OneSource.{source_dropped}
+use Rattle.pim_querier.proofs.Visited.{source_dropped_visited}
 use Rattle.pim_querier.proofs.records.drop_source.Goals as goal
 
-pub returns : goal.returns
-returns c =
+pub returns-clause-dropped : goal.returns-clause-dropped
+returns-clause-dropped c =
     source_dropped c.args.iface.number c.args.group.bits c.args.source.bits c.args.world.now _ c.drop_empty.new.world
     c.has_sources-is_none.result
     (ap (with_membership c.args.world.now) (rw c.membership_mut.ensures.value at c.remove_source_record.ensures.removed))
-    c.has_sources-is_none.ensures c.drop_empty.ensures
+    c.has_sources-is_none.ensures c.drop_empty.ensures.dropped
+
+pub returns-clause-at_least : goal.returns-clause-at_least
+returns-clause-at_least c =
+    source_dropped_visited c.args.iface.number c.args.group.bits c.args.source.bits c.args.world.now _
+    (not c.has_sources-is_none.result) _ _ _
+    (ap (with_membership c.args.world.now) (rw c.membership_mut.ensures.value at c.remove_source_record.ensures.removed))
+    (ap not c.has_sources-is_none.ensures)
+    (rw c.membership_mut.ensures.value at c.remove_source_record.ensures.visited).at_least c.drop_empty.ensures.at_least

@@ -1,21 +1,36 @@
 use Rattle.std.proofs.Common.{ap, is_some, sym, ◌∙◌}
 use Rattle.pim_model.specs.Records.{with_repeats_of_rows}
 use Rattle.pim_querier.proofs.OneSource.{end_excludes, end_includes}
+use Rattle.pim_querier.specs.Visits.{source_record_due_nodes}
 use Rattle.pim_querier.proofs.Starting.{then_ok}
+use Rattle.pim_querier.proofs.Visited.{at_false, at_true}
 use Rattle.pim_querier.proofs.records.end_source.Goals as goal
 
-pub returns-then-is_some : goal.returns-then-is_some
-returns-then-is_some c =
+pub returns-then-is_some-clause-ended : goal.returns-then-is_some-clause-ended
+returns-then-is_some-clause-ended c =
     then_ok c.exclude_source.result
     (λ e. ap (λ t. with_repeats_of_rows t c.args.iface.number c.args.group.bits) e
     ∙ end_excludes c.args.iface.number c.args.group.bits c.args.source.bits c.args.world.now
     (rw c.membership.ensures at c.recall_rising_source_records.ensures) (rw c.membership-2.ensures at c.recall_keyed_source_records.ensures)
     (ap (λ o. is_some o) (sym c.group_end.ensures) ∙ sym c.is_some.ensures ∙ c.if-is_some.true))
-    c.exclude_source.ensures
+    c.exclude_source.ensures.excluded
 
-pub returns : goal.returns
-returns c =
-    ap (λ t. with_repeats_of_rows t c.args.iface.number c.args.group.bits) c.drop_source.ensures
+pub returns-clause-ended : goal.returns-clause-ended
+returns-clause-ended c =
+    ap (λ t. with_repeats_of_rows t c.args.iface.number c.args.group.bits) c.drop_source.ensures.dropped
     ∙ end_includes c.args.iface.number c.args.group.bits c.args.source.bits c.args.world.now
     (rw c.membership.ensures at c.recall_rising_source_records.ensures) (rw c.membership-2.ensures at c.recall_keyed_source_records.ensures)
     (ap (λ o. is_some o) (sym c.group_end.ensures) ∙ sym c.is_some.ensures ∙ c.if-is_some.false)
+
+pub returns-then-is_some-clause-at_least : goal.returns-then-is_some-clause-at_least
+unfolding source_record_due_nodes
+returns-then-is_some-clause-at_least c =
+    then_ok c.exclude_source.result
+    (at_true _ _ _ _ _ (ap (λ o. is_some o) (sym c.group_end.ensures) ∙ sym c.is_some.ensures ∙ c.if-is_some.true))
+    c.exclude_source.ensures.at_least
+
+pub returns-clause-at_least : goal.returns-clause-at_least
+unfolding source_record_due_nodes
+returns-clause-at_least c =
+    at_false _ _ _ _ _ (ap (λ o. is_some o) (sym c.group_end.ensures) ∙ sym c.is_some.ensures ∙ c.if-is_some.false)
+    c.drop_source.ensures.at_least

@@ -1,8 +1,14 @@
-use Rattle.std.proofs.Common.{◌≡◌, drop, fold}
+use Rattle.std.proofs.Common.{◌≡◌, ◌≤◌, drop, fold}
+use Rattle.pim_world.specs.Visits.{raised}
+use Rattle.pim_filters.specs.Members.{entries_of}
 use Rattle.pim_querier.specs.Changes.{member_put}
+use Rattle.pim_querier.specs.Visits.{members_nodes}
 use Rattle.pim_querier.proofs.records.put_members.Given as goal
 
 abbrev pub invariant-loop-member : goal.invariant-loop-member
-invariant-loop-member l =
-    fold (member_put l.iface.number l.group.bits) l.world (drop l.member-index l.members)
-    ≡ fold (member_put l.iface.number l.group.bits) l.fn.world l.members
+invariant-loop-member l = record {
+  put : fold (member_put l.iface.number l.group.bits) l.world (drop l.member-index l.members)
+      ≡ fold (member_put l.iface.number l.group.bits) l.fn.world l.members;
+  visited : raised l.fn.meter (members_nodes l.iface.number l.group.bits l.fn.world (entries_of l.members))
+      ≤ raised l.meter (members_nodes l.iface.number l.group.bits l.world (entries_of (drop l.member-index l.members)));
+}

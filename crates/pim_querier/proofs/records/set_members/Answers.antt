@@ -2,19 +2,30 @@ use Rattle.std.proofs.Common.{ap}
 use Rattle.pim_world.specs.Lending.{with_membership}
 use Rattle.pim_querier.proofs.Expired.{members_near}
 use Rattle.pim_querier.proofs.Sent.{members_set}
-use Rattle.pim_querier.proofs.Starting.{then_ok}
+use Rattle.pim_querier.proofs.Starting.{on_ok, then_ok}
+use Rattle.pim_querier.proofs.Visited.{members_set_visited}
 use Rattle.pim_querier.proofs.records.set_members.Goals as goal
 
 pub put_members-requires : goal.put_members-requires
 put_members-requires c =
     members_near c.args.iface.number c.members.result.now c.args.known.now.members c.members.ensures.members c.requires
 
-pub returns : goal.returns
-returns c =
+pub returns-clause-set : goal.returns-clause-set
+returns-clause-set c =
     then_ok c.drop_repeats.result
     (members_set c.args.iface.number c.args.group.bits c.args.world.now c.drop_empty.new.world _ c.put_members.new.world
     c.drop_repeats.new.world c.args.known.now c.is_no_record.result c.members.result.now c.members.ensures.members
-    c.is_no_record.ensures c.drop_empty.ensures
+    c.is_no_record.ensures c.drop_empty.ensures.dropped
     (ap (with_membership c.drop_empty.new.world) (rw c.membership_mut.ensures.value at c.drop_source_records.ensures.dropped))
-    c.in_ok-put_members.ensures)
+    c.in_ok-put_members.ensures.put)
     c.drop_repeats.ensures
+
+pub returns-clause-at_least : goal.returns-clause-at_least
+returns-clause-at_least c =
+    on_ok c.drop_repeats.result
+    (members_set_visited c.args.iface.number c.args.group.bits c.args.world.now c.drop_empty.new.world _ c.args.known.now
+    c.is_no_record.result c.members.result.now _ _ _ _ c.members.ensures.members c.is_no_record.ensures
+    c.drop_empty.ensures.dropped
+    (ap (with_membership c.drop_empty.new.world) (rw c.membership_mut.ensures.value at c.drop_source_records.ensures.dropped))
+    c.drop_empty.ensures.at_least (rw c.membership_mut.ensures.value at c.drop_source_records.ensures.at_least)
+    c.in_ok-put_members.ensures.at_least)

@@ -1,4 +1,4 @@
-use Rattle.std.proofs.Common.{ap, sym, ◌∙◌}
+use Rattle.std.proofs.Common.{ap, refl, sym, ◌∙◌}
 use Rattle.pim_world.specs.Turns.{saying}
 use Rattle.pim_querier.proofs.Reported.{seen_by_other, seen_by_querier}
 use Rattle.pim_querier.proofs.Starting.{nothing_said, said_as, then_ok}
@@ -13,8 +13,7 @@ returns-then-not-queries-clause-state c =
 
 pub returns-then-not-queries-clause-messages : goal.returns-then-not-queries-clause-messages
 returns-then-not-queries-clause-messages c =
-    c.turn.view_is
-    ∙ sym (ap (λ p. saying c.args.turn.now p.1)
+    sym (ap (λ p. saying c.args.turn.now p.1)
     (seen_by_other c.args.world.now c.args.iface.number c.args.group_record.now
     (sym c.is_querier-queries.ensures ∙ c.if-not-queries.true))
     ∙ nothing_said c.args.turn.now)
@@ -32,7 +31,7 @@ returns-clause-state c =
 pub returns-clause-messages : goal.returns-clause-messages
 returns-clause-messages c =
     then_ok c.query_asked.result
-    (λ e. said_as _ _ _ _ _ e c.turn.view_is
+    (λ e. said_as _ _ _ _ _ e refl
     (seen_by_querier c.args.world.now c.args.iface.number c.args.group_record.now c.apply_record.new.world
     c.group.result.bits c.in_ok-asked.asked (sym c.is_querier-queries.ensures ∙ c.if-not-queries.false) c.group.ensures
     c.in_ok-asked.ensures.state c.in_ok-asked.ensures.asked))

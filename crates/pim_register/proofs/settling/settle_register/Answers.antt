@@ -1,14 +1,15 @@
-use Rattle.std.proofs.Common.{arith, subst, sym}
+use Rattle.std.proofs.Common.{ap, arith, refl, subst, sym, ◌∙◌}
 use Rattle.std.proofs.lemmas.Grind.{common_steps}
 use Rattle.pim_types.specs.Keys.{source_key}
 use Rattle.pim_types.specs.declared.fact.RegisterState.{RegisterState}
 use Rattle.pim_model.specs.Registers.{settle_register, settled_register}
 use Rattle.pim_model.specs.State.{State}
-use Rattle.pim_model.specs.Tables.{drop_at, has_row, put, set_row}
+use Rattle.pim_model.specs.Tables.{drop_at, has_row, put, row_at, set_row}
 use Rattle.pim_store.specs.PimTables.{PimTables}
 use Rattle.pim_world.proofs.Lent.{stored}
 use Rattle.pim_macros.specs.Sights.{IsSourceSight}
 use Rattle.pim_register.proofs.SettledTunnel.{dropped_tunnel, joined_tunnel}
+use Rattle.pim_register.proofs.Visited.{register_gone, register_new, register_there}
 use Rattle.pim_register.proofs.settling.settle_register.Goals as goal
 
 pub returns-then-not-could_register-clause-state : goal.returns-then-not-could_register-clause-state
@@ -53,3 +54,25 @@ returns-clause-sight c =
     c.store_mut-2.ensures.value c.in_ok-set_register-2.ensures.set))
     (c.with_tunnel-2.ensures.sight s (put s.registers k (record { state = RegisterState.Join })) c.requires
     (joined_tunnel s g src))
+
+pub returns-then-not-could_register-clause-at_least : goal.returns-then-not-could_register-clause-at_least
+returns-then-not-could_register-clause-at_least c =
+    register_gone c.args.world.now _ _ _ _ _ c.store_mut.ensures.value
+    (sym (c.could_register.ensures c.args.world.now c.requires) ∙ c.if-not-could_register.true)
+    (c.in_ok-set_register.ensures.gone refl)
+
+pub returns-then-is_some-clause-at_least : goal.returns-then-is_some-clause-at_least
+returns-then-is_some-clause-at_least c =
+    register_there c.args.world.now _ _ _ _ c.register.result
+    (sym (c.could_register.ensures c.args.world.now c.requires) ∙ c.if-not-could_register.false)
+    (c.register.ensures ∙ ap (λ (f : PimTables). row_at f.registers c.source-key.result) c.store.ensures
+    ∙ ap (row_at c.args.world.now.registers) c.source-key.ensures)
+    (sym c.is_some.ensures ∙ c.if-is_some.true) refl
+
+pub returns-clause-at_least : goal.returns-clause-at_least
+returns-clause-at_least c =
+    register_new c.args.world.now _ _ _ _ _ c.register.result c.store_mut-2.ensures.value
+    (sym (c.could_register.ensures c.args.world.now c.requires) ∙ c.if-not-could_register.false)
+    (c.register.ensures ∙ ap (λ (f : PimTables). row_at f.registers c.source-key.result) c.store.ensures
+    ∙ ap (row_at c.args.world.now.registers) c.source-key.ensures)
+    (sym c.is_some.ensures ∙ c.if-is_some.false) c.in_ok-set_register-2.ensures.new

@@ -19,7 +19,7 @@ returns-then-is_any-clause-state c =
     (ending c.present.result s.present c.delay_in.result c.turn.inside.draw c.args.turn.now.draw c.present.ensures.present
     c.delay_in.ensures.value (ap (λ (t : Taking). t.draw) c.turn.view_is))
     c.args.source.bits (sym c.is_any.ensures ∙ c.if-is_any.true))
-    c.stop_all.ensures
+    c.stop_all.ensures.state
 
 pub returns-clause-state : goal.returns-clause-state
 returns-clause-state c =
@@ -32,4 +32,4 @@ returns-clause-state c =
     (ending c.present.result s.present c.delay_in.result c.turn.inside.draw c.args.turn.now.draw c.present.ensures.present
     c.delay_in.ensures.value (ap (λ (t : Taking). t.draw) c.turn.view_is))
     c.args.source.bits (sym c.is_any.ensures ∙ c.if-is_any.false) c.recall_keyed.ensures.registers)
-    c.stop.ensures
+    c.stop.ensures.state

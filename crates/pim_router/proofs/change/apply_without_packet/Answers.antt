@@ -2,6 +2,13 @@ use Rattle.std.proofs.Common.{◌≡◌, true, subst, sym}
 use Rattle.pim_downstream.proofs.OnInterface.{joined_on, pruned_on}
 use Rattle.pim_downstream.specs.Naming.{are_on}
 use Rattle.pim_router.proofs.Plans.{seen_has_keys, seen_keys, to_me_has_keys, to_me_keys}
+use Rattle.std.proofs.Common.{OnOk, refl, ◌≤◌}
+use Rattle.std.proofs.lemmas.Result.{on_ok_weaker}
+use Rattle.pim_model.specs.declared.accepted.Accepted.{Accepted}
+use Rattle.pim_trie.specs.Meter.{raised}
+use Rattle.pim_world.proofs.Visits.{none_visited, then_rises}
+use Rattle.pim_router.specs.Visits.{change_nodes}
+use Rattle.pim_router.proofs.Instants.{on_ok}
 use Rattle.pim_router.proofs.change.apply_without_packet.Goals as goal
 
 pub keys-requires : goal.keys-requires
@@ -37,3 +44,34 @@ pub seen-requires-clause-pruned : goal.seen-requires-clause-pruned
 seen-requires-clause-pruned c =
     (seen_keys c.args.world.now c.args.accepted.now c.args.means.now c.in-JoinPruneSeen.iface c.in-JoinPruneSeen.message
     c.keys-in-JoinPruneSeen.result.now c.in-JoinPruneSeen.is c.requires.means c.keys-in-JoinPruneSeen.ensures).1
+
+pub returns-in-Up-clause-at_least : goal.returns-in-Up-clause-at_least
+returns-in-Up-clause-at_least c =
+    subst (λ (a : Accepted). OnOk c.go_up.result (raised c.args.meter.now (change_nodes c.args.world.now a) ≤ c.args.meter.now))
+    (sym c.in-Up.is) (on_ok c.go_up.result (none_visited _ _ refl))
+
+pub returns-in-Down-clause-at_least : goal.returns-in-Down-clause-at_least
+returns-in-Down-clause-at_least c =
+    subst (λ (a : Accepted). raised c.args.meter.now (change_nodes c.args.world.now a) ≤ c.set_down.new.meter)
+    (sym c.in-Down.is) (then_rises _ _ _ _ (none_visited _ _ refl) c.set_down.ensures.rises)
+
+pub returns-in-Routes-clause-at_least : goal.returns-in-Routes-clause-at_least
+returns-in-Routes-clause-at_least c =
+    subst (λ (a : Accepted). OnOk c.replace_routes.result (raised c.args.meter.now (change_nodes c.args.world.now a) ≤ c.args.meter.now))
+    (sym c.in-Routes.is) (on_ok c.replace_routes.result (none_visited _ _ refl))
+
+pub returns-in-Query-clause-at_least : goal.returns-in-Query-clause-at_least
+returns-in-Query-clause-at_least c =
+    subst (λ (a : Accepted). OnOk c.query_seen.result (raised c.args.meter.now (change_nodes c.args.world.now a) ≤ c.query_seen.new.meter))
+    (sym c.in-Query.is) (on_ok_weaker c.query_seen.result (λ e. none_visited _ _ e) c.query_seen.ensures.kept)
+
+pub returns-in-RegisterStop-clause-at_least : goal.returns-in-RegisterStop-clause-at_least
+returns-in-RegisterStop-clause-at_least c =
+    subst (λ (a : Accepted). OnOk c.stop_seen.result (raised c.args.meter.now (change_nodes c.args.world.now a) ≤ c.stop_seen.new.meter))
+    (sym c.in-RegisterStop.is) (on_ok_weaker c.stop_seen.result (λ e. then_rises _ _ _ _ (none_visited _ _ refl) e)
+    c.stop_seen.ensures.rises)
+
+pub returns-in-Advance-clause-at_least : goal.returns-in-Advance-clause-at_least
+returns-in-Advance-clause-at_least c =
+    subst (λ (a : Accepted). raised c.args.meter.now (change_nodes c.args.world.now a) ≤ c.args.meter.now)
+    (sym c.in-Advance.is) (none_visited _ _ refl)

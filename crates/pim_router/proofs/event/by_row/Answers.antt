@@ -1,4 +1,5 @@
 use Rattle.pim_router.proofs.Costs.{row_lent, visited_within}
+use Rattle.pim_world.proofs.Visits.{at_least_itself, rises_by}
 use Rattle.pim_router.proofs.event.by_row.Goals as goal
 
 pub returns-clause-visited : goal.returns-clause-visited
@@ -8,3 +9,6 @@ returns-clause-visited c = λ none row.
     (row_lent c.args.cache.now.mfc c.mfc.result.now c.args.packet.now.destination c.destination.result.bits
     c.args.packet.now.source c.source.result.bits c.mfc.ensures c.destination.ensures c.source.ensures.value row))
     c.forward.ensures.at_most
+
+pub returns-clause-rises : goal.returns-clause-rises
+returns-clause-rises c = rises_by _ _ _ (at_least_itself _ _ _ c.forward.ensures.visited)

@@ -1,9 +1,11 @@
-use Rattle.std.proofs.Common.{List, ap, arith, ◌++◌, ◌∙◌}
+use Rattle.std.proofs.Common.{List, ap, arith, ◌++◌, ◌∙◌, refl}
 use Rattle.pim_types.specs.declared.outcome.Emission.{Emission}
 use Rattle.pim_model.specs.Step.{Answered, change, outcome_of}
 use Rattle.pim_router.proofs.Rows.{names_opened}
 use Rattle.pim_router.proofs.Taking.{changed_in_turn, outcome_told, taken_in_turn}
 use Rattle.pim_router.specs.Settling.{settled_by}
+use Rattle.pim_world.proofs.Visits.{rises_by, then_rises, two_in_turn}
+use Rattle.pim_router.specs.Visits.{taken_nodes}
 use Rattle.pim_router.proofs.event.change_world.Goals as goal
 
 pub returns-clause-outcome : goal.returns-clause-outcome
@@ -19,20 +21,20 @@ returns-clause-outcome c =
     (c.len-count.ensures ∙ omega (arith, c.in_ok-copies.field-0.copies.ok.0, c.in_ok-copies.copies.ok.0))
     ∙ ap (λ (x : Answered). outcome_of x)
     (taken_in_turn c.args.world.now c.apply.new.world c.args.accepted.now c.args.plan.now.touched
-    c.in_ok-opening.opening c.in_ok-copies.field-0 c.args.turn.now c.of-2.new.turn c.apply.new.turn
+    c.in_ok-opening.opening c.in_ok-copies.field-0 c.args.turn.now c.args.turn.now c.apply.new.turn
     c.requires.rest.quiet c.recall_keyed.ensures c.requires.timeless c.requires.plan.covers
     c.in_ok-opening.ensures.opening c.requires.begun
-    (c.of-2.ensures.silent ∙ c.turn.view_is) c.in_ok-copies.ensures)
+    refl c.in_ok-copies.ensures.sends)
 
 pub returns-clause-state : goal.returns-clause-state
 returns-clause-state c =
     c.in_ok-names.ensures.state
     ∙ ap (λ (x : Answered). x.state)
     (taken_in_turn c.args.world.now c.apply.new.world c.args.accepted.now c.args.plan.now.touched
-    c.in_ok-opening.opening c.in_ok-copies.field-0 c.args.turn.now c.of-2.new.turn c.apply.new.turn
+    c.in_ok-opening.opening c.in_ok-copies.field-0 c.args.turn.now c.args.turn.now c.apply.new.turn
     c.requires.rest.quiet c.recall_keyed.ensures c.requires.timeless c.requires.plan.covers
     c.in_ok-opening.ensures.opening c.requires.begun
-    (c.of-2.ensures.silent ∙ c.turn.view_is) c.in_ok-copies.ensures)
+    refl c.in_ok-copies.ensures.sends)
 
 pub returns-clause-names : goal.returns-clause-names
 returns-clause-names c =
@@ -40,6 +42,14 @@ returns-clause-names c =
     c.apply.new.world c.args.plan.now.touched c.in_ok-opening.opening c.in_ok-before.before _ c.requires.rest.quiet
     c.recall_keyed.ensures (c.requires.plan.covers c.args.turn.now.draw)
     (changed_in_turn c.args.world.now c.apply.new.world c.args.accepted.now c.in_ok-copies.field-0 c.args.turn.now
-    c.of-2.new.turn c.apply.new.turn
-    (c.of-2.ensures.silent ∙ c.turn.view_is) c.in_ok-copies.ensures)
+    c.args.turn.now c.apply.new.turn
+    refl c.in_ok-copies.ensures.sends)
     c.in_ok-opening.ensures.opening c.in_ok-before.ensures.before c.in_ok-names.ensures.named
+
+pub returns-clause-at_least : goal.returns-clause-at_least
+unfolding taken_nodes
+returns-clause-at_least c =
+    then_rises _ _ _ _
+    (two_in_turn _ _ _ _ _ (two_in_turn _ _ _ _ _ c.in_ok-opening.ensures.at_least c.in_ok-before.ensures.at_least)
+    c.in_ok-copies.ensures.at_least)
+    (rises_by _ _ _ c.in_ok-names.ensures.at_least)

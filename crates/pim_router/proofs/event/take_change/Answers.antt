@@ -1,5 +1,6 @@
 use Rattle.pim_fanout.specs.Refreshing.{touches}
 use Rattle.pim_router.proofs.Rows.{cost_after, rows_after}
+use Rattle.pim_world.proofs.Visits.{rises_by, then_rises}
 use Rattle.pim_router.proofs.event.take_change.Goals as goal
 
 pub returns-clause-shown : goal.returns-clause-shown
@@ -15,3 +16,7 @@ returns-clause-few c =
     cost_after c.args.world.now c.args.turn.now.draw c.args.accepted.now c.requires.timeless
     c.in_ok-outcome.field-0.names c.in_ok-outcome.ensures.names (touches c.args.cache.now) (touches c.refresh.new.self)
     c.as_slice.result.now c.as_slice.ensures c.in_ok-refresh.ensures.few
+
+pub returns-clause-at_least : goal.returns-clause-at_least
+returns-clause-at_least c =
+    then_rises _ _ _ _ c.in_ok-outcome.ensures.at_least (rises_by _ _ _ c.in_ok-refresh.ensures.at_least)

@@ -1,11 +1,12 @@
 use Rattle.std.proofs.Common.{◌≡◌, ◌≤◌, ◌+◌, ◌*◌, true, List, length, IfOk, OnOk, Option, ap, arith, subst, sym, ◌∙◌}
+use Rattle.std.proofs.lemmas.Result.{on_ok_weaker}
 use Rattle.pim_types.specs.declared.fact.Key.{Key}
 use Rattle.pim_fanout.specs.Refreshing.{touches}
 use Rattle.pim_reach.specs.Named.{named_of}
 use Rattle.pim_router.proofs.Rows.{named_in_time, named_with_room}
 use Rattle.pim_model.specs.Full.{is_full}
 use Rattle.pim_model.specs.Step.{Answered, outcome_of, taken, taken_unless_full}
-use Rattle.pim_world.specs.Turns.{Taking}
+use Rattle.pim_world.proofs.Visits.{rises_by}
 use Rattle.pim_router.specs.Planning.{Fits, IsPlanned}
 use Rattle.pim_router.specs.declared.plan.Plan.{Plan}
 use Rattle.pim_router.proofs.Plans.{time_is_taken, with_room, without_room}
@@ -34,10 +35,9 @@ pub returns-in-Some : goal.returns-in-Some
 returns-in-Some c =
     let fits : Fits c.args.world.now c.args.accepted.now c.in-Some.plan =
     subst (λ (p : Option Plan). IsPlanned c.args.world.now c.args.accepted.now p) c.in-Some.is c.in_ok-plan.ensures.plan in
-    let same : taken c.args.world.now c.planned.new.turn.draw c.args.accepted.now
+    let same : taken c.args.world.now c.args.turn.now.draw c.args.accepted.now
     ≡ taken_unless_full c.args.world.now c.args.turn.now.draw c.args.accepted.now =
-    ap (λ (t : Taking). taken c.args.world.now t.draw c.args.accepted.now) c.planned.ensures.silent
-    ∙ sym (with_room c.args.world.now c.args.turn.now.draw c.args.accepted.now fits.room) in
+    sym (with_room c.args.world.now c.args.turn.now.draw c.args.accepted.now fits.room) in
     record {
       outcome = subst (λ (x : Answered). IfOk c.take_change.result (λ outcome. outcome ≡ outcome_of x)) same
           c.take_change.ensures.outcome;
@@ -46,10 +46,11 @@ returns-in-Some c =
       shown = c.take_change.ensures.shown;
       few = subst (λ (ks : List Key). OnOk c.take_change.result (touches c.take_change.new.cache
           ≤ touches c.args.cache.now + 2 * length ks))
-          (ap (λ (t : Taking). named_of c.args.world.now t.draw c.args.accepted.now) c.planned.ensures.silent
-          ∙ named_with_room c.args.world.now c.args.turn.now.draw c.args.accepted.now fits.room)
+          (named_with_room c.args.world.now c.args.turn.now.draw c.args.accepted.now fits.room)
           c.take_change.ensures.few;
       fault = c.take_change.ensures.fault;
+      rises = on_ok_weaker c.take_change.result
+          (λ e. omega (arith, c.in_ok-plan.ensures.rises, rises_by _ _ _ e)) c.take_change.ensures.at_least;
     }
 
 pub returns-in-None : goal.returns-in-None
@@ -63,4 +64,5 @@ returns-in-None c =
       shown = c.requires.shown;
       few = omega arith;
       fault = tt;
+      rises = c.in_ok-plan.ensures.rises;
     }

@@ -2,6 +2,7 @@ use Rattle.std.proofs.Common.{ap, refl, ◌∙◌}
 use Rattle.pim_ip.specs.declared.addr.Addr.{Addr}
 use Rattle.pim_macros.specs.declared.sight.StarSight.{StarSight}
 use Rattle.pim_router.proofs.Plans.{data_fits, source_room}
+use Rattle.pim_router.proofs.Visited.{planned, unplanned}
 use Rattle.pim_router.proofs.plan.plan_data.Goals as goal
 
 pub returns-then-source_is_full-clause-plan : goal.returns-then-source_is_full-clause-plan
@@ -19,3 +20,14 @@ returns-clause-plan c =
     (source_room c.args.world.now c.args.iface c.args.packet.now _ _ _ _ c.destination-group.ensures c.source-source.ensures.value
     c.source_is_full.ensures c.if-source_is_full.false)
     c.in_ok-packet_keys.ensures
+
+pub returns-then-source_is_full-clause-at_least : goal.returns-then-source_is_full-clause-at_least
+returns-then-source_is_full-clause-at_least c =
+    unplanned c.args.world.now c.args.packet.now _ _ _ c.destination-group.ensures c.source-source.ensures.value
+    c.source_is_full.ensures c.args.meter.now c.if-source_is_full.true
+
+pub returns-clause-at_least : goal.returns-clause-at_least
+returns-clause-at_least c =
+    planned c.args.world.now c.args.packet.now _ _ _ c.destination-group.ensures c.source-source.ensures.value
+    c.source_is_full.ensures c.args.meter.now _ _ c.if-source_is_full.false c.of-star.ensures.at_least
+    (rw c.of-star.ensures.group at c.of-sight.ensures.at_least)

@@ -5,6 +5,7 @@ use Rattle.pim_model.specs.Full.{is_full}
 use Rattle.pim_router.specs.declared.plan.Means.{Means}
 use Rattle.pim_router.proofs.Plans.{keys_fit}
 use Rattle.pim_router.proofs.Touching.{register_covered}
+use Rattle.pim_world.proofs.Visits.{at_least_itself}
 use Rattle.pim_router.proofs.plan.plan_register.Goals as goal
 
 pub returns-then-is_full-clause-plan : goal.returns-then-is_full-clause-plan
@@ -18,3 +19,9 @@ returns-clause-plan c =
     c.in_ok-keys.keys Means.Nothing c.of_keys.ensures (sym c.is_full.ensures.full ∙ c.if-is_full.false)
     (register_covered c.args.world.now c.args.packet.now c.args.register.now c.in_ok-keys.keys
     (c.in_ok-keys.ensures ∙ ap (λ (k : Key). k ∷ []) c.registered_key.ensures)) tt
+
+pub returns-then-is_full-clause-at_least : goal.returns-then-is_full-clause-at_least
+returns-then-is_full-clause-at_least c = at_least_itself _ _ _ c.is_full.ensures.visited
+
+pub returns-clause-at_least : goal.returns-clause-at_least
+returns-clause-at_least c = at_least_itself _ _ _ c.is_full.ensures.visited

@@ -1,9 +1,17 @@
-use Rattle.std.proofs.Common.{◌≡◌, ◌∷◌, [], ap, ◌∙◌}
+use Rattle.std.proofs.Common.{◌≡◌, ◌≤◌, ◌∷◌, [], ap, subst, ◌∙◌}
 use Rattle.pim_ip.specs.declared.addr.Addr.{Addr}
 use Rattle.pim_macros.specs.declared.sight.StarSight.{StarSight}
-use Rattle.pim_register.specs.Settling.{registers_by}
+use Rattle.pim_model.specs.State.{State}
 use Rattle.pim_asserts.specs.Opened.{clear_by}
-use Rattle.pim_world.specs.Turns.{Taking, saying}
+use Rattle.pim_asserts.specs.Visits.{alone_nodes}
+use Rattle.pim_fanout.specs.Visits.{naming_nodes}
+use Rattle.pim_register.specs.Settling.{registers_by}
+use Rattle.pim_register.specs.Visits.{register_mark_nodes}
+use Rattle.pim_trie.specs.Meter.{raised}
+use Rattle.pim_upstream.specs.Visits.{told_alone_nodes}
+use Rattle.pim_world.proofs.Visits.{two_in_turn}
+use Rattle.pim_router.specs.Settling.{cleared_by}
+use Rattle.pim_router.specs.Visits.{followed_alone_nodes}
 use Rattle.pim_fanout.specs.Named.{keys_of}
 use Rattle.pim_router.proofs.Following.{followed_messages, followed_state, named_there, registered_alone}
 use Rattle.pim_router.proofs.settle.follow_source.Goals as goal
@@ -17,9 +25,8 @@ returns-clause-state c =
     (ap (λ (a : Addr). a.bits) c.of-sight.ensures.source) c.in_ok-settle_register.ensures.state in
     c.in_ok-changed_alone.ensures.state
     ∙ followed_state (x ∷ []) c.args.world.now c.settle_register.new.world c.clear_alone.new.world c.args.turn.now
-    c.named.new.turn registered c.in_ok-clear_alone.ensures.state
-    (c.named.ensures.silent ∙ c.in_ok-clear_alone.ensures.messages
-    ∙ ap (λ (t : Taking). saying t (clear_by (x ∷ []) c.settle_register.new.world).1) c.turn.view_is)
+    c.clear_alone.new.turn registered c.in_ok-clear_alone.ensures.state
+    c.in_ok-clear_alone.ensures.messages
 
 pub returns-clause-messages : goal.returns-clause-messages
 returns-clause-messages c =
@@ -30,9 +37,8 @@ returns-clause-messages c =
     (ap (λ (a : Addr). a.bits) c.of-sight.ensures.source) c.in_ok-settle_register.ensures.state in
     c.in_ok-changed_alone.ensures.messages
     ∙ followed_messages (x ∷ []) c.args.world.now c.settle_register.new.world c.clear_alone.new.world c.args.turn.now
-    c.named.new.turn registered c.in_ok-clear_alone.ensures.state
-    (c.named.ensures.silent ∙ c.in_ok-clear_alone.ensures.messages
-    ∙ ap (λ (t : Taking). saying t (clear_by (x ∷ []) c.settle_register.new.world).1) c.turn.view_is)
+    c.clear_alone.new.turn registered c.in_ok-clear_alone.ensures.state
+    c.in_ok-clear_alone.ensures.messages
 
 pub returns-clause-named : goal.returns-clause-named
 returns-clause-named c =
@@ -42,7 +48,38 @@ returns-clause-named c =
     (ap (λ (t : StarSight). t.group.bits) c.of-sight.ensures.star ∙ ap (λ (a : Addr). a.bits) c.of-star.ensures.group)
     (ap (λ (a : Addr). a.bits) c.of-sight.ensures.source) c.in_ok-settle_register.ensures.state in
     named_there (x ∷ []) c.args.world.now c.settle_register.new.world c.clear_alone.new.world c.args.turn.now
-    c.named.new.turn registered c.in_ok-clear_alone.ensures.state
-    (c.named.ensures.silent ∙ c.in_ok-clear_alone.ensures.messages
-    ∙ ap (λ (t : Taking). saying t (clear_by (x ∷ []) c.settle_register.new.world).1) c.turn.view_is)
+    c.clear_alone.new.turn registered c.in_ok-clear_alone.ensures.state
+    c.in_ok-clear_alone.ensures.messages
     c.args.before.now (keys_of c.in_ok-names.names) c.in_ok-names.ensures.named
+
+pub returns-clause-at_least : goal.returns-clause-at_least
+unfolding followed_alone_nodes cleared_by
+returns-clause-at_least c =
+    let s = c.args.world.now in
+    let x = c.args.group.now in
+    let o = c.args.opened in
+    let here : c.of-sight.result.star.group ≡ x.group =
+    ap (λ (t : StarSight). t.group) c.of-sight.ensures.star ∙ c.of-star.ensures.group in
+    let later : c.settle_register.new.sight.star.group ≡ x.group =
+    ap (λ (t : StarSight). t.group) c.in_ok-settle_register.ensures.star ∙ here in
+    let registered : c.settle_register.new.world ≡ registers_by (x ∷ []) s =
+    registered_alone s c.settle_register.new.world x o _ _ c.requires.alone
+    (ap (λ (t : StarSight). t.group.bits) c.of-sight.ensures.star ∙ ap (λ (a : Addr). a.bits) c.of-star.ensures.group)
+    (ap (λ (a : Addr). a.bits) c.of-sight.ensures.source) c.in_ok-settle_register.ensures.state in
+    let cleared : c.clear_alone.new.world ≡ (clear_by (x ∷ []) (registers_by (x ∷ []) s)).0 =
+    c.in_ok-clear_alone.ensures.state ∙ ap (λ (t : State). (clear_by (x ∷ []) t).0) registered in
+    two_in_turn _ _ _ _ _
+    (two_in_turn _ _ _ _ _
+    (two_in_turn _ _ _ _ _
+    (two_in_turn _ _ _ _ _
+    (two_in_turn _ _ _ _ _ c.of-star.ensures.at_least (rw c.of-star.ensures.group at c.of-sight.ensures.at_least))
+    (subst (λ (g : Addr). raised c.of-sight.new.meter (register_mark_nodes s g o.source) ≤ c.settle_register.new.meter) here
+    (subst (λ (a : Addr). raised c.of-sight.new.meter (register_mark_nodes s c.of-sight.result.star.group a)
+    ≤ c.settle_register.new.meter) c.of-sight.ensures.source c.in_ok-settle_register.ensures.at_least)))
+    (subst (λ (t : State). raised c.settle_register.new.meter (alone_nodes x.group t o) ≤ c.clear_alone.new.meter) registered
+    (subst (λ (g : Addr). raised c.settle_register.new.meter (alone_nodes g c.settle_register.new.world o)
+    ≤ c.clear_alone.new.meter) later c.in_ok-clear_alone.ensures.at_least)))
+    (subst (λ (t : State). raised c.clear_alone.new.meter (naming_nodes t c.args.before.now) ≤ c.named.new.meter) cleared
+    c.in_ok-names.ensures.at_least))
+    (subst (λ (t : State). raised c.named.new.meter (told_alone_nodes t x o) ≤ c.changed_alone.new.meter) cleared
+    c.in_ok-changed_alone.ensures.at_least)

@@ -11,7 +11,7 @@ use Rattle.pim_router.proofs.time.fire_all.Goals as goal
 use Rattle.pim_router.specs.Ends.{ending_of}
 
 pub instants-init : goal.instants-init
-instants-init c = (firing_begins c.args.turn.now.draw c.args.moment c.args.world.now c.args.emissions.now.items c.requires.lawful c.requires.quiet c.requires.ready, refl, c.requires.shown, all_costs_none c.args.turn.now.draw c.args.moment c.args.world.now (touches c.args.cache.now))
+instants-init c = (firing_begins c.args.turn.now.draw c.args.moment c.args.world.now c.args.emissions.now.items c.requires.lawful c.requires.quiet c.requires.ready, refl, c.requires.shown, all_costs_none c.args.turn.now.draw c.args.moment c.args.world.now (touches c.args.cache.now), omega arith)
 
 pub fire_instant-requires-clause-from : goal.fire_instant-requires-clause-from
 fire_instant-requires-clause-from c =
@@ -56,6 +56,7 @@ instants-preserved c = (
       (subst (λ w. touches c.fire_instant.new.cache ≤ touches c.instants.cache
       + 2 * length (told_instant named_by w c.instants.world (ending_of c.in-Some.first)).1) c.instants.invariant.1
       c.in_ok-fire_instant.ensures.few) c.instants.invariant.3,
+  omega (arith, c.instants.invariant.4, c.in_ok-fire_instant.ensures.rises),
 )
 
 pub returns-clause-state : goal.returns-clause-state
@@ -77,3 +78,6 @@ pub returns-clause-few : goal.returns-clause-few
 returns-clause-few c =
     all_cost c.args.turn.now.draw c.args.moment c.args.world.now (touches c.args.cache.now) c.instants.world
     (touches c.instants.cache) c.instants.invariant.3
+
+pub returns-clause-rises : goal.returns-clause-rises
+returns-clause-rises c = c.instants.invariant.4

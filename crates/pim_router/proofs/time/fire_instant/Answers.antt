@@ -6,11 +6,12 @@ use Rattle.pim_router.proofs.Firings.{firing_costs, instant_cost, instant_costs_
 use Rattle.pim_model.specs.Firing.{fire_once}
 use Rattle.pim_model.specs.Timers.{next_due}
 use Rattle.pim_router.proofs.Instants.{ending_told, fewer_after, firing_follows, instant_begins, instant_ends, none_told}
+use Rattle.pim_world.proofs.Visits.{rises_by}
 use Rattle.pim_router.proofs.time.fire_instant.Goals as goal
 use Rattle.pim_router.specs.Ends.{ending_of}
 
 pub firings-init : goal.firings-init
-firings-init c = (instant_begins c.args.turn.now.draw c.args.world.now (ending_of c.args.first) c.args.emissions.now.items c.requires.lawful c.requires.quiet c.requires.from, refl, c.requires.shown, instant_costs_none c.args.turn.now.draw c.args.world.now (ending_of c.args.first) (touches c.args.cache.now))
+firings-init c = (instant_begins c.args.turn.now.draw c.args.world.now (ending_of c.args.first) c.args.emissions.now.items c.requires.lawful c.requires.quiet c.requires.from, refl, c.requires.shown, instant_costs_none c.args.turn.now.draw c.args.world.now (ending_of c.args.first) (touches c.args.cache.now), omega arith)
 
 pub fire_once-requires-clause-within : goal.fire_once-requires-clause-within
 fire_once-requires-clause-within c =
@@ -49,6 +50,7 @@ firings-preserved c = (
       (c.in_ok-fire_once.ensures.state
       ∙ ap (λ w. (fire_once w c.firings.world (ending_of c.in-Some.due)).0) c.firings.invariant.1)
       c.in_ok-fire_once.ensures.few c.firings.invariant.3,
+  omega (arith, c.firings.invariant.4, rises_by _ _ _ c.in_ok-fire_once.ensures.at_least),
 )
 
 pub returns-clause-state : goal.returns-clause-state
@@ -72,3 +74,6 @@ returns-clause-few c =
     c.firings.world (touches c.firings.cache)
     (none_told (next_due c.args.first.0 c.firings.world) (sym c.next_due.ensures ∙ c.in_default.is))
     c.firings.invariant.3
+
+pub returns-clause-rises : goal.returns-clause-rises
+returns-clause-rises c = c.firings.invariant.4

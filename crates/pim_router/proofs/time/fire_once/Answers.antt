@@ -4,6 +4,7 @@ use Rattle.pim_world.specs.Turns.{Taking}
 use Rattle.pim_fanout.specs.Refreshing.{touches}
 use Rattle.pim_router.proofs.Rows.{cost_fired, rows_fired}
 use Rattle.pim_router.specs.Ends.{ending_of}
+use Rattle.pim_world.proofs.Visits.{rises_by, then_rises}
 use Rattle.pim_router.proofs.time.fire_once.Goals as goal
 
 pub returns-clause-shown : goal.returns-clause-shown
@@ -20,3 +21,7 @@ returns-clause-few c =
     cost_fired c.args.world.now c.args.turn.now.draw (ending_of c.args.due) c.in_ok-names.names
     c.in_ok-names.ensures.names (touches c.args.cache.now) (touches c.refresh.new.self) c.as_slice.result.now
     c.as_slice.ensures c.in_ok-refresh.ensures.few
+
+pub returns-clause-at_least : goal.returns-clause-at_least
+returns-clause-at_least c =
+    then_rises _ _ _ _ c.in_ok-names.ensures.at_least (rises_by _ _ _ c.in_ok-refresh.ensures.at_least)

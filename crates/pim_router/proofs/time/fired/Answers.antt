@@ -3,12 +3,26 @@ use Rattle.pim_types.specs.declared.timer.TimerKind.{TimerKind}
 use Rattle.pim_world.specs.Turns.{saying}
 use Rattle.pim_model.specs.Firing.{fired}
 use Rattle.pim_router.proofs.Instants.{on_ok, says_nothing}
+use Rattle.std.proofs.Common.{OnOk, refl, ◌≤◌, ⊎_elim}
+use Rattle.pim_trie.specs.Meter.{raised}
+use Rattle.pim_world.proofs.Visits.{none_visited}
+use Rattle.pim_router.specs.Visits.{end_nodes}
 use Rattle.pim_router.proofs.time.fired.Goals as goal
 
 pub returns-in-Keepalive-clause-messages : goal.returns-in-Keepalive-clause-messages
 returns-in-Keepalive-clause-messages c =
     on_ok c.keepalive_due.result
-    (c.turn.view_is
-    ∙ subst (λ (kind : TimerKind). c.args.turn.now
+    (subst (λ (kind : TimerKind). c.args.turn.now
     ≡ saying c.args.turn.now (fired c.args.world.now kind c.args.timer.key).1) (sym c.in-Keepalive.is)
     (says_nothing c.args.world.now c.args.timer.key c.args.turn.now))
+
+pub returns-in-Neighbour-clause-at_least : goal.returns-in-Neighbour-clause-at_least
+returns-in-Neighbour-clause-at_least c =
+    let m = c.args.meter.now in
+    ⊎_elim
+    (λ is. subst (λ (kind : TimerKind). OnOk c.fired.result
+    (raised m (end_nodes c.args.world.now kind c.args.timer.key) ≤ m)) (sym is)
+    (on_ok c.fired.result (none_visited m m refl)))
+    (λ is. subst (λ (kind : TimerKind). OnOk c.fired.result
+    (raised m (end_nodes c.args.world.now kind c.args.timer.key) ≤ m)) (sym is)
+    (on_ok c.fired.result (none_visited m m refl))) c.in-Neighbour.is

@@ -1,6 +1,5 @@
 use Rattle.std.proofs.Common.{ap, option_map, sym, ◌∙◌}
 use Rattle.slab.specs.Slab.{get}
-use Rattle.pim_types.specs.declared.fact.Key.{Key}
 use Rattle.pim_tables.proofs.Standing.{found_at, left_standing, none_found, none_left_standing, placed_left, still_placed_left}
 use Rattle.pim_tables.proofs.placed.take_placed.Goals as goal
 

@@ -1,4 +1,4 @@
-use Rattle.std.proofs.Common.{[], ap, refl, subst, sym, ◌≡◌, ◌∙◌, not, ◌++◌, ◌+◌, take, Bool, true, false}
+use Rattle.std.proofs.Common.{[], ap, arith, refl, subst, sym, ◌≡◌, ◌≤◌, ◌∙◌, not, ◌++◌, ◌+◌, take, Bool, true, false}
 use Rattle.std.proofs.lemmas.List.{take_all}
 use Rattle.std.specs.Prelude.{List}
 use Rattle.pim_types.specs.declared.fact.Key.{Key}
@@ -7,6 +7,8 @@ use Rattle.pim_model.specs.Downstream.{is_named}
 use Rattle.pim_upstream.specs.Hearing.{heard_in_prunes}
 use Rattle.pim_upstream.specs.Timers.{after_moves}
 use Rattle.pim_upstream.proofs.Absorbed.{HeardOnce, heard_again, heard_first, none_heard}
+use Rattle.pim_world.specs.Visits.{raised}
+use Rattle.pim_upstream.proofs.Visited.{all_pruned, asked_again, asked_first, next_named, next_pruned}
 use Rattle.pim_upstream.proofs.overheard.hear_prunes.Goals as goal
 use Rattle.pim_upstream.proofs.overheard.hear_prunes.Goals.{then-branch+in_ok-hear_prune, else-branch}
 
@@ -21,7 +23,8 @@ loop-key-init c = record {
       subst (λ (set : List Key). HeardOnce c.args.world.now c.args.hop c.args.end c.args.world.now c.args.moves.now.items [] set
       c.args.moves.now.items) (sym c.new-heard.ensures.empty)
       (none_heard c.args.world.now c.args.hop c.args.end c.args.world.now c.args.moves.now.items c.args.moves.now.items refl);
-  silent = refl;
+  named = λ q. ap (λ (set : List Key). is_named set q) c.new-heard.ensures.empty;
+  visited = omega arith;
 }
 
 pub loop-key-preserved : goal.loop-key-preserved
@@ -37,7 +40,11 @@ loop-key-preserved c =
             c.insert.new.self.keys c.loop-key.moves.items n _ _ c.loop-key-test.true refl c.loop-key.invariant.heard
             c.in_ok-insert.ensures.updates.0 c.if-branch.moves.items
             (ap (λ m. m.items) w.moves-is ∙ w.in_ok-hear_prune.ensures.heard);
-        silent = w.turn-is ∙ w.in_ok-hear_prune.ensures.silent ∙ c.loop-key.invariant.silent;
+        named = next_named keys c.loop-key.heard.keys c.insert.new.self.keys n _ _ c.loop-key-test.true refl
+            c.in_ok-insert.ensures.updates.0 c.loop-key.invariant.named;
+        visited = next_pruned o _ _ _ keys n _ _ _ c.loop-key-test.true refl c.loop-key.invariant.visited
+            (asked_first _ _ _ _ _ _ c.in_ok-insert.ensures.added (c.loop-key.invariant.named _) w.if-branch.true
+            (subst (λ m. raised c.loop-key.meter _ ≤ m) (sym w.meter-is) w.in_ok-hear_prune.ensures.at_least));
       }
       | else-branch w ↦ record {
         heard =
@@ -47,7 +54,10 @@ loop-key-preserved c =
             c.insert.new.self.keys c.loop-key.moves.items n _ _ c.loop-key-test.true refl c.loop-key.invariant.heard
             c.in_ok-insert.ensures.updates.0
             (was_there _ _ c.in_ok-insert.ensures.added w.if-branch.false));
-        silent = w.turn-is ∙ c.loop-key.invariant.silent;
+        named = next_named keys c.loop-key.heard.keys c.insert.new.self.keys n _ _ c.loop-key-test.true refl
+            c.in_ok-insert.ensures.updates.0 c.loop-key.invariant.named;
+        visited = next_pruned o _ _ _ keys n _ _ _ c.loop-key-test.true refl c.loop-key.invariant.visited
+            (asked_again _ _ _ _ _ _ c.in_ok-insert.ensures.added (c.loop-key.invariant.named _) w.if-branch.false w.meter-is);
       }
     ]
 
@@ -57,5 +67,6 @@ returns-clause-heard c =
     ∙ ap (λ keys. after_moves c.args.world.now (c.args.moves.now.items ++ heard_in_prunes c.args.world.now c.args.hop c.args.end keys))
     (take_all c.loop-key.key-index c.args.keys.now c.loop-key-test.false)
 
-pub returns-clause-silent : goal.returns-clause-silent
-returns-clause-silent c = c.loop-key.invariant.silent
+pub returns-clause-at_least : goal.returns-clause-at_least
+returns-clause-at_least c =
+    all_pruned c.args.world.now _ _ _ c.args.keys.now c.loop-key.key-index c.loop-key-test.false c.loop-key.invariant.visited

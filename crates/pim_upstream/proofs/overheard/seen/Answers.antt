@@ -1,9 +1,11 @@
 use Rattle.std.proofs.Common.{ap, subst, ◌≡◌, ◌∙◌}
 use Rattle.std.specs.Prelude.{OnOk}
+use Rattle.std.proofs.lemmas.Result.{on_ok_weaker}
 use Rattle.pim_model.specs.State.{State}
 use Rattle.pim_model.specs.Tables.{hop_at}
 use Rattle.pim_world.specs.Turns.{Taking}
 use Rattle.pim_upstream.proofs.HeardMessages.{gathered}
+use Rattle.pim_upstream.proofs.Visited.{all_seen}
 use Rattle.pim_upstream.proofs.overheard.seen.Goals as goal
 
 pub returns-clause-state : goal.returns-clause-state
@@ -17,4 +19,13 @@ returns-clause-state c =
     (c.deref-3.ensures.value ∙ c.requires.pruned) c.new-moves.ensures.items
     c.in_ok-hear_joins.ensures.heard c.in_ok-hear_joins-2.ensures.heard c.in_ok-hear_prunes.ensures.heard
     c.deref-4.ensures.value)
-    c.move_timers.ensures
+    c.move_timers.ensures.moved
+
+pub returns-clause-at_least : goal.returns-clause-at_least
+returns-clause-at_least c =
+    on_ok_weaker c.move_timers.result
+    (λ rises. all_seen c.args.world.now c.args.iface.number c.args.message.now _ _ _ _ _ _ _ _
+    (c.deref.ensures.value ∙ c.requires.joined) (c.deref-2.ensures.value ∙ c.requires.joined)
+    (c.deref-3.ensures.value ∙ c.requires.pruned) c.in_ok-hear_joins.ensures.at_least
+    c.in_ok-hear_joins-2.ensures.at_least c.in_ok-hear_prunes.ensures.at_least rises)
+    c.move_timers.ensures.rises

@@ -11,6 +11,7 @@ use Rattle.pim_upstream.specs.Timers.{after_moves}
 use Rattle.pim_upstream.specs.Told.{source_step, star_changed}
 use Rattle.pim_upstream.specs.declared.timer.TimerMove.{TimerMove}
 use Rattle.pim_upstream.proofs.Alone.{both, told_alone}
+use Rattle.pim_upstream.proofs.Visited.{alone_told}
 use Rattle.pim_upstream.proofs.turns.changed_alone.Goals as goal
 
 pub returns-clause-state : goal.returns-clause-state
@@ -34,7 +35,7 @@ returns-clause-state c =
     ∙ ap (λ (u : State). (source_step a w g u o).0) moved
     ∙ ap (λ (z : Addr). (both a w z.bits x.star o a).0) c.requires.group
     ∙ sym (ap (λ (p : State × List Message). p.0) (told_alone a w x o c.requires.alone)))
-    c.move_timers.ensures
+    c.move_timers.ensures.moved
 
 pub returns-clause-messages : goal.returns-clause-messages
 unfolding after_moves
@@ -52,11 +53,18 @@ returns-clause-messages c =
     c.in_ok-tell_star.ensures.timers a
     ∙ ap (λ (ms : List TimerMove). with_join_timer (after_moves a ms) (star_key 0 g) star.timer) c.new-moves.ensures.items in
     on_ok_weaker c.move_timers.result
-    (λ e. c.turn-2.view_is ∙ c.in_ok-tell_seen.ensures.messages a
+    (λ e. c.in_ok-tell_seen.ensures.messages a
     ∙ ap (λ d. saying c.tell_star.new.turn (source_step a d g (after_moves a c.tell_star.new.moves.items) o).1) draw
     ∙ ap (λ (u : State). saying c.tell_star.new.turn (source_step a w g u o).1) moved
     ∙ ap (λ (z : Taking). saying z (source_step a w g first o).1) c.in_ok-tell_star.ensures.messages
     ∙ said_both t star.messages (source_step a w g first o).1
     ∙ ap (λ (z : Addr). saying t (both a w z.bits x.star o a).1) c.requires.group
     ∙ sym (ap (λ (p : State × List Message). saying t p.1) (told_alone a w x o c.requires.alone)))
-    c.move_timers.ensures
+    c.move_timers.ensures.moved
+
+pub returns-clause-at_least : goal.returns-clause-at_least
+returns-clause-at_least c =
+    on_ok_weaker c.move_timers.result
+    (λ rises. alone_told c.args.world.now c.args.group.now c.args.opened _ _ _ _ _ c.requires.group
+    c.in_ok-tell_star.ensures.at_least c.in_ok-tell_seen.ensures.at_least rises)
+    c.move_timers.ensures.rises

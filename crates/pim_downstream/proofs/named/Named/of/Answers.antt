@@ -1,6 +1,7 @@
-use Rattle.std.proofs.Common.{◌∙◌}
 use Rattle.pim_model.specs.Downstream.{accepted_joins, accepted_prunes, is_used, joined_keys, pruned_keys}
+use Rattle.pim_world.proofs.Visits.{all_gathered, next_gathered}
 use Rattle.pim_downstream.specs.Naming.{is_counted}
+use Rattle.pim_downstream.specs.Visits.{joins_nodes, named_nodes}
 use Rattle.pim_downstream.proofs.GroupKeys.{group_added, groups_made}
 use Rattle.pim_downstream.proofs.named.Named.of.Goals as goal
 
@@ -15,7 +16,9 @@ loop-group-preserved c =
           group_added is_used (λ g. g.prunes) c.args.iface.number
           l.pruned.items c.push_pruned.new.keys.items _ c.in-Some.group l.group-iterator c.next.new.self
           c.in-Some.ensures.steps c.in_ok-push_pruned.ensures l.invariant.pruned;
-      silent = c.in_ok-push_joined.ensures.silent ∙ l.invariant.silent;
+      visited =
+          next_gathered (joins_nodes c.args.world.now) _ _ _ c.in-Some.group c.args.message.now.groups l.group-iterator
+          c.next.new.self l.invariant.visited c.in-Some.ensures.steps c.in_ok-push_joined.ensures.at_least;
     }
 
 pub returns-clause-joined : goal.returns-clause-joined
@@ -31,3 +34,9 @@ returns-clause-pruned c =
     let l = c.loop-group in
     groups_made is_used (λ g. g.prunes) c.args.iface.number l.pruned.items _ l.group-iterator
     c.in-None.ensures.steps.0 l.invariant.pruned
+
+pub returns-clause-at_least : goal.returns-clause-at_least
+unfolding named_nodes
+returns-clause-at_least c =
+    all_gathered (joins_nodes c.args.world.now) _ _ c.args.message.now.groups c.loop-group.group-iterator
+    c.loop-group.invariant.visited c.in-None.ensures.steps.0

@@ -9,7 +9,7 @@ use Rattle.pim_fanout.specs.Before.{name_key}
 use Rattle.pim_fanout.specs.Named.{keys_of}
 use Rattle.pim_fanout.specs.declared.name.SourceName.{SourceName}
 use Rattle.pim_fanout.specs.Visits.{named_nodes}
-use Rattle.pim_fanout.proofs.Visited.{next_made, raised_by_none}
+use Rattle.pim_world.proofs.Visits.{next_made, raised_by_none}
 use Rattle.pim_fanout.proofs.cache.Cache.refresh.Goals as goal
 
 pub loop-name-init : goal.loop-name-init

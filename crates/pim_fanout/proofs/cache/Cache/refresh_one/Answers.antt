@@ -4,7 +4,7 @@ use Rattle.pim_mfc.proofs.Shown.{removal_refreshes}
 use Rattle.pim_fanout.specs.Refreshing.{touches}
 use Rattle.pim_fanout.proofs.Counts.{both_raised, one_raised}
 use Rattle.pim_fanout.proofs.Refreshed.{put_named}
-use Rattle.pim_fanout.proofs.Visited.{none_made, one_made}
+use Rattle.pim_world.proofs.Visits.{none_asked, one_asked}
 use Rattle.pim_fanout.proofs.cache.Cache.refresh_one.Goals as goal
 
 pub returns-then-not-has_fact-clause-shown : goal.returns-then-not-has_fact-clause-shown
@@ -33,12 +33,12 @@ returns-clause-few c =
 
 pub returns-then-not-has_fact-clause-at_least : goal.returns-then-not-has_fact-clause-at_least
 returns-then-not-has_fact-clause-at_least c =
-    none_made _ _ _ _ (sym c.has_fact.ensures ∙ c.if-not-has_fact.true) refl
+    none_asked _ _ _ _ (sym c.has_fact.ensures ∙ c.if-not-has_fact.true) refl
 
 pub returns-clause-at_least : goal.returns-clause-at_least
 returns-clause-at_least c =
-    one_made _ _ _ _ (sym c.has_fact.ensures ∙ c.if-not-has_fact.false) c.row-made.ensures.at_least
+    one_asked _ _ _ _ (sym c.has_fact.ensures ∙ c.if-not-has_fact.false) c.row-made.ensures.at_least
 
 pub returns-in_err-put-clause-at_least : goal.returns-in_err-put-clause-at_least
 returns-in_err-put-clause-at_least c =
-    one_made _ _ _ _ (sym c.has_fact.ensures ∙ c.if-not-has_fact.false) c.row-made.ensures.at_least
+    one_asked _ _ _ _ (sym c.has_fact.ensures ∙ c.if-not-has_fact.false) c.row-made.ensures.at_least

@@ -1,4 +1,6 @@
+use Rattle.std.proofs.Common.{arith}
 use Rattle.pim_world.proofs.Elected.{elected_after_down}
+use Rattle.pim_world.proofs.Visits.{rises_by}
 use Rattle.pim_world.proofs.world.World.set_down.Goals as goal
 
 pub invariant_of-self : goal.invariant_of-self
@@ -12,3 +14,7 @@ invariant_of-self c =
           w.neighbours c.drop_on.new.self c.drop_on.ensures c.self.invariant.3 c.with_member-self-inside.ensures),
       c.self.invariant.4,
     )
+
+pub returns-clause-rises : goal.returns-clause-rises
+returns-clause-rises c =
+    omega (arith, rises_by _ _ _ c.drop_on-2.ensures.at_least, c.drop_on-3.ensures.rises)

@@ -1,0 +1,21 @@
+use Rattle.std.proofs.Common.{ap, arith}
+use Rattle.std.proofs.lemmas.Grind.{common_steps}
+use Rattle.pim_world.specs.Groups.{numbers_of}
+use Rattle.pim_world.proofs.Visits.{all_gathered, next_gathered}
+use Rattle.pim_fanout.specs.Visits.{group_before_nodes}
+use Rattle.pim_fanout.proofs.before.gather_groups.Goals as goal
+
+pub loop-group-preserved : goal.loop-group-preserved
+loop-group-preserved c = record {
+  keys = grind (arith, common_steps);
+  each = c.in_ok-gather_group.ensures.each;
+  visited = next_gathered (group_before_nodes c.args.world.now c.args.touched.now) _ _ _ c.in-Some.group.now.bits
+      (numbers_of c.args.groups.now.entries) (numbers_of c.loop-group.group-iterator) (numbers_of c.next.new.self)
+      c.loop-group.invariant.visited (ap (λ es. numbers_of es) c.in-Some.ensures.steps) c.in_ok-gather_group.ensures.at_least;
+}
+
+pub returns-clause-at_least : goal.returns-clause-at_least
+returns-clause-at_least c =
+    all_gathered (group_before_nodes c.args.world.now c.args.touched.now) _ _ (numbers_of c.args.groups.now.entries)
+    (numbers_of c.loop-group.group-iterator) c.loop-group.invariant.visited
+    (ap (λ es. numbers_of es) c.in-None.ensures.steps.0)
