@@ -27,13 +27,9 @@ rises_by old new nodes e = omega (arith, e)
 pub at_least_none : (old new : ℕ) → old ≤ new → raised old 0 ≤ new
 at_least_none old new rises = omega (arith, raised_by_none old, rises)
 
--- look-ups before a call of which only that is known, and after one
+-- look-ups before a call of which only that is known
 pub then_rises : (old next new nodes : ℕ) → raised old nodes ≤ next → next ≤ new → raised old nodes ≤ new
 then_rises old next new nodes e f = omega (arith, e, f)
-
-pub rises_first : (old next new nodes : ℕ) → old ≤ next → raised next nodes ≤ new → raised old nodes ≤ new
-unfolding raised
-rises_first old next new nodes e f = omega (arith, e, f)
 
 pub two_in_turn : (old next new first second : ℕ) → raised old first ≤ next → raised next second ≤ new
     → raised old (first + second) ≤ new
