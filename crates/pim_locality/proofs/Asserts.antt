@@ -18,8 +18,8 @@ use Rattle.pim_model.specs.Registers.{could_register, has_other_rp, is_dr_of_pat
 use Rattle.pim_laws.proofs.ListLaws.{either}
 use Rattle.pim_locality.specs.Scopes.{reads, scope}
 use Rattle.pim_locality.proofs.SharedMacros.{is_dr_local, route_local, rp_of_local, rp_route_local, is_neighbour_local}
-use Rattle.pim_locality.proofs.StarMacros.{assert_star_local, is_exclude_local, join_desired_star_local, joins_star_local, lost_assert_star_local, pim_include_star_local, rpf_at, rpf_rp_at}
-use Rattle.pim_locality.proofs.SourceMacros.{ReadsSource, assert_source_local, is_kept_alive_local, join_desired_local, joins_local, local_include_local, pim_exclude_local, pim_include_local, prunes_local, spt_bit_local, spt_metric_local}
+use Rattle.pim_locality.proofs.StarMacros.{star_winner_local, is_exclude_local, join_desired_star_local, joins_star_local, lost_assert_star_local, pim_include_star_local, rpf_at, rpf_rp_at}
+use Rattle.pim_locality.proofs.SourceMacros.{ReadsSource, source_winner_local, is_kept_alive_local, join_desired_local, joins_local, local_include_local, pim_exclude_local, pim_include_local, prunes_local, spt_bit_local, spt_metric_local}
 
 module _ (sees : Key → Bool) (s : State) (g : ℕ) (stars : (i : ℕ) → sees (star_key i g) ≡ true) where
   rpt_metric_local : (i : ℕ) → rpt_metric (scope sees s) g i ≡ rpt_metric s g i
@@ -39,7 +39,7 @@ module _ (sees : Key → Bool) (s : State) (g : ℕ) (stars : (i : ℕ) → sees
   is_tracking_star_local i = λ j.
       could_assert_star_local i j
       || (is_exclude_local sees s g stars j i
-      && (is_dr_local sees s i j || is_winner (assert_star_local sees s g stars j i)))
+      && (is_dr_local sees s i j || star_winner_local sees s g stars i j))
       || (rpf_rp_at sees s g i j && join_desired_star_local sees s g stars j)
 
   my_metric_star_local : (i : ℕ) → my_metric_star (scope sees s) g i ≡ my_metric_star s g i
@@ -65,7 +65,7 @@ module _ (sees : Key → Bool) (s : State) (g : ℕ) (stars : (i : ℕ) → sees
     is_tracking_local i = λ j.
         forwarding_local j i
         || (local_include_local sees s g src rows j i
-        && (is_dr_local sees s i j || is_winner (assert_source_local sees s g src rows j i)))
+        && (is_dr_local sees s i j || source_winner_local sees s g src rows i j))
         || (rpf_at sees s src i j && join_desired_local sees s g src rows j)
         || (rpf_rp_at sees s g i j && join_desired_star_local sees s g stars j && not
         (spt_bit_local sees s g src rows j))

@@ -1,6 +1,6 @@
 -- Where nothing had to go at the opening, and the state agrees with it on all groups but some, what must go is of
 -- those groups, and so is all that goes.
-use Rattle.std.proofs.Common.{◌≡◌, ◌||◌, Bool, true, false, not, cond, [], ◌∷◌, Some, option_map, refl, sym, ap, ◌∙◌}
+use Rattle.std.proofs.Common.{◌≡◌, ◌||◌, ◌&&◌, Bool, true, false, not, cond, [], ◌∷◌, map, Some, option_map, refl, sym, ap, ◌∙◌}
 use Rattle.std.specs.Cmp.{first_so, second_so}
 use Rattle.std.specs.Cmp.Derive.{both_true}
 use Rattle.std.specs.List.{filter, find, list_all}
@@ -13,6 +13,9 @@ use Rattle.pim_laws.proofs.ListLaws.{all_of_filter}
 use Rattle.pim_locality.specs.Locality.{AgreesBut, IsQuiet, of_touched, touched_assert, touched_spt, touched_to_clear}
 use Rattle.pim_locality.specs.Scopes.{reads, scope}
 use Rattle.pim_locality.proofs.Asserts.{assert_must_go_local, reads_itself, spt_must_go_local}
+use Rattle.pim_locality.proofs.Rows.{cut_entry}
+use Rattle.pim_locality.proofs.SourceMacros.{cut_kept}
+use Rattle.pim_locality.proofs.StarMacros.{cut_assert}
 use Rattle.pim_locality.proofs.UntoldKeys.{same_by_scope}
 
 -- ---- a test that fails on the rows of each group beside some
@@ -86,23 +89,34 @@ module _ {R : Type 0} (p : Key × R → Bool) where
         here false e =
             moves x e (head_step (reads x.0) x xs (reads x.0 x.0) (reads_itself x.0) (quiet x.0 e))
 
+-- a test that rows pass as they pass it when they are cut down
+all_cut : {R : Type 0} (cut : R → R) (p : Key × R → Bool) → ((e : Key × R) → p (cut_entry cut e) ≡ p e) → (t : Table R)
+    → list_all p (map (cut_entry cut) t) ≡ list_all p t
+all_cut cut p fits [] = refl
+all_cut cut p fits (x ∷ xs) = λ j. fits x j && all_cut cut p fits xs j
+
 -- what the opening's rows pass, those of a table that agrees with them pass
-pub all_agreed : {R : Type 0} (touches : Key → Bool) (p q : Key × R → Bool)
+pub all_agreed : {R : Type 0} (touches : Key → Bool) (cut : R → R) (p q : Key × R → Bool)
+    → ((e : Key × R) → p (cut_entry cut e) ≡ p e)
     → ((e : Key × R) → touches e.0 ≡ false → p e ≡ true → q e ≡ true)
-    → (t u : Table R) → ((k : Key) → touches k ≡ false → rows_where (reads k) t ≡ rows_where (reads k) u)
+    → (t u : Table R)
+    → ((k : Key) → touches k ≡ false
+    → map (cut_entry cut) (rows_where (reads k) t) ≡ map (cut_entry cut) (rows_where (reads k) u))
     → list_all p t ≡ true
     → list_all (λ e. touches e.0 || q e) u ≡ true
 unfolding rows_where
-all_agreed touches p q moves t u same e =
+all_agreed touches cut p q fits moves t u same e =
     all_beside p touches q moves u
-    (λ k f. ap (list_all p) (sym (same k f)) ∙ all_of_filter (λ x. reads k x.0) p t e)
+    (λ k f. sym (all_cut cut p fits (rows_where (reads k) u))
+    ∙ (ap (list_all p) (sym (same k f))
+    ∙ (all_cut cut p fits (rows_where (reads k) t) ∙ all_of_filter (λ x. reads k x.0) p t e)))
 
 module _ (touches : Key → Bool) (o : State) (quiet : IsQuiet o) where
   asserts_quiet : (s : State) → AgreesBut touches o s
       → list_all (λ e. touches e.0 || not (assert_must_go o s e)) s.asserts ≡ true
-  unfolding scope
+  unfolding scope assert_must_go
   asserts_quiet s agree =
-      all_agreed touches (λ e. not (assert_must_go o o e)) (λ e. not (assert_must_go o s e))
+      all_agreed touches cut_assert (λ e. not (assert_must_go o o e)) (λ e. not (assert_must_go o s e)) (λ e. refl)
       (λ e f h. ap not (sym (same_by_scope e.0 (λ t. assert_must_go o t e) (λ t. assert_must_go_local o t e)
       o s (agree e.0 f))) ∙ h)
       o.asserts s.asserts (λ h e. ap (λ (t : State). t.asserts) (agree h e)) quiet.clear.asserts
@@ -111,7 +125,7 @@ module _ (touches : Key → Bool) (o : State) (quiet : IsQuiet o) where
       → list_all (λ e. touches e.0 || not (spt_must_go s e)) s.sources ≡ true
   unfolding scope
   spts_quiet s agree =
-      all_agreed touches (λ e. not (spt_must_go o e)) (λ e. not (spt_must_go s e))
+      all_agreed touches cut_kept (λ e. not (spt_must_go o e)) (λ e. not (spt_must_go s e)) (λ e. refl)
       (λ e f h. ap not (sym (same_by_scope e.0 (λ t. spt_must_go t e) (λ t. spt_must_go_local t e) o s
       (agree e.0 f))) ∙ h)
       o.sources s.sources (λ h e. ap (λ (t : State). t.sources) (agree h e)) quiet.clear.sources

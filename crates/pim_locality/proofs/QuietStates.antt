@@ -24,7 +24,9 @@ use Rattle.pim_locality.specs.Locality.{AgreesBut, IsClear, touching, IsQuiet, i
 use Rattle.pim_locality.specs.Scopes.{only_up, reads, scope}
 use Rattle.pim_locality.proofs.Asserts.{could_register_here, reads_itself, must_go_now_local, spt_must_go_local}
 use Rattle.pim_locality.proofs.Clearing.{all_agreed}
-use Rattle.pim_locality.proofs.Rows.{has_row_in_scope}
+use Rattle.pim_locality.proofs.Registers.{has_registered}
+use Rattle.pim_locality.proofs.SourceMacros.{cut_kept, cut_register}
+use Rattle.pim_locality.proofs.StarMacros.{cut_assert}
 use Rattle.pim_locality.proofs.Touches.{agrees_same, agrees_then}
 use Rattle.pim_locality.proofs.UntoldKeys.{same_by_scope}
 
@@ -32,13 +34,14 @@ use Rattle.pim_locality.proofs.UntoldKeys.{same_by_scope}
 
 module _ (s t : State) (agree : AgreesBut (touching []) s t) where
   pub clear_goes_on : IsClear s → IsClear t
-  unfolding scope touching
+  unfolding scope touching assert_must_go
   clear_goes_on quiet = record {
-    asserts = all_agreed (touching []) (λ e. not (assert_must_go s s e)) (λ e. not (assert_must_go t t e))
+    asserts = all_agreed (touching []) cut_assert (λ e. not (assert_must_go s s e)) (λ e. not (assert_must_go t t e))
+        (λ e. refl)
         (λ e f h. ap not (sym (same_by_scope e.0 (λ x. assert_must_go x x e) (λ x. must_go_now_local x e) s t
         (agree e.0 f))) ∙ h)
         s.asserts t.asserts (λ k e. ap (λ (x : State). x.asserts) (agree k e)) quiet.asserts;
-    sources = all_agreed (touching []) (λ e. not (spt_must_go s e)) (λ e. not (spt_must_go t e))
+    sources = all_agreed (touching []) cut_kept (λ e. not (spt_must_go s e)) (λ e. not (spt_must_go t e)) (λ e. refl)
         (λ e f h. ap not (sym (same_by_scope e.0 (λ x. spt_must_go x e) (λ x. spt_must_go_local x e) s t (agree e.0 f)))
         ∙ h)
         s.sources t.sources (λ k e. ap (λ (x : State). x.sources) (agree k e)) quiet.sources;
@@ -50,19 +53,19 @@ module _ (s t : State) (agree : AgreesBut (touching []) s t) where
       same_bool
       (same_by_scope k (λ x. could_register x (group_in k) (source_in k)) (λ x. could_register_here k x) s t (agree k f)
       j)
-      ((sym (has_row_in_scope (reads k) k (reads_itself k) s.registers)
-      ∙ (ap (λ (x : State). has_row x.registers k) (agree k f) ∙ has_row_in_scope (reads k) k (reads_itself k)
+      ((sym (has_registered k (reads k) (reads_itself k) s.registers)
+      ∙ (ap (λ (x : State). has_row x.registers k) (agree k f) ∙ has_registered k (reads k) (reads_itself k)
       t.registers)) j)
 
   pub quiet_goes_on : IsQuiet s → IsQuiet t
   unfolding scope touching
   quiet_goes_on quiet = record {
     clear = clear_goes_on quiet.clear;
-    sources_settled = all_agreed (touching []) (λ e. is_register_settled s e.0) (λ e. is_register_settled t e.0)
-        (λ e f h. sym (settled_same e.0 f) ∙ h)
+    sources_settled = all_agreed (touching []) cut_kept (λ e. is_register_settled s e.0)
+        (λ e. is_register_settled t e.0) (λ e. refl) (λ e f h. sym (settled_same e.0 f) ∙ h)
         s.sources t.sources (λ k e. ap (λ (x : State). x.sources) (agree k e)) quiet.sources_settled;
-    registers_settled = all_agreed (touching []) (λ e. is_register_settled s e.0) (λ e. is_register_settled t e.0)
-        (λ e f h. sym (settled_same e.0 f) ∙ h)
+    registers_settled = all_agreed (touching []) cut_register (λ e. is_register_settled s e.0)
+        (λ e. is_register_settled t e.0) (λ e. refl) (λ e f h. sym (settled_same e.0 f) ∙ h)
         s.registers t.registers (λ k e. ap (λ (x : State). x.registers) (agree k e)) quiet.registers_settled;
   }
 

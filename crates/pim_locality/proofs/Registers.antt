@@ -1,5 +1,5 @@
 -- Where all registers were settled at the opening, those of touched sources alone are to be settled.
-use Rattle.std.proofs.Common.{◌≡◌, ◌||◌, Bool, true, false, not, cond, List, [], ◌∷◌, ◌++◌, fold, Option, Some, is_some, refl, sym, ap, ◌∙◌}
+use Rattle.std.proofs.Common.{◌≡◌, ◌||◌, Bool, true, false, not, cond, List, [], ◌∷◌, ◌++◌, fold, map, Option, Some, is_some, refl, sym, ap, ◌∙◌}
 use Rattle.std.specs.Cmp.{first_so, second_so}
 use Rattle.std.specs.Cmp.Derive.{both_true}
 use Rattle.std.proofs.lemmas.List.Folds.{list_all-append, list_all-map}
@@ -14,12 +14,14 @@ use Rattle.pim_model.specs.Registers.{could_register, settle_registers, settled_
 use Rattle.pim_model.specs.State.{State}
 use Rattle.pim_model.specs.Tables.{Table, drop_at, drop_where, has_row, keys_in, put, row_at, rows_where, same_bool}
 use Rattle.pim_locality.specs.Locality.{AgreesBut, IsClosed, IsQuiet, is_register_settled, touched_registers}
-use Rattle.pim_locality.specs.Scopes.{reads, scope}
+use Rattle.pim_locality.specs.Scopes.{only_registered, reads, scope}
 use Rattle.pim_locality.proofs.Asserts.{could_register_here, reads_itself}
 use Rattle.pim_laws.proofs.RowChanges.{dropped_elsewhere, put_elsewhere}
+use Rattle.pim_laws.proofs.RowLaws.{has_row_map}
 use Rattle.pim_locality.proofs.TouchedClearing.{unread}
 use Rattle.pim_locality.proofs.Clearing.{all_agreed}
 use Rattle.pim_locality.proofs.Rows.{has_row_in_scope}
+use Rattle.pim_locality.proofs.SourceMacros.{cut_kept, cut_register}
 use Rattle.pim_locality.proofs.UntoldKeys.{same_by_scope}
 
 -- ---- lists
@@ -48,10 +50,17 @@ bools_same true false e = cc
 bools_same false true e = cc
 bools_same false false e = refl
 
+-- whether there is a row, in the rows that are seen, cut down
+pub has_registered : (k : Key) (sees : Key → Bool) → sees k ≡ true → (t : Table RegisterRow)
+    → has_row (map only_registered (rows_where sees t)) k ≡ has_row t k
+has_registered k sees seen t =
+    has_row_map k only_registered (λ e. refl) (rows_where sees t) ∙ has_row_in_scope sees k seen t
+
 module _ (touches : Key → Bool) (closed : IsClosed touches) (o s : State) (agree : AgreesBut touches o s) where
   -- the rows that untouched keys read are those of the opening
   abbrev Stays : Table RegisterRow → Type 0
-  Stays t = (q : Key) → touches q ≡ false → rows_where (reads q) t ≡ rows_where (reads q) o.registers
+  Stays t = (q : Key) → touches q ≡ false
+      → map only_registered (rows_where (reads q) t) ≡ map only_registered (rows_where (reads q) o.registers)
 
   settled_if : (k : Key) (t : Table RegisterRow) (b c : Bool) → could_register s (group_in k) (source_in k) ≡ b
       → has_row t k ≡ c → b ≡ c
@@ -70,8 +79,8 @@ module _ (touches : Key → Bool) (closed : IsClosed touches) (o s : State) (agr
       (sym (same_by_scope k (λ x. could_register x (group_in k) (source_in k)) (λ x. could_register_here k x) o s
       (agree k untouched))
       ∙ (bools_same _ _ held
-      ∙ (sym (has_row_in_scope (reads k) k (reads_itself k) o.registers)
-      ∙ (ap (λ u. has_row u k) (sym (stays k untouched)) ∙ has_row_in_scope (reads k) k (reads_itself k) t))))
+      ∙ (sym (has_registered k (reads k) (reads_itself k) o.registers)
+      ∙ (ap (λ u. has_row u k) (sym (stays k untouched)) ∙ has_registered k (reads k) (reads_itself k) t))))
 
   goes_elsewhere : (k : Key) (t : Table RegisterRow) (sees : Key → Bool) → sees k ≡ false
       → (b c : Bool) (row : RegisterRow)
@@ -84,9 +93,10 @@ module _ (touches : Key → Bool) (closed : IsClosed touches) (o s : State) (agr
       → Stays (settled_register s k t)
   unfolding settled_register
   goes_on k t is stays q e =
-      goes_elsewhere k t (reads q) (unread touches closed k q is e) (could_register s (group_in k) (source_in k))
+      ap (map only_registered)
+      (goes_elsewhere k t (reads q) (unread touches closed k q is e) (could_register s (group_in k) (source_in k))
       (has_row t k)
-      (record { state = RegisterState.Join }) ∙ stays q e
+      (record { state = RegisterState.Join })) ∙ stays q e
 
   abbrev all_settled : Table RegisterRow → List Key → Table RegisterRow
   all_settled t ks = fold (λ t k. settled_register s k t) t ks
@@ -147,10 +157,10 @@ registers_of_touched touches closed o quiet s agree = λ j. record s {
       (list_all-append (λ k. touches k || is_register_settled o k) (keys_in s.sources) (keys_in s.registers)
       ∙ both_true
       (all_keys (λ k. touches k || is_register_settled o k) s.sources
-      ∙ all_agreed touches (λ e. is_register_settled o e.0) (λ e. is_register_settled o e.0) (λ e f g. g) o.sources
-      s.sources
+      ∙ all_agreed touches cut_kept (λ e. is_register_settled o e.0) (λ e. is_register_settled o e.0) (λ e. refl)
+      (λ e f g. g) o.sources s.sources
       (λ h e. ap (λ (t : State). t.sources) (agree h e)) quiet.sources_settled)
       (all_keys (λ k. touches k || is_register_settled o k) s.registers
-      ∙ all_agreed touches (λ e. is_register_settled o e.0) (λ e. is_register_settled o e.0) (λ e f g. g) o.registers
-      s.registers (λ h e. ap (λ (t : State). t.registers) (agree h e)) quiet.registers_settled)) j;
+      ∙ all_agreed touches cut_register (λ e. is_register_settled o e.0) (λ e. is_register_settled o e.0) (λ e. refl)
+      (λ e f g. g) o.registers s.registers (λ h e. ap (λ (t : State). t.registers) (agree h e)) quiet.registers_settled)) j;
 }

@@ -33,7 +33,7 @@ module _ {R : Type 0} (sees : Key → Bool) (k : Key) (seen : sees k ≡ true) w
 -- ---- tables whose rows were cut down
 
 module _ {R : Type 0} (cut : R → R) where
-  abbrev cut_entry : Key × R → Key × R
+  abbrev pub cut_entry : Key × R → Key × R
   cut_entry e = (e.0, cut e.1)
 
   on_step : (i : ℕ) (x : Key × R) (xs : Table R) (b : Bool)

@@ -1,11 +1,13 @@
 -- Each macro of a source, in a scope with the rows that it reads, is what it is in the state. Each line is the
 -- macro's own body, with the laws of its parts in the place of the parts.
-use Rattle.std.proofs.Common.{◌≡◌, ℕ, Bool, true, false, not, ◌||◌, ◌&&◌, cond, Option, Some, None, is_none, is_some, option_map, refl, ap, ◌∙◌}
+use Rattle.std.proofs.Common.{◌≡◌, ℕ, Bool, true, false, not, ◌||◌, ◌&&◌, cond, Option, Some, None, is_none, is_some, map, option_map, refl, ap, ◌∙◌}
 use Rattle.std.specs.Option.{option_map_or, option_or}
+use Rattle.pim_types.specs.declared.fact.AssertMetric.{AssertMetric}
 use Rattle.pim_types.specs.declared.fact.AssertRow.{AssertRow}
 use Rattle.pim_types.specs.declared.fact.DownstreamRow.{DownstreamRow}
 use Rattle.pim_types.specs.declared.fact.Key.{Key}
 use Rattle.pim_types.specs.declared.fact.RegisterRow.{RegisterRow}
+use Rattle.pim_types.specs.declared.fact.RegisterState.{RegisterState}
 use Rattle.pim_types.specs.declared.fact.SourceRecordRow.{SourceRecordRow}
 use Rattle.pim_types.specs.declared.fact.SourceRow.{SourceRow}
 use Rattle.pim_types.specs.declared.upstream.TreeState.{TreeState}
@@ -16,12 +18,12 @@ use Rattle.pim_model.specs.Sets.{assert_source, immediate_olist, inherited_olist
 use Rattle.pim_model.specs.State.{State, is_own, my_address}
 use Rattle.pim_types.specs.Keys.{rpt_key, source_key, star_key}
 use Rattle.pim_model.specs.Tables.{has_row, row_at, rows_where, same_hop}
-use Rattle.pim_model.specs.Unicast.{route}
-use Rattle.pim_locality.specs.Scopes.{only_running, only_side, scope}
+use Rattle.pim_model.specs.Unicast.{route, rpf_interface, rpf_interface_rp}
+use Rattle.pim_locality.specs.Scopes.{only_kind, only_running, only_side, scope, without_end}
 use Rattle.pim_laws.proofs.RowLaws.{has_row_map}
 use Rattle.pim_locality.proofs.SharedMacros.{is_dr_local, nbr_local, route_local, rpf_interface_local, rpf_interface_rp_local}
 use Rattle.pim_locality.proofs.Rows.{read_of_cut, row_at_cut, row_in_scope, has_row_in_scope}
-use Rattle.pim_locality.proofs.StarMacros.{is_exclude_local, is_include_local, join_desired_star_local, joins_star_local, lost_assert_star_local, pim_include_star_local, rpf_at, rpf_rp_at, rpf_star_local, serves_star_local}
+use Rattle.pim_locality.proofs.StarMacros.{is_exclude_local, is_include_local, join_desired_star_local, joins_star_local, lost_assert_star_local, pim_include_star_local, rpf_at, rpf_rp_at, rpf_star_local, serves_star_local, cut_assert, hop_cut, loser_cut, some_cut, winner_cut}
 
 none_cut : (o : Option ℕ) → is_none (only_running o) ≡ is_none o
 none_cut None = refl
@@ -33,6 +35,33 @@ cut_source r = record { end = only_running r.end }
 abbrev has_no_end : SourceRecordRow → Bool
 has_no_end r = is_none r.end
 
+abbrev pub cut_kind : DownstreamRow → DownstreamRow
+cut_kind r = record { expiry = only_running r.expiry; pending = only_running r.pending }
+
+abbrev pub cut_kept : SourceRow → SourceRow
+cut_kept r = record { keepalive = only_running r.keepalive; spt = r.spt }
+
+abbrev pub cut_register : RegisterRow → RegisterRow
+cut_register r = record { state = without_end r.state }
+
+tunnel_cut : (o : Option RegisterRow)
+    → is_register_join (option_map (λ (r : RegisterRow). r.state) (option_map cut_register o))
+    ≡ is_register_join (option_map (λ (r : RegisterRow). r.state) o)
+tunnel_cut None = refl
+tunnel_cut (Some r) = go r.state
+  where
+    go : (state : RegisterState)
+        → is_register_join (Some (without_end state)) ≡ is_register_join (Some state)
+    go RegisterState.Join = refl
+    go (RegisterState.JoinPending end) = refl
+    go (RegisterState.Prune end) = refl
+
+beaten_cut : (mine : AssertMetric) (o : Option AssertRow)
+    → option_map_or (λ (r : AssertRow). is_better r.winner mine) (option_map cut_assert o) false
+    ≡ option_map_or (λ (r : AssertRow). is_better r.winner mine) o false
+beaten_cut mine None = refl
+beaten_cut mine (Some r) = refl
+
 -- the rows of (*,G), of (S,G) and of (S,G,rpt) are seen
 pub record ReadsSource (sees : Key → Bool) (g src : ℕ) : Type 0 where
   pub stars : (i : ℕ) → sees (star_key i g) ≡ true
@@ -42,38 +71,75 @@ pub record ReadsSource (sees : Key → Bool) (g src : ℕ) : Type 0 where
 module _ (sees : Key → Bool) (s : State) (g src : ℕ) (rows : ReadsSource sees g src) where
   -- ---- facts
 
+  source_row_cut : row_at (scope sees s).sources (source_key 0 g src)
+      ≡ option_map cut_kept (row_at s.sources (source_key 0 g src))
+  unfolding scope
+  source_row_cut =
+      row_at_cut cut_kept (source_key 0 g src) (rows_where sees s.sources)
+      ∙ ap (option_map cut_kept) (row_in_scope sees (source_key 0 g src) (rows.sources 0) s.sources)
+
+  abbrev has_spt : SourceRow → Bool
+  has_spt r = r.spt
+
+  abbrev is_kept : SourceRow → Bool
+  is_kept r = is_some r.keepalive
+
   pub spt_bit_local : spt_bit (scope sees s) g src ≡ spt_bit s g src
-  unfolding spt_bit scope
+  unfolding spt_bit
   spt_bit_local =
-      λ j. option_map_or (λ (r : SourceRow). r.spt)
-      (row_in_scope sees (source_key 0 g src) (rows.sources 0) s.sources j) false
+      ap (λ (o : Option SourceRow). option_map_or has_spt o false) source_row_cut
+      ∙ read_of_cut cut_kept has_spt (λ r. refl) (row_at s.sources (source_key 0 g src))
 
   pub is_kept_alive_local : is_kept_alive (scope sees s) g src ≡ is_kept_alive s g src
-  unfolding is_kept_alive scope
+  unfolding is_kept_alive
   is_kept_alive_local =
-      λ j. option_map_or (λ (r : SourceRow). is_some r.keepalive)
-      (row_in_scope sees (source_key 0 g src) (rows.sources 0) s.sources j)
-      false
+      ap (λ (o : Option SourceRow). option_map_or is_kept o false) source_row_cut
+      ∙ read_of_cut cut_kept is_kept (λ r. some_cut r.keepalive) (row_at s.sources (source_key 0 g src))
 
   tunnel_local : tunnel (scope sees s) g src ≡ tunnel s g src
   unfolding tunnel scope
   tunnel_local =
-      λ j. is_register_join (option_map (λ (r : RegisterRow). r.state)
-      (row_in_scope sees (source_key 0 g src) (rows.sources 0) s.registers j))
+      (λ j. is_register_join (option_map (λ (r : RegisterRow). r.state)
+      ((row_at_cut cut_register (source_key 0 g src) (rows_where sees s.registers)
+      ∙ ap (option_map cut_register) (row_in_scope sees (source_key 0 g src) (rows.sources 0) s.registers)) j)))
+      ∙ tunnel_cut (row_at s.registers (source_key 0 g src))
 
   pub joins_local : joins (scope sees s) g src ≡ joins s g src
   unfolding joins scope
-  joins_local = λ j i. has_row_in_scope sees (source_key i g src) (rows.sources i) s.downstream j
+  joins_local = λ j i.
+      (has_row_map (source_key i g src) only_kind (λ e. refl) (rows_where sees s.downstream)
+      ∙ has_row_in_scope sees (source_key i g src) (rows.sources i) s.downstream) j
 
   pub prunes_local : prunes (scope sees s) g src ≡ prunes s g src
   unfolding prunes scope
-  prunes_local =
-      λ j i. option_map_or (λ (r : DownstreamRow). is_none r.pending)
-      (row_in_scope sees (rpt_key i g src) (rows.trees i) s.downstream j) false
+  prunes_local = λ j i. is_pruned_local i j
+    where
+      is_pruned_local : (i : ℕ) → option_map_or (λ (r : DownstreamRow). is_none r.pending)
+          (row_at (map only_kind (rows_where sees s.downstream)) (rpt_key i g src)) false
+          ≡ option_map_or (λ (r : DownstreamRow). is_none r.pending) (row_at s.downstream (rpt_key i g src)) false
+      is_pruned_local i =
+          ap (λ (o : Option DownstreamRow). option_map_or (λ (r : DownstreamRow). is_none r.pending) o false)
+          (row_at_cut cut_kind (rpt_key i g src) (rows_where sees s.downstream)
+          ∙ ap (option_map cut_kind) (row_in_scope sees (rpt_key i g src) (rows.trees i) s.downstream))
+          ∙ read_of_cut cut_kind (λ (r : DownstreamRow). is_none r.pending) (λ r. none_cut r.pending)
+          (row_at s.downstream (rpt_key i g src))
 
-  pub assert_source_local : assert_source (scope sees s) g src ≡ assert_source s g src
+  assert_source_cut : assert_source (scope sees s) g src ≡ (λ i. option_map cut_assert (assert_source s g src i))
   unfolding scope
-  assert_source_local = λ j i. row_in_scope sees (source_key i g src) (rows.sources i) s.asserts j
+  assert_source_cut = λ j i.
+      (row_at_cut cut_assert (source_key i g src) (rows_where sees s.asserts)
+      ∙ ap (option_map cut_assert) (row_in_scope sees (source_key i g src) (rows.sources i) s.asserts)) j
+
+  source_loser_local : (i : ℕ) → is_loser (assert_source (scope sees s) g src i) ≡ is_loser (assert_source s g src i)
+  source_loser_local i = (λ j. is_loser (assert_source_cut j i)) ∙ loser_cut (assert_source s g src i)
+
+  pub source_winner_local : (i : ℕ)
+      → is_winner (assert_source (scope sees s) g src i) ≡ is_winner (assert_source s g src i)
+  source_winner_local i = (λ j. is_winner (assert_source_cut j i)) ∙ winner_cut (assert_source s g src i)
+
+  source_hop_local : (i : Option ℕ)
+      → winner_hop i (assert_source (scope sees s) g src) ≡ winner_hop i (assert_source s g src)
+  source_hop_local i = (λ j. winner_hop i (assert_source_cut j)) ∙ hop_cut i (assert_source s g src)
 
   is_listed_local : (i : ℕ) → is_some (source_record (scope sees s) g src i) ≡ is_some (source_record s g src i)
   unfolding scope has_row
@@ -107,20 +173,25 @@ module _ (sees : Key → Bool) (s : State) (g src : ℕ) (rows : ReadsSource see
   unfolding spt_metric scope
   spt_metric_local i = λ j. route_metric false (my_address s i) (is_own s src) (route_local sees s src j)
 
+  beaten_local : (i : ℕ) → is_beaten (scope sees s) g src i ≡ is_beaten s g src i
+  unfolding is_beaten
+  beaten_local i =
+      (λ j. option_map_or (λ (r : AssertRow). is_better r.winner (spt_metric_local i j)) (assert_source_cut j i) false)
+      ∙ beaten_cut (spt_metric s src i) (assert_source s g src i)
+
   lost_assert_local : lost_assert (scope sees s) g src ≡ lost_assert s g src
-  unfolding lost_assert is_beaten
+  unfolding lost_assert
   lost_assert_local = λ j i.
-      not (rpf_at sees s src i j) && is_loser (assert_source_local j i)
-      && option_map_or (λ (r : AssertRow). is_better r.winner (spt_metric_local i j)) (assert_source_local j i) false
+      not (rpf_at sees s src i j) && source_loser_local i j && beaten_local i j
 
   lost_assert_rpt_local : lost_assert_rpt (scope sees s) g src ≡ lost_assert_rpt s g src
   unfolding lost_assert_rpt
   lost_assert_rpt_local = λ j i.
-      not (rpf_rp_at sees s g i j || (rpf_at sees s src i j && spt_bit_local j)) && is_loser (assert_source_local j i)
+      not (rpf_rp_at sees s g i j || (rpf_at sees s src i j && spt_bit_local j)) && source_loser_local i j
 
   serves_local : serves (scope sees s) g src ≡ serves s g src
   unfolding serves
-  serves_local = λ j i. (is_dr_local sees s i j && not (lost_assert_local j i)) || is_winner (assert_source_local j i)
+  serves_local = λ j i. (is_dr_local sees s i j && not (lost_assert_local j i)) || source_winner_local i j
 
   pub pim_include_local : pim_include (scope sees s) g src ≡ pim_include s g src
   unfolding pim_include
@@ -168,12 +239,14 @@ module _ (sees : Key → Bool) (s : State) (g src : ℕ) (rows : ReadsSource see
   pub rpf_source_local : rpf_source (scope sees s) g src ≡ rpf_source s g src
   unfolding rpf_source
   rpf_source_local =
-      λ j. option_or (winner_hop (rpf_interface_local sees s src j) (assert_source_local j)) (nbr_route_local j)
+      λ j. option_or (((λ l. winner_hop (rpf_interface_local sees s src l) (assert_source (scope sees s) g src))
+      ∙ source_hop_local (rpf_interface s src)) j) (nbr_route_local j)
 
   pub rpf_rpt_local : rpf_rpt (scope sees s) g src ≡ rpf_rpt s g src
   unfolding rpf_rpt
   rpf_rpt_local =
-      λ j. option_or (winner_hop (rpf_interface_rp_local sees s g j) (assert_source_local j))
+      λ j. option_or (((λ l. winner_hop (rpf_interface_rp_local sees s g l) (assert_source (scope sees s) g src))
+      ∙ source_hop_local (rpf_interface_rp s g)) j)
       (rpf_star_local sees s g rows.stars j)
 
   prune_desired_local : prune_desired (scope sees s) g src ≡ prune_desired s g src

@@ -1,8 +1,9 @@
 -- Each macro of (*,G), in a scope with the rows of (*,G), is what it is in the state. Each line is the macro's own
 -- body,
 -- with the laws of its parts in the place of the parts.
-use Rattle.std.proofs.Common.{◌≡◌, ℕ, Bool, true, false, not, ◌||◌, ◌&&◌, Option, Some, None, is_some, refl, ap, ◌∙◌}
+use Rattle.std.proofs.Common.{◌≡◌, ℕ, Bool, true, false, not, ◌||◌, ◌&&◌, Option, Some, None, is_some, option_map, refl, ap, ◌∙◌}
 use Rattle.std.specs.Option.{option_map_or, option_or}
+use Rattle.pim_types.specs.declared.fact.AssertRow.{AssertRow}
 use Rattle.pim_types.specs.declared.fact.GroupRecordRow.{GroupRecordRow}
 use Rattle.pim_types.specs.declared.fact.Key.{Key}
 use Rattle.pim_model.specs.Desires.{join_desired_star, rpf_star, winner_hop}
@@ -12,8 +13,8 @@ use Rattle.pim_model.specs.Sets.{assert_star, immediate_olist_star, is_empty, is
 use Rattle.pim_model.specs.State.{State}
 use Rattle.pim_model.specs.Tables.{row_at, rows_where, same_option}
 use Rattle.pim_types.specs.Keys.{star_key}
-use Rattle.pim_model.specs.Unicast.{is_rpf_interface, is_rpf_interface_rp, rp_route}
-use Rattle.pim_locality.specs.Scopes.{only_mode, only_running, scope}
+use Rattle.pim_model.specs.Unicast.{is_rpf_interface, is_rpf_interface_rp, rp_route, rpf_interface_rp}
+use Rattle.pim_locality.specs.Scopes.{only_kind, only_mode, only_running, scope}
 use Rattle.pim_laws.proofs.RowLaws.{has_row_map}
 use Rattle.pim_locality.proofs.SharedMacros.{is_dr_local, nbr_local, rp_route_local, rpf_interface_local, rpf_interface_rp_local}
 use Rattle.pim_locality.proofs.Rows.{read_of_cut, row_at_cut, row_in_scope, has_row_in_scope}
@@ -37,16 +38,50 @@ cut_group r = record { end = only_running r.end }
 abbrev has_end : GroupRecordRow → Bool
 has_end r = is_some r.end
 
+-- an assert without its end: what is read of it is its role and its winner
+abbrev pub cut_assert : AssertRow → AssertRow
+cut_assert r = record r { end = 0 }
+
+pub loser_cut : (o : Option AssertRow) → is_loser (option_map cut_assert o) ≡ is_loser o
+loser_cut None = refl
+loser_cut (Some r) = refl
+
+pub winner_cut : (o : Option AssertRow) → is_winner (option_map cut_assert o) ≡ is_winner o
+winner_cut None = refl
+winner_cut (Some r) = refl
+
+pub hop_cut : (i : Option ℕ) (row : ℕ → Option AssertRow)
+    → winner_hop i (λ n. option_map cut_assert (row n)) ≡ winner_hop i row
+hop_cut None row = refl
+hop_cut (Some i) row = go (row i)
+  where
+    go : (o : Option AssertRow) → winner_hop (Some i) (λ n. option_map cut_assert o) ≡ winner_hop (Some i) (λ n. o)
+    go None = refl
+    go (Some r) = refl
+
 -- ---- facts
 
 module _ (sees : Key → Bool) (s : State) (g : ℕ) (stars : (i : ℕ) → sees (star_key i g) ≡ true) where
   pub joins_star_local : joins_star (scope sees s) g ≡ joins_star s g
   unfolding joins_star scope
-  joins_star_local = λ j i. has_row_in_scope sees (star_key i g) (stars i) s.downstream j
+  joins_star_local = λ j i.
+      (has_row_map (star_key i g) only_kind (λ e. refl) (rows_where sees s.downstream)
+      ∙ has_row_in_scope sees (star_key i g) (stars i) s.downstream) j
 
-  pub assert_star_local : assert_star (scope sees s) g ≡ assert_star s g
+  assert_star_cut : assert_star (scope sees s) g ≡ (λ i. option_map cut_assert (assert_star s g i))
   unfolding scope
-  assert_star_local = λ j i. row_in_scope sees (star_key i g) (stars i) s.asserts j
+  assert_star_cut = λ j i.
+      (row_at_cut cut_assert (star_key i g) (rows_where sees s.asserts)
+      ∙ ap (option_map cut_assert) (row_in_scope sees (star_key i g) (stars i) s.asserts)) j
+
+  star_loser_local : (i : ℕ) → is_loser (assert_star (scope sees s) g i) ≡ is_loser (assert_star s g i)
+  star_loser_local i = (λ j. is_loser (assert_star_cut j i)) ∙ loser_cut (assert_star s g i)
+
+  pub star_winner_local : (i : ℕ) → is_winner (assert_star (scope sees s) g i) ≡ is_winner (assert_star s g i)
+  star_winner_local i = (λ j. is_winner (assert_star_cut j i)) ∙ winner_cut (assert_star s g i)
+
+  star_hop_local : (i : Option ℕ) → winner_hop i (assert_star (scope sees s) g) ≡ winner_hop i (assert_star s g)
+  star_hop_local i = (λ j. winner_hop i (assert_star_cut j)) ∙ hop_cut i (assert_star s g)
 
   pub is_exclude_local : is_exclude (scope sees s) g ≡ is_exclude s g
   unfolding is_exclude is_exclude_among scope
@@ -67,12 +102,12 @@ module _ (sees : Key → Bool) (s : State) (g : ℕ) (stars : (i : ℕ) → sees
 
   pub lost_assert_star_local : lost_assert_star (scope sees s) g ≡ lost_assert_star s g
   unfolding lost_assert_star
-  lost_assert_star_local = λ j i. not (rpf_rp_at sees s g i j) && is_loser (assert_star_local j i)
+  lost_assert_star_local = λ j i. not (rpf_rp_at sees s g i j) && star_loser_local i j
 
   pub serves_star_local : serves_star (scope sees s) g ≡ serves_star s g
   unfolding serves_star
   serves_star_local =
-      λ j i. (is_dr_local sees s i j && not (lost_assert_star_local j i)) || is_winner (assert_star_local j i)
+      λ j i. (is_dr_local sees s i j && not (lost_assert_star_local j i)) || star_winner_local i j
 
   pub pim_include_star_local : pim_include_star (scope sees s) g ≡ pim_include_star s g
   unfolding pim_include_star
@@ -92,4 +127,5 @@ module _ (sees : Key → Bool) (s : State) (g : ℕ) (stars : (i : ℕ) → sees
   pub rpf_star_local : rpf_star (scope sees s) g ≡ rpf_star s g
   unfolding rpf_star
   rpf_star_local =
-      λ j. option_or (winner_hop (rpf_interface_rp_local sees s g j) (assert_star_local j)) (nbr_rp_local j)
+      λ j. option_or (((λ l. winner_hop (rpf_interface_rp_local sees s g l) (assert_star (scope sees s) g))
+      ∙ star_hop_local (rpf_interface_rp s g)) j) (nbr_rp_local j)

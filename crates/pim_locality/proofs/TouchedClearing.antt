@@ -1,5 +1,5 @@
 -- All that is cleared is touched, and the state goes on agreeing beside.
-use Rattle.std.proofs.Common.{◌≡◌, ◌&&◌, Bool, true, false, not, Option, Some, None, option_map, refl, sym, ap, ◌∙◌}
+use Rattle.std.proofs.Common.{◌≡◌, ◌&&◌, Bool, true, false, not, map, Option, Some, None, option_map, refl, sym, ap, ◌∙◌}
 use Rattle.std.specs.Cmp.{second_so}
 use Rattle.std.specs.List.{filter, find, list_any}
 use Rattle.std.specs.Option.{option_or}
@@ -13,7 +13,7 @@ use Rattle.pim_model.specs.Tables.{Table}
 use Rattle.pim_laws.proofs.ListLaws.{any_more, any_of_filter, find_member, first_by_member}
 use Rattle.pim_laws.proofs.TableLaws.{any_in_filter, none_passes}
 use Rattle.pim_locality.specs.Locality.{AgreesBut, IsClosed, IsQuiet, of_touched, touched_assert, touched_clear, touched_spt, touched_to_clear}
-use Rattle.pim_locality.specs.Scopes.{reads, scope}
+use Rattle.pim_locality.specs.Scopes.{only_kept, only_winner, reads, scope}
 use Rattle.pim_laws.proofs.RowChanges.{changed_elsewhere, dropped_elsewhere}
 use Rattle.pim_locality.proofs.Clearing.{to_clear_of_touched}
 use Rattle.pim_locality.proofs.Turns.{same_repetition}
@@ -115,12 +115,12 @@ module _ (touches : Key → Bool) (o : State) where
   cleared_agrees closed s (ClearAssert k r) is agree q e =
       agree q e
       ∙ sym (λ j. record (scope (reads q) s) {
-        asserts = dropped_elsewhere (reads q) k (unread touches closed k q is e) s.asserts j;
+        asserts = map only_winner (dropped_elsewhere (reads q) k (unread touches closed k q is e) s.asserts j);
       })
   cleared_agrees closed s (ClearSptBit k) is agree q e =
       agree q e
       ∙ sym (λ j. record (scope (reads q) s) {
-        sources = changed_elsewhere (reads q) without_spt k (unread touches closed k q is e) s.sources j;
+        sources = map only_kept (changed_elsewhere (reads q) without_spt k (unread touches closed k q is e) s.sources j);
       })
 
   module _ (closed : IsClosed touches) (quiet : IsQuiet o) where

@@ -21,7 +21,7 @@ use Rattle.pim_model.specs.State.{State}
 use Rattle.pim_model.specs.Tables.{Table, keys_in, rows_where, set_row}
 use Rattle.pim_laws.proofs.ListLaws.{any_more}
 use Rattle.pim_locality.specs.Locality.{AgreesBut, IsClosed, touching}
-use Rattle.pim_locality.specs.Scopes.{only_mode, only_side, reads, scope}
+use Rattle.pim_locality.specs.Scopes.{only_kept, only_kind, only_mode, only_registered, only_side, only_winner, reads, scope}
 use Rattle.pim_locality.proofs.Asserts.{reads_itself, reads_through, stars_read}
 use Rattle.pim_laws.proofs.RowChanges.{filtered_elsewhere, set_elsewhere}
 use Rattle.pim_locality.proofs.TouchedClearing.{unread}
@@ -43,22 +43,22 @@ module _ (touches : Key → Bool) (s : State) where
   pub downstream_agrees : (rows : Table DownstreamRow) → RowsBut touches rows s.downstream
       → AgreesBut touches s (record s { downstream = rows })
   unfolding scope
-  downstream_agrees rows but h e = sym (λ j. record (scope (reads h) s) { downstream = but h e j })
+  downstream_agrees rows but h e = sym (λ j. record (scope (reads h) s) { downstream = map only_kind (but h e j) })
 
   pub asserts_agree : (rows : Table AssertRow) → RowsBut touches rows s.asserts
       → AgreesBut touches s (record s { asserts = rows })
   unfolding scope
-  asserts_agree rows but h e = sym (λ j. record (scope (reads h) s) { asserts = but h e j })
+  asserts_agree rows but h e = sym (λ j. record (scope (reads h) s) { asserts = map only_winner (but h e j) })
 
   pub sources_agree : (rows : Table SourceRow) → RowsBut touches rows s.sources
       → AgreesBut touches s (record s { sources = rows })
   unfolding scope
-  sources_agree rows but h e = sym (λ j. record (scope (reads h) s) { sources = but h e j })
+  sources_agree rows but h e = sym (λ j. record (scope (reads h) s) { sources = map only_kept (but h e j) })
 
   pub registers_agree : (rows : Table RegisterRow) → RowsBut touches rows s.registers
       → AgreesBut touches s (record s { registers = rows })
   unfolding scope
-  registers_agree rows but h e = sym (λ j. record (scope (reads h) s) { registers = but h e j })
+  registers_agree rows but h e = sym (λ j. record (scope (reads h) s) { registers = map only_registered (but h e j) })
 
   pub group_records_agree : (rows : Table GroupRecordRow) → RowsBut touches rows s.group_records
       → AgreesBut touches s (record s { group_records = rows })

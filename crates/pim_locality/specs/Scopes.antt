@@ -1,10 +1,15 @@
 -- What the machines of a key see of a state: the rows that they read, and what all groups share.
 use Rattle.std.specs.Prelude.{Bool, None, Option, Some, [], map, false, ℕ, ◌&&◌, ◌==◌, ◌||◌}
+use Rattle.pim_types.specs.declared.fact.AssertRow.{AssertRow}
+use Rattle.pim_types.specs.declared.fact.DownstreamRow.{DownstreamRow}
 use Rattle.pim_types.specs.declared.fact.GroupRecordRow.{GroupRecordRow}
 use Rattle.pim_types.specs.declared.fact.InterfaceRow.{InterfaceRow}
 use Rattle.pim_types.specs.declared.fact.NeighbourRow.{NeighbourRow}
 use Rattle.pim_types.specs.declared.fact.Key.{Key}
+use Rattle.pim_types.specs.declared.fact.RegisterRow.{RegisterRow}
+use Rattle.pim_types.specs.declared.fact.RegisterState.{RegisterState}
 use Rattle.pim_types.specs.declared.fact.SourceRecordRow.{SourceRecordRow}
+use Rattle.pim_types.specs.declared.fact.SourceRow.{SourceRow}
 use Rattle.pim_model.specs.State.{State}
 use Rattle.pim_model.specs.Tables.{Table, rows_where}
 use Rattle.pim_types.specs.Keys.{group_in, is_of_group, source_in}
@@ -38,6 +43,25 @@ only_mode e = (e.0, record { end = only_running (e.1).end })
 abbrev pub only_side : Key × SourceRecordRow → Key × SourceRecordRow
 only_side e = (e.0, record { end = only_running (e.1).end })
 
+-- likewise of the other rows: a downstream state with its kind, an assert with its role and winner, a source with
+-- whether it is kept alive and its SPTbit, a register with its state
+abbrev pub only_kind : Key × DownstreamRow → Key × DownstreamRow
+only_kind e = (e.0, record { expiry = only_running (e.1).expiry; pending = only_running (e.1).pending })
+
+abbrev pub only_winner : Key × AssertRow → Key × AssertRow
+only_winner e = (e.0, record e.1 { end = 0 })
+
+abbrev pub only_kept : Key × SourceRow → Key × SourceRow
+only_kept e = (e.0, record { keepalive = only_running (e.1).keepalive; spt = (e.1).spt })
+
+abbrev pub without_end : RegisterState → RegisterState
+without_end RegisterState.Join = RegisterState.Join
+without_end (RegisterState.JoinPending end) = RegisterState.JoinPending 0
+without_end (RegisterState.Prune end) = RegisterState.Prune 0
+
+abbrev pub only_registered : Key × RegisterRow → Key × RegisterRow
+only_registered e = (e.0, record { state = without_end (e.1).state })
+
 -- the state as macros see it that read these keys alone; they read no present, no timer of an upstream state, and
 -- nothing of queriers
 unfoldable pub scope : (Key → Bool) → State → State
@@ -55,10 +79,10 @@ scope sees s = record {
   group_repeats = [];
   source_repeats = [];
   sendings = [];
-  downstream = rows_where sees s.downstream;
-  asserts = rows_where sees s.asserts;
+  downstream = map only_kind (rows_where sees s.downstream);
+  asserts = map only_winner (rows_where sees s.asserts);
   join_timers = [];
   override_timers = [];
-  sources = rows_where sees s.sources;
-  registers = rows_where sees s.registers;
+  sources = map only_kept (rows_where sees s.sources);
+  registers = map only_registered (rows_where sees s.registers);
 }
