@@ -23,3 +23,6 @@ pub mod SettledRegisters
 pub mod SameMacros
 pub mod EventLaws
 pub mod Rest
+pub mod SameRows
+pub mod SameTables
+pub mod Differing

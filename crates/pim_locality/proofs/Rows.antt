@@ -48,6 +48,19 @@ module _ {R : Type 0} (cut : R → R) where
   rows_on_cut i [] = refl
   rows_on_cut i (x ∷ xs) = on_step i x xs (is_on i x.0) (rows_on_cut i xs)
 
+  where_step : (sees : Key → Bool) (x : Key × R) (xs : Table R) (b : Bool)
+      → rows_where sees (map cut_entry xs) ≡ map cut_entry (rows_where sees xs)
+      → cond b (cut_entry x ∷ rows_where sees (map cut_entry xs)) (rows_where sees (map cut_entry xs)) ≡ map cut_entry
+      (cond b (x ∷ rows_where sees xs) (rows_where sees xs))
+  where_step sees x xs true ih = ap (λ (t : Table R). cut_entry x ∷ t) ih
+  where_step sees x xs false ih = ih
+
+  pub rows_where_cut : (sees : Key → Bool) (t : Table R)
+      → rows_where sees (map cut_entry t) ≡ map cut_entry (rows_where sees t)
+  unfolding rows_where
+  rows_where_cut sees [] = refl
+  rows_where_cut sees (x ∷ xs) = where_step sees x xs (sees x.0) (rows_where_cut sees xs)
+
   -- the row at a key
   pub row_at_cut : (k : Key) (t : Table R) → row_at (map cut_entry t) k ≡ option_map cut (row_at t k)
   unfolding row_at

@@ -4,3 +4,4 @@ pub mod Touches
 pub mod Sees
 pub mod Events
 pub mod Rest
+pub mod Differing

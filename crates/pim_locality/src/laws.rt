@@ -1,5 +1,6 @@
 //! Laws of the definitions, each the contract of a function with nothing to do.
 
+ghost use Rattle.pim_locality.specs.Differing.{AgreedRowsAreSame, DifferingIsLeast, DifferingKeysCover, DifferingSettles, NamedKeysCover, NothingFollows, SameButEndsSettles, SameButEndsTouchesNothing};
 ghost use Rattle.pim_locality.specs.Events.{ChangeTouches, EventIsLocal, FiringIsLocal};
 ghost use Rattle.pim_locality.specs.Locality.{AgreedSourceIsUntold, AgreedStarIsUntold, AssertsAreLocal, ClearingIsLocal, CouldRegisterIsLocal, NextToClearIsLocal, OpeningIsQuiet, PresentTouchesNone, QuietGoesOn, RegistersAreLocal, RowsElsewhereStay, SettlingClears, SettlingIsLocal, SettlingIsOwn, SettlingQuiets, SourceDesiresAreLocal, SourceViewsAreLocal, SourcesAreOwn, SourcesStandOnce, StarDesiresAreLocal, StarViewsAreLocal, TouchingIsClosed, TreeStatesAreLocal, UpstreamIsLocal, UpstreamIsOwn};
 ghost use Rattle.pim_locality.specs.Rest.{FiringIsQuiet, InstantIsQuiet, OneFiringQuiets, OpeningIsAtRest, RunIsAtRest, StepIsAtRest, StepIsQuiet};
@@ -329,4 +330,52 @@ pub fn step_is_at_rest()
 /// So do any events.
 pub fn run_is_at_rest()
     ensures { RunIsAtRest }
+{}
+
+/// Keys cover a change where they touch each key under which a row differs in more than an end.
+#[tactic(auto, using(crate::proofs::Differing::named_keys_cover))]
+pub fn named_keys_cover()
+    ensures { NamedKeysCover }
+{}
+
+/// The keys under which rows differ in more than an end that runs in both cover a change.
+#[tactic(auto, using(crate::proofs::Differing::differing_keys_cover))]
+pub fn differing_keys_cover()
+    ensures { DifferingKeysCover }
+{}
+
+/// Where two states agree on a key, the rows that it reads are the same but for ends.
+#[tactic(auto, using(crate::proofs::Differing::agreed_rows_are_same))]
+pub fn agreed_rows_are_same()
+    ensures { AgreedRowsAreSame }
+{}
+
+/// The keys under which rows differ touch no key on which the states agree.
+#[tactic(auto, using(crate::proofs::Differing::differing_is_least))]
+pub fn differing_is_least()
+    ensures { DifferingIsLeast }
+{}
+
+/// All that follows of a change follows of the keys under which rows differ.
+#[tactic(auto, using(crate::proofs::Differing::differing_settles))]
+pub fn differing_settles()
+    ensures { DifferingSettles }
+{}
+
+/// A change that moves ends alone, in whatever table, touches nothing.
+#[tactic(auto, using(crate::proofs::Differing::same_but_ends_touches_nothing))]
+pub fn same_but_ends_touches_nothing()
+    ensures { SameButEndsTouchesNothing }
+{}
+
+/// Of a change that touches nothing nothing follows.
+#[tactic(auto, using(crate::proofs::Differing::nothing_follows))]
+pub fn nothing_follows()
+    ensures { NothingFollows }
+{}
+
+/// Of a change that moves ends alone nothing follows.
+#[tactic(auto, using(crate::proofs::Differing::same_but_ends_settles))]
+pub fn same_but_ends_settles()
+    ensures { SameButEndsSettles }
 {}

@@ -1,0 +1,96 @@
+-- Rows that differ between two states in more than an end that runs in both: the keys that such a row stands under, and
+-- no others, are touched.
+use Rattle.std.specs.Prelude.{Bool, List, [], filter, false, map, not, true, ℕ, ◌&&◌, ◌++◌, ◌≡◌}
+use Rattle.pim_types.specs.declared.fact.Key.{Key}
+use Rattle.pim_model.specs.Firing.{settled}
+use Rattle.pim_model.specs.Messages.{Message}
+use Rattle.pim_model.specs.Rows.{same_assert, same_both, same_downstream, same_group_record, same_register, same_rows, same_source, same_source_record}
+use Rattle.pim_model.specs.State.{State}
+use Rattle.pim_model.specs.Tables.{Table, keys_in, row_at}
+use Rattle.pim_model.specs.Writing.{write_all}
+use Rattle.pim_ready.specs.Ready.{IsOrdered}
+use Rattle.pim_locality.specs.Locality.{AgreesBut, AgreesOn, IsQuiet, own_settled, touching}
+use Rattle.pim_locality.specs.Scopes.{only_priority, only_up, reads}
+
+-- what all groups share is the same, as the macros see it
+pub record IsShared (s t : State) : Type 0 where
+  pub settings : s.settings ≡ t.settings
+  pub configured : s.configured ≡ t.configured
+  pub routes : s.routes ≡ t.routes
+  pub ranges : s.ranges ≡ t.ranges
+  pub interfaces : map only_up s.interfaces ≡ map only_up t.interfaces
+  pub neighbours : map only_priority s.neighbours ≡ map only_priority t.neighbours
+
+-- ---- which rows differ
+
+-- the rows under a key: alike, or none in both
+abbrev pub same_at : {R : Type 0} → (R → R → Bool) → Key → Table R → Table R → Bool
+same_at same k t u = same_both same (row_at t k) (row_at u k)
+
+-- of the rows that macros read none differs under a key
+unfoldable pub is_same_at : State → State → Key → Bool
+is_same_at s t k =
+    same_at same_group_record k s.group_records t.group_records
+    && same_at same_source_record k s.source_records t.source_records
+    && same_at same_downstream k s.downstream t.downstream && same_at same_assert k s.asserts t.asserts
+    && same_at same_source k s.sources t.sources && same_at same_register k s.registers t.registers
+
+-- no row of a group differs
+unfoldable pub is_same_but_ends : State → State → Bool
+is_same_but_ends s t =
+    same_rows same_group_record s.group_records t.group_records
+    && same_rows same_source_record s.source_records t.source_records
+    && same_rows same_downstream s.downstream t.downstream && same_rows same_assert s.asserts t.asserts
+    && same_rows same_source s.sources t.sources && same_rows same_register s.registers t.registers
+
+-- the keys under which the rows of two tables differ
+unfoldable pub differing_in : {R : Type 0} → (R → R → Bool) → Table R → Table R → List Key
+differing_in same t u = filter (λ k. not (same_at same k t u)) (keys_in t ++ keys_in u)
+
+-- those under which a row differs
+unfoldable pub differing : State → State → List Key
+differing s t =
+    differing_in same_group_record s.group_records t.group_records
+    ++ differing_in same_source_record s.source_records t.source_records
+    ++ differing_in same_downstream s.downstream t.downstream ++ differing_in same_assert s.asserts t.asserts
+    ++ differing_in same_source s.sources t.sources ++ differing_in same_register s.registers t.registers
+
+-- ---- they alone are touched
+
+-- keys cover a change where they touch each key under which a row differs
+abbrev pub NamedKeysCover : Type 0
+NamedKeysCover = (keys : List Key) (s t : State) → IsOrdered s → IsOrdered t → IsShared s t
+    → ((k : Key) → is_same_at s t k ≡ false → touching keys k ≡ true) → AgreesBut (touching keys) s t
+
+abbrev pub DifferingKeysCover : Type 0
+DifferingKeysCover =
+    (s t : State) → IsOrdered s → IsOrdered t → IsShared s t → AgreesBut (touching (differing s t)) s t
+
+-- no others are touched: where the states agree on a key, no row that it reads differs
+abbrev pub AgreedRowsAreSame : Type 0
+AgreedRowsAreSame = (k q : Key) (s t : State) → AgreesOn k s t → reads k q ≡ true → is_same_at s t q ≡ true
+
+abbrev pub DifferingIsLeast : Type 0
+DifferingIsLeast = (s t : State) (k : Key) → AgreesOn k s t → touching (differing s t) k ≡ false
+
+-- from a quiet state all that follows of a change follows of them
+abbrev pub DifferingSettles : Type 0
+DifferingSettles =
+    (o : State) → IsQuiet o → IsOrdered o → (change : State × List Message) (w : ℕ) → IsOrdered change.0
+    → IsShared o change.0 → settled o change w ≡ own_settled (differing o change.0) o change w
+
+-- ---- where none differs
+
+abbrev pub SameButEndsTouchesNothing : Type 0
+SameButEndsTouchesNothing =
+    (s t : State) → IsShared s t → is_same_but_ends s t ≡ true → AgreesBut (touching []) s t
+
+-- of a change that touches nothing nothing follows from a quiet state: its own messages are written
+abbrev pub NothingFollows : Type 0
+NothingFollows = (o : State) → IsQuiet o → (change : State × List Message) (w : ℕ)
+    → AgreesBut (touching []) o change.0 → settled o change w ≡ write_all change.0 change.1
+
+abbrev pub SameButEndsSettles : Type 0
+SameButEndsSettles =
+    (o : State) → IsQuiet o → (change : State × List Message) (w : ℕ) → IsShared o change.0
+    → is_same_but_ends o change.0 ≡ true → settled o change w ≡ write_all change.0 change.1
