@@ -12,17 +12,19 @@ use Rattle.pim_types.specs.declared.fact.RegisterState.{RegisterState}
 use Rattle.pim_types.specs.declared.fact.SourceRow.{SourceRow}
 use Rattle.pim_types.specs.Keys.{group_in, names_source, same_key, source_in, source_key}
 use Rattle.pim_types.proofs.Keys.{same_key_same}
-use Rattle.pim_model.specs.Reach.{is_same_for, names_star}
-use Rattle.pim_model.specs.Rows.{same_assert, same_downstream, same_end, same_group_record, same_metric, same_register, same_register_state, same_rows, same_source, same_source_record}
+use Rattle.pim_model.specs.Reach.{alike_where, is_same_for, names_star}
+use Rattle.pim_model.specs.Rows.{same_assert, same_downstream, same_group_record, same_metric, same_register, same_register_state, same_rows, same_source, same_source_record}
 use Rattle.pim_model.specs.Sets.{is_winner}
 use Rattle.pim_model.specs.State.{State}
-use Rattle.pim_model.specs.Tables.{Table, rows_where, same_bool}
+use Rattle.pim_model.specs.Tables.{Table, rows_where}
 use Rattle.pim_model.specs.Unicast.{route, rp_of, rp_route}
 use Rattle.pim_laws.proofs.ListLaws.{filter_within}
 use Rattle.pim_locality.specs.Locality.{AgreesOn}
-use Rattle.pim_locality.specs.Scopes.{only_running, reads, scope}
+use Rattle.pim_locality.specs.Scopes.{reads, scope}
 use Rattle.pim_locality.proofs.SharedMacros.{route_local, rp_of_local, rp_route_local}
-use Rattle.pim_locality.proofs.StarMacros.{some_cut}
+use Rattle.pim_locality.proofs.SameRows.{IsOfCut, of_asserts, of_downstream, of_group_records, of_registers, of_source_records, of_sources}
+use Rattle.pim_locality.proofs.SourceMacros.{cut_kept, cut_kind, cut_register, cut_source}
+use Rattle.pim_locality.proofs.StarMacros.{cut_assert, cut_group}
 use Rattle.pim_locality.proofs.UntoldKeys.{same_by_scope}
 use Rattle.pim_reach.specs.Named.{is_named}
 use Rattle.pim_reach.proofs.Reached.{same_is_unnamed}
@@ -100,25 +102,25 @@ module _ {R : Type 0} (cut : R → R) where
       ∙ sym (where_cut p (rows_where q t)) ∙ ap (rows_where p) e ∙ where_cut p (rows_where q u)
       ∙ ap (map cut_down) (filter_within (λ x. p x.0) (λ x. q x.0) (λ x. more x.0) u)
 
-  module _ (same : R → R → Bool) (itself : (r : R) → same r r ≡ true)
-      (of_cut : (a b : R) → same (cut a) (cut b) ≡ same a b) where
-    cut_alike : (t u : Table R) → same_rows same (map cut_down t) (map cut_down u) ≡ same_rows same t u
+  module _ (same : R → R → Bool) (is : IsOfCut same cut) where
+    cut_alike : (t u : Table R) → map cut_down t ≡ map cut_down u → same_rows same t u ≡ true
     unfolding same_rows
-    cut_alike [] [] = refl
-    cut_alike [] (y ∷ ys) = refl
-    cut_alike (x ∷ xs) [] = refl
-    cut_alike (x ∷ xs) (y ∷ ys) = λ j. same_key x.0 y.0 && of_cut x.1 y.1 j && cut_alike xs ys j
+    cut_alike [] [] e = refl
+    cut_alike [] (y ∷ ys) e = cc
+    cut_alike (x ∷ xs) [] e = cc
+    cut_alike (x ∷ xs) (y ∷ ys) e =
+        let heads : cut_down x ≡ cut_down y = cc in
+        let rest : map cut_down xs ≡ map cut_down ys = cc in
+        both_true
+        (both_true (ap (same_key x.0) (sym (ap (λ (z : Key × R). z.0) heads)) ∙ same_key_same x.0)
+        (is.back x.1 y.1 (ap (λ (z : Key × R). z.1) heads)))
+        (cut_alike xs ys rest)
 
     -- rows are alike where they are the same once they are cut down
     rows_alike : (p q : Key → Bool) → ((k : Key) → p k ≡ true → q k ≡ true) → (t u : Table R)
         → map cut_down (rows_where q t) ≡ map cut_down (rows_where q u)
         → same_rows same (rows_where p t) (rows_where p u) ≡ true
-    rows_alike p q more t u e =
-        sym (cut_alike (rows_where p t) (rows_where p u))
-        ∙ rows_equal same itself (map cut_down (rows_where p t)) (map cut_down (rows_where p u)) (cut_within p q more t u e)
-
-ends_alike : (a b : Option ℕ) → same_end (only_running a) (only_running b) ≡ same_end a b
-ends_alike a b = λ j. same_bool (some_cut a j) (some_cut b j)
+    rows_alike p q more t u e = cut_alike (rows_where p t) (rows_where p u) (cut_within p q more t u e)
 
 -- the rows of (*,G), and those of a source, are the same
 pub record SameStarRows (g : ℕ) (s t : State) : Type 0 where
@@ -134,20 +136,16 @@ pub record SameSourceRows (g src : ℕ) (s t : State) : Type 0 where
   pub sources : rows_where (names_source g src) s.sources ≡ rows_where (names_source g src) t.sources
   pub registers : rows_where (names_source g src) s.registers ≡ rows_where (names_source g src) t.registers
 
--- the same, but for the ends of records
+-- the same, but for ends
 record AlikeRows (g src : ℕ) (s t : State) : Type 0 where
-  group_records : same_rows same_group_record (rows_where (names_star g) s.group_records)
-      (rows_where (names_star g) t.group_records)
-      ≡ true
-  source_records : same_rows same_source_record (rows_where (names_source g src) s.source_records)
-      (rows_where (names_source g src) t.source_records)
-      ≡ true
-  star_downstream : rows_where (names_star g) s.downstream ≡ rows_where (names_star g) t.downstream
-  star_asserts : rows_where (names_star g) s.asserts ≡ rows_where (names_star g) t.asserts
-  downstream : rows_where (names_source g src) s.downstream ≡ rows_where (names_source g src) t.downstream
-  asserts : rows_where (names_source g src) s.asserts ≡ rows_where (names_source g src) t.asserts
-  sources : rows_where (names_source g src) s.sources ≡ rows_where (names_source g src) t.sources
-  registers : rows_where (names_source g src) s.registers ≡ rows_where (names_source g src) t.registers
+  group_records : alike_where same_group_record (names_star g) s.group_records t.group_records ≡ true
+  source_records : alike_where same_source_record (names_source g src) s.source_records t.source_records ≡ true
+  star_downstream : alike_where same_downstream (names_star g) s.downstream t.downstream ≡ true
+  star_asserts : alike_where same_assert (names_star g) s.asserts t.asserts ≡ true
+  downstream : alike_where same_downstream (names_source g src) s.downstream t.downstream ≡ true
+  asserts : alike_where same_assert (names_source g src) s.asserts t.asserts ≡ true
+  sources : alike_where same_source (names_source g src) s.sources t.sources ≡ true
+  registers : alike_where same_register (names_source g src) s.registers t.registers ≡ true
 
 -- then nothing differs, with the same routes
 alike_with_rows : (g src : ℕ) (s t : State) → AlikeRows g src s t
@@ -156,13 +154,13 @@ unfolding is_same_for
 alike_with_rows g src s t rows path rp rp_path =
     both_true (both_true (both_true (both_true (both_true (both_true (both_true (both_true (both_true (both_true
     rows.source_records
-    (rows_equal same_downstream downstream_itself _ _ rows.downstream))
-    (rows_equal same_assert assert_itself _ _ rows.asserts))
-    (rows_equal same_source source_itself _ _ rows.sources))
-    (rows_equal same_register register_itself _ _ rows.registers))
+    rows.downstream)
+    rows.asserts)
+    rows.sources)
+    rows.registers)
     rows.group_records)
-    (rows_equal same_downstream downstream_itself _ _ rows.star_downstream))
-    (rows_equal same_assert assert_itself _ _ rows.star_asserts))
+    rows.star_downstream)
+    rows.star_asserts)
     (paths_same _ _ path))
     (options_same _ _ rp))
     (paths_same _ _ rp_path)
@@ -174,12 +172,12 @@ same_with_rows g src s t star rows path rp rp_path =
     (record {
       group_records = rows_equal same_group_record (λ r. bool_itself (is_some r.end)) _ _ star.group_records;
       source_records = rows_equal same_source_record (λ r. bool_itself (is_some r.end)) _ _ rows.source_records;
-      star_downstream = star.downstream;
-      star_asserts = star.asserts;
-      downstream = rows.downstream;
-      asserts = rows.asserts;
-      sources = rows.sources;
-      registers = rows.registers;
+      star_downstream = rows_equal same_downstream downstream_itself _ _ star.downstream;
+      star_asserts = rows_equal same_assert assert_itself _ _ star.asserts;
+      downstream = rows_equal same_downstream downstream_itself _ _ rows.downstream;
+      asserts = rows_equal same_assert assert_itself _ _ rows.asserts;
+      sources = rows_equal same_source source_itself _ _ rows.sources;
+      registers = rows_equal same_register register_itself _ _ rows.registers;
     })
     path rp rp_path
 
@@ -213,24 +211,22 @@ module _ (g src : ℕ) (s t : State) (agree : AgreesOn (source_key 0 g src) s t)
   agreed_rows =
       let k : Key = source_key 0 g src in
       record {
-        group_records = rows_alike (λ r. record { end = only_running r.end }) same_group_record
-            (λ r. bool_itself (is_some r.end)) (λ a b. ends_alike a.end b.end) (names_star g) (reads k)
-            (star_read g src) s.group_records t.group_records (ap (λ (u : State). u.group_records) agree);
-        source_records = rows_alike (λ r. record { end = only_running r.end }) same_source_record
-            (λ r. bool_itself (is_some r.end)) (λ a b. ends_alike a.end b.end) (names_source g src) (reads k)
-            (source_read g src) s.source_records t.source_records (ap (λ (u : State). u.source_records) agree);
-        star_downstream = rows_within (names_star g) (reads k) (star_read g src) s.downstream t.downstream
-            (ap (λ (u : State). u.downstream) agree);
-        star_asserts = rows_within (names_star g) (reads k) (star_read g src) s.asserts t.asserts
-            (ap (λ (u : State). u.asserts) agree);
-        downstream = rows_within (names_source g src) (reads k) (source_read g src) s.downstream t.downstream
-            (ap (λ (u : State). u.downstream) agree);
-        asserts = rows_within (names_source g src) (reads k) (source_read g src) s.asserts t.asserts
-            (ap (λ (u : State). u.asserts) agree);
-        sources = rows_within (names_source g src) (reads k) (source_read g src) s.sources t.sources
-            (ap (λ (u : State). u.sources) agree);
-        registers = rows_within (names_source g src) (reads k) (source_read g src) s.registers t.registers
-            (ap (λ (u : State). u.registers) agree);
+        group_records = rows_alike cut_group same_group_record of_group_records (names_star g) (reads k) (star_read g src)
+            s.group_records t.group_records (ap (λ (u : State). u.group_records) agree);
+        source_records = rows_alike cut_source same_source_record of_source_records (names_source g src) (reads k) (source_read g src)
+            s.source_records t.source_records (ap (λ (u : State). u.source_records) agree);
+        star_downstream = rows_alike cut_kind same_downstream of_downstream (names_star g) (reads k) (star_read g src)
+            s.downstream t.downstream (ap (λ (u : State). u.downstream) agree);
+        star_asserts = rows_alike cut_assert same_assert of_asserts (names_star g) (reads k) (star_read g src)
+            s.asserts t.asserts (ap (λ (u : State). u.asserts) agree);
+        downstream = rows_alike cut_kind same_downstream of_downstream (names_source g src) (reads k) (source_read g src)
+            s.downstream t.downstream (ap (λ (u : State). u.downstream) agree);
+        asserts = rows_alike cut_assert same_assert of_asserts (names_source g src) (reads k) (source_read g src)
+            s.asserts t.asserts (ap (λ (u : State). u.asserts) agree);
+        sources = rows_alike cut_kept same_source of_sources (names_source g src) (reads k) (source_read g src)
+            s.sources t.sources (ap (λ (u : State). u.sources) agree);
+        registers = rows_alike cut_register same_register of_registers (names_source g src) (reads k) (source_read g src)
+            s.registers t.registers (ap (λ (u : State). u.registers) agree);
       }
 
   agreed_around : Around s t
