@@ -26,3 +26,4 @@ pub mod Rest
 pub mod SameRows
 pub mod SameTables
 pub mod Differing
+pub mod OwnEnds

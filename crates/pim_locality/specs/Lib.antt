@@ -5,3 +5,4 @@ pub mod Sees
 pub mod Events
 pub mod Rest
 pub mod Differing
+pub mod OwnEnds

@@ -3,6 +3,7 @@
 ghost use Rattle.pim_locality.specs.Differing.{AgreedRowsAreSame, DifferingIsLeast, DifferingKeysCover, DifferingSettles, NamedKeysCover, NothingFollows, SameButEndsSettles, SameButEndsTouchesNothing};
 ghost use Rattle.pim_locality.specs.Events.{ChangeTouches, EventIsLocal, FiringIsLocal};
 ghost use Rattle.pim_locality.specs.Locality.{AgreedSourceIsUntold, AgreedStarIsUntold, AssertsAreLocal, ClearingIsLocal, CouldRegisterIsLocal, NextToClearIsLocal, OpeningIsQuiet, PresentTouchesNone, QuietGoesOn, RegistersAreLocal, RowsElsewhereStay, SettlingClears, SettlingIsLocal, SettlingIsOwn, SettlingQuiets, SourceDesiresAreLocal, SourceViewsAreLocal, SourcesAreOwn, SourcesStandOnce, StarDesiresAreLocal, StarViewsAreLocal, TouchingIsClosed, TreeStatesAreLocal, UpstreamIsLocal, UpstreamIsOwn};
+ghost use Rattle.pim_locality.specs.OwnEnds.{EventFollowsOfDiffering, EventOfEnds, EventTouchesDiffering, FiringFollowsOfDiffering};
 ghost use Rattle.pim_locality.specs.Rest.{FiringIsQuiet, InstantIsQuiet, OneFiringQuiets, OpeningIsAtRest, RunIsAtRest, StepIsAtRest, StepIsQuiet};
 ghost use Rattle.pim_locality.specs.Sees.{ConnectionsOfSame, DesiresOfSame, MetricsOfSame, RegistersOfSame, StarTrackingOfSame, TrackingOfSame, TreeNeighboursOfSame, TreeStatesOfSame};
 ghost use Rattle.pim_locality.specs.Touches.{AssertDueTouches, AssertTouches, GroupEndTouches, HelloAgainTouchesNone, JoinPruneTouches, PacketTouches, QueryTouchesNone, RegisterStopTouches, RegisterTouches, ReportTouches, SeenTouchesNone, SourceEndTouches, TimerTouches};
@@ -378,4 +379,28 @@ pub fn nothing_follows()
 #[tactic(auto, using(crate::proofs::Differing::same_but_ends_settles))]
 pub fn same_but_ends_settles()
     ensures { SameButEndsSettles }
+{}
+
+/// What an event touches is no more than the keys whose rows differ after it.
+#[tactic(auto, using(crate::proofs::OwnEnds::event_touches_differing))]
+pub fn event_touches_differing()
+    ensures { EventTouchesDiffering }
+{}
+
+/// All that follows of an event follows of the keys whose rows differ after its own change.
+#[tactic(auto, using(crate::proofs::OwnEnds::event_follows_of_differing))]
+pub fn event_follows_of_differing()
+    ensures { EventFollowsOfDiffering }
+{}
+
+/// Of an event that moves ends alone nothing follows.
+#[tactic(auto, using(crate::proofs::OwnEnds::event_of_ends))]
+pub fn event_of_ends()
+    ensures { EventOfEnds }
+{}
+
+/// All that follows of a timer's end follows of the keys whose rows differ after its own change.
+#[tactic(auto, using(crate::proofs::OwnEnds::firing_follows_of_differing))]
+pub fn firing_follows_of_differing()
+    ensures { FiringFollowsOfDiffering }
 {}
