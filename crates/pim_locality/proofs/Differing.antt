@@ -78,13 +78,13 @@ record SameAt (s t : State) (k : Key) : Type 0 where
   registers : same_at same_register k s.registers t.registers ≡ true
 
 -- the parts of six that hold
-record Six (a b c d e f : Bool) : Type 0 where
-  first : a ≡ true
-  second : b ≡ true
-  third : c ≡ true
-  fourth : d ≡ true
-  fifth : e ≡ true
-  sixth : f ≡ true
+pub record Six (a b c d e f : Bool) : Type 0 where
+  pub first : a ≡ true
+  pub second : b ≡ true
+  pub third : c ≡ true
+  pub fourth : d ≡ true
+  pub fifth : e ≡ true
+  pub sixth : f ≡ true
 
 six : (a b c d e f : Bool) → (a && b && c && d && e && f) ≡ true → Six a b c d e f
 six true true true true true true h =
@@ -96,7 +96,7 @@ six true true false d e f h = cc
 six true false c d e f h = cc
 six false b c d e f h = cc
 
-all_six : (a b c d e f : Bool) → Six a b c d e f → (a && b && c && d && e && f) ≡ true
+pub all_six : (a b c d e f : Bool) → Six a b c d e f → (a && b && c && d && e && f) ≡ true
 all_six a b c d e f s =
     both_true (both_true (both_true (both_true (both_true s.first s.second) s.third) s.fourth) s.fifth) s.sixth
 
@@ -145,6 +145,19 @@ named_keys_cover keys s t before after shared named q out =
 
 -- ---- the keys under which rows differ are named
 
+pub passing_named : (p : Key → Bool) (k : Key) → p k ≡ true → (ks : List Key)
+    → list_any (λ x. p x && same_key k x) ks ≡ list_any (same_key k) ks
+passing_named p k here [] = refl
+passing_named p k here (x ∷ xs) = λ j. step (same_key k x) refl j || passing_named p k here xs j
+  where
+    step : (b : Bool) → same_key k x ≡ b → (p x && b) ≡ b
+    step true e = ap (λ c. c && true) (ap p (sym (equal_keys k x e)) ∙ here)
+    step false e = last (p x)
+      where
+        last : (c : Bool) → (c && false) ≡ false
+        last true = refl
+        last false = refl
+
 module _ {R : Type 0} (same : R → R → Bool) where
   neither_same : (a b : Option R) → (is_some a || is_some b) ≡ false → same_both same a b ≡ true
   neither_same None None e = refl
@@ -154,19 +167,6 @@ module _ {R : Type 0} (same : R → R → Bool) where
   row_named : (k : Key) (t : Table R) → list_any (same_key k) (keys_in t) ≡ has_row t k
   unfolding keys_in
   row_named k t = any_of_map (same_key k) (λ e. e.0) t ∙ sym (has_row_any k t)
-
-  passing_named : (p : Key → Bool) (k : Key) → p k ≡ true → (ks : List Key)
-      → list_any (λ x. p x && same_key k x) ks ≡ list_any (same_key k) ks
-  passing_named p k here [] = refl
-  passing_named p k here (x ∷ xs) = λ j. step (same_key k x) refl j || passing_named p k here xs j
-    where
-      step : (b : Bool) → same_key k x ≡ b → (p x && b) ≡ b
-      step true e = ap (λ c. c && true) (ap p (sym (equal_keys k x e)) ∙ here)
-      step false e = last (p x)
-        where
-          last : (c : Bool) → (c && false) ≡ false
-          last true = refl
-          last false = refl
 
   -- a key that isn't named has the same rows
   unnamed_same : (k : Key) (t u : Table R) → is_named (differing_in same t u) k ≡ false → same_at same k t u ≡ true

@@ -27,3 +27,4 @@ pub mod SameRows
 pub mod SameTables
 pub mod Differing
 pub mod OwnEnds
+pub mod JoinPrunes

@@ -6,3 +6,4 @@ pub mod Events
 pub mod Rest
 pub mod Differing
 pub mod OwnEnds
+pub mod JoinPrunes

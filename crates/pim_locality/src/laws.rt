@@ -2,6 +2,7 @@
 
 ghost use Rattle.pim_locality.specs.Differing.{AgreedRowsAreSame, DifferingIsLeast, DifferingKeysCover, DifferingSettles, NamedKeysCover, NothingFollows, SameButEndsSettles, SameButEndsTouchesNothing};
 ghost use Rattle.pim_locality.specs.Events.{ChangeTouches, EventIsLocal, FiringIsLocal};
+ghost use Rattle.pim_locality.specs.JoinPrunes.{JoinPruneAgain, JoinPruneIsLocal, JoinPruneTouchesMoved};
 ghost use Rattle.pim_locality.specs.Locality.{AgreedSourceIsUntold, AgreedStarIsUntold, AssertsAreLocal, ClearingIsLocal, CouldRegisterIsLocal, NextToClearIsLocal, OpeningIsQuiet, PresentTouchesNone, QuietGoesOn, RegistersAreLocal, RowsElsewhereStay, SettlingClears, SettlingIsLocal, SettlingIsOwn, SettlingQuiets, SourceDesiresAreLocal, SourceViewsAreLocal, SourcesAreOwn, SourcesStandOnce, StarDesiresAreLocal, StarViewsAreLocal, TouchingIsClosed, TreeStatesAreLocal, UpstreamIsLocal, UpstreamIsOwn};
 ghost use Rattle.pim_locality.specs.OwnEnds.{EventFollowsOfDiffering, EventOfEnds, EventTouchesDiffering, FiringFollowsOfDiffering};
 ghost use Rattle.pim_locality.specs.Rest.{FiringIsQuiet, InstantIsQuiet, OneFiringQuiets, OpeningIsAtRest, RunIsAtRest, StepIsAtRest, StepIsQuiet};
@@ -403,4 +404,23 @@ pub fn event_of_ends()
 #[tactic(auto, using(crate::proofs::OwnEnds::firing_follows_of_differing))]
 pub fn firing_follows_of_differing()
     ensures { FiringFollowsOfDiffering }
+{}
+
+/// A Join/Prune touches no more than the keys whose downstream rows it changes in more than an end, and those whose lost
+/// asserts it ends.
+#[tactic(auto, using(crate::proofs::JoinPrunes::join_prune_touches_moved))]
+pub fn join_prune_touches_moved()
+    ensures { JoinPruneTouchesMoved }
+{}
+
+/// All that follows of a Join/Prune follows of them.
+#[tactic(auto, using(crate::proofs::JoinPrunes::join_prune_is_local))]
+pub fn join_prune_is_local()
+    ensures { JoinPruneIsLocal }
+{}
+
+/// Of a Join/Prune that says again what it said nothing follows.
+#[tactic(auto, using(crate::proofs::JoinPrunes::join_prune_again))]
+pub fn join_prune_again()
+    ensures { JoinPruneAgain }
 {}

@@ -1,0 +1,270 @@
+-- A Join/Prune touches the keys whose rows it changes in more than an end, and those whose lost asserts it ends.
+use Rattle.std.proofs.Common.{◌≡◌, ◌&&◌, ◌||◌, ℕ, Bool, true, false, not, cond, List, [], ◌∷◌, ◌++◌, fold, Option, Some, None, is_some, refl, sym, ap, ◌∙◌, subst}
+use Rattle.std.specs.Cmp.{first_so, second_so}
+use Rattle.std.specs.Cmp.Derive.{both_true}
+use Rattle.std.specs.BTreeMap.{is_at}
+use Rattle.std.specs.List.{filter, list_all, list_any}
+use Rattle.std.specs.Map.{lookup}
+use Rattle.std.proofs.lemmas.Bool.{or_left}
+use Rattle.std.proofs.lemmas.List.Folds.{list_any-append}
+use Rattle.pim_types.specs.declared.config.IfaceId.{IfaceId}
+use Rattle.pim_types.specs.declared.fact.AssertRow.{AssertRow}
+use Rattle.pim_types.specs.declared.fact.DownstreamRow.{DownstreamRow}
+use Rattle.pim_types.specs.declared.fact.Key.{Key}
+use Rattle.pim_types.specs.Keys.{key_cmp, same_key}
+use Rattle.pim_types.proofs.Keys.{equal_keys, same_key_same}
+use Rattle.pim_wire.specs.Values.{JoinPrune}
+use Rattle.pim_model.specs.declared.accepted.Accepted.{Accepted}
+use Rattle.pim_model.specs.Downstream.{asserts_after_joins, is_named, joined_keys, keys_taken, pruned_keys, row_after, rpt_rows_joined, to_me, touched_keys}
+use Rattle.pim_model.specs.Firing.{settled}
+use Rattle.pim_model.specs.Messages.{Message}
+use Rattle.pim_model.specs.Rows.{same_assert, same_both, same_downstream, same_group_record, same_register, same_source, same_source_record}
+use Rattle.pim_model.specs.Sets.{is_loser}
+use Rattle.pim_model.specs.State.{State}
+use Rattle.pim_model.specs.Step.{change}
+use Rattle.pim_model.specs.Tables.{Table, drop_at, drop_where, has_row, put, row_at, set_row}
+use Rattle.pim_model.specs.Writing.{write_all}
+use Rattle.pim_laws.proofs.RowLaws.{has_row_without, row_drop_away, row_put, row_put_away}
+use Rattle.pim_laws.proofs.TableLaws.{any_in_filter}
+use Rattle.pim_ready.proofs.RisingKeys.{sorted_of_up, up_filter, up_of_sorted, up_put}
+use Rattle.pim_ready.specs.Ready.{IsOrdered, Rises}
+use Rattle.pim_locality.specs.Differing.{IsShared, is_same_at, same_at}
+use Rattle.pim_locality.specs.Events.{own_change}
+use Rattle.pim_locality.specs.JoinPrunes.{moved_keys, moves_end, named_rows}
+use Rattle.pim_locality.specs.Locality.{AgreesBut, IsQuiet, own_settled, touching}
+use Rattle.pim_locality.proofs.Differing.{all_six, named_keys_cover, nothing_follows, passing_named}
+use Rattle.pim_locality.proofs.SameRows.{IsOfCut, of_asserts, of_downstream, of_group_records, of_registers, of_source_records, of_sources}
+use Rattle.pim_locality.proofs.Settling.{settling_is_own}
+use Rattle.pim_locality.proofs.SourceMacros.{cut_kept, cut_kind, cut_register, cut_source}
+use Rattle.pim_locality.proofs.StarMacros.{cut_assert, cut_group}
+use Rattle.pim_locality.proofs.Touches.{named_touches}
+
+-- ---- rows set one after the other
+
+unequal : (k q : Key) → same_key k q ≡ false → q ≡ k → ⊥
+unequal k q e same = cc (ap (same_key k) same ∙ same_key_same k, e)
+
+module _ {R : Type 0} where
+  none_there : (o : Option R) → is_some o ≡ false → o ≡ None
+  none_there None e = refl
+  none_there (Some r) e = cc
+
+  set_here : (k : Key) (t : Table R) (o : Option R) → row_at (set_row t k o) k ≡ o
+  unfolding set_row has_row
+  set_here k t (Some r) = row_put k r t
+  set_here k t None = none_there _ (has_row_without k k t ∙ rw (same_key_same k) refl)
+
+  set_away : (k q : Key) → (q ≡ k → ⊥) → (t : Table R) (o : Option R) → row_at (set_row t q o) k ≡ row_at t k
+  unfolding set_row
+  set_away k q apart t (Some r) = row_put_away q k apart r t
+  set_away k q apart t None = row_drop_away q k apart t
+
+  module _ (row : Key → Option R) (k : Key) where
+    found_step : (q : Key) (t : Table R) (b c : Bool) → same_key k q ≡ b
+        → cond c (row k) (row_at (set_row t q (row q)) k) ≡ cond (b || c) (row k) (row_at t k)
+    found_step q t true true e = refl
+    found_step q t false true e = refl
+    found_step q t false false e = set_away k q (unequal k q e) t (row q)
+    found_step q t true false e =
+        let same : k ≡ q = equal_keys k q e in
+        ap (λ (x : Key). row_at (set_row t x (row x)) k) (sym same) ∙ set_here k t (row k)
+
+    set_found : (ks : List Key) (t : Table R)
+        → row_at (fold (λ t q. set_row t q (row q)) t ks) k ≡ cond (is_named ks k) (row k) (row_at t k)
+    unfolding is_named
+    set_found [] t = refl
+    set_found (q ∷ ks) t =
+        set_found ks (set_row t q (row q)) ∙ found_step q t (same_key k q) (list_any (same_key k) ks) refl
+
+  set_rises : (k : Key) (t : Table R) (o : Option R) → Rises t → Rises (set_row t k o)
+  unfolding set_row drop_at drop_where
+  set_rises k t (Some r) e = sorted_of_up _ (up_put k r t (up_of_sorted t e))
+  set_rises k t None e = sorted_of_up _ (up_filter (λ x. not (same_key k x.0)) t (up_of_sorted t e))
+
+  all_set_rise : (row : Key → Option R) (ks : List Key) (t : Table R) → Rises t
+      → Rises (fold (λ t q. set_row t q (row q)) t ks)
+  all_set_rise row [] t e = e
+  all_set_rise row (q ∷ ks) t e = all_set_rise row ks (set_row t q (row q)) (set_rises q t (row q) e)
+
+-- ---- asserts that go
+
+module _ (joined : List Key) (k : Key) where
+  abbrev stays : Key × AssertRow → Bool
+  stays e = not (is_loser (Some e.1) && is_named joined e.0)
+
+  left_step : (x : Key × AssertRow) (xs : Table AssertRow) (b c : Bool) → same_key k x.0 ≡ b → stays x ≡ c
+      → not (is_loser (cond b (Some x.1) (row_at xs k)) && is_named joined k) ≡ true
+      → (not (is_loser (row_at xs k) && is_named joined k) ≡ true → row_at (filter stays xs) k ≡ row_at xs k)
+      → row_at (cond c (x ∷ filter stays xs) (filter stays xs)) k ≡ cond b (Some x.1) (row_at xs k)
+  unfolding row_at
+  left_step x xs true true e f g ih = ap (λ (b : Bool). cond b (Some x.1) (row_at (filter stays xs) k)) e
+  left_step x xs true false e f g ih =
+      let same : k ≡ x.0 = equal_keys k x.0 e in
+      cc (ap (λ (q : Key). not (is_loser (Some x.1) && is_named joined q)) same, g, f)
+  left_step x xs false true e f g ih =
+      ap (λ (b : Bool). cond b (Some x.1) (row_at (filter stays xs) k)) e ∙ ih g
+  left_step x xs false false e f g ih = ih g
+
+  assert_left : (t : Table AssertRow) → not (is_loser (row_at t k) && is_named joined k) ≡ true
+      → row_at (filter stays t) k ≡ row_at t k
+  unfolding row_at
+  assert_left [] e = refl
+  assert_left (x ∷ xs) e = left_step x xs (same_key k x.0) (stays x) refl refl e (assert_left xs)
+
+-- ---- rows like themselves
+
+module _ {R : Type 0} (same : R → R → Bool) (cut : R → R) (is : IsOfCut same cut) where
+  itself : (a : Option R) → same_both same a a ≡ true
+  itself None = refl
+  itself (Some r) = is.back r r refl
+
+  as_before : (a b : Option R) → b ≡ a → same_both same a b ≡ true
+  as_before a b e = ap (same_both same a) e ∙ itself a
+
+-- ---- a Join/Prune
+
+module _ (s : State) (ordered : IsOrdered s) (i : ℕ) (m : JoinPrune) where
+  abbrev joined : List Key
+  joined = joined_keys s i m
+
+  abbrev after : Key → Option DownstreamRow
+  after k = row_after s i m.holdtime joined (pruned_keys i m) k
+
+  abbrev rows : List Key
+  rows = named_rows s i m
+
+  abbrev t : State
+  t = to_me s i m
+
+  to_me_ordered : IsOrdered t
+  unfolding to_me keys_taken asserts_after_joins
+  to_me_ordered = record {
+    interfaces = ordered.interfaces;
+    neighbours = ordered.neighbours;
+    queriers = ordered.queriers;
+    group_records = ordered.group_records;
+    source_records = ordered.source_records;
+    group_repeats = ordered.group_repeats;
+    source_repeats = ordered.source_repeats;
+    sendings = ordered.sendings;
+    downstream = all_set_rise after rows s.downstream ordered.downstream;
+    asserts = sorted_of_up _ (up_filter _ s.asserts (up_of_sorted s.asserts ordered.asserts));
+    join_timers = ordered.join_timers;
+    override_timers = ordered.override_timers;
+    sources = ordered.sources;
+    registers = ordered.registers;
+  }
+
+  to_me_shared : IsShared s t
+  unfolding to_me keys_taken
+  to_me_shared = record {
+    settings = refl;
+    configured = refl;
+    routes = refl;
+    ranges = refl;
+    interfaces = refl;
+    neighbours = refl;
+  }
+
+  module _ (k : Key) where
+    row_then : row_at t.downstream k ≡ cond (is_named rows k) (after k) (row_at s.downstream k)
+    unfolding to_me keys_taken
+    row_then = set_found after k rows s.downstream
+
+    assert_then : not (is_loser (row_at s.asserts k) && is_named joined k) ≡ true
+        → row_at t.asserts k ≡ row_at s.asserts k
+    unfolding to_me keys_taken asserts_after_joins
+    assert_then e = assert_left joined k s.asserts e
+
+    same_if : same_at same_downstream k s.downstream t.downstream ≡ true
+        → not (is_loser (row_at s.asserts k) && is_named joined k) ≡ true → is_same_at s t k ≡ true
+    unfolding is_same_at to_me keys_taken
+    same_if e f =
+        all_six _ _ _ _ _ _ (record {
+          first = itself same_group_record cut_group of_group_records (row_at s.group_records k);
+          second = itself same_source_record cut_source of_source_records (row_at s.source_records k);
+          third = e;
+          fourth = as_before same_assert cut_assert of_asserts (row_at s.asserts k) (row_at t.asserts k) (assert_then f);
+          fifth = itself same_source cut_kept of_sources (row_at s.sources k);
+          sixth = itself same_register cut_register of_registers (row_at s.registers k);
+        })
+
+    joined_is_named : is_named joined k ≡ true → is_named rows k ≡ true
+    unfolding is_named touched_keys
+    joined_is_named e =
+        list_any-append (same_key k) (joined ++ pruned_keys i m) (rpt_rows_joined s i joined)
+        ∙ or_left _ (list_any (same_key k) (rpt_rows_joined s i joined))
+        (list_any-append (same_key k) joined (pruned_keys i m)
+        ∙ or_left (list_any (same_key k) joined) (list_any (same_key k) (pruned_keys i m)) e)
+
+    no_loser : (b c : Bool) → c ≡ false → not (b && c) ≡ true
+    no_loser true true e = cc
+    no_loser true false e = refl
+    no_loser false c e = refl
+
+    -- a key that isn't among those that move has the same rows
+    unmoved_same : is_named (moved_keys s i m) k ≡ false → is_same_at s t k ≡ true
+    unfolding is_named moved_keys moves_end
+    unmoved_same e = go (is_named rows k) (moves_end s i m k) refl refl
+      where
+        unnamed : is_named rows k ≡ false → is_named joined k ≡ false
+        unnamed out = case (is_named joined k) refl
+          where
+            case : (b : Bool) → is_named joined k ≡ b → b ≡ false
+            case true is = cc (joined_is_named is, out)
+            case false is = refl
+
+        go : (b c : Bool) → is_named rows k ≡ b → moves_end s i m k ≡ c → is_same_at s t k ≡ true
+        go false c out was =
+            same_if
+            (as_before same_downstream cut_kind of_downstream (row_at s.downstream k) (row_at t.downstream k)
+            (row_then ∙ ap (λ (b : Bool). cond b (after k) (row_at s.downstream k)) out))
+            (no_loser (is_loser (row_at s.asserts k)) (is_named joined k) (unnamed out))
+        go true true there was =
+            same_if
+            (ap (same_both same_downstream (row_at s.downstream k))
+            (row_then ∙ ap (λ (b : Bool). cond b (after k) (row_at s.downstream k)) there)
+            ∙ first_so (same_both same_downstream (row_at s.downstream k) (after k)) _ was)
+            (second_so (same_both same_downstream (row_at s.downstream k) (after k)) _ was)
+        go true false there was =
+            let found : list_any (same_key k) (filter (λ q. not (moves_end s i m q)) rows) ≡ true =
+            any_in_filter (λ q. not (moves_end s i m q)) (same_key k) rows
+            ∙ (passing_named (λ q. not (moves_end s i m q)) k (ap not was) rows ∙ there) in
+            cc (found, e)
+
+    moved_touched : is_same_at s t k ≡ false → touching (moved_keys s i m) k ≡ true
+    moved_touched differs = named_touches (moved_keys s i m) k (go (is_named (moved_keys s i m) k) refl)
+      where
+        go : (b : Bool) → is_named (moved_keys s i m) k ≡ b → b ≡ true
+        go true was = refl
+        go false was = cc (unmoved_same was, differs)
+
+  touches_moved : AgreesBut (touching (moved_keys s i m)) s t
+  touches_moved = named_keys_cover (moved_keys s i m) s t ordered to_me_ordered to_me_shared moved_touched
+
+pub join_prune_touches_moved : (s : State) → IsOrdered s → (i : ℕ) (m : JoinPrune)
+    → AgreesBut (touching (moved_keys s i m)) s (to_me s i m)
+join_prune_touches_moved s ordered i m = touches_moved s ordered i m
+
+pub join_prune_is_local : (s : State) → IsQuiet s → IsOrdered s → (i : IfaceId) (m : JoinPrune) (w : ℕ)
+    → settled s (own_change s w (Accepted.JoinPruneToMe i m)) w
+    ≡ own_settled (moved_keys s i.number m) s (own_change s w (Accepted.JoinPruneToMe i m)) w
+unfolding change
+join_prune_is_local s quiet ordered i m w =
+    settling_is_own (moved_keys s i.number m) s quiet (own_change s w (Accepted.JoinPruneToMe i m)) w
+    (join_prune_touches_moved s ordered i.number m)
+
+none_moved : (p : Key → Bool) (ks : List Key) → list_all p ks ≡ true → filter (λ k. not (p k)) ks ≡ []
+none_moved p [] e = refl
+none_moved p (k ∷ ks) e =
+    ap (λ (b : Bool). cond (not b) (k ∷ filter (λ q. not (p q)) ks) (filter (λ q. not (p q)) ks))
+    (first_so (p k) (list_all p ks) e) ∙ none_moved p ks (second_so (p k) (list_all p ks) e)
+
+pub join_prune_again : (s : State) → IsQuiet s → IsOrdered s → (i : IfaceId) (m : JoinPrune) (w : ℕ)
+    → list_all (moves_end s i.number m) (named_rows s i.number m) ≡ true
+    → settled s (own_change s w (Accepted.JoinPruneToMe i m)) w ≡ write_all (to_me s i.number m) []
+unfolding change moved_keys
+join_prune_again s quiet ordered i m w e =
+    nothing_follows s quiet (own_change s w (Accepted.JoinPruneToMe i m)) w
+    (subst (λ (ks : List Key). AgreesBut (touching ks) s (to_me s i.number m))
+    (none_moved (moves_end s i.number m) (named_rows s i.number m) e) (join_prune_touches_moved s ordered i.number m))
