@@ -1,13 +1,12 @@
 -- The keys under which rows differ in more than an end that runs in both are all that is touched.
 use Rattle.std.proofs.Common.{◌≡◌, ◌&&◌, ◌||◌, ℕ, zero, suc, Bool, true, false, not, cond, List, [], ◌∷◌, ◌++◌, map, Option, Some, None, is_some, refl, sym, ap, ◌∙◌, append-nil}
-use Rattle.std.specs.Cmp.{first_so, second_so}
 use Rattle.std.specs.Cmp.Derive.{both_true}
-use Rattle.std.specs.List.{filter, find, list_any}
+use Rattle.std.specs.List.{filter, list_any}
 use Rattle.std.proofs.lemmas.List.Folds.{list_any-append}
 use Rattle.pim_types.specs.declared.fact.Key.{Key}
 use Rattle.pim_types.specs.Keys.{same_key}
-use Rattle.pim_types.proofs.Keys.{equal_keys, same_key_same}
-use Rattle.pim_model.specs.Clearing.{assert_must_go, clearable_count, cleared, first_by, is_assert_first, spt_must_go}
+use Rattle.pim_types.proofs.Keys.{equal_keys}
+use Rattle.pim_model.specs.Clearing.{clearable_count, cleared, first_by}
 use Rattle.pim_model.specs.Downstream.{is_named}
 use Rattle.pim_model.specs.Firing.{settled}
 use Rattle.pim_model.specs.Messages.{Message}
@@ -18,16 +17,14 @@ use Rattle.pim_model.specs.State.{State}
 use Rattle.pim_model.specs.Tables.{Table, ascending, has_row, keys_in, row_at, rows_where}
 use Rattle.pim_model.specs.Upstream.{groups_of}
 use Rattle.pim_model.specs.Writing.{write_all}
-use Rattle.pim_laws.proofs.ListLaws.{either}
 use Rattle.pim_laws.proofs.RowLaws.{has_row_any}
 use Rattle.pim_laws.proofs.TableLaws.{any_in_filter, any_of_map}
 use Rattle.pim_ready.specs.Ready.{IsOrdered}
 use Rattle.pim_locality.specs.Differing.{IsShared, differing, differing_in, is_same_at, is_same_but_ends, same_at}
 use Rattle.pim_locality.specs.Locality.{AgreesBut, AgreesOn, IsQuiet, of_touched, own_settled, own_upstream, touched_assert, touched_clear, touched_registers, touched_spt, touched_to_clear, touching}
 use Rattle.pim_locality.specs.Scopes.{only_kept, only_kind, only_mode, only_registered, only_side, only_winner, reads, scope}
-use Rattle.pim_locality.proofs.Rows.{cut_entry}
-use Rattle.pim_locality.proofs.SameRows.{IsOfCut, of_asserts, of_downstream, of_group_records, of_registers, of_source_records, of_sources}
-use Rattle.pim_locality.proofs.SameTables.{both_there, same_where_alike, seen_alike, seen_found_alike}
+use Rattle.pim_locality.proofs.SameRows.{of_asserts, of_downstream, of_group_records, of_registers, of_source_records, of_sources}
+use Rattle.pim_locality.proofs.SameTables.{same_where_alike, seen_alike, seen_found_alike}
 use Rattle.pim_locality.proofs.Settling.{settling_is_own}
 use Rattle.pim_locality.proofs.SourceMacros.{cut_kept, cut_kind, cut_register, cut_source}
 use Rattle.pim_locality.proofs.StarMacros.{cut_assert, cut_group}

@@ -1,28 +1,24 @@
 -- A Join/Prune touches the keys whose rows it changes in more than an end, and those whose lost asserts it ends.
 use Rattle.std.proofs.Common.{◌≡◌, ◌&&◌, ◌||◌, ℕ, Bool, true, false, not, cond, List, [], ◌∷◌, ◌++◌, fold, Option, Some, None, is_some, refl, sym, ap, ◌∙◌, subst}
 use Rattle.std.specs.Cmp.{first_so, second_so}
-use Rattle.std.specs.Cmp.Derive.{both_true}
-use Rattle.std.specs.BTreeMap.{is_at}
 use Rattle.std.specs.List.{filter, list_all, list_any}
-use Rattle.std.specs.Map.{lookup}
 use Rattle.std.proofs.lemmas.Bool.{or_left}
 use Rattle.std.proofs.lemmas.List.Folds.{list_any-append}
 use Rattle.pim_types.specs.declared.config.IfaceId.{IfaceId}
 use Rattle.pim_types.specs.declared.fact.AssertRow.{AssertRow}
 use Rattle.pim_types.specs.declared.fact.DownstreamRow.{DownstreamRow}
 use Rattle.pim_types.specs.declared.fact.Key.{Key}
-use Rattle.pim_types.specs.Keys.{key_cmp, same_key}
+use Rattle.pim_types.specs.Keys.{same_key}
 use Rattle.pim_types.proofs.Keys.{equal_keys, same_key_same}
 use Rattle.pim_wire.specs.Values.{JoinPrune}
 use Rattle.pim_model.specs.declared.accepted.Accepted.{Accepted}
 use Rattle.pim_model.specs.Downstream.{asserts_after_joins, is_named, joined_keys, keys_taken, pruned_keys, row_after, rpt_rows_joined, to_me, touched_keys}
 use Rattle.pim_model.specs.Firing.{settled}
-use Rattle.pim_model.specs.Messages.{Message}
 use Rattle.pim_model.specs.Rows.{same_assert, same_both, same_downstream, same_group_record, same_register, same_source, same_source_record}
 use Rattle.pim_model.specs.Sets.{is_loser}
 use Rattle.pim_model.specs.State.{State}
 use Rattle.pim_model.specs.Step.{change}
-use Rattle.pim_model.specs.Tables.{Table, drop_at, drop_where, has_row, put, row_at, set_row}
+use Rattle.pim_model.specs.Tables.{Table, drop_at, drop_where, has_row, row_at, set_row}
 use Rattle.pim_model.specs.Writing.{write_all}
 use Rattle.pim_laws.proofs.RowLaws.{has_row_without, row_drop_away, row_put, row_put_away}
 use Rattle.pim_laws.proofs.TableLaws.{any_in_filter}

@@ -1,5 +1,5 @@
 -- Two rows are the same but for ends that run in both just where they are cut down alike.
-use Rattle.std.proofs.Common.{◌≡◌, ◌==◌, ℕ, Bool, true, false, not, ◌&&◌, Option, Some, None, is_some, refl, sym, ap, ◌∙◌, eqb-true, eq-eqb}
+use Rattle.std.proofs.Common.{◌≡◌, ◌==◌, ℕ, Bool, true, false, ◌&&◌, Option, Some, None, is_some, refl, sym, ap, ◌∙◌, eqb-true, eq-eqb}
 use Rattle.std.specs.Cmp.{first_so, second_so}
 use Rattle.std.specs.Cmp.Derive.{both_true}
 use Rattle.pim_types.specs.declared.fact.AssertMetric.{AssertMetric}
@@ -16,7 +16,7 @@ use Rattle.pim_model.specs.Sets.{is_winner}
 use Rattle.pim_model.specs.Tables.{same_bool}
 use Rattle.pim_locality.specs.Scopes.{only_running, without_end}
 use Rattle.pim_locality.proofs.SourceMacros.{cut_kept, cut_kind, cut_register, cut_source}
-use Rattle.pim_locality.proofs.StarMacros.{cut_assert, cut_group, some_cut, winner_cut}
+use Rattle.pim_locality.proofs.StarMacros.{cut_assert, cut_group, some_cut}
 
 -- ---- values
 

@@ -1,11 +1,8 @@
 -- Tables whose rows are the same but for ends are cut down alike, and so are tables in order that have such rows under
 -- each key that is seen.
-use Rattle.std.proofs.Common.{◌≡◌, Bool, true, false, not, ◌&&◌, ◌||◌, cond, List, [], ◌∷◌, ◌++◌, map, Option, Some, None, is_some, option_map, refl, sym, ap, ◌∙◌}
+use Rattle.std.proofs.Common.{◌≡◌, Bool, true, false, ◌&&◌, cond, [], ◌∷◌, map, Option, Some, None, is_some, option_map, refl, sym, ap, ◌∙◌}
 use Rattle.std.specs.Cmp.{first_so, second_so}
-use Rattle.std.specs.BTreeMap.{is_at}
-use Rattle.std.specs.List.{AllByRecursion, filter, list_any}
 use Rattle.std.specs.List.Sorted.{IsStrictlySortedBy}
-use Rattle.std.specs.Map.{lookup}
 use Rattle.std.specs.Ordering.{is_eq, ordering_reverse}
 use Rattle.std.specs.declared.cmp.Ordering.{Ordering}
 use Rattle.std.specs.declared.cmp.Ordering.TheVariants.{Less, Equal, Greater}
@@ -16,7 +13,7 @@ use Rattle.pim_model.specs.Rows.{same_both, same_rows}
 use Rattle.pim_model.specs.Tables.{Table, has_row, keys_in, row_at, rows_where}
 use Rattle.pim_ready.proofs.RisingKeys.{sorted_of_up, up_filter, up_of_sorted}
 use Rattle.pim_ready.specs.Ready.{Rises}
-use Rattle.pim_locality.specs.Differing.{differing_in, same_at}
+use Rattle.pim_locality.specs.Differing.{same_at}
 use Rattle.pim_locality.proofs.OwnKeys.{all_later, none_below}
 use Rattle.pim_locality.proofs.Rows.{cut_entry, row_at_cut, row_in_scope, rows_where_cut}
 use Rattle.pim_locality.proofs.SameRows.{IsOfCut}
