@@ -142,6 +142,10 @@ named_keys_cover keys s t before after shared named q out =
 
 -- ---- the keys under which rows differ are named
 
+pub row_named : {R : Type 0} (k : Key) (t : Table R) → list_any (same_key k) (keys_in t) ≡ has_row t k
+unfolding keys_in
+row_named k t = any_of_map (same_key k) (λ e. e.0) t ∙ sym (has_row_any k t)
+
 pub passing_named : (p : Key → Bool) (k : Key) → p k ≡ true → (ks : List Key)
     → list_any (λ x. p x && same_key k x) ks ≡ list_any (same_key k) ks
 passing_named p k here [] = refl
@@ -160,10 +164,6 @@ module _ {R : Type 0} (same : R → R → Bool) where
   neither_same None None e = refl
   neither_same None (Some b) e = cc
   neither_same (Some a) b e = cc
-
-  row_named : (k : Key) (t : Table R) → list_any (same_key k) (keys_in t) ≡ has_row t k
-  unfolding keys_in
-  row_named k t = any_of_map (same_key k) (λ e. e.0) t ∙ sym (has_row_any k t)
 
   -- a key that isn't named has the same rows
   unnamed_same : (k : Key) (t u : Table R) → is_named (differing_in same t u) k ≡ false → same_at same k t u ≡ true
@@ -196,7 +196,7 @@ negated : (b : Bool) → not b ≡ true → b ≡ false
 negated true e = cc
 negated false e = refl
 
-any_of_six : (p : Key → Bool) (a b c d e f : List Key)
+pub any_of_six : (p : Key → Bool) (a b c d e f : List Key)
     → list_any p (a ++ b ++ c ++ d ++ e ++ f)
     ≡ (list_any p a || list_any p b || list_any p c || list_any p d || list_any p e || list_any p f)
 any_of_six p a b c d e f =

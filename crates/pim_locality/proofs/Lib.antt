@@ -28,3 +28,4 @@ pub mod SameTables
 pub mod Differing
 pub mod OwnEnds
 pub mod JoinPrunes
+pub mod NewKeys

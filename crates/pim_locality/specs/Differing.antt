@@ -1,6 +1,7 @@
 -- Rows that differ between two states in more than an end that runs in both: the keys that such a row stands under, and
 -- no others, are touched.
-use Rattle.std.specs.Prelude.{Bool, List, [], filter, false, map, not, true, ℕ, ◌&&◌, ◌++◌, ◌≡◌}
+use Rattle.std.specs.List.{list_any}
+use Rattle.std.specs.Prelude.{Bool, List, [], filter, false, map, not, true, ℕ, ◌&&◌, ◌++◌, ◌||◌, ◌≡◌}
 use Rattle.pim_types.specs.declared.fact.Key.{Key}
 use Rattle.pim_model.specs.Firing.{settled}
 use Rattle.pim_model.specs.Messages.{Message}
@@ -94,3 +95,16 @@ abbrev pub SameButEndsSettles : Type 0
 SameButEndsSettles =
     (o : State) → IsQuiet o → (change : State × List Message) (w : ℕ) → IsShared o change.0
     → is_same_but_ends o change.0 ≡ true → settled o change w ≡ write_all change.0 change.1
+
+-- ---- rows that are new
+
+-- the keys of the rows that macros read
+unfoldable pub read_keys : State → List Key
+read_keys s =
+    keys_in s.group_records ++ keys_in s.source_records ++ keys_in s.downstream ++ keys_in s.asserts
+    ++ keys_in s.sources ++ keys_in s.registers
+
+-- they are among the keys under which rows differ: of what a test says of keys, such as that they name a source
+abbrev pub NewKeysDiffer : Type 0
+NewKeysDiffer = (s t : State) (test : Key → Bool) → list_any test (read_keys t) ≡ true
+    → (list_any test (read_keys s) || list_any test (differing s t)) ≡ true

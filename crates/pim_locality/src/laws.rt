@@ -1,6 +1,6 @@
 //! Laws of the definitions, each the contract of a function with nothing to do.
 
-ghost use Rattle.pim_locality.specs.Differing.{AgreedRowsAreSame, DifferingIsLeast, DifferingKeysCover, DifferingSettles, NamedKeysCover, NothingFollows, SameButEndsSettles, SameButEndsTouchesNothing};
+ghost use Rattle.pim_locality.specs.Differing.{AgreedRowsAreSame, DifferingIsLeast, DifferingKeysCover, DifferingSettles, NamedKeysCover, NewKeysDiffer, NothingFollows, SameButEndsSettles, SameButEndsTouchesNothing};
 ghost use Rattle.pim_locality.specs.Events.{ChangeTouches, EventIsLocal, FiringIsLocal};
 ghost use Rattle.pim_locality.specs.JoinPrunes.{JoinPruneAgain, JoinPruneIsLocal, JoinPruneTouchesMoved};
 ghost use Rattle.pim_locality.specs.Locality.{AgreedSourceIsUntold, AgreedStarIsUntold, AssertsAreLocal, ClearingIsLocal, CouldRegisterIsLocal, NextToClearIsLocal, OpeningIsQuiet, PresentTouchesNone, QuietGoesOn, RegistersAreLocal, RowsElsewhereStay, SettlingClears, SettlingIsLocal, SettlingIsOwn, SettlingQuiets, SourceDesiresAreLocal, SourceViewsAreLocal, SourcesAreOwn, SourcesStandOnce, StarDesiresAreLocal, StarViewsAreLocal, TouchingIsClosed, TreeStatesAreLocal, UpstreamIsLocal, UpstreamIsOwn};
@@ -423,4 +423,10 @@ pub fn join_prune_is_local()
 #[tactic(auto, using(crate::proofs::JoinPrunes::join_prune_again))]
 pub fn join_prune_again()
     ensures { JoinPruneAgain }
+{}
+
+/// A row that is new stands under a key at which rows differ.
+#[tactic(auto, using(crate::proofs::NewKeys::new_keys_differ))]
+pub fn new_keys_differ()
+    ensures { NewKeysDiffer }
 {}
