@@ -37,7 +37,7 @@ use Rattle.pim_locality.proofs.Touches.{named_touches}
 
 -- ---- rows set one after the other
 
-unequal : (k q : Key) → same_key k q ≡ false → q ≡ k → ⊥
+pub unequal : (k q : Key) → same_key k q ≡ false → q ≡ k → ⊥
 unequal k q e same = cc (ap (same_key k) same ∙ same_key_same k, e)
 
 module _ {R : Type 0} where
@@ -110,11 +110,11 @@ module _ (joined : List Key) (k : Key) where
 -- ---- rows like themselves
 
 module _ {R : Type 0} (same : R → R → Bool) (cut : R → R) (is : IsOfCut same cut) where
-  itself : (a : Option R) → same_both same a a ≡ true
+  pub itself : (a : Option R) → same_both same a a ≡ true
   itself None = refl
   itself (Some r) = is.back r r refl
 
-  as_before : (a b : Option R) → b ≡ a → same_both same a b ≡ true
+  pub as_before : (a b : Option R) → b ≡ a → same_both same a b ≡ true
   as_before a b e = ap (same_both same a) e ∙ itself a
 
 -- ---- a Join/Prune

@@ -29,3 +29,4 @@ pub mod Differing
 pub mod OwnEnds
 pub mod JoinPrunes
 pub mod NewKeys
+pub mod EndsAgain

@@ -1,16 +1,23 @@
 -- What an event, or the end of a timer, touches by the rows that differ after its own change: not by the keys that it
 -- names.
-use Rattle.std.specs.Prelude.{List, Ok, Some, true, ℕ, ◌≡◌}
+use Rattle.std.specs.Prelude.{List, Ok, Some, [], true, ℕ, ◌≡◌}
 use Rattle.pim_types.specs.declared.event.EventKind.{EventKind}
+use Rattle.pim_types.specs.declared.fact.AssertMetric.{AssertMetric}
+use Rattle.pim_types.specs.declared.fact.AssertRow.{AssertRow}
 use Rattle.pim_types.specs.declared.fact.Key.{Key}
+use Rattle.pim_model.specs.Asserts.{loses}
 use Rattle.pim_model.specs.declared.accepted.Accepted.{Accepted}
 use Rattle.pim_model.specs.Firing.{fire_once, fired, settled}
 use Rattle.pim_model.specs.Judging.{judged}
+use Rattle.pim_model.specs.Registers.{with_keepalive}
+use Rattle.pim_model.specs.Rows.{same_metric}
+use Rattle.pim_model.specs.Sets.{is_kept_alive, is_loser}
 use Rattle.pim_model.specs.State.{State}
 use Rattle.pim_model.specs.Step.{change}
+use Rattle.pim_model.specs.Tables.{row_at}
 use Rattle.pim_model.specs.Timers.{Ending}
 use Rattle.pim_model.specs.Writing.{write_all}
-use Rattle.pim_ready.specs.Ready.{IsLawful, IsSettled, IsTimeless}
+use Rattle.pim_ready.specs.Ready.{IsLawful, IsOrdered, IsSettled, IsTimeless}
 use Rattle.pim_locality.specs.Differing.{differing, is_same_but_ends}
 use Rattle.pim_locality.specs.Events.{own_change, touched_by_event}
 use Rattle.pim_locality.specs.Locality.{AgreesBut, IsQuiet, own_settled, touching}
@@ -51,3 +58,16 @@ FiringFollowsOfDiffering =
     → fire_once w s e
     ≡ own_settled (differing s (fired (record s { present = e.end }) e.timer.kind e.timer.key).0) s
     (fired (record s { present = e.end }) e.timer.kind e.timer.key) w
+
+-- ---- what machines do that moves an end alone
+
+-- data of a source whose keepalive timer runs
+abbrev pub KeepaliveAgain : Type 0
+KeepaliveAgain = (s : State) → IsOrdered s → (g src : ℕ) → is_kept_alive s g src ≡ true
+    → AgreesBut (touching []) s (with_keepalive s g src)
+
+-- an Assert of the winner that the router lost to, with the metric that it had
+abbrev pub LosesAgain : Type 0
+LosesAgain = (s : State) → IsOrdered s → (k : Key) (r : AssertRow) (theirs : AssertMetric)
+    → row_at s.asserts k ≡ Some r → is_loser (Some r) ≡ true → same_metric r.winner theirs ≡ true
+    → AgreesBut (touching []) s (loses s k theirs)

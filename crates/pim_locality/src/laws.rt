@@ -4,7 +4,7 @@ ghost use Rattle.pim_locality.specs.Differing.{AgreedRowsAreSame, DifferingIsLea
 ghost use Rattle.pim_locality.specs.Events.{ChangeTouches, EventIsLocal, FiringIsLocal};
 ghost use Rattle.pim_locality.specs.JoinPrunes.{JoinPruneAgain, JoinPruneIsLocal, JoinPruneTouchesMoved};
 ghost use Rattle.pim_locality.specs.Locality.{AgreedSourceIsUntold, AgreedStarIsUntold, AssertsAreLocal, ClearingIsLocal, CouldRegisterIsLocal, NextToClearIsLocal, OpeningIsQuiet, PresentTouchesNone, QuietGoesOn, RegistersAreLocal, RowsElsewhereStay, SettlingClears, SettlingIsLocal, SettlingIsOwn, SettlingQuiets, SourceDesiresAreLocal, SourceViewsAreLocal, SourcesAreOwn, SourcesStandOnce, StarDesiresAreLocal, StarViewsAreLocal, TouchingIsClosed, TreeStatesAreLocal, UpstreamIsLocal, UpstreamIsOwn};
-ghost use Rattle.pim_locality.specs.OwnEnds.{EventFollowsOfDiffering, EventOfEnds, EventTouchesDiffering, FiringFollowsOfDiffering};
+ghost use Rattle.pim_locality.specs.OwnEnds.{EventFollowsOfDiffering, EventOfEnds, EventTouchesDiffering, FiringFollowsOfDiffering, KeepaliveAgain, LosesAgain};
 ghost use Rattle.pim_locality.specs.Rest.{FiringIsQuiet, InstantIsQuiet, OneFiringQuiets, OpeningIsAtRest, RunIsAtRest, StepIsAtRest, StepIsQuiet};
 ghost use Rattle.pim_locality.specs.Sees.{ConnectionsOfSame, DesiresOfSame, MetricsOfSame, RegistersOfSame, StarTrackingOfSame, TrackingOfSame, TreeNeighboursOfSame, TreeStatesOfSame};
 ghost use Rattle.pim_locality.specs.Touches.{AssertDueTouches, AssertTouches, GroupEndTouches, HelloAgainTouchesNone, JoinPruneTouches, PacketTouches, QueryTouchesNone, RegisterStopTouches, RegisterTouches, ReportTouches, SeenTouchesNone, SourceEndTouches, TimerTouches};
@@ -429,4 +429,16 @@ pub fn join_prune_again()
 #[tactic(auto, using(crate::proofs::NewKeys::new_keys_differ))]
 pub fn new_keys_differ()
     ensures { NewKeysDiffer }
+{}
+
+/// A keepalive timer that runs, set again, touches nothing.
+#[tactic(auto, using(crate::proofs::EndsAgain::keepalive_again))]
+pub fn keepalive_again()
+    ensures { KeepaliveAgain }
+{}
+
+/// An Assert of the winner that the router lost to, heard again, touches nothing.
+#[tactic(auto, using(crate::proofs::EndsAgain::loses_again))]
+pub fn loses_again()
+    ensures { LosesAgain }
 {}

@@ -1,0 +1,160 @@
+-- What machines do that moves an end alone touches nothing.
+use Rattle.std.proofs.Common.{◌≡◌, ◌+◌, ℕ, Bool, true, false, [], Option, Some, None, is_some, refl, ap, ◌∙◌}
+use Rattle.std.specs.Cmp.Derive.{both_true}
+use Rattle.std.specs.Option.{option_map_or}
+use Rattle.pim_types.specs.declared.fact.AssertMetric.{AssertMetric}
+use Rattle.pim_types.specs.declared.fact.AssertRole.{AssertRole}
+use Rattle.pim_types.specs.declared.fact.AssertRow.{AssertRow}
+use Rattle.pim_types.specs.declared.fact.Key.{Key}
+use Rattle.pim_types.specs.declared.fact.SourceRow.{SourceRow}
+use Rattle.pim_types.specs.Keys.{same_key, source_key}
+use Rattle.pim_types.proofs.Keys.{equal_keys}
+use Rattle.pim_model.specs.Asserts.{loser_time, loses}
+use Rattle.pim_model.specs.Registers.{with_keepalive}
+use Rattle.pim_model.specs.Rows.{same_assert, same_both, same_downstream, same_group_record, same_metric, same_register, same_source, same_source_record}
+use Rattle.pim_model.specs.Sets.{is_kept_alive, is_loser, spt_bit}
+use Rattle.pim_model.specs.State.{State}
+use Rattle.pim_model.specs.Tables.{Table, put, row_at, same_bool}
+use Rattle.pim_laws.proofs.RowLaws.{row_put, row_put_away}
+use Rattle.pim_ready.proofs.RisingKeys.{sorted_of_up, up_put, up_of_sorted}
+use Rattle.pim_ready.specs.Ready.{IsOrdered, Rises}
+use Rattle.pim_locality.specs.Differing.{is_same_at, same_at}
+use Rattle.pim_locality.specs.Locality.{AgreesBut, touching}
+use Rattle.pim_locality.proofs.Differing.{all_six, named_keys_cover}
+use Rattle.pim_locality.proofs.JoinPrunes.{as_before, itself, unequal}
+use Rattle.pim_locality.proofs.SameRows.{IsOfCut, of_asserts, of_downstream, of_group_records, of_registers, of_source_records, of_sources}
+use Rattle.pim_locality.proofs.SourceMacros.{cut_kept, cut_kind, cut_register, cut_source}
+use Rattle.pim_locality.proofs.StarMacros.{cut_assert, cut_group}
+
+module _ {R : Type 0} (same : R → R → Bool) (cut : R → R) (is : IsOfCut same cut) (q : Key) (old row : R)
+    (alike : same old row ≡ true) where
+  -- a row put in the place of one that is the same but for ends
+  put_alike : (t : Table R) → row_at t q ≡ Some old → (k : Key) → same_at same k t (put t q row) ≡ true
+  put_alike t there k = go (same_key k q) refl
+    where
+      go : (b : Bool) → same_key k q ≡ b → same_at same k t (put t q row) ≡ true
+      go true e =
+          ap (λ (x : Key). same_both same (row_at t x) (row_at (put t q row) x)) (equal_keys k q e)
+          ∙ ((λ j. same_both same (there j) (row_put q row t j)) ∙ alike)
+      go false e = as_before same cut is (row_at t k) _ (row_put_away q k (unequal k q e) row t)
+
+  put_rises : (t : Table R) → Rises t → Rises (put t q row)
+  put_rises t e = sorted_of_up _ (up_put q row t (up_of_sorted t e))
+
+module _ (s : State) (ordered : IsOrdered s) where
+  never : (t : State) (k : Key) → is_same_at s t k ≡ true → is_same_at s t k ≡ false → touching [] k ≡ true
+  never t k e f = cc (e, f)
+
+  asserts_alike : (q : Key) (old row : AssertRow) → row_at s.asserts q ≡ Some old → same_assert old row ≡ true
+      → AgreesBut (touching []) s (record s { asserts = put s.asserts q row })
+  unfolding is_same_at
+  asserts_alike q old row there alike =
+      let t : State = record s { asserts = put s.asserts q row } in
+      named_keys_cover [] s t ordered
+      (record {
+        interfaces = ordered.interfaces;
+        neighbours = ordered.neighbours;
+        queriers = ordered.queriers;
+        group_records = ordered.group_records;
+        source_records = ordered.source_records;
+        group_repeats = ordered.group_repeats;
+        source_repeats = ordered.source_repeats;
+        sendings = ordered.sendings;
+        downstream = ordered.downstream;
+        asserts = put_rises same_assert cut_assert of_asserts q old row alike s.asserts ordered.asserts;
+        join_timers = ordered.join_timers;
+        override_timers = ordered.override_timers;
+        sources = ordered.sources;
+        registers = ordered.registers;
+      })
+      (record {
+        settings = refl;
+        configured = refl;
+        routes = refl;
+        ranges = refl;
+        interfaces = refl;
+        neighbours = refl;
+      })
+      (λ k. never t k (all_six _ _ _ _ _ _ (record {
+        first = itself same_group_record cut_group of_group_records (row_at s.group_records k);
+        second = itself same_source_record cut_source of_source_records (row_at s.source_records k);
+        third = itself same_downstream cut_kind of_downstream (row_at s.downstream k);
+        fourth = put_alike same_assert cut_assert of_asserts q old row alike s.asserts there k;
+        fifth = itself same_source cut_kept of_sources (row_at s.sources k);
+        sixth = itself same_register cut_register of_registers (row_at s.registers k);
+      })))
+
+  sources_alike : (q : Key) (old row : SourceRow) → row_at s.sources q ≡ Some old → same_source old row ≡ true
+      → AgreesBut (touching []) s (record s { sources = put s.sources q row })
+  unfolding is_same_at
+  sources_alike q old row there alike =
+      let t : State = record s { sources = put s.sources q row } in
+      named_keys_cover [] s t ordered
+      (record {
+        interfaces = ordered.interfaces;
+        neighbours = ordered.neighbours;
+        queriers = ordered.queriers;
+        group_records = ordered.group_records;
+        source_records = ordered.source_records;
+        group_repeats = ordered.group_repeats;
+        source_repeats = ordered.source_repeats;
+        sendings = ordered.sendings;
+        downstream = ordered.downstream;
+        asserts = ordered.asserts;
+        join_timers = ordered.join_timers;
+        override_timers = ordered.override_timers;
+        sources = put_rises same_source cut_kept of_sources q old row alike s.sources ordered.sources;
+        registers = ordered.registers;
+      })
+      (record {
+        settings = refl;
+        configured = refl;
+        routes = refl;
+        ranges = refl;
+        interfaces = refl;
+        neighbours = refl;
+      })
+      (λ k. never t k (all_six _ _ _ _ _ _ (record {
+        first = itself same_group_record cut_group of_group_records (row_at s.group_records k);
+        second = itself same_source_record cut_source of_source_records (row_at s.source_records k);
+        third = itself same_downstream cut_kind of_downstream (row_at s.downstream k);
+        fourth = itself same_assert cut_assert of_asserts (row_at s.asserts k);
+        fifth = put_alike same_source cut_kept of_sources q old row alike s.sources there k;
+        sixth = itself same_register cut_register of_registers (row_at s.registers k);
+      })))
+
+lost_alike : (r : AssertRow) (theirs : AssertMetric) (end : ℕ) → is_loser (Some r) ≡ true
+    → same_metric r.winner theirs ≡ true
+    → same_assert r (record { role = AssertRole.Loser; winner = theirs; end = end }) ≡ true
+lost_alike r theirs end lost same = both_true (go r.role lost) same
+  where
+    go : (role : AssertRole) → (elim role [ AssertRole.Loser ↦ true | AssertRole.Winner ↦ false ]) ≡ true
+        → same_bool (elim role [ AssertRole.Winner ↦ true | AssertRole.Loser ↦ false ]) false ≡ true
+    go AssertRole.Loser e = refl
+    go AssertRole.Winner e = cc
+
+pub loses_again : (s : State) → IsOrdered s → (k : Key) (r : AssertRow) (theirs : AssertMetric)
+    → row_at s.asserts k ≡ Some r → is_loser (Some r) ≡ true → same_metric r.winner theirs ≡ true
+    → AgreesBut (touching []) s (loses s k theirs)
+unfolding loses
+loses_again s ordered k r theirs there lost same =
+    asserts_alike s ordered k r _ there (lost_alike r theirs (s.present + loser_time) lost same)
+
+pub keepalive_again : (s : State) → IsOrdered s → (g src : ℕ) → is_kept_alive s g src ≡ true
+    → AgreesBut (touching []) s (with_keepalive s g src)
+unfolding with_keepalive is_kept_alive spt_bit
+keepalive_again s ordered g src kept = go (row_at s.sources (source_key 0 g src)) refl kept
+  where
+    go : (o : Option SourceRow) → row_at s.sources (source_key 0 g src) ≡ o
+        → option_map_or (λ (r : SourceRow). is_some r.keepalive) o false ≡ true
+        → AgreesBut (touching []) s (with_keepalive s g src)
+    go None there alive = cc
+    go (Some r) there alive =
+        sources_alike s ordered (source_key 0 g src) r _ there
+        (both_true (ap (λ (b : Bool). same_bool b true) alive)
+        (ap (λ (o : Option SourceRow). same_bool r.spt (option_map_or (λ (x : SourceRow). x.spt) o false)) there
+        ∙ bool_itself r.spt))
+      where
+        bool_itself : (b : Bool) → same_bool b b ≡ true
+        bool_itself true = refl
+        bool_itself false = refl
