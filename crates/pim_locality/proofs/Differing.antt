@@ -66,13 +66,13 @@ scopes_same sees s t shared same = λ j. record {
 
 -- ---- the parts of the test
 
-record SameAt (s t : State) (k : Key) : Type 0 where
-  groups : same_at same_group_record k s.group_records t.group_records ≡ true
-  records : same_at same_source_record k s.source_records t.source_records ≡ true
-  downstream : same_at same_downstream k s.downstream t.downstream ≡ true
-  asserts : same_at same_assert k s.asserts t.asserts ≡ true
-  sources : same_at same_source k s.sources t.sources ≡ true
-  registers : same_at same_register k s.registers t.registers ≡ true
+pub record SameAt (s t : State) (k : Key) : Type 0 where
+  pub groups : same_at same_group_record k s.group_records t.group_records ≡ true
+  pub records : same_at same_source_record k s.source_records t.source_records ≡ true
+  pub downstream : same_at same_downstream k s.downstream t.downstream ≡ true
+  pub asserts : same_at same_assert k s.asserts t.asserts ≡ true
+  pub sources : same_at same_source k s.sources t.sources ≡ true
+  pub registers : same_at same_register k s.registers t.registers ≡ true
 
 -- the parts of six that hold
 pub record Six (a b c d e f : Bool) : Type 0 where
@@ -97,7 +97,7 @@ pub all_six : (a b c d e f : Bool) → Six a b c d e f → (a && b && c && d && 
 all_six a b c d e f s =
     both_true (both_true (both_true (both_true (both_true s.first s.second) s.third) s.fourth) s.fifth) s.sixth
 
-parts_at : (s t : State) (k : Key) → is_same_at s t k ≡ true → SameAt s t k
+pub parts_at : (s t : State) (k : Key) → is_same_at s t k ≡ true → SameAt s t k
 unfolding is_same_at
 parts_at s t k e =
     let p : _ = six (same_at same_group_record k s.group_records t.group_records)

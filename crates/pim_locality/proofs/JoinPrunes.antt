@@ -1,8 +1,8 @@
 -- A Join/Prune touches the keys whose rows it changes in more than an end, and those whose lost asserts it ends.
 use Rattle.std.proofs.Common.{◌≡◌, ◌&&◌, ◌||◌, ℕ, Bool, true, false, not, cond, List, [], ◌∷◌, ◌++◌, fold, Option, Some, None, is_some, refl, sym, ap, ◌∙◌, subst}
 use Rattle.std.specs.Cmp.{first_so, second_so}
-use Rattle.std.specs.List.{filter, list_all, list_any}
-use Rattle.std.proofs.lemmas.Bool.{or_left}
+use Rattle.std.specs.List.{filter, list_any}
+use Rattle.std.proofs.lemmas.Bool.{or_left, or_right}
 use Rattle.std.proofs.lemmas.List.Folds.{list_any-append}
 use Rattle.pim_types.specs.declared.config.IfaceId.{IfaceId}
 use Rattle.pim_types.specs.declared.fact.AssertRow.{AssertRow}
@@ -18,7 +18,7 @@ use Rattle.pim_model.specs.Rows.{same_assert, same_both, same_downstream, same_g
 use Rattle.pim_model.specs.Sets.{is_loser}
 use Rattle.pim_model.specs.State.{State}
 use Rattle.pim_model.specs.Step.{change}
-use Rattle.pim_model.specs.Tables.{Table, drop_at, drop_where, has_row, row_at, set_row}
+use Rattle.pim_model.specs.Tables.{Table, drop_at, drop_where, has_row, keys_in, row_at, set_row}
 use Rattle.pim_model.specs.Writing.{write_all}
 use Rattle.pim_laws.proofs.RowLaws.{has_row_without, row_drop_away, row_put, row_put_away}
 use Rattle.pim_laws.proofs.TableLaws.{any_in_filter}
@@ -26,9 +26,10 @@ use Rattle.pim_ready.proofs.RisingKeys.{sorted_of_up, up_filter, up_of_sorted, u
 use Rattle.pim_ready.specs.Ready.{IsOrdered, Rises}
 use Rattle.pim_locality.specs.Differing.{IsShared, is_same_at, same_at}
 use Rattle.pim_locality.specs.Events.{own_change}
-use Rattle.pim_locality.specs.JoinPrunes.{moved_keys, moves_end, named_rows}
+use Rattle.pim_locality.specs.JoinPrunes.{moved_among, moved_keys, moves_end}
 use Rattle.pim_locality.specs.Locality.{AgreesBut, IsQuiet, own_settled, touching}
-use Rattle.pim_locality.proofs.Differing.{all_six, named_keys_cover, nothing_follows, passing_named}
+use Rattle.pim_locality.proofs.Differing.{all_six, named_keys_cover, nothing_follows, parts_at, passing_named, row_named}
+use Rattle.pim_locality.proofs.NewKeys.{lone, one_of, passes_among}
 use Rattle.pim_locality.proofs.SameRows.{IsOfCut, of_asserts, of_downstream, of_group_records, of_registers, of_source_records, of_sources}
 use Rattle.pim_locality.proofs.Settling.{settling_is_own}
 use Rattle.pim_locality.proofs.SourceMacros.{cut_kept, cut_kind, cut_register, cut_source}
@@ -119,21 +120,18 @@ module _ {R : Type 0} (same : R → R → Bool) (cut : R → R) (is : IsOfCut sa
 
 -- ---- a Join/Prune
 
-module _ (s : State) (ordered : IsOrdered s) (i : ℕ) (m : JoinPrune) where
-  abbrev joined : List Key
-  joined = joined_keys s i m
-
+module _ (s : State) (ordered : IsOrdered s) (i holdtime : ℕ) (joined pruned : List Key) where
   abbrev after : Key → Option DownstreamRow
-  after k = row_after s i m.holdtime joined (pruned_keys i m) k
+  after k = row_after s i holdtime joined pruned k
 
   abbrev rows : List Key
-  rows = named_rows s i m
+  rows = touched_keys s i joined pruned
 
   abbrev t : State
-  t = to_me s i m
+  t = keys_taken s i holdtime joined pruned
 
   to_me_ordered : IsOrdered t
-  unfolding to_me keys_taken asserts_after_joins
+  unfolding keys_taken asserts_after_joins
   to_me_ordered = record {
     interfaces = ordered.interfaces;
     neighbours = ordered.neighbours;
@@ -152,7 +150,7 @@ module _ (s : State) (ordered : IsOrdered s) (i : ℕ) (m : JoinPrune) where
   }
 
   to_me_shared : IsShared s t
-  unfolding to_me keys_taken
+  unfolding keys_taken
   to_me_shared = record {
     settings = refl;
     configured = refl;
@@ -164,17 +162,17 @@ module _ (s : State) (ordered : IsOrdered s) (i : ℕ) (m : JoinPrune) where
 
   module _ (k : Key) where
     row_then : row_at t.downstream k ≡ cond (is_named rows k) (after k) (row_at s.downstream k)
-    unfolding to_me keys_taken
+    unfolding keys_taken
     row_then = set_found after k rows s.downstream
 
     assert_then : not (is_loser (row_at s.asserts k) && is_named joined k) ≡ true
         → row_at t.asserts k ≡ row_at s.asserts k
-    unfolding to_me keys_taken asserts_after_joins
+    unfolding keys_taken asserts_after_joins
     assert_then e = assert_left joined k s.asserts e
 
     same_if : same_at same_downstream k s.downstream t.downstream ≡ true
         → not (is_loser (row_at s.asserts k) && is_named joined k) ≡ true → is_same_at s t k ≡ true
-    unfolding is_same_at to_me keys_taken
+    unfolding is_same_at keys_taken
     same_if e f =
         all_six _ _ _ _ _ _ (record {
           first = itself same_group_record cut_group of_group_records (row_at s.group_records k);
@@ -188,10 +186,10 @@ module _ (s : State) (ordered : IsOrdered s) (i : ℕ) (m : JoinPrune) where
     joined_is_named : is_named joined k ≡ true → is_named rows k ≡ true
     unfolding is_named touched_keys
     joined_is_named e =
-        list_any-append (same_key k) (joined ++ pruned_keys i m) (rpt_rows_joined s i joined)
+        list_any-append (same_key k) (joined ++ pruned) (rpt_rows_joined s i joined)
         ∙ or_left _ (list_any (same_key k) (rpt_rows_joined s i joined))
-        (list_any-append (same_key k) joined (pruned_keys i m)
-        ∙ or_left (list_any (same_key k) joined) (list_any (same_key k) (pruned_keys i m)) e)
+        (list_any-append (same_key k) joined pruned
+        ∙ or_left (list_any (same_key k) joined) (list_any (same_key k) pruned) e)
 
     no_loser : (b c : Bool) → c ≡ false → not (b && c) ≡ true
     no_loser true true e = cc
@@ -199,9 +197,9 @@ module _ (s : State) (ordered : IsOrdered s) (i : ℕ) (m : JoinPrune) where
     no_loser false c e = refl
 
     -- a key that isn't among those that move has the same rows
-    unmoved_same : is_named (moved_keys s i m) k ≡ false → is_same_at s t k ≡ true
-    unfolding is_named moved_keys moves_end
-    unmoved_same e = go (is_named rows k) (moves_end s i m k) refl refl
+    unmoved_same : is_named (moved_among s i holdtime joined pruned) k ≡ false → is_same_at s t k ≡ true
+    unfolding is_named moved_among moves_end
+    unmoved_same e = go (is_named rows k) (moves_end s i holdtime joined pruned k) refl refl
       where
         unnamed : is_named rows k ≡ false → is_named joined k ≡ false
         unnamed out = case (is_named joined k) refl
@@ -210,7 +208,7 @@ module _ (s : State) (ordered : IsOrdered s) (i : ℕ) (m : JoinPrune) where
             case true is = cc (joined_is_named is, out)
             case false is = refl
 
-        go : (b c : Bool) → is_named rows k ≡ b → moves_end s i m k ≡ c → is_same_at s t k ≡ true
+        go : (b c : Bool) → is_named rows k ≡ b → moves_end s i holdtime joined pruned k ≡ c → is_same_at s t k ≡ true
         go false c out was =
             same_if
             (as_before same_downstream cut_kind of_downstream (row_at s.downstream k) (row_at t.downstream k)
@@ -223,24 +221,50 @@ module _ (s : State) (ordered : IsOrdered s) (i : ℕ) (m : JoinPrune) where
             ∙ first_so (same_both same_downstream (row_at s.downstream k) (after k)) _ was)
             (second_so (same_both same_downstream (row_at s.downstream k) (after k)) _ was)
         go true false there was =
-            let found : list_any (same_key k) (filter (λ q. not (moves_end s i m q)) rows) ≡ true =
-            any_in_filter (λ q. not (moves_end s i m q)) (same_key k) rows
-            ∙ (passing_named (λ q. not (moves_end s i m q)) k (ap not was) rows ∙ there) in
+            let found : list_any (same_key k) (filter (λ q. not (moves_end s i holdtime joined pruned q)) rows) ≡ true =
+            any_in_filter (λ q. not (moves_end s i holdtime joined pruned q)) (same_key k) rows
+            ∙ (passing_named (λ q. not (moves_end s i holdtime joined pruned q)) k (ap not was) rows ∙ there) in
             cc (found, e)
 
-    moved_touched : is_same_at s t k ≡ false → touching (moved_keys s i m) k ≡ true
-    moved_touched differs = named_touches (moved_keys s i m) k (go (is_named (moved_keys s i m) k) refl)
+    moved_touched : is_same_at s t k ≡ false → touching (moved_among s i holdtime joined pruned) k ≡ true
+    moved_touched differs = named_touches (moved_among s i holdtime joined pruned) k (go (is_named (moved_among s i holdtime joined pruned) k) refl)
       where
-        go : (b : Bool) → is_named (moved_keys s i m) k ≡ b → b ≡ true
+        go : (b : Bool) → is_named (moved_among s i holdtime joined pruned) k ≡ b → b ≡ true
         go true was = refl
         go false was = cc (unmoved_same was, differs)
 
-  touches_moved : AgreesBut (touching (moved_keys s i m)) s t
-  touches_moved = named_keys_cover (moved_keys s i m) s t ordered to_me_ordered to_me_shared moved_touched
+  pub touches_moved : AgreesBut (touching (moved_among s i holdtime joined pruned)) s t
+  touches_moved = named_keys_cover (moved_among s i holdtime joined pruned) s t ordered to_me_ordered to_me_shared moved_touched
+
+  -- a downstream row that is new stands under a key that moves
+  pub new_rows_moved : (test : Key → Bool) → list_any test (keys_in t.downstream) ≡ true
+      → (list_any test (keys_in s.downstream) || list_any test (moved_among s i holdtime joined pruned)) ≡ true
+  unfolding has_row is_named
+  new_rows_moved test e =
+      one_of test _ (keys_in t.downstream) (λ k is there. go k is there (is_some (row_at s.downstream k)) refl) e
+    where
+      moved : (k : Key) → same_at same_downstream k s.downstream t.downstream ≡ false → (b : Bool)
+          → is_named (moved_among s i holdtime joined pruned) k ≡ b → b ≡ true
+      moved k differs true was = refl
+      moved k differs false was = cc ((parts_at s t k (unmoved_same k was)).downstream, differs)
+
+      go : (k : Key) → test k ≡ true → list_any (same_key k) (keys_in t.downstream) ≡ true → (b : Bool)
+          → is_some (row_at s.downstream k) ≡ b
+          → (list_any test (keys_in s.downstream) || list_any test (moved_among s i holdtime joined pruned)) ≡ true
+      go k is there true was =
+          or_left (list_any test (keys_in s.downstream)) _
+          (passes_among test k is (keys_in s.downstream) (row_named k s.downstream ∙ was))
+      go k is there false was =
+          or_right (list_any test (keys_in s.downstream)) _
+          (passes_among test k is (moved_among s i holdtime joined pruned)
+          (moved k
+          (lone same_downstream (row_at s.downstream k) (row_at t.downstream k) was
+          (sym (row_named k t.downstream) ∙ there)) (is_named (moved_among s i holdtime joined pruned) k) refl))
 
 pub join_prune_touches_moved : (s : State) → IsOrdered s → (i : ℕ) (m : JoinPrune)
     → AgreesBut (touching (moved_keys s i m)) s (to_me s i m)
-join_prune_touches_moved s ordered i m = touches_moved s ordered i m
+unfolding to_me
+join_prune_touches_moved s ordered i m = touches_moved s ordered i m.holdtime (joined_keys s i m) (pruned_keys i m)
 
 pub join_prune_is_local : (s : State) → IsQuiet s → IsOrdered s → (i : IfaceId) (m : JoinPrune) (w : ℕ)
     → settled s (own_change s w (Accepted.JoinPruneToMe i m)) w
@@ -250,17 +274,11 @@ join_prune_is_local s quiet ordered i m w =
     settling_is_own (moved_keys s i.number m) s quiet (own_change s w (Accepted.JoinPruneToMe i m)) w
     (join_prune_touches_moved s ordered i.number m)
 
-none_moved : (p : Key → Bool) (ks : List Key) → list_all p ks ≡ true → filter (λ k. not (p k)) ks ≡ []
-none_moved p [] e = refl
-none_moved p (k ∷ ks) e =
-    ap (λ (b : Bool). cond (not b) (k ∷ filter (λ q. not (p q)) ks) (filter (λ q. not (p q)) ks))
-    (first_so (p k) (list_all p ks) e) ∙ none_moved p ks (second_so (p k) (list_all p ks) e)
-
 pub join_prune_again : (s : State) → IsQuiet s → IsOrdered s → (i : IfaceId) (m : JoinPrune) (w : ℕ)
-    → list_all (moves_end s i.number m) (named_rows s i.number m) ≡ true
+    → moved_keys s i.number m ≡ []
     → settled s (own_change s w (Accepted.JoinPruneToMe i m)) w ≡ write_all (to_me s i.number m) []
-unfolding change moved_keys
+unfolding change
 join_prune_again s quiet ordered i m w e =
     nothing_follows s quiet (own_change s w (Accepted.JoinPruneToMe i m)) w
     (subst (λ (ks : List Key). AgreesBut (touching ks) s (to_me s i.number m))
-    (none_moved (moves_end s i.number m) (named_rows s i.number m) e) (join_prune_touches_moved s ordered i.number m))
+    e (join_prune_touches_moved s ordered i.number m))

@@ -15,7 +15,7 @@ use Rattle.pim_locality.specs.Differing.{differing, differing_in, read_keys, sam
 use Rattle.pim_locality.proofs.Differing.{any_of_six, passing_named, row_named}
 
 -- one of the keys that pass
-one_of : (p : Key → Bool) (goal : Bool) (ks : List Key)
+pub one_of : (p : Key → Bool) (goal : Bool) (ks : List Key)
     → ((k : Key) → p k ≡ true → list_any (same_key k) ks ≡ true → goal ≡ true) → list_any p ks ≡ true → goal ≡ true
 one_of p goal [] f e = cc
 one_of p goal (k ∷ ks) f e =
@@ -27,17 +27,17 @@ one_of p goal (k ∷ ks) f e =
     go false is h ih = ih h
 
 -- what passes of one passes of the list that it is among
-passes_among : (p : Key → Bool) (k : Key) → p k ≡ true → (ks : List Key) → list_any (same_key k) ks ≡ true
+pub passes_among : (p : Key → Bool) (k : Key) → p k ≡ true → (ks : List Key) → list_any (same_key k) ks ≡ true
     → list_any p ks ≡ true
 passes_among p k is ks e =
     any_more (same_key k) p (λ q f. subst (λ (x : Key). p x ≡ true) (equal_keys k q f) is) ks e
 
-module _ {R : Type 0} (same : R → R → Bool) (t u : Table R) (p : Key → Bool) where
-  lone : (a b : Option R) → is_some a ≡ false → is_some b ≡ true → same_both same a b ≡ false
-  lone None None e f = cc
-  lone None (Some b) e f = refl
-  lone (Some a) b e f = cc
+pub lone : {R : Type 0} (same : R → R → Bool) (a b : Option R) → is_some a ≡ false → is_some b ≡ true → same_both same a b ≡ false
+lone same None None e f = cc
+lone same None (Some b) e f = refl
+lone same (Some a) b e f = cc
 
+module _ {R : Type 0} (same : R → R → Bool) (t u : Table R) (p : Key → Bool) where
   new_in : list_any p (keys_in u) ≡ true → (list_any p (keys_in t) || list_any p (differing_in same t u)) ≡ true
   unfolding differing_in has_row
   new_in e = one_of p _ (keys_in u) (λ k is there. go k is there (is_some (row_at t k)) refl) e
@@ -52,7 +52,7 @@ module _ {R : Type 0} (same : R → R → Bool) (t u : Table R) (p : Key → Boo
           (passes_among p k is _
           (any_in_filter (λ q. not (same_at same q t u)) (same_key k) (keys_in t ++ keys_in u)
           ∙ (passing_named (λ q. not (same_at same q t u)) k
-          (ap not (lone (row_at t k) (row_at u k) was (sym (row_named k u) ∙ there))) (keys_in t ++ keys_in u)
+          (ap not (lone same (row_at t k) (row_at u k) was (sym (row_named k u) ∙ there))) (keys_in t ++ keys_in u)
           ∙ (list_any-append (same_key k) (keys_in t) (keys_in u)
           ∙ or_right (list_any (same_key k) (keys_in t)) (list_any (same_key k) (keys_in u)) there))))
 

@@ -1,7 +1,6 @@
 -- What a Join/Prune to the router touches, told before its change: the keys whose downstream rows it changes in more than
 -- an end, and those whose lost asserts it ends.
-use Rattle.std.specs.List.{list_all}
-use Rattle.std.specs.Prelude.{Bool, List, [], filter, not, true, ℕ, ◌&&◌, ◌≡◌}
+use Rattle.std.specs.Prelude.{Bool, List, [], filter, not, ℕ, ◌&&◌, ◌≡◌}
 use Rattle.pim_types.specs.declared.config.IfaceId.{IfaceId}
 use Rattle.pim_types.specs.declared.fact.Key.{Key}
 use Rattle.pim_wire.specs.Values.{JoinPrune}
@@ -17,20 +16,19 @@ use Rattle.pim_ready.specs.Ready.{IsOrdered}
 use Rattle.pim_locality.specs.Events.{own_change}
 use Rattle.pim_locality.specs.Locality.{AgreesBut, IsQuiet, own_settled, touching}
 
--- at most an end of the key's row moves, and it loses no assert
-unfoldable pub moves_end : State → ℕ → JoinPrune → Key → Bool
-moves_end s i m k =
-    same_both same_downstream (row_at s.downstream k)
-    (row_after s i m.holdtime (joined_keys s i m) (pruned_keys i m) k)
-    && not (is_loser (row_at s.asserts k) && is_named (joined_keys s i m) k)
+-- of a message with these keys: at most an end of the key's row moves, and it loses no assert
+unfoldable pub moves_end : State → ℕ → ℕ → List Key → List Key → Key → Bool
+moves_end s i holdtime joined pruned k =
+    same_both same_downstream (row_at s.downstream k) (row_after s i holdtime joined pruned k)
+    && not (is_loser (row_at s.asserts k) && is_named joined k)
 
--- the keys whose rows it can change
-abbrev pub named_rows : State → ℕ → JoinPrune → List Key
-named_rows s i m = touched_keys s i (joined_keys s i m) (pruned_keys i m)
+-- the keys of which it moves more than an end, among those whose rows it can change
+unfoldable pub moved_among : State → ℕ → ℕ → List Key → List Key → List Key
+moved_among s i holdtime joined pruned =
+    filter (λ k. not (moves_end s i holdtime joined pruned k)) (touched_keys s i joined pruned)
 
--- those of which it moves more than an end
-unfoldable pub moved_keys : State → ℕ → JoinPrune → List Key
-moved_keys s i m = filter (λ k. not (moves_end s i m k)) (named_rows s i m)
+abbrev pub moved_keys : State → ℕ → JoinPrune → List Key
+moved_keys s i m = moved_among s i m.holdtime (joined_keys s i m) (pruned_keys i m)
 
 abbrev pub JoinPruneTouchesMoved : Type 0
 JoinPruneTouchesMoved =
@@ -42,8 +40,8 @@ JoinPruneIsLocal = (s : State) → IsQuiet s → IsOrdered s → (i : IfaceId) (
     → settled s (own_change s w (Accepted.JoinPruneToMe i m)) w
     ≡ own_settled (moved_keys s i.number m) s (own_change s w (Accepted.JoinPruneToMe i m)) w
 
--- a Join/Prune that says again what it said: nothing follows, and nothing is written
+-- where there are none, as where it says again what it said, nothing follows, and nothing is written
 abbrev pub JoinPruneAgain : Type 0
 JoinPruneAgain = (s : State) → IsQuiet s → IsOrdered s → (i : IfaceId) (m : JoinPrune) (w : ℕ)
-    → list_all (moves_end s i.number m) (named_rows s i.number m) ≡ true
+    → moved_keys s i.number m ≡ []
     → settled s (own_change s w (Accepted.JoinPruneToMe i m)) w ≡ write_all (to_me s i.number m) []
