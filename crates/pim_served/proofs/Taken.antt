@@ -1,0 +1,363 @@
+-- A Join(*,G) that comes: its row, the assert that it ends, the prunes that it takes back.
+use Rattle.std.proofs.Common.{◌≡◌, ◌∙◌, ℕ, suc, zero, ◌<◌, ◌==◌, ◌&&◌, ◌||◌, Bool, true, false, not, List, [], ◌∷◌, ◌++◌, filter, fold, length, Option, Some, None, is_some, is_none, option_map, refl, sym, ap, subst, arith, get_or, eq-eqb}
+use Rattle.std.proofs.lemmas.Bool.{or_left, or_right, both_ways}
+use Rattle.std.proofs.lemmas.List.Folds.{list_any-append}
+use Rattle.std.specs.List.{Contains, list_any}
+use Rattle.std.specs.Option.{option_map_or}
+use Rattle.pim_types.specs.Keys.{group_in, is_on, rpt_key, same_key, source_key, star_key}
+use Rattle.pim_types.specs.declared.config.InterfaceConfig.{InterfaceConfig}
+use Rattle.pim_types.specs.declared.fact.AssertRow.{AssertRow}
+use Rattle.pim_types.specs.declared.fact.DownstreamRow.{DownstreamRow}
+use Rattle.pim_types.specs.declared.fact.Key.{Key}
+use Rattle.pim_types.specs.declared.fact.SourceRow.{SourceRow}
+use Rattle.pim_types.proofs.Keys.{equal_keys, same_key_same}
+use Rattle.pim_wire.specs.Values.{JoinPrune}
+use Rattle.pim_model.specs.declared.accepted.Accepted.{Accepted}
+use Rattle.pim_model.specs.Asserts.{assert_forgotten, without_spt, without_spt_bit}
+use Rattle.pim_model.specs.Clearing.{clear}
+use Rattle.pim_model.specs.Desires.{join_desired_star}
+use Rattle.pim_model.specs.Downstream.{asserts_after_joins, holdtime_end, is_named, joined_keys, joined_row, keys_taken, pruned_keys, row_after, rpt_rows_joined, to_me, touched_keys}
+use Rattle.pim_model.specs.Firing.{settled}
+use Rattle.pim_model.specs.Messages.{Message}
+use Rattle.pim_model.specs.Registers.{settle_registers}
+use Rattle.pim_model.specs.Sets.{Set, assert_source, assert_star, immediate_olist_star, is_empty, is_loser, joins_star, lost_assert_star, prunes, spt_bit}
+use Rattle.pim_model.specs.State.{State, iface_count, ifaces}
+use Rattle.pim_model.specs.Step.{change, done}
+use Rattle.pim_model.specs.Tables.{Table, drop_at, has_row, keys_in, later_end, row_at, rows_where, set_row}
+use Rattle.pim_model.specs.Unicast.{is_rpf_interface_rp}
+use Rattle.pim_laws.proofs.ListLaws.{each_passes}
+use Rattle.pim_laws.proofs.RowLaws.{has_row_any, has_row_without, row_drop_away, row_put, row_put_away, still_absent}
+use Rattle.pim_laws.proofs.SettlingLaws.{kept_by_clearing}
+use Rattle.pim_laws.proofs.TableLaws.{any_in_filter, any_of_map, row_of_each}
+use Rattle.pim_laws.proofs.TurnLaws.{kept_by_fold}
+use Rattle.pim_locality.specs.Scopes.{reads, scope}
+use Rattle.pim_locality.proofs.Asserts.{place_read, stars_read}
+use Rattle.pim_locality.proofs.Rows.{row_at_cut, row_in_scope}
+use Rattle.pim_locality.proofs.SourceMacros.{spt_bit_local}
+use Rattle.pim_locality.proofs.StarMacros.{cut_assert, loser_cut}
+use Rattle.pim_locality.proofs.UntoldKeys.{same_by_scope}
+use Rattle.pim_asked.proofs.Same.{Rows, settled_same}
+use Rattle.pim_words.proofs.Links.{is_below}
+use Rattle.pim_words.proofs.Made.{step_taken}
+use Rattle.pim_served.specs.Joins.{JoinsStar, StarJoinIsTaken, TakesStar}
+use Rattle.pim_served.proofs.Leaves.{ends_configured, rest_agrees, taken_is_done, untouched}
+
+-- ---- the row of a key that is set
+
+pub apart_keys : (k q : Key) → same_key q k ≡ false → k ≡ q → ⊥
+apart_keys k q e same = both_ways (same_key q k) e (ap (same_key q) same ∙ same_key_same q)
+
+module _ {R : Type 0} where
+  pub no_row : (o : Option R) → is_some o ≡ false → o ≡ None
+  no_row None e = refl
+  no_row (Some r) e = cc
+
+  row_gone : (k : Key) (t : Table R) → row_at (drop_at t k) k ≡ None
+  unfolding has_row
+  row_gone k t = no_row _ (has_row_without k k t ∙ rw (same_key_same k) refl)
+
+  row_set : (k : Key) (t : Table R) (o : Option R) → row_at (set_row t k o) k ≡ o
+  unfolding set_row
+  row_set k t None = row_gone k t
+  row_set k t (Some r) = row_put k r t
+
+  row_set_away : (k q : Key) → same_key q k ≡ false → (t : Table R) (o : Option R)
+      → row_at (set_row t k o) q ≡ row_at t q
+  unfolding set_row
+  row_set_away k q off t None = row_drop_away k q (apart_keys k q off) t
+  row_set_away k q off t (Some r) = row_put_away k q (apart_keys k q off) r t
+
+  -- ---- keys that are all set, each to what a rule says of it
+
+  module _ (rule : Key → Option R) (q : Key) where
+    abbrev sets : Table R → Key → Table R
+    sets t k = set_row t k (rule k)
+
+    set_once : (t : Table R) (k : Key) → row_at t q ≡ rule q → row_at (sets t k) q ≡ rule q
+    set_once t k is = go (same_key q k) refl
+      where
+        go : (b : Bool) → same_key q k ≡ b → row_at (sets t k) q ≡ rule q
+        go false off = row_set_away k q off t (rule k) ∙ is
+        go true same =
+            subst (λ (x : Key). row_at (sets t x) q ≡ rule q) (equal_keys q k same) (row_set q t (rule q))
+
+    -- where it was as the rule says it stays so
+    pub stays_set : (ks : List Key) (t : Table R) → row_at t q ≡ rule q → row_at (fold sets t ks) q ≡ rule q
+    stays_set ks t is = kept_by_fold sets (λ u. row_at u q ≡ rule q) (λ u k f. set_once u k f) ks t is
+
+    -- where it is named it becomes so
+    pub becomes_set : (ks : List Key) (t : Table R) → is_named ks q ≡ true → row_at (fold sets t ks) q ≡ rule q
+    unfolding is_named
+    becomes_set [] t e = cc
+    becomes_set (k ∷ ks) t e = go (same_key q k) refl e (becomes_set ks (sets t k))
+      where
+        go : (b : Bool) → same_key q k ≡ b → (b || list_any (same_key q) ks) ≡ true
+            → (is_named ks q ≡ true → row_at (fold sets (sets t k) ks) q ≡ rule q)
+            → row_at (fold sets (sets t k) ks) q ≡ rule q
+        go false off f later = later f
+        go true same f later =
+            stays_set ks (sets t k)
+            (subst (λ (x : Key). row_at (sets t x) q ≡ rule q) (equal_keys q k same) (row_set q t (rule q)))
+
+-- ---- the rows after a Join/Prune
+
+pub named_first : (xs ys : List Key) (k : Key) → is_named xs k ≡ true → is_named (xs ++ ys) k ≡ true
+unfolding is_named
+named_first xs ys k e = list_any-append (same_key k) xs ys ∙ or_left _ _ e
+
+named_last : (xs ys : List Key) (k : Key) → is_named ys k ≡ true → is_named (xs ++ ys) k ≡ true
+unfolding is_named
+named_last xs ys k e = list_any-append (same_key k) xs ys ∙ or_right _ _ e
+
+end_again : (a b : Option ℕ) → later_end (later_end a b) b ≡ later_end a b
+end_again None b = refl
+end_again (Some a) None = refl
+end_again (Some a) (Some b) = ap Some (omega arith)
+
+end_itself : (a : Option ℕ) → later_end a a ≡ a
+end_itself None = refl
+end_itself (Some a) = ap Some (omega arith)
+
+-- the row that a Join leaves
+record IsJoined (end : Option ℕ) (o : Option DownstreamRow) : Type 0 where
+  row : DownstreamRow
+  is : o ≡ Some row
+  pending : row.pending ≡ None
+  lasts : later_end row.expiry end ≡ row.expiry
+
+joined_is : (end : Option ℕ) (holdtime : ℕ) (o : Option DownstreamRow) → (holdtime == 0) ≡ false
+    → IsJoined end (joined_row end holdtime o)
+joined_is end zero o e = cc
+joined_is end (suc n) None e =
+    record { row = record { expiry = end; pending = None }; is = refl; pending = refl; lasts = end_itself end }
+joined_is end (suc n) (Some r) e = record {
+  row = record { expiry = later_end r.expiry end; pending = None };
+  is = refl;
+  pending = refl;
+  lasts = end_again r.expiry end;
+}
+
+module _ (s : State) (i g : ℕ) (m : JoinPrune) (f : JoinsStar s i g m) where
+  abbrev joined : List Key
+  joined = joined_keys s i m
+
+  abbrev pruned : List Key
+  pruned = pruned_keys i m
+
+  abbrev rule : Key → Option DownstreamRow
+  rule k = row_after s i m.holdtime joined pruned k
+
+  star_rule : rule (star_key i g) ≡ joined_row (holdtime_end s m.holdtime) m.holdtime (row_at s.downstream (star_key i g))
+  unfolding row_after
+  star_rule = rw (f.joined, f.unpruned) refl
+
+  star_row : row_at (to_me s i m).downstream (star_key i g) ≡ rule (star_key i g)
+  unfolding to_me keys_taken touched_keys
+  star_row =
+      becomes_set rule (star_key i g) (touched_keys s i joined pruned) s.downstream
+      (named_first (joined ++ pruned) (rpt_rows_joined s i joined) (star_key i g) (named_first joined pruned (star_key i g) f.joined))
+
+  star_joined : IsJoined (holdtime_end s m.holdtime) (row_at (to_me s i m).downstream (star_key i g))
+  star_joined =
+      subst (IsJoined (holdtime_end s m.holdtime)) (sym (star_row ∙ star_rule))
+      (joined_is (holdtime_end s m.holdtime) m.holdtime (row_at s.downstream (star_key i g)) f.lasts)
+
+  -- ---- (S,G,rpt), which the message doesn't prune
+
+  module _ (src : ℕ) (unpruned : is_named pruned (rpt_key i g src) ≡ false) where
+    abbrev tree : Key
+    tree = rpt_key i g src
+
+    tree_rule : rule tree ≡ None
+    unfolding row_after
+    tree_rule = rw (unpruned, f.joined) refl
+
+    tree_is_touched : has_row s.downstream tree ≡ true → is_named (touched_keys s i joined pruned) tree ≡ true
+    unfolding touched_keys rpt_rows_joined keys_in is_named
+    tree_is_touched there =
+        named_last (joined ++ pruned) (rpt_rows_joined s i joined) tree
+        (any_in_filter (λ (k : Key). is_on i k && k.rpt && is_named joined (star_key i (group_in k))) (same_key tree)
+        (keys_in s.downstream) ∙ passes (keys_in s.downstream) (in_keys there))
+      where
+        in_keys : has_row s.downstream tree ≡ true → list_any (same_key tree) (keys_in s.downstream) ≡ true
+        in_keys e = any_of_map (same_key tree) (λ x. x.0) s.downstream ∙ (sym (has_row_any tree s.downstream) ∙ e)
+
+        passes : (ks : List Key) → list_any (same_key tree) ks ≡ true
+            → list_any (λ (k : Key). (is_on i k && k.rpt && is_named joined (star_key i (group_in k))) && same_key tree k) ks ≡ true
+        passes [] e = e
+        passes (k ∷ ks) e = go (same_key tree k) refl e (passes ks)
+          where
+            go : (b : Bool) → same_key tree k ≡ b → (b || list_any (same_key tree) ks) ≡ true
+                → (list_any (same_key tree) ks ≡ true → list_any (λ (k : Key). (is_on i k && k.rpt && is_named joined (star_key i (group_in k))) && same_key tree k) ks ≡ true)
+                → (((is_on i k && k.rpt && is_named joined (star_key i (group_in k))) && same_key tree k)
+                || list_any (λ (k : Key). (is_on i k && k.rpt && is_named joined (star_key i (group_in k))) && same_key tree k) ks) ≡ true
+            go false off h later = or_right _ _ (later h)
+            go true same h later =
+                or_left _ _
+                (subst (λ (x : Key). ((is_on i x && x.rpt && is_named joined (star_key i (group_in x))) && same_key tree x) ≡ true)
+                (equal_keys tree k same) (rw (eq-eqb i i refl, f.joined, same_key_same tree) refl))
+
+    tree_gone : row_at (to_me s i m).downstream tree ≡ None
+    unfolding to_me keys_taken has_row
+    tree_gone = go (has_row s.downstream tree) refl
+      where
+        go : (b : Bool) → has_row s.downstream tree ≡ b → row_at (fold (λ t k. set_row t k (rule k)) s.downstream (touched_keys s i joined pruned)) tree ≡ None
+        go true there = becomes_set rule tree (touched_keys s i joined pruned) s.downstream (tree_is_touched there) ∙ tree_rule
+        go false none =
+            stays_set rule tree (touched_keys s i joined pruned) s.downstream
+            (no_row (row_at s.downstream tree) none ∙ sym tree_rule) ∙ tree_rule
+
+  -- ---- the assert
+
+  no_loser_left : is_loser (assert_star (to_me s i m) g i) ≡ false
+  unfolding to_me keys_taken asserts_after_joins
+  no_loser_left = go (row_at (asserts_after_joins s joined) (star_key i g)) refl
+    where
+      stays : Key × AssertRow → Bool
+      stays e = not (is_loser (Some e.1) && is_named joined e.0)
+
+      go : (o : Option AssertRow) → row_at (asserts_after_joins s joined) (star_key i g) ≡ o → is_loser o ≡ false
+      go None e = refl
+      go (Some r) e =
+          unlost (is_loser (Some r))
+          (ap (λ b. not (is_loser (Some r) && b)) (sym f.joined)
+          ∙ row_of_each (λ x. stays x ≡ true) (star_key i g) r (filter stays s.asserts) (each_passes stays s.asserts) e)
+        where
+          unlost : (b : Bool) → not (b && true) ≡ true → b ≡ false
+          unlost true e = cc
+          unlost false e = refl
+
+-- ---- what clearing leaves
+
+module _ {R : Type 0} (q : Key) where
+  dropped_row : (P : Option R → Type 0) → P None → (k : Key) (t : Table R) → P (row_at t q) → P (row_at (drop_at t k) q)
+  dropped_row P none k t f = go (same_key q k) refl
+    where
+      go : (b : Bool) → same_key q k ≡ b → P (row_at (drop_at t k) q)
+      go true same =
+          subst (λ (x : Key). P (row_at (drop_at t x) q)) (equal_keys q k same) (subst P (sym (row_gone q t)) none)
+      go false off = subst P (sym (row_drop_away k q (apart_keys k q off) t)) f
+
+module _ (o : State) (c : State × List Message) (w : ℕ) where
+  abbrev cleared_state : State
+  cleared_state = (clear o c.0).0
+
+  abbrev end_state : State
+  end_state = (settled o c w).0
+
+  unlost_cleared : (q : Key) → is_loser (row_at (c.0).asserts q) ≡ false
+      → is_loser (row_at (cleared_state).asserts q) ≡ false
+  unfolding settle_registers assert_forgotten without_spt_bit
+  unlost_cleared q e =
+      kept_by_clearing (λ t. is_loser (row_at t.asserts q) ≡ false)
+      (λ t k f. dropped_row q (λ x. is_loser x ≡ false) refl k t.asserts f) (λ t k f. f) o c.0 e
+
+  -- whether an assert is lost is seen in a scope with its row
+  loser_local : (k q : Key) → reads k q ≡ true → (x : State)
+      → is_loser (row_at (scope (reads k) x).asserts q) ≡ is_loser (row_at x.asserts q)
+  unfolding scope
+  loser_local k q seen x =
+      ap is_loser (row_at_cut cut_assert q (rows_where (reads k) x.asserts)
+      ∙ ap (option_map cut_assert) (row_in_scope (reads k) q seen x.asserts))
+      ∙ loser_cut (row_at x.asserts q)
+
+  still_unlost : (k q : Key) → reads k q ≡ true → is_loser (row_at (c.0).asserts q) ≡ false
+      → is_loser (row_at (end_state).asserts q) ≡ false
+  still_unlost k q seen e =
+      sym (same_by_scope k (λ x. is_loser (row_at x.asserts q)) (loser_local k q seen) cleared_state end_state
+      (rest_agrees o c w k (untouched o c w k)))
+      ∙ unlost_cleared q e
+
+  pub star_unlost : (g i : ℕ) → is_loser (assert_star c.0 g i) ≡ false → is_loser (assert_star end_state g i) ≡ false
+  star_unlost g i = still_unlost (star_key 0 g) (star_key i g) (stars_read (star_key 0 g) i)
+
+  pub source_unlost : (g src i : ℕ) → is_loser (assert_source c.0 g src i) ≡ false
+      → is_loser (assert_source end_state g src i) ≡ false
+  source_unlost g src i =
+      still_unlost (source_key 0 g src) (source_key i g src) ((place_read (source_key 0 g src)).sources i)
+
+  -- a source without a fact has none after it
+  pub still_unset : (g src : ℕ) → has_row (c.0).sources (source_key 0 g src) ≡ false → spt_bit end_state g src ≡ false
+  unfolding settle_registers assert_forgotten without_spt_bit spt_bit has_row
+  still_unset g src none =
+      sym (same_by_scope (source_key 0 g src) (λ x. spt_bit x g src)
+      (λ x. spt_bit_local (reads (source_key 0 g src)) x g src (place_read (source_key 0 g src))) cleared_state end_state
+      (rest_agrees o c w (source_key 0 g src) (untouched o c w (source_key 0 g src))))
+      ∙ ap (λ (x : Option SourceRow). option_map_or (λ (r : SourceRow). r.spt) x false)
+      (no_row (row_at (cleared_state).sources (source_key 0 g src))
+      (kept_by_clearing (λ t. has_row t.sources (source_key 0 g src) ≡ false) (λ t k f. f)
+      (λ t k f. still_absent (source_key 0 g src) without_spt k t.sources f) o c.0 none))
+
+  pub still_configured : (end_state).configured ≡ (c.0).configured
+  unfolding settle_registers assert_forgotten without_spt_bit
+  still_configured =
+      ends_configured o c w
+      ∙ kept_by_clearing (λ t. t.configured ≡ (c.0).configured) (λ t k f. f) (λ t k f. f) o c.0 refl
+
+  pub same_downstream : (end_state).downstream ≡ (c.0).downstream
+  same_downstream = ap (λ (r : Rows). r.downstream) (settled_same o c w)
+
+-- ---- the lists
+
+pub any_contained : {X : Type 0} (p : X → Bool) (xs : List X) (x : X) → Contains xs x → p x ≡ true → list_any p xs ≡ true
+any_contained p [] x c e = absurd (omega (arith, c.1))
+any_contained p (y ∷ ys) x c e = go (any_contained p ys x) c.0 c.1 c.2
+  where
+    go : (Contains ys x → p x ≡ true → list_any p ys ≡ true) → (k : ℕ) → k < length (y ∷ ys) → get_or (y ∷ ys) k x ≡ x
+        → (p y || list_any p ys) ≡ true
+    go later zero l f = or_left _ _ (ap p f ∙ e)
+    go later (suc k) l f = or_right _ _ (later (k, omega arith, f) e)
+
+pub not_empty : (s : State) (a : Set) (i : ℕ) → i < iface_count s → a i ≡ true → is_empty s a ≡ false
+unfolding is_empty
+not_empty s a i within e = ap not (any_contained a (ifaces s) i (is_below (iface_count s) i within) e)
+
+pub listed_star : (t : State) (g i : ℕ) → has_row t.downstream (star_key i g) ≡ true
+    → is_loser (assert_star t g i) ≡ false → immediate_olist_star t g i ≡ true
+unfolding immediate_olist_star joins_star lost_assert_star
+listed_star t g i joined unlost = rw (joined, unlost) (last (not (is_rpf_interface_rp t g i)))
+  where
+    last : (b : Bool) → not (b && false) ≡ true
+    last true = refl
+    last false = refl
+
+pub wanted_star : (t : State) (g i : ℕ) → i < iface_count t → immediate_olist_star t g i ≡ true
+    → join_desired_star t g ≡ true
+unfolding join_desired_star
+wanted_star t g i within e = ap not (not_empty t (immediate_olist_star t g) i within e)
+
+-- ---- the law
+
+pub takes_star : (s : State) (w i g : ℕ) (m : JoinPrune) → JoinsStar s i g m
+    → TakesStar s (settled s (to_me s i m, []) w).0 i g m
+unfolding prunes has_row to_me keys_taken
+takes_star s w i g m f =
+    let c : State × List Message = (to_me s i m, []) in
+    let t : State = (settled s c w).0 in
+    let row : IsJoined (holdtime_end s m.holdtime) (row_at t.downstream (star_key i g)) =
+    subst (λ (d : Table DownstreamRow). IsJoined (holdtime_end s m.holdtime) (row_at d (star_key i g)))
+    (sym (same_downstream s c w)) (star_joined s i g m f) in
+    let unlost : is_loser (assert_star t g i) ≡ false = star_unlost s c w g i (no_loser_left s i g m f) in
+    let listed : immediate_olist_star t g i ≡ true =
+    listed_star t g i (ap is_some row.is) unlost in
+    record {
+      holds = record { row = row.row; found = row.is; unpruned = row.pending; lasts = row.lasts };
+      unlost = unlost;
+      unpruned = λ src e.
+          ap (λ (o : Option DownstreamRow). option_map_or (λ (r : DownstreamRow). is_none r.pending) o false)
+          (ap (λ (d : Table DownstreamRow). row_at d (rpt_key i g src)) (same_downstream s c w) ∙ tree_gone s i g m f src e);
+      listed = listed;
+      wanted = λ within.
+          wanted_star t g i
+          (subst (λ (cs : List InterfaceConfig). i < length cs) (sym (still_configured s c w ∙ to_me_configured)) within) listed;
+    }
+  where
+    to_me_configured : (to_me s i m).configured ≡ s.configured
+    to_me_configured = refl
+
+pub star_join_is_taken : StarJoinIsTaken
+unfolding done change
+star_join_is_taken s e i m g was f =
+    subst (λ (t : State). TakesStar s t i.number g m)
+    (sym (ap (λ a. a.state) (step_taken s e (Accepted.JoinPruneToMe i m) was ∙ taken_is_done s e.draw (Accepted.JoinPruneToMe i m) refl)))
+    (takes_star s e.draw i.number g m f)

@@ -1,0 +1,114 @@
+-- The premises, computed.
+use Rattle.std.proofs.Common.{◌≡◌, [], ◌∷◌, Some, Ok, refl, lit≤}
+use Rattle.pim_model.specs.declared.accepted.Accepted.{Accepted}
+use Rattle.pim_model.specs.Cause.{done_as}
+use Rattle.pim_model.specs.Limits.{config_test}
+use Rattle.igmp_wire.specs.declared.report.RecordType.{RecordType}
+use Rattle.pim_ready.proofs.Steps.{run_is_settled}
+use Rattle.pim_runs.proofs.OnLiterals.{machine_on_literals}
+use Rattle.pim_words.specs.Copies.{happens}
+use Rattle.pim_served.specs.Served.{Asks, CanAnswer, CanCarry}
+use Rattle.pim_served.specs.Ways.{CanGoOn, CanTake, IsGroup, IsNew, state_of, up_address}
+use Rattle.pim_served.proofs.Hosts.{host_asks}
+use Rattle.pim_served.proofs.Whole.{each_packet_is_served}
+use Rattle.pim_served_runs.specs.Chain.{ChainIsServed, chain, first, first_meets, first_place, group, report, request, rp, second, second_meets, second_place, source, third_place}
+
+is_group : IsGroup group rp
+unfolding machine_on_literals
+is_group = record { multicast = refl; goes_far = refl; rp_host = refl }
+
+first_is_new : IsNew (state_of first_place) group
+unfolding machine_on_literals
+first_is_new = record { unwanted = refl; sourceless = λ src. refl; unlost = λ i. refl; unlost_source = λ src i. refl }
+
+second_is_new : IsNew (state_of second_place) group
+unfolding machine_on_literals
+second_is_new = record { unwanted = refl; sourceless = λ src. refl; unlost = λ i. refl; unlost_source = λ src i. refl }
+
+first_goes_on : CanGoOn group first_place
+unfolding machine_on_literals
+first_goes_on = record { new = first_is_new; next = refl; linked = refl }
+
+second_goes_on : CanGoOn group second_place
+unfolding machine_on_literals
+second_goes_on = record { new = second_is_new; next = refl; linked = refl }
+
+accepted_first : config_test first ≡ Ok tt
+unfolding machine_on_literals
+accepted_first = refl
+
+accepted_second : config_test second ≡ Ok tt
+unfolding machine_on_literals
+accepted_second = refl
+
+first_carries : CanCarry source first_place
+unfolding machine_on_literals
+first_carries = record {
+  settled = run_is_settled first first_meets accepted_first;
+  configured = lit≤ tt;
+  is_up = refl;
+  foreign = refl;
+  room = refl;
+  on = refl;
+}
+
+second_carries : CanCarry source second_place
+unfolding machine_on_literals
+second_carries = record {
+  settled = run_is_settled second second_meets accepted_second;
+  configured = lit≤ tt;
+  is_up = refl;
+  foreign = refl;
+  room = refl;
+  on = refl;
+}
+
+is_report : done_as (happens (state_of first_place) report) ≡ Some (Accepted.Report (record { number = 0 }) (request ∷ []))
+unfolding machine_on_literals
+is_report = refl
+
+answers : CanAnswer group rp source 3 first_place
+unfolding machine_on_literals
+answers = record {
+  can_go_on = first_goes_on;
+  can_carry = first_carries;
+  rp_known = refl;
+  is_dr = refl;
+  down_configured = lit≤ tt;
+  down_linked = refl;
+}
+
+asks : Asks group rp source 3 first_place report
+asks =
+    host_asks group rp source 3 first_place report (request ∷ [])
+    (record { record_type = RecordType.ToExclude; excluding = refl; is = refl }) is_report answers
+
+second_takes : CanTake group rp (up_address first_place) (first_place.next).address.bits first_place.next_link second_place
+unfolding machine_on_literals
+second_takes = record {
+  hears = record { configured = lit≤ tt; up = refl; neighbour = refl; other = refl };
+  from_host = refl;
+  to_fits = lit≤ tt;
+  own = refl;
+  on_link = refl;
+  rp_known = refl;
+  room = refl;
+}
+
+third_takes : CanTake group rp (up_address second_place) (second_place.next).address.bits second_place.next_link third_place
+unfolding machine_on_literals
+third_takes = record {
+  hears = record { configured = lit≤ tt; up = refl; neighbour = refl; other = refl };
+  from_host = refl;
+  to_fits = lit≤ tt;
+  own = refl;
+  on_link = refl;
+  rp_known = refl;
+  room = refl;
+}
+
+pub chain_is_served : ChainIsServed
+unfolding machine_on_literals
+chain_is_served =
+    each_packet_is_served chain group rp source 3 first_place second_place report (third_place ∷ []) is_group asks
+    (second_takes, second_goes_on, third_takes) (second_carries, tt) refl (refl, (refl, (refl, tt))) ((refl, (refl, tt)), ((refl, tt), (tt, tt)))

@@ -1,0 +1,99 @@
+-- Three routers in a line: a host's, one between, and the RP.
+use Rattle.std.specs.Prelude.{List, [], ℕ, ◌∷◌}
+use Rattle.pim_ip.specs.Ipv4.{all_pim_routers, igmp_packet_text, pim_packet_text}
+use Rattle.pim_types.specs.declared.config.Config.{Config}
+use Rattle.pim_types.specs.declared.event.Event.{Event}
+use Rattle.pim_wire.specs.Hellos.{hello_text}
+use Rattle.igmp_wire.specs.Reports.{report_text}
+use Rattle.igmp_wire.specs.Values.{Record}
+use Rattle.igmp_wire.specs.declared.report.RecordType.{RecordType}
+use Rattle.pim_model.specs.Network.{Network, Station}
+use Rattle.pim_model.specs.State.{opening}
+use Rattle.pim_model.specs.Step.{state_after}
+use Rattle.pim_model.specs.Tables.{hop_at}
+use Rattle.pim_runs.specs.Base.{all_groups, base, interface, prefix, route_by, rp_for}
+use Rattle.pim_runs.specs.Words.{address, frame, up}
+use Rattle.pim_served.specs.Ways.{Place}
+use Rattle.pim_served.specs.Whole.{IsServedFrom}
+
+abbrev pub group : ℕ
+group = address 239 1 1 1
+
+abbrev pub rp : ℕ
+rp = address 10 0 2 2
+
+abbrev pub source : ℕ
+source = address 10 9 9 9
+
+-- the host's link is 3; link 1 is between the first and the second router, link 2 between the second and the RP
+abbrev pub first : Config
+first = record base {
+  interfaces = interface (address 10 0 3 1) ∷ interface (address 10 0 1 1) ∷ [];
+  routes = route_by 1 (address 10 0 1 2) (prefix (address 10 0 2 0) 24) ∷ [];
+  rps = rp_for all_groups rp ∷ [];
+}
+
+abbrev pub second : Config
+second = record base {
+  interfaces = interface (address 10 0 1 2) ∷ interface (address 10 0 2 1) ∷ [];
+  routes = [];
+  rps = rp_for all_groups rp ∷ [];
+}
+
+abbrev pub third : Config
+third = record base { interfaces = interface rp ∷ []; routes = []; rps = rp_for all_groups rp ∷ [] }
+
+-- they come up, and hear each other's Hellos
+abbrev pub hello_of : ℕ → List ℕ
+hello_of from = pim_packet_text 1 from all_pim_routers (hello_text 500 2500 1 7)
+
+abbrev pub first_meets : List Event
+first_meets = up 7 0 ∷ up 7 1 ∷ frame 1 (hello_of (address 10 0 1 2)) ∷ []
+
+abbrev pub second_meets : List Event
+second_meets = up 7 0 ∷ up 7 1 ∷ frame 0 (hello_of (address 10 0 1 1)) ∷ frame 1 (hello_of rp) ∷ []
+
+abbrev pub third_meets : List Event
+third_meets = up 7 0 ∷ frame 0 (hello_of (address 10 0 2 1)) ∷ []
+
+abbrev pub station : List ℕ → Config → List Event → Station
+station links c events = record { links = links; state = state_after (opening c) events }
+
+abbrev pub first_station : Station
+first_station = station (3 ∷ 1 ∷ []) first first_meets
+
+abbrev pub second_station : Station
+second_station = station (1 ∷ 2 ∷ []) second second_meets
+
+abbrev pub third_station : Station
+third_station = station (2 ∷ []) third third_meets
+
+abbrev pub chain : Network
+chain = record { stations = first_station ∷ second_station ∷ third_station ∷ []; frames = [] }
+
+abbrev pub first_place : Place
+first_place = record {
+  router = 0;
+  station = first_station;
+  down = 0;
+  next = hop_at 1 (address 10 0 1 2);
+  next_link = 1;
+  draw = 0;
+}
+
+abbrev pub second_place : Place
+second_place = record { router = 1; station = second_station; down = 0; next = hop_at 1 rp; next_link = 2; draw = 0 }
+
+abbrev pub third_place : Place
+third_place = record { router = 2; station = third_station; down = 0; next = hop_at 0 0; next_link = 0; draw = 0 }
+
+-- a host's report TO_EX of no source
+abbrev pub request : Record
+request = record { type = RecordType.ToExclude; group = group; sources = [] }
+
+abbrev pub report : Event
+report = frame 0 (igmp_packet_text (address 10 0 3 9) (address 224 0 0 22) (report_text (request ∷ [])))
+
+-- its host is served
+abbrev pub ChainIsServed : Type 0
+ChainIsServed = IsServedFrom chain group rp source 3 first_place second_place report (third_place ∷ [])
