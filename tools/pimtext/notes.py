@@ -2,7 +2,7 @@
 from collections import Counter, defaultdict
 from ipaddress import ip_address
 
-from pimtext import packets, printed, story, trees, words
+from pimtext import limit, packets, printed, story, trees, words
 from pimtext.faults import MOST_ROUTES, MOST_RPS, Judge, list_faults, route_fault, rp_fault
 from pimtext.printed import ANY
 
@@ -76,8 +76,19 @@ class Notes:
             return self.wrong_list(number, router, cause == "25")
         if cause == "27":
             return self.no_delivery(number, router)
+        if cause == "24":
+            return MEANINGS[cause] + self.taken_along(number, router)
         count = len(self.known[router].router.interfaces)
         return MEANINGS[cause] + (f", and it has {count}" if cause == "22" else "")
+
+    def taken_along(self, number, router):
+        """What a move that the limit refused says again of the router's facts."""
+        refused = [step for step in self.steps if (step.move, step.router, step.cause) == (number, router, "24")]
+        rows = list(dict.fromkeys(row for step in refused for row in limit.said_again(self.played, step)))
+        if not rows:
+            return ""
+        shown = ", ".join(map(limit.told, rows[:4])) + (" .." if len(rows) > 4 else "")
+        return f". It is refused whole, so what it says again isn't refreshed, and ends as if it hadn't come: {shown}"
 
     def wrong_list(self, number, router, is_routes):
         """What is wrong with the routes or ranges of a move."""

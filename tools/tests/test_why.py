@@ -402,6 +402,18 @@ class Odd(unittest.TestCase):
         said = self.noted(scenario.text_of(routers, [*moves, {"do": "settle"}]))
         self.assertTrue(any("move 129 (settle) stopped at its limit of 10000 deliveries" in note for note in said), said)
 
+    def test_what_a_refusal_by_the_limit_took_along_is_noted(self):
+        wanted = {
+            "a_join_that_names_too_much": "(*, 239.1.1.1) until 30.000 s, (*, 239.1.1.2) until 30.000 s",
+            "a_report_that_names_too_much": "(*, 239.1.1.1) until 25.000 s, (*, 239.1.1.2) until 25.000 s",
+            "a_stream_without_a_fact_is_cut": None,
+        }
+        for name, rows in wanted.items():
+            said = [note for note in self.noted((stored.DATA / f"{name}.toml").read_text()) if "refused 24 (Full)" in note]
+            with self.subTest(name):
+                self.assertEqual(len(said), 1)
+                self.assertEqual(said[0].partition("as if it hadn't come: ")[2], rows or "")
+
     def test_each_stored_run_can_be_noted(self):
         for path, lines in stored.played():
             text = path.read_text()
