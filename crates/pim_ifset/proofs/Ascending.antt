@@ -1,7 +1,7 @@
 -- The interfaces of a set, ascending: the first one and the others, and how many there are.
-use Rattle.std.proofs.Common.{◌≡◌, ◌≢◌, ℕ, zero, suc, ◌+◌, ◌*◌, ◌/◌, ◌%◌, ◌^◌, ◌<◌, ◌≤◌, Bool, true, false, not, ◌&&◌, ◌==◌, refl, ap, sym, ◌∙◌, arith, nat_lt, cond, add-one, List, [], ◌∷◌, filter, map, length, inl, inr, IsTrue, count_ones, bit_and, if◌then◌else◌}
+use Rattle.std.proofs.Common.{◌≡◌, ◌≢◌, ℕ, zero, suc, ◌+◌, ◌*◌, ◌/◌, ◌%◌, ◌^◌, ◌<◌, ◌≤◌, Bool, true, false, not, ◌&&◌, ◌==◌, refl, ap, sym, ◌∙◌, arith, nat_lt, cond, add-one, List, [], ◌∷◌, filter, map, length, inl, inr, IsTrue, count_ones, bit_and}
 use Rattle.std.specs.List.{range_with_len, list_all}
-use Rattle.std.specs.Int.{bit_at, from_bool, bit_not, trailing_zeros, w128}
+use Rattle.std.specs.Int.{bit_at, bit_not, trailing_zeros, w128}
 use Rattle.std.proofs.lemmas.List.{length-map}
 use Rattle.std.proofs.lemmas.Nat.{shr-shr, shr_below, ones_le_self}
 use Rattle.std.proofs.lemmas.Bool.{cases_order}
@@ -100,10 +100,6 @@ length_interfaces m t small = rw (length-map (passing_below (has (record { mask 
 pub interfaces_tunnel : (m : ℕ) (t u : Bool) → interfaces (record { mask = m; tunnel = t }) ≡ interfaces (record { mask = m; tunnel = u })
 unfolding interfaces has
 interfaces_tunnel m t u = refl
-
-pub one_or_none : (m : ℕ) (t : Bool) → count_ones m + from_bool t ≡ count_ones m + (if t then 1 else 0)
-one_or_none m true = refl
-one_or_none m false = refl
 
 pub length_interfaces_le : (m : ℕ) (t : Bool) → m < 2 ^ 120 → length (interfaces (record { mask = m; tunnel = t })) ≤ 120
 length_interfaces_le m t small = rw (length_interfaces m t small) (ones-le 120 m small)

@@ -1,3 +1,4 @@
 pub mod Ascending
 pub mod Masks
+pub mod Packing
 pub mod Sets

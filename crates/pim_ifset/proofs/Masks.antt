@@ -1,21 +1,21 @@
 -- Which interfaces are in the sets that the operations make, by the bits of their masks, and that the masks stay below 2 ^ 120.
-use Rattle.std.proofs.Common.{◌≡◌, ◌≢◌, ℕ, ◌-◌, ◌*◌, ◌/◌, ◌%◌, ◌^◌, ◌<◌, ◌≤◌, min, max, Bool, true, false, not, ◌&&◌, ◌||◌, ◌==◌, bit_and, bit_or, refl, ap, ◌∙◌, arith, inl, inr, nat_lt}
+use Rattle.std.proofs.Common.{◌≡◌, ◌≢◌, ℕ, ◌-◌, ◌*◌, ◌/◌, ◌%◌, ◌^◌, ◌<◌, ◌≤◌, min, max, Bool, true, false, not, ◌&&◌, ◌||◌, ◌==◌, bit_and, refl, ap, ◌∙◌, arith, inl, inr, nat_lt}
 use Rattle.std.specs.Int.{bit_at, bit_not, w128}
 use Rattle.std.proofs.Math.Nat.{pow-le-pow_right}
 use Rattle.std.proofs.Math.Pow.{pow-lt}
 use Rattle.std.proofs.lemmas.Bool.{cases_order}
-use Rattle.std.proofs.lemmas.Nat.Bits.{bit_at-lt, bit_at_and, bit_at_or, bit_at_not, bit_at-pow_same, bit_at-pow_other, bit_at_above, bit_at-zero, bit_at_ones, bit_at_ones_above, shr_and_one}
+use Rattle.std.proofs.lemmas.Nat.Bits.{bit_at-lt, bit_at_and, bit_at_not, bit_at-pow_same, bit_at-pow_other, bit_at_above, bit_at-zero, bit_at_ones, bit_at_ones_above, shr_and_one}
 use Rattle.std.proofs.lemmas.Bool.Decides.{nat_tests}
 use Rattle.std.proofs.lemmas.Grind.{one_shifted}
 use Rattle.pim_ifset.specs.Members.{has}
 
-max_test : (x y : ℕ) → x < 2 → y < 2 → (max x y == 1) ≡ (x == 1 || y == 1)
+pub max_test : (x y : ℕ) → x < 2 → y < 2 → (max x y == 1) ≡ (x == 1 || y == 1)
 max_test x y p q = grind (arith, nat_tests)
 
-min_test : (x y : ℕ) → x < 2 → y < 2 → (min x y == 1) ≡ (x == 1 && y == 1)
+pub min_test : (x y : ℕ) → x < 2 → y < 2 → (min x y == 1) ≡ (x == 1 && y == 1)
 min_test x y p q = grind (arith, nat_tests)
 
-not_test : (x : ℕ) → x < 2 → ((1 - x) == 1) ≡ not (x == 1)
+pub not_test : (x : ℕ) → x < 2 → ((1 - x) == 1) ≡ not (x == 1)
 not_test x p = grind (arith, nat_tests)
 
 -- a number is equal to itself
@@ -26,7 +26,7 @@ pub and_true : (b : Bool) → b ≡ (b && true)
 and_true true = refl
 and_true false = refl
 
-swapped : (a b : Bool) → (a || b) ≡ (b || a)
+pub swapped : (a b : Bool) → (a || b) ≡ (b || a)
 swapped true true = refl
 swapped true false = refl
 swapped false true = refl
@@ -41,10 +41,6 @@ has_empty t q = rw (bit_at-zero q)
 pub has_tunnel : (m : ℕ) (t u : Bool) (q : ℕ) → has (record { mask = m; tunnel = t }) q ≡ has (record { mask = m; tunnel = u }) q
 unfolding has
 has_tunnel m t u q = refl
-
-pub has_or : (a b : ℕ) (t u v : Bool) (q : ℕ) → has (record { mask = bit_or a b; tunnel = t }) q ≡ (has (record { mask = a; tunnel = u }) q || has (record { mask = b; tunnel = v }) q)
-unfolding has
-has_or a b t u v q = rw (bit_at_or a b q) (max_test (bit_at a q) (bit_at b q) (bit_at-lt a q) (bit_at-lt b q))
 
 pub has_and : (a b : ℕ) (t u v : Bool) (q : ℕ) → has (record { mask = bit_and a b; tunnel = t }) q ≡ (has (record { mask = a; tunnel = u }) q && has (record { mask = b; tunnel = v }) q)
 unfolding has
@@ -88,11 +84,6 @@ has_single k t q within = rw (shifted k within) (has_power k t q)
 pub has_without : (m k : ℕ) (t u : Bool) (q : ℕ) → m < 2 ^ 120 → k < 120 → has (record { mask = bit_and m (bit_not w128 (1 * 2 ^ k % 2 ^ 128)); tunnel = t }) q ≡ (has (record { mask = m; tunnel = u }) q && not (q == k))
 has_without m k t u q small within =
     has_and_not m (1 * 2 ^ k % 2 ^ 128) t u t q small (rw (shifted k within) (power_lt k within)) ∙ ap (λ b. has (record { mask = m; tunnel = u }) q && not b) (has_single k t q within)
-
--- one interface more
-pub has_with : (m k : ℕ) (t u : Bool) (q : ℕ) → k < 120 → has (record { mask = bit_or m (1 * 2 ^ k % 2 ^ 128); tunnel = t }) q ≡ (q == k || has (record { mask = m; tunnel = u }) q)
-has_with m k t u q within =
-    has_or m (1 * 2 ^ k % 2 ^ 128) t u t q ∙ ap (λ b. has (record { mask = m; tunnel = u }) q || b) (has_single k t q within) ∙ swapped (has (record { mask = m; tunnel = u }) q) (q == k)
 
 -- an interface that no set has is in none, and without it a set is as it was
 pub has_but_above : (m k : ℕ) (t : Bool) (q : ℕ) → m < 2 ^ 120 → 120 ≤ k → has (record { mask = m; tunnel = t }) q ≡ (has (record { mask = m; tunnel = t }) q && not (q == k))

@@ -1,5 +1,5 @@
 -- Sets by their members: two with the same members are equal, and `set_of` has those that pass.
-use Rattle.std.proofs.Common.{◌≡◌, ◌≢◌, ℕ, zero, suc, ◌+◌, ◌-◌, ◌*◌, ◌^◌, ◌<◌, Bool, true, false, not, ◌&&◌, ◌==◌, refl, ap, sym, ◌∙◌, arith, nat_lt, if◌then◌else◌, cond, add-zero, inl, inr, IsTrue, ◌↔◌}
+use Rattle.std.proofs.Common.{◌≡◌, ◌≢◌, ℕ, zero, suc, ◌+◌, ◌-◌, ◌*◌, ◌^◌, ◌<◌, Bool, true, false, ◌&&◌, ◌==◌, refl, ap, sym, ◌∙◌, arith, nat_lt, if◌then◌else◌, cond, add-zero, inl, inr}
 use Rattle.std.specs.Int.{bit_at}
 use Rattle.std.proofs.Math.Nat.{pow-suc}
 use Rattle.std.proofs.lemmas.Nat.Bits.{bit_at-lt, bit_at_above, bit_at-zero, bit_at_cat_low, bit_at_cat_high, same_from_bits}
@@ -74,14 +74,5 @@ pub has_set_of : (p : ℕ → Bool) (t : Bool) (q : ℕ) → has (set_of p t) q 
 unfolding set_of
 has_set_of p t q = has_mask_of p 120 t q
 
--- no bit is set: nothing is in the set where the tunnel is out
-pub empty_without_bits : (t : Bool) → IsTrue (not t) ↔ (((q : ℕ) → has (record { mask = 0; tunnel = t }) q ≡ false) × (t ≡ false))
-empty_without_bits true = (λ h. grind arith, λ h. grind (arith, h.1))
-empty_without_bits false = (λ h. (has_empty false, refl), λ h. grind arith)
-
-no_bits : (m : ℕ) (t : Bool) → ((q : ℕ) → has (record { mask = m; tunnel = t }) q ≡ false) → m ≡ 0
+pub no_bits : (m : ℕ) (t : Bool) → ((q : ℕ) → has (record { mask = m; tunnel = t }) q ≡ false) → m ≡ 0
 no_bits m t none = ap (λ s. s.mask) (same_members (record { mask = m; tunnel = t }) (record { mask = 0; tunnel = t }) (λ q. none q ∙ sym (has_empty t q)) refl)
-
--- some bit is set: something is in the set
-pub not_empty_with_bits : (m : ℕ) (t : Bool) → m ≢ 0 → IsTrue (m == 0) ↔ (((q : ℕ) → has (record { mask = m; tunnel = t }) q ≡ false) × (t ≡ false))
-not_empty_with_bits m t some = (λ h. absurd (some (grind (arith, nat_tests))), λ h. absurd (some (no_bits m t h.0)))

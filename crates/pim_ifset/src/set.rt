@@ -1,4 +1,4 @@
-//! A set of interfaces and of the register tunnel, as a mask of 120 bits and a flag.
+//! A set of interfaces and of the register tunnel, as one number: a bit for each interface, and the highest for the tunnel.
 ghost use Rattle.std.specs.Prelude.{◌≡◌, ◌↔◌, ◌+◌, ◌<◌, ◌≤◌, ◌==◌, ◌&&◌, ◌||◌, ℕ, Bool, true, false, not, length, nat_lt, IsTrue, if◌then◌else◌};
 ghost use Rattle.std.specs.List.{list_all};
 
@@ -9,21 +9,26 @@ use std::marker::Model;
 /// A set of interfaces, by their numbers 0 to 119, and of the register tunnel.
 #[derive(Clone, Copy, Default)]
 pub struct IfSet {
+    // The register tunnel is the highest bit.
     mask: u128,
-    tunnel: bool,
 }
 
+// The bit of the register tunnel.
+const TUNNEL: u128 = 1 << 127;
+
 impl Model for IfSet {
-    ghost use Rattle.std.specs.Prelude.{◌<◌, ◌^◌};
     ghost use Rattle.pim_ifset.specs.Members.{Members};
+    ghost use Rattle.pim_ifset.specs.Packed.{IsPacked, packed, unpacked};
 
     ghost Value = { Members };
 
-    ghost view = { λ a. record { mask = a.mask; tunnel = a.tunnel } };
+    ghost view = { λ a. unpacked a.mask };
 
-    ghost invariant = { λ a. a.mask < 2 ^ 120 };
+    ghost invariant = { λ a. IsPacked a.mask };
 
-    ghost inverse = { λ s. record { mask = s.mask; tunnel = s.tunnel } };
+    ghost inverse = { λ s. record { mask = packed s } };
+
+    ghost inverse_ok = { λ a held i. record { mask = held.0 i } };
 }
 
 impl IfSet {
@@ -47,10 +52,7 @@ impl IfSet {
         ensures tunnel { result.tunnel ≡ false }
     {
         let mask = (1 << number) - 1;
-        IfSet {
-            mask,
-            ..IfSet::new()
-        }
+        IfSet { mask }
     }
 
     /// Whether the interface is in the set; none above 119 is.
@@ -86,7 +88,6 @@ impl IfSet {
     {
         IfSet {
             mask: self.mask | other.mask,
-            tunnel: self.tunnel || other.tunnel,
         }
     }
 
@@ -97,7 +98,6 @@ impl IfSet {
     {
         IfSet {
             mask: self.mask & !other.mask,
-            tunnel: self.tunnel && !other.tunnel,
         }
     }
 
@@ -108,7 +108,6 @@ impl IfSet {
     {
         IfSet {
             mask: self.mask & other.mask,
-            tunnel: self.tunnel && other.tunnel,
         }
     }
 
@@ -116,14 +115,14 @@ impl IfSet {
     pub fn is_empty(self) -> bool
         ensures { IsTrue result ↔ (((q : ℕ) → has self q ≡ false) × (self.tunnel ≡ false)) }
     {
-        self.mask == 0 && !self.tunnel
+        self.mask == 0
     }
 
     /// How many there are in the set: its interfaces, and the tunnel where it is in.
     pub fn len(self) -> usize
         ensures { result ≡ length (interfaces self) + (if self.tunnel then 1 else 0) }
     {
-        self.mask.count_ones() as usize + usize::from(self.tunnel)
+        self.mask.count_ones() as usize
     }
 
     /// The interfaces in the set, ascending.
@@ -132,14 +131,14 @@ impl IfSet {
         ensures limit { length result ≤ 120 }
         ensures each { IsTrue (list_all (λ iface. nat_lt iface.number 120 && has self iface.number) result) }
     {
-        Iter::over(self.mask)
+        Iter::over(self.mask & !TUNNEL)
     }
 
     /// Whether the register tunnel is in the set.
     pub fn has_tunnel(self) -> bool
         ensures { result ≡ self.tunnel }
     {
-        self.tunnel
+        self.mask & TUNNEL != 0
     }
 
     /// Puts the register tunnel in, or takes it out.
@@ -147,7 +146,11 @@ impl IfSet {
         ensures interfaces { (q : ℕ) → has self.new q ≡ has self.old q }
         ensures tunnel { self.new.tunnel ≡ tunnel }
     {
-        *self = IfSet { tunnel, ..*self };
+        if tunnel {
+            self.mask |= TUNNEL;
+        } else {
+            self.mask &= !TUNNEL;
+        }
     }
 
     /// The same interfaces, without the register tunnel.
@@ -159,8 +162,7 @@ impl IfSet {
         ensures limit { (q : ℕ) → has result q ≡ (nat_lt q 120 && has self q) }
     {
         IfSet {
-            tunnel: false,
-            ..self
+            mask: self.mask & !TUNNEL,
         }
     }
 }
