@@ -250,7 +250,7 @@ class Network:
     def tree(self, group, source=ANY):
         """The tree of a group and all sources, or of one, a host or an address, as it stands at the present."""
         known = trees.known(self.player.played, self.player.told, self.tables())
-        return tree_of(known, trees.priorities_of(self.player.played), group, getattr(source, "address", source))
+        return tree_of(known, group, getattr(source, "address", source))
 
     def packets(self, kind=None):
         """What routers sent, in order, all or of one kind: a class of pimtext.packets, as Register."""

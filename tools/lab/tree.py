@@ -41,11 +41,11 @@ class Tree:
         return "\n".join([tree_name(self.group, self.source), *(rows or ["  nobody has joined it"])])
 
 
-def tree_of(known, priorities, group, source=ANY):
+def tree_of(known, group, source=ANY):
     """The tree by what the routers know."""
     incoming, outgoing = {}, {}
     for name, state in known.items():
-        for branch in trees.branches(state, priorities):
+        for branch in trees.branches(state):
             if (branch.group, branch.source) == (group, source):
                 interfaces = state.router.interfaces
                 incoming[name] = None if branch.incoming is None else interfaces[branch.incoming].link

@@ -149,6 +149,10 @@ def is_host(address):
     return 0 < address < MULTICAST
 
 
+def is_group(address):
+    return MULTICAST <= address <= 0xEFFF_FFFF
+
+
 def mask(length):
     return (BELOW - 1) << (32 - length) & (BELOW - 1)
 

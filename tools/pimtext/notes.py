@@ -1,9 +1,10 @@
 """What a reader would wonder about in the run of a scenario, each note with its line in the file."""
-from collections import Counter, defaultdict
+from collections import Counter
 from ipaddress import ip_address
 
 from pimtext import limit, packets, printed, story, trees, words
 from pimtext.faults import MOST_ROUTES, MOST_RPS, Judge, list_faults, route_fault, rp_fault
+from pimtext.mistakes import Mistakes, ethernet_bytes
 from pimtext.printed import ANY
 
 # No Hello waits longer after `up`, in ms.
@@ -36,22 +37,37 @@ MEANINGS = {
 }
 
 
-class Notes:
-    """A run beside its file: `judge` read the file, and `played` is the same as a scenario."""
+class Lines:
+    """Where moves, routers and interfaces stand in the file that `judge` read."""
 
-    def __init__(self, judge, played, lines):
-        self.judge, self.played = judge, played
+    def __init__(self, judge):
+        self.moves = [table.line for table in judge.moves]
+        self.routers = {made["table"].get("name").held: made for made in judge.routers}
+
+    def move(self, number):
+        return self.moves[number - 1]
+
+    def router(self, name):
+        return self.routers[name]["line"]
+
+    def interface(self, name, number):
+        return self.routers[name]["ifaces"][number].line
+
+
+class Notes:
+    """A run beside its file: `judge` read the file, `played` is the same as a scenario, and `places` says the lines."""
+
+    def __init__(self, judge, played, lines, places=None):
+        self.judge, self.played, self.places = judge, played, places or Lines(judge)
         self.steps, self.tables = story.played(played, lines)
         self.known = trees.known(played, self.steps, self.tables)
         self.sent = [sent for step in self.steps for sent in step.sent]
 
     def at_move(self, number, text):
-        line, kind = self.judge.moves[number - 1].line, self.played.moves[number - 1]["do"]
-        return f"{line}: move {number} ({kind}){text}"
+        return self.places.move(number), f"move {number} ({self.played.moves[number - 1]['do']}){text}"
 
     def at_router(self, name, text):
-        line = next(made["line"] for made in self.judge.routers if made["table"].get("name").held == name)
-        return f"{line}: router {name}{text}"
+        return self.places.router(name), f"router {name}{text}"
 
     # ---- moves that were refused or ignored, and settles that stopped
 
@@ -79,6 +95,9 @@ class Notes:
         if cause == "24":
             return MEANINGS[cause] + self.taken_along(number, router)
         count = len(self.known[router].router.interfaces)
+        size = ethernet_bytes(bytes.fromhex(self.played.moves[number - 1].get("hex", ""))) if len(cause) == 1 else 0
+        if size:
+            return f"the bytes begin with an Ethernet header: leave out its {size} bytes, the first {2 * size} digits"
         return MEANINGS[cause] + (f", and it has {count}" if cause == "22" else "")
 
     def taken_along(self, number, router):
@@ -162,16 +181,20 @@ class Notes:
             return "no RP range has the group, so it sends no Join"
         if known.router.has(root):
             return None
-        iface, hop = path(known, root)
-        if iface is None:
-            return f"it has no route to {what} {root}, so it sends no Join"
-        if iface not in known.up:
-            return f"its interface {iface}, which leads to {what} {root}, is down, so it sends no Join"
-        is_there = known.of(printed.Neighbour, iface=iface, address=hop) or (row.source != ANY and hop == root)
-        # Where the router lost an assert, the Join goes to the winner.
-        if is_there or known.of(printed.AssertState, iface=iface, group=row.group, source=row.source, role="loser"):
+        path = trees.route(known, root)
+        if path is None:
+            return self.no_route(known, what, root)
+        if (row.source != ANY and path.is_connected) or trees.upstream_neighbour(known, row.group, row.source):
             return None
-        return f"{hop} on interface {iface}, towards {what} {root}, is no neighbour: no Hello of it is there, so it sends no Join"
+        where = f"{path.next_hop} on interface {path.iface}, towards {what} {root}"
+        return f"{where}, is no neighbour: no Hello of it is there, so it sends no Join"
+
+    @staticmethod
+    def no_route(known, what, root):
+        found = trees.longest([(route.prefix, route) for route in known.routes], ip_address(root))
+        if found is None:
+            return f"it has no route to {what} {root}, so it sends no Join"
+        return f"its interface {found.iface}, which leads to {what} {root}, is down, so it sends no Join"
 
     # ---- packets that nobody took
 
@@ -187,22 +210,11 @@ class Notes:
             yield self.at_move(len(self.played.moves), f": {reach} nobody, since no settle or deliver comes after: {shown}")
 
 
-def path(known, address):
-    """Interface and next hop towards an address: over a link that is up, else by the longest route."""
-    for interface in known.router.interfaces:
-        if interface.number in known.up and ip_address(address) in interface.own.network:
-            return interface.number, address
-    found = trees.longest([(route.prefix, route) for route in known.routes], ip_address(address))
-    return (found.iface, found.next_hop) if found else (None, None)
-
-
-def notes(judge, played, lines):
-    """The notes of a run, each `LINE: text`, in the order of the moves, then of the routers."""
-    found = Notes(judge, played, lines)
-    by_router = defaultdict(list)
-    for note in (*found.routers(), *found.trees()):
-        by_router[int(note.partition(":")[0])].append(note)
-    yield from found.moves()
-    for line in sorted(by_router):
-        yield from by_router[line]
-    yield from found.undelivered()
+def notes(judge, played, lines, places=None):
+    """The notes of a run, each `LINE: text`, by the lines of the moves, then by those of the routers."""
+    found = Notes(judge, played, lines, places)
+    mistakes = Mistakes(played, found.steps, found.known, found.places)
+    moves = [*found.moves(), *mistakes.of_moves()]
+    routers = [*found.routers(), *found.trees(), *mistakes.of_routers()]
+    for part in (moves, routers, found.undelivered()):
+        yield from (f"{line}: {text}" for line, text in sorted(part, key=lambda note: note[0]))

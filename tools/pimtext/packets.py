@@ -8,6 +8,7 @@ from dataclasses import dataclass
 
 SHORT, VERSION, CHECKSUM, LENGTH, ADDRESS, GROUP, OLD, UNKNOWN, FRAGMENT = range(1, 10)
 IGMP, UDP, PIM = 2, 17, 103
+ALL_PIM_ROUTERS = bytes((224, 0, 0, 13))
 # The longest packet that comes on a link, and the longest one that comes as a unicast: a Register with such a one in it.
 MOST_IN_A_FRAME, MOST_IN_A_UNICAST = 1500, 1528
 HELLO, REGISTER, REGISTER_STOP, JOIN_PRUNE, ASSERT = 0, 1, 2, 3, 5
@@ -50,6 +51,11 @@ def is_multicast(data):
 
 def is_host(data):
     return data[0] < 224 and any(data)
+
+
+def is_pim(data, kind):
+    """Whether a whole packet on a link is a PIM message of this type."""
+    return data[9] == PIM and data[16:20] == ALL_PIM_ROUTERS and data[4 * (data[0] & 15)] & 15 == kind
 
 
 # ---- what packets say
@@ -340,6 +346,12 @@ def read(data, limit=MOST_IN_A_UNICAST):
     return Packet(**head, body=reader(content)) if reader else data_packet(head, content)
 
 
+def read_on_link(data):
+    """The same as a router takes it on a link: what claims to be PIM and goes to another group than that of all routers is data."""
+    is_data = data[9:10] == bytes([PIM]) and data[16:20] != ALL_PIM_ROUTERS
+    return read_data(data) if is_data else read(data, MOST_IN_A_FRAME)
+
+
 def read_data(data):
     """The same, whatever it carries: a copy that a router forwards is data."""
     return data_packet(*read_header(data, MOST_IN_A_FRAME))
@@ -391,3 +403,49 @@ def write_data(source, group, payload, ttl=16, port=5000):
     body = port.to_bytes(2, "big") * 2 + size.to_bytes(2, "big") + b"\0\0" + payload
     pseudo = octets(source) + octets(group) + bytes([0, UDP]) + size.to_bytes(2, "big")
     return write(UDP, source, group, ttl, with_number(body, 6, sum16(pseudo + body) or 0xFFFF))
+
+
+def write_pim(kind, source, destination, ttl, content):
+    """A PIM message; the checksum of a Register is over its first 8 bytes."""
+    body = bytes([0x20 | kind, 0, 0, 0]) + content
+    return write(PIM, source, destination, ttl, with_number(body, 2, sum16(body[:8] if kind == REGISTER else body)))
+
+
+def write_to_routers(kind, source, content):
+    return write_pim(kind, source, dotted(ALL_PIM_ROUTERS), 1, content)
+
+
+def encoded_unicast(address):
+    return b"\1\0" + octets(address)
+
+
+def encoded_group(group, mask):
+    return bytes([1, 0, 0, mask]) + octets(group)
+
+
+def encoded_source(entry):
+    return bytes([1, 0, 4 | 2 * entry.wildcard | entry.rpt, entry.mask]) + octets(entry.source)
+
+
+def write_hello(source, hello):
+    """With the options that are there; the delays are one option."""
+    options = [(1, 2, hello.holdtime), (19, 4, hello.priority), (20, 4, hello.generation)]
+    if hello.propagation is not None:
+        options.insert(1, (2, 4, hello.propagation << 16 | hello.override))
+    told = [number for number in options if number[2] is not None]
+    content = b"".join(bytes([0, code, 0, size]) + value.to_bytes(size, "big") for code, size, value in told)
+    return write_to_routers(HELLO, source, content)
+
+
+def write_join_prune(source, upstream, groups, holdtime=210):
+    content = encoded_unicast(upstream) + bytes([0, len(groups)]) + holdtime.to_bytes(2, "big")
+    for group in groups:
+        content += encoded_group(group.group, group.mask) + bytes([0, len(group.joins), 0, len(group.prunes)])
+        content += b"".join(map(encoded_source, (*group.joins, *group.prunes)))
+    return write_to_routers(JOIN_PRUNE, source, content)
+
+
+def write_assert(source, told):
+    preference = told.rpt << 31 | told.preference
+    content = encoded_group(told.group, told.mask) + encoded_unicast(told.source)
+    return write_to_routers(ASSERT, source, content + preference.to_bytes(4, "big") + told.metric.to_bytes(4, "big"))

@@ -71,12 +71,14 @@ class Route:
     prefix: IPv4Network
     next_hop: str
     iface: int
+    preference: int = 0
+    metric: int = 0
 
 
 def routes_of(texts):
     """Routes as they stand in the file."""
     rows = [text.split() for text in texts]
-    return [Route(ip_network(prefix), hop, int(iface)) for prefix, hop, iface, *_ in rows]
+    return [Route(ip_network(prefix), hop, *map(int, numbers)) for prefix, hop, *numbers in rows]
 
 
 def rps_of(texts):

@@ -46,6 +46,12 @@ class Step:
     def is_settle(self):
         return self.did is not None and self.did["do"] == "settle"
 
+    def taken(self):
+        """The bytes of the packet that came, None where none did."""
+        if self.brought is not None:
+            return self.brought.data
+        return bytes.fromhex(self.did["hex"]) if self.did is not None and "hex" in self.did else None
+
 
 @dataclass
 class Tables:

@@ -1,11 +1,12 @@
-"""The trees that stand by the printed tables: which interfaces carry a group's or a source's packets at each router.
+"""What a router makes of its facts: routes, RPs, DRs, and which interfaces carry a group's or a source's packets.
 
-This is computed from the tables, the routes and the RP ranges, as RFC 7761 has it in 4.1.6, by code of its own.
+This is computed from the printed tables, the routes, the RP ranges and the Hellos that came, as RFC 7761 has it in 4.1.5, 4.1.6
+and 4.3.2, by code of its own. A set of interfaces is a set of their numbers; the register tunnel is in none.
 """
-from dataclasses import dataclass
+from dataclasses import dataclass, field
 from ipaddress import ip_address, ip_network
 
-from pimtext import printed, scenario
+from pimtext import packets, printed, scenario
 from pimtext.printed import ANY
 
 SOURCE_SPECIFIC = ip_network("232.0.0.0/8")
@@ -13,15 +14,41 @@ SOURCE_SPECIFIC = ip_network("232.0.0.0/8")
 
 @dataclass
 class Known:
-    """A router with what it knows: its rows, the interfaces that are up, and its routes and RP ranges after all moves."""
+    """A router with what it knows: its rows, the interfaces that are up, its routes and RP ranges after all moves, and what its
+    neighbours said by their last Hello, by interface and address."""
     router: scenario.Router
     rows: list
     up: set
     routes: list
     rps: list
+    hellos: dict = field(default_factory=dict)
 
     def of(self, table, /, **values):
         return printed.rows_of(self.rows, table, **values)
+
+    def interfaces_up(self):
+        return [each for each in self.router.interfaces if each.number in self.up]
+
+    def link(self, number):
+        return self.router.interfaces[number].link
+
+
+@dataclass(frozen=True)
+class Path:
+    """A route to an address."""
+    iface: int
+    next_hop: str
+    is_connected: bool
+    preference: int = 0
+    metric: int = 0
+
+
+@dataclass(frozen=True)
+class Hop:
+    """An upstream neighbour; `is_winner` where it is one as the winner of an assert."""
+    iface: int
+    address: str
+    is_winner: bool = False
 
 
 @dataclass(frozen=True)
@@ -37,26 +64,35 @@ def known(played, steps, tables):
     """What each router knows after the steps of a run, by the tables at its end."""
     found = {router.name: Known(router, [], set(), router.routes, router.rps) for router in played.routers}
     for step in steps:
-        if step.verdict == "done" and step.did is not None and not step.is_settle():
-            follow(found[step.router], step.did)
+        if step.verdict == "done" and step.did is not None:
+            follow(found[step.router], step)
     for name, table in tables.items():
         found[name].rows = table.rows
     return found
 
 
-def follow(state, did):
-    match did["do"]:
+def follow(state, step):
+    match step.did["do"]:
         case "up":
-            state.up.add(did["iface"])
+            state.up.add(step.iface)
         case "down":
-            state.up.discard(did["iface"])
+            state.up.discard(step.iface)
         case "routes":
-            state.routes = scenario.routes_of(did["list"])
+            state.routes = scenario.routes_of(step.did["list"])
         case "rps":
-            state.rps = scenario.rps_of(did["list"])
+            state.rps = scenario.rps_of(step.did["list"])
+        case "frame" | "deliver" | "settle":
+            hear(state, step.iface, step.taken())
 
 
-# ---- where a tree comes from
+def hear(state, iface, data):
+    """Keeps what a Hello says that came on an interface."""
+    if iface is not None and packets.is_pim(data, packets.HELLO):
+        packet = packets.read_on_link(data)
+        state.hellos[iface, packet.source] = packet.body
+
+
+# ---- where packets come from
 
 
 def longest(pairs, address):
@@ -65,85 +101,180 @@ def longest(pairs, address):
     return max(found, key=lambda pair: pair[0])[1] if found else None
 
 
+def is_source_specific(group):
+    return ip_address(group) in SOURCE_SPECIFIC
+
+
 def rp_of(state, group):
     """The RP of a group, None where it has none."""
-    group = ip_address(group)
-    return None if group in SOURCE_SPECIFIC else longest(state.rps, group)
+    return None if is_source_specific(group) else longest(state.rps, ip_address(group))
+
+
+def route(state, address):
+    """The route to an address: none to an own one, else over a link, else the longest route where its interface is up."""
+    if address is None or state.router.has(address):
+        return None
+    wanted = ip_address(address)
+    for interface in state.interfaces_up():
+        if wanted in interface.own.network:
+            return Path(interface.number, address, True)
+    found = longest([(each.prefix, each) for each in state.routes], wanted)
+    if found is None or found.iface not in state.up:
+        return None
+    return Path(found.iface, found.next_hop, False, found.preference, found.metric)
 
 
 def rpf_interface(state, address):
     """The interface towards an address; None for no address, an own one, and one without a route."""
-    if address is None or state.router.has(address):
-        return None
-    connected = [(each.own.network, each.number) for each in state.router.interfaces if each.number in state.up]
-    return longest(connected + [(route.prefix, route.iface) for route in state.routes], ip_address(address))
+    path = route(state, address)
+    return None if path is None else path.iface
+
+
+def is_connected(state, source):
+    path = route(state, source)
+    return path is not None and path.is_connected
+
+
+def root_of(state, group, source):
+    """Where a tree has its root: the RP, or the source."""
+    return rp_of(state, group) if source == ANY else source
 
 
 def upstream_interface(state, group, source):
-    return rpf_interface(state, rp_of(state, group) if source == ANY else source)
+    return rpf_interface(state, root_of(state, group, source))
 
 
-# ---- where it goes
+def upstream_neighbour(state, group, source):
+    """RPF' of a tree: the winner of an assert on its interface, else the next hop where it is a neighbour; or None."""
+    path = route(state, root_of(state, group, source))
+    if path is None:
+        return None
+    for row in state.of(printed.AssertState, iface=path.iface, group=group, source=source, role="loser"):
+        return Hop(path.iface, row.winner, True)
+    return Hop(path.iface, path.next_hop) if state.of(printed.Neighbour, iface=path.iface, address=path.next_hop) else None
 
 
-def is_dr(state, number, priorities):
-    """Highest priority first, then highest address, among the neighbours and the router itself."""
-    own = state.router.interfaces[number].address
-    others = [row.address for row in state.of(printed.Neighbour, iface=number)]
-    return max([own, *others], key=lambda address: (priorities.get(address, 1), ip_address(address))) == own
+# ---- who serves a link
 
 
-def joins(state, group, source, kind):
-    states = ("prune",) if kind == "rpt" else ("join", "pending")
-    rows = state.of(printed.Downstream, group=group, source=source, kind=kind)
-    return {row.iface for row in rows if row.state in states}
+def neighbours_on(state, number):
+    """The addresses of the neighbours on an interface, with what they said."""
+    rows = state.of(printed.Neighbour, iface=number)
+    return {row.address: state.hellos.get((number, row.address), packets.Hello()) for row in rows}
+
+
+def dr_of(state, number):
+    """The address of an interface's DR: the highest priority, where all neighbours tell one, then the highest address."""
+    own, others = state.router.interfaces[number], neighbours_on(state, number)
+    priorities = {own.address: own.priority, **{address: said.priority for address, said in others.items()}}
+    is_told = None not in priorities.values()
+    return max(priorities, key=lambda address: (priorities[address] if is_told else 0, ip_address(address)))
+
+
+def is_dr(state, number):
+    return dr_of(state, number) == state.router.interfaces[number].address
 
 
 def assert_roles(state, group, source, role):
     return {row.iface for row in state.of(printed.AssertState, group=group, source=source, role=role)}
 
 
-def may_serve(state, group, source, priorities):
+def has_spt_bit(state, group, source):
+    return bool(state.of(printed.Active, group=group, source=source, spt="spt"))
+
+
+def lost_shared(state, group):
+    """lost_assert(*,G)"""
+    return assert_roles(state, group, ANY, "loser") - {upstream_interface(state, group, ANY)}
+
+
+def lost_pruned(state, group, source):
+    """lost_assert(S,G,rpt)"""
+    kept = {upstream_interface(state, group, ANY)}
+    if has_spt_bit(state, group, source):
+        kept.add(rpf_interface(state, source))
+    return assert_roles(state, group, source, "loser") - kept
+
+
+def lost_source(state, group, source):
+    """lost_assert(S,G), as at rest: there a loser's winner is better than the router."""
+    return assert_roles(state, group, source, "loser") - {rpf_interface(state, source)}
+
+
+def served(state, group, source):
     """The interfaces whose hosts are the router's: it is the DR and hasn't lost, or it won the assert."""
-    lost = assert_roles(state, group, source, "loser")
-    won = assert_roles(state, group, source, "winner")
-    numbers = range(len(state.router.interfaces))
-    return {number for number in numbers if number in won or (number not in lost and is_dr(state, number, priorities))}
+    lost = lost_shared(state, group) if source == ANY else lost_source(state, group, source)
+    drs = {each.number for each in state.router.interfaces if is_dr(state, each.number)}
+    return (drs - lost) | assert_roles(state, group, source, "winner")
 
 
-def group_hosts(state, group):
-    return {row.iface for row in state.of(printed.GroupRecord, group=group, mode="exclude")}
+# ---- where packets go
 
 
-def source_hosts(state, group, source, is_wanted):
-    """The interfaces with a host that names the source: as one that it wants, or doesn't."""
+def joins(state, group, source):
+    """joins(*,G), joins(S,G)"""
+    kind = "g" if source == ANY else "sg"
+    return {row.iface for row in state.of(printed.Downstream, group=group, source=source, kind=kind)}
+
+
+def prunes(state, group, source):
+    """prunes(S,G,rpt)"""
+    return {row.iface for row in state.of(printed.Downstream, group=group, source=source, kind="rpt", state="prune")}
+
+
+def hosts(state, group, source):
+    """The interfaces with hosts that want every source of a group, or this one, whoever serves them."""
+    mode = "exclude" if source == ANY else "include"
+    found = {row.iface for row in state.of(printed.GroupRecord, group=group, mode=mode)}
+    return found if source == ANY else found & named_by_hosts(state, group, source, True)
+
+
+def named_by_hosts(state, group, source, is_wanted):
+    """The interfaces with a record of the source: as one that hosts want, or as one that they exclude."""
     rows = state.of(printed.SourceRecord, group=group, source=source)
     return {row.iface for row in rows if (row.end is not None) == is_wanted}
 
 
-def shared_outgoing(state, group, priorities):
-    hosts = group_hosts(state, group) & may_serve(state, group, ANY, priorities)
-    return (joins(state, group, ANY, "g") | hosts) - assert_roles(state, group, ANY, "loser")
+def included(state, group, source):
+    """pim_include(*,G), pim_include(S,G)"""
+    return hosts(state, group, source) & served(state, group, source)
 
 
-def source_outgoing(state, group, source, priorities):
-    excluded = (source_hosts(state, group, source, False) & group_hosts(state, group)) - joins(state, group, ANY, "g")
-    shared = shared_outgoing(state, group, priorities) - joins(state, group, source, "rpt") - excluded
-    hosts = source_hosts(state, group, source, True) & may_serve(state, group, source, priorities)
-    return (shared | joins(state, group, source, "sg") | hosts) - assert_roles(state, group, source, "loser")
+def excluded(state, group, source):
+    """pim_exclude(S,G)"""
+    return included(state, group, ANY) & named_by_hosts(state, group, source, False)
 
 
-def priorities_of(played):
-    """DR priorities by address."""
-    return {each.address: each.priority for router in played.routers for each in router.interfaces}
+def shared_outgoing(state, group):
+    """immediate_olist(*,G)"""
+    return (joins(state, group, ANY) | included(state, group, ANY)) - lost_shared(state, group)
 
 
-def branches(state, priorities):
+def immediate_outgoing(state, group, source):
+    """immediate_olist(S,G)"""
+    return (joins(state, group, source) | included(state, group, source)) - lost_source(state, group, source)
+
+
+def pruned_outgoing(state, group, source):
+    """inherited_olist(S,G,rpt)"""
+    here = joins(state, group, ANY) - prunes(state, group, source)
+    here |= included(state, group, ANY) - excluded(state, group, source)
+    return here - lost_shared(state, group) - lost_pruned(state, group, source)
+
+
+def source_outgoing(state, group, source):
+    """inherited_olist(S,G)"""
+    here = pruned_outgoing(state, group, source) | joins(state, group, source) | included(state, group, source)
+    return here - lost_source(state, group, source)
+
+
+def outgoing(state, group, source):
+    return shared_outgoing(state, group) if source == ANY else source_outgoing(state, group, source)
+
+
+def branches(state):
     """A branch for each tree that the router has joined."""
     for row in state.of(printed.Upstream):
-        if row.source == ANY:
-            outgoing = shared_outgoing(state, row.group, priorities)
-        else:
-            outgoing = source_outgoing(state, row.group, row.source, priorities)
         incoming = upstream_interface(state, row.group, row.source)
-        yield Branch(row.group, row.source, incoming, frozenset(outgoing - {incoming}))
+        there = outgoing(state, row.group, row.source)
+        yield Branch(row.group, row.source, incoming, frozenset(there - {incoming}))

@@ -1,0 +1,54 @@
+"""What hosts said in a run: their reports and their data, as moves `frame` gave them to routers."""
+from dataclasses import dataclass
+
+from pimtext import packets, story
+from pimtext.packets import RECORD_KINDS
+from pimtext.printed import ANY
+
+IS_IN, IS_EX, TO_IN, TO_EX, ALLOW, BLOCK = RECORD_KINDS
+
+
+@dataclass(frozen=True)
+class Said:
+    """A packet that a router took as a host's, on an interface."""
+    step: story.Step
+    packet: packets.Packet
+
+    @property
+    def router(self):
+        return self.step.router
+
+    @property
+    def iface(self):
+        return self.step.iface
+
+    def is_report(self):
+        return isinstance(self.packet.body, packets.Report)
+
+    def is_data(self):
+        return isinstance(self.packet.body, packets.Data)
+
+    def wishes(self):
+        """What a report asks for: pairs of a group and a source, ANY where it asks for every source."""
+        return [pair for record in self.packet.body.records for pair in wished(record)] if self.is_report() else []
+
+
+def wished(record):
+    if record.kind in (IS_EX, TO_EX):
+        return [(record.group, ANY)]
+    return [(record.group, source) for source in record.sources] if record.kind in (IS_IN, TO_IN, ALLOW) else []
+
+
+def said(steps):
+    """What was given to the routers by `frame` and taken."""
+    for step in steps:
+        if step.did is not None and step.did["do"] == "frame" and step.verdict == "done":
+            yield Said(step, packets.read_on_link(step.taken()))
+
+
+def joined(steps):
+    """The groups and sources that Joins from outside the scenario ask for, in moves `frame`."""
+    for each in said(steps):
+        if isinstance(each.packet.body, packets.JoinPrune):
+            for group in each.packet.body.groups:
+                yield from ((group.group, ANY if entry.wildcard else entry.source) for entry in group.joins)

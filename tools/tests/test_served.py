@@ -1,0 +1,142 @@
+"""Whether a host is served: where its stream ends, and why."""
+import subprocess
+import sys
+import tempfile
+import unittest
+from pathlib import Path
+
+from pimtext import packets, scenario, served, story
+from tests import stored
+from tests.networks import ALLOW, GROUP, HOST, RP, SOURCE, SSM, TO_EX, Network, data, report, router
+
+
+def answer(network, *asked):
+    played = scenario.scenario_of({"router": network.routers, "move": network.moves()})
+    steps, tables = story.played(played, scenario.run_text(network.text()))
+    (answer,) = served.answers(played, steps, tables, *(asked or (HOST, GROUP, SOURCE)))
+    return answer
+
+
+class Served(unittest.TestCase):
+    def ends(self, network, why, *before, asked=()):
+        """The stream ends: the last line says why, and lines before it say these."""
+        lines, is_served = answer(network, *asked)
+        self.assertFalse(is_served, lines)
+        self.assertIn(f"{HOST} isn't served: {why}", lines[-1])
+        for text in before:
+            self.assertTrue(any(text in line for line in lines), (text, lines))
+
+    def test_hop_by_hop_to_a_host_that_is_served(self):
+        lines, is_served = answer(Network(), HOST)
+        self.assertTrue(is_served)
+        self.assertEqual(lines[0], f"({SOURCE}, {GROUP}) from studio to {HOST} on home")
+        self.assertEqual([line.split()[0] for line in lines[1:-1]], ["west", "hub", "east"])
+        self.assertIn(f"hub takes it on 0 west-hub, by the source's tree; sends it on 1 hub-east: Join ({SOURCE}, {GROUP})", lines[2])
+        self.assertIn(f"sends it on 1 home: hosts want (*, {GROUP})", lines[3])
+
+    def test_by_a_register_and_the_shared_tree(self):
+        network = Network(report(TO_EX, GROUP))
+        for made in network.routers:
+            made["spt"] = "never"
+        lines, is_served = answer(network, HOST, GROUP, SOURCE)
+        self.assertTrue(is_served, lines)
+        self.assertIn(f"registers it with hub ({RP})", lines[1])
+        self.assertIn("hub takes it in a Register; sends it on 1 hub-east", lines[2])
+
+    def test_by_a_source_tree(self):
+        lines, is_served = answer(Network(report(ALLOW, SSM, SOURCE)), HOST)
+        self.assertTrue(is_served, lines)
+
+    def test_nobody_asked(self):
+        self.ends(Network(data()), f"no router on home knows of a host that wants {GROUP}")
+        lines, is_served = answer(Network(data()), HOST)
+        self.assertEqual((lines, is_served), ([f"{HOST} has asked for no group in this run"], False))
+
+    def test_another_source_was_asked_for(self):
+        network = Network(report(ALLOW, SSM, "10.7.0.51"))
+        self.ends(network, f"hosts on home want {SSM} of 10.7.0.51 alone", asked=(HOST, SSM, SOURCE))
+
+    def test_the_source_is_blocked(self):
+        network = Network(report(TO_EX, GROUP, SOURCE), data())
+        self.ends(network, f"hosts on home want {GROUP}, but not of {SOURCE}")
+
+    def test_no_rp_at_the_hosts_router(self):
+        network = Network()
+        network.router("east")["rps"] = []
+        self.ends(network, f"east has no RP for {GROUP}", "west takes it on 0 studio")
+
+    def test_no_rp_at_the_sources_router(self):
+        network = Network()
+        network.router("west")["rps"] = []
+        self.ends(network, f"west, the DR of {SOURCE}, has no RP for {GROUP}", "hub waits for it")
+
+    def test_an_rp_that_does_not_know_that_it_is_one(self):
+        network = Network()
+        network.router("hub")["rps"] = []
+        self.ends(network, f"hub has no RP for {GROUP}", "west takes it on 0 studio; its Registers are stopped", "east waits for it")
+
+    def test_no_route(self):
+        network = Network()
+        network.router("east")["routes"] = []
+        self.ends(network, f"east has no route to the RP {RP}")
+
+    def test_no_neighbour(self):
+        network = Network()
+        network.router("east")["routes"][0] = "10.0.1.0/24 10.0.2.9 0 110 10"
+        self.ends(network, f"east sends no Join towards the RP {RP}: 10.0.2.9 on 0 hub-east is no neighbour")
+
+    def test_an_interface_that_is_down(self):
+        network = Network(report(TO_EX, GROUP), data(), {"do": "down", "router": "hub", "iface": 1})
+        self.ends(network, "hub has no interface on hub-east that is up", "west takes it on 0 studio", "east waits for it")
+
+    def test_not_the_dr(self):
+        network = Network()
+        network.routers.append(router("spare", [("home", "10.8.0.2/24")]))
+        self.ends(network, "east knows of its wish, but it isn't the DR, which is 10.8.0.2")
+
+    def test_pruned(self):
+        prune = packets.GroupEntries(GROUP, 32, (), (packets.Entry(SOURCE, 32, False, True),))
+        hexes = packets.write_join_prune("10.0.2.3", "10.0.2.2", [prune]).hex()
+        network = Network(report(TO_EX, GROUP), {"do": "frame", "router": "hub", "iface": 1, "hex": hexes})
+        network.routers[1]["spt"] = network.routers[2]["spt"] = "never"
+        network.said += [{"do": "advance", "router": "hub", "moment": 9000}]
+        self.ends(network, f"hub, on 1 hub-east: Prune ({SOURCE}, {GROUP}, rpt)", "hub takes it in a Register")
+
+    def test_no_join(self):
+        network = Network(report(TO_EX, GROUP), {"do": "advance", "router": "hub", "moment": 400_000})
+        self.ends(network, f"hub, on 1 hub-east: no Join for {GROUP} of east is there")
+
+    def test_a_lost_assert(self):
+        network = Network(report(TO_EX, GROUP), data())
+        network.routers[1]["spt"] = network.routers[2]["spt"] = "never"
+        hello = packets.write_hello("10.0.2.9", packets.Hello(105, 500, 2500, 1, 9))
+        wins = packets.write_assert("10.0.2.9", packets.Assert(GROUP, 32, SOURCE, False, 0, 0))
+        network.said += [{"do": "frame", "router": "hub", "iface": 1, "hex": each.hex()} for each in (hello, wins)]
+        self.ends(network, f"hub, on 1 hub-east: it lost the assert of ({SOURCE}, {GROUP}) to 10.0.2.9")
+
+
+class Asked(unittest.TestCase):
+    """`tools/why FILE --served`."""
+
+    def called(self, network, *words):
+        with tempfile.TemporaryDirectory() as room:
+            path = Path(room) / "net.toml"
+            path.write_text(network.text())
+            ran = subprocess.run([sys.executable, stored.TOOLS / "why", path, "--served", *words], capture_output=True, text=True)
+        return ran.returncode, ran.stdout, ran.stderr
+
+    def test_status_and_last_line(self):
+        status, out, err = self.called(Network(), HOST)
+        self.assertEqual((status, out.splitlines()[-1], err), (0, f"{HOST} is served", ""))
+        status, out, _ = self.called(Network(data()), HOST, GROUP)
+        self.assertEqual(status, 1)
+        self.assertIn(f"{HOST} isn't served: ", out)
+
+    def test_words_that_are_no_addresses(self):
+        for words, told in ((["home"], "home is no host's address"), ([HOST, SOURCE], f"{SOURCE} is no group's address")):
+            status, _, err = self.called(Network(), *words)
+            self.assertEqual((status, err), (1, f"tools/why: {told}\n"))
+
+
+if __name__ == "__main__":
+    unittest.main()
