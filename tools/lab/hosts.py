@@ -1,6 +1,7 @@
 """Hosts: what they want by IGMPv3, what they send, and what they received."""
 from dataclasses import dataclass, field
 
+from lab.lines import calling
 from lab.playing import Action
 from pimtext import packets
 
@@ -109,6 +110,10 @@ class Host:
         answers = [(group, answer(self.wishes[group], query)) for group in groups]
         return [record(told[0], group, told[1]) for group, told in answers if told]
 
+    def served(self, group, source):
+        """Whether it is served of a source, a host or an address, at the present; as a text, hop by hop how, or why not."""
+        return self.net.served(self, group, source)
+
     def send(self, group, payload=b"", ttl=16, after=0.0):
         """Sends a packet of data to a group, at the present or so many seconds later."""
         data = packets.write_data(self.address, group, payload, ttl)
@@ -137,6 +142,7 @@ class Speech(Action):
     def __init__(self, host, data):
         super().__init__()
         self.host, self.data = host, data
+        host.net.spoken.setdefault(data.hex(), calling())
         chance = host.net.chance
         self.ports = [(port, chance.getrandbits(32)) for port in host.link.ports if chance.random() >= host.link.loss]
 

@@ -1,20 +1,36 @@
 """A network: its routers, links and hosts, the packets between them, and time."""
 import random
+from dataclasses import dataclass
 from ipaddress import ip_network
 from itertools import count
 from pathlib import Path
 
 from lab.hosts import Host
+from lab.lines import Lines, calling
 from lab.playing import Action, Player
 from lab.topology import Link, Port, Router, routes
 from lab.traffic import HOSTS, START, Chances, Traffic
 from lab.tree import tree_of
-from pimtext import packets, trees, words
+from pimtext import notes, packets, scenario, served, toml_lines, trees, words
+from pimtext.faults import faults_of
 from pimtext.printed import ANY
 from pimtext.scenario import scenario_of, text_of
 
 MOST_ROUTERS = 64
 FIRST_HOST = 101
+
+
+@dataclass(frozen=True)
+class Served:
+    """Whether a host is served, and the lines that say how or why not."""
+    lines: list
+    is_served: bool
+
+    def __bool__(self):
+        return self.is_served
+
+    def __str__(self):
+        return "\n".join(self.lines)
 
 
 class Network:
@@ -28,6 +44,7 @@ class Network:
         self.routers, self.links, self.hosts, self.ranges, self.fixed = {}, {}, {}, [], {}
         self.now = self.present = self.stepped = 0
         self.player, self.sent, self.paths, self.odd = None, [], {}, []
+        self.made, self.spoken = calling(), {}
         self.traffic = Traffic(self, None, Chances(seed, tuple(round(1000 * seconds) for seconds in delay), reorder))
         self.settles = not (loss or reorder or delay[1])
 
@@ -249,8 +266,23 @@ class Network:
 
     def tree(self, group, source=ANY):
         """The tree of a group and all sources, or of one, a host or an address, as it stands at the present."""
-        known = trees.known(self.player.played, self.player.told, self.tables())
-        return tree_of(known, group, getattr(source, "address", source))
+        return tree_of(self.known(), group, getattr(source, "address", source))
+
+    def known(self):
+        """The same with what follows of the run: interfaces that are up, routes, RP ranges, Hellos."""
+        tables = self.tables()
+        return trees.known(self.player.played, self.player.told, tables)
+
+    def served(self, host, group, source):
+        """Whether a host is served of a source, a host or an address, at the present; as a text, hop by hop how, or why not."""
+        world, address = served.World(self.known()), getattr(source, "address", source)
+        return Served(*served.told(world, group, address, host.address, world.link_of(address), host.link.name))
+
+    def notes(self):
+        """What a reader would wonder about in the run, as `tools/why --run` has it, with the lines of the file that made it."""
+        text = self.scenario()
+        played = scenario_of(toml_lines.plain(toml_lines.read(text)))
+        return list(notes.notes(faults_of(text)[0], played, scenario.run_text(text), Lines(self)))
 
     def packets(self, kind=None):
         """What routers sent, in order, all or of one kind: a class of pimtext.packets, as Register."""

@@ -4,6 +4,7 @@ from dataclasses import dataclass, field
 from ipaddress import IPv4Network
 from itertools import count
 
+from lab.lines import Line, calling
 from pimtext.printed import Neighbour
 
 # Routes have OSPF's preference.
@@ -18,6 +19,7 @@ class Router:
     net: object = field(repr=False)
     ports: list = field(default_factory=list, repr=False)
     is_up: bool = True
+    made: Line = field(default_factory=calling, repr=False)
 
     def stop(self):
         """It falls silent at the present: all its interfaces go down, and other routers' routes go round it."""

@@ -21,9 +21,10 @@ def ethernet_bytes(data):
     return size if size and data[size - 2:size] == b"\x08\x00" and data[size:size + 1] == b"\x45" else 0
 
 
-def most(values):
-    """The one that comes most often, of equal ones the first."""
-    return Counter(values).most_common(1)[0][0] if values else None
+def most(values, is_better=lambda value: False):
+    """The one that comes most often, of equal ones a better one, else the first; None of none."""
+    times = Counter(values)
+    return max(times, key=lambda value: (times[value], is_better(value)), default=None)
 
 
 def some(names, count=3):
@@ -65,7 +66,7 @@ class Mistakes:
         other, unaware = defaultdict(list), defaultdict(list)
         for group in self.groups():
             by_name = {name: trees.rp_of(state, group) for name, state in self.known.items()}
-            usual = most([rp for rp in by_name.values() if rp])
+            usual = most([rp for rp in by_name.values() if rp], lambda rp: self.world.owner(rp) is not None)
             owner = self.world.owner(usual) if usual else None
             for name, rp in by_name.items():
                 if owner is self.known[name] and rp != usual:
@@ -73,7 +74,7 @@ class Mistakes:
                 elif rp and rp != usual:
                     other[name, rp, usual, next(each for each in by_name if by_name[each] == usual)].append(group)
         for (name, rp, usual, peer), groups in other.items():
-            told = f": the RP of {some(groups)} is {rp} here, and {usual} at router {peer} (line {self.lines.router(peer)})"
+            told = f": the RP of {some(groups)} is {rp} here, and {usual} at router {peer} ({self.lines.words(self.lines.router(peer))})"
             yield self.at_router(name, told)
         for (name, rp, usual), groups in unaware.items():
             whom = f" is the RP of {some(groups)} to other routers, by its address {usual}"
@@ -171,8 +172,8 @@ class Mistakes:
             router, there = next((router, each) for router, each in ports if each.own.network == usual)
             for other, interface in ports:
                 if interface.own.network != usual:
-                    line = self.lines.interface(router.name, there.number)
-                    both = f"it has {interface.own} on the link {link}, and router {router.name} has {there.own} (line {line})"
+                    line = self.lines.words(self.lines.interface(router.name, there.number))
+                    both = f"it has {interface.own} on the link {link}, and router {router.name} has {there.own} ({line})"
                     what = "masks" if usual.overlaps(interface.own.network) else "subnets"
                     yield self.at_interface(other, interface.number, f"{both}: two {what} on one link")
 

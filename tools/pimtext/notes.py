@@ -53,6 +53,10 @@ class Lines:
     def interface(self, name, number):
         return self.routers[name]["ifaces"][number].line
 
+    @staticmethod
+    def words(line):
+        return f"line {line}"
+
 
 class Notes:
     """A run beside its file: `judge` read the file, `played` is the same as a scenario, and `places` says the lines."""
@@ -211,10 +215,11 @@ class Notes:
 
 
 def notes(judge, played, lines, places=None):
-    """The notes of a run, each `LINE: text`, by the lines of the moves, then by those of the routers."""
+    """The notes of a run, each `LINE: text`, by the lines of the moves, then by those of the routers. Where `places` says
+    the lines, it is a network of tools/lab: packets that reach nobody are lost on purpose there."""
     found = Notes(judge, played, lines, places)
     mistakes = Mistakes(played, found.steps, found.known, found.places)
     moves = [*found.moves(), *mistakes.of_moves()]
     routers = [*found.routers(), *found.trees(), *mistakes.of_routers()]
-    for part in (moves, routers, found.undelivered()):
+    for part in (moves, routers, [] if places else found.undelivered()):
         yield from (f"{line}: {text}" for line, text in sorted(part, key=lambda note: note[0]))

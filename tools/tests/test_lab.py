@@ -1,4 +1,5 @@
 """Networks in Python: routes, hosts, lossy links, and the examples."""
+import inspect
 import subprocess
 import sys
 import tomllib
@@ -158,6 +159,41 @@ class Links(unittest.TestCase):
         numbers, _ = received(delay=(0.01, 0.1), reorder=0.5)
         self.assertNotEqual(numbers, list(range(1, 21)))
         self.assertEqual(sorted(numbers), list(range(1, 21)))
+
+
+class Odd(unittest.TestCase):
+    """What is odd in a network's run, with the line of this file that made it so."""
+
+    def test_nothing_is_odd_in_a_good_network(self):
+        self.assertEqual(small()[0].notes(), [])
+
+    def test_data_that_nobody_asked_for(self):
+        net, camera, _ = small()
+        camera.send("239.1.1.2")
+        line = inspect.currentframe().f_lineno - 1
+        net.run(5)
+        (note,) = net.notes()
+        self.assertTrue(note.startswith(f"test_lab.py:{line}: "), note)
+        self.assertIn(f"nobody asks for 239.1.1.2 in this run; asked for is {GROUP}", note)
+
+    def test_a_router_with_another_rp(self):
+        net = Network()
+        net.router("r1", rps=["239.0.0.0/8 10.9.9.9"])
+        line = inspect.currentframe().f_lineno - 1
+        net.line("r1", "r2")
+        net.rp("r2")
+        net.host("viewer", "r2").join(GROUP)
+        net.run(5)
+        self.assertTrue(any(note.startswith(f"test_lab.py:{line}: router r1: the RP of {GROUP} is 10.9.9.9") for note in net.notes()))
+
+    def test_a_host_is_served(self):
+        net, camera, viewer = small()
+        how = viewer.served(GROUP, camera)
+        self.assertTrue(how)
+        self.assertEqual(str(how).splitlines()[-1], f"{viewer.address} is served")
+        how = viewer.served("239.1.1.2", camera)
+        self.assertFalse(how)
+        self.assertIn("knows of a host that wants 239.1.1.2", str(how))
 
 
 class Examples(unittest.TestCase):

@@ -1,0 +1,49 @@
+"""Which line of a user's file made a router or a host, or had a host speak."""
+import sys
+from pathlib import Path
+from typing import NamedTuple
+
+HERE = Path(__file__).resolve().parent
+
+
+class Line(NamedTuple):
+    file: str
+    number: int
+
+    def __str__(self):
+        return f"{self.file}:{self.number}"
+
+
+def calling():
+    """The line from which the package was called."""
+    frame = sys._getframe(1)
+    while frame.f_back is not None and is_inside(frame.f_code.co_filename):
+        frame = frame.f_back
+    return Line(Path(frame.f_code.co_filename).name, frame.f_lineno)
+
+
+def is_inside(name):
+    """Whether code is the package's own, or was made for one of its data classes."""
+    return name.startswith("<") or Path(name).parent == HERE
+
+
+class Lines:
+    """Where the moves, routers and interfaces of a network come from, for the notes on its run."""
+
+    def __init__(self, net):
+        self.net = net
+
+    def move(self, number):
+        did = self.net.player.moves[number - 1] if number <= len(self.net.player.moves) else {}
+        spoken = self.net.spoken.get(did.get("hex"))
+        return spoken or self.router(did["router"]) if "router" in did else self.net.made
+
+    def router(self, name):
+        return self.net.routers[name].made
+
+    def interface(self, name, number):
+        return self.net.routers[name].made
+
+    @staticmethod
+    def words(line):
+        return str(line)
