@@ -1,11 +1,9 @@
 """What a reader would wonder about in the run of a scenario, each note with its line in the file."""
 from collections import Counter
-from ipaddress import ip_address
 
-from pimtext import limit, packets, printed, story, trees, words
+from pimtext import limit, packets, printed, reasons, story, trees, words
 from pimtext.faults import MOST_ROUTES, MOST_RPS, Judge, list_faults, route_fault, rp_fault
 from pimtext.mistakes import Mistakes, ethernet_bytes
-from pimtext.printed import ANY
 
 # No Hello waits longer after `up`, in ms.
 HELLO_DELAY = 5_000
@@ -174,31 +172,10 @@ class Notes:
     def trees(self):
         for name, known in self.known.items():
             for row in known.of(printed.Upstream):
-                why = self.why_alone(known, row)
+                why = reasons.why_no_join(known, row.group, row.source)
                 if why:
-                    yield self.at_router(name, f" has joined {words.tree(row.group, row.source)}, and {why}")
-
-    def why_alone(self, known, row):
-        """Why the Join of a tree reaches nobody, or None."""
-        root, what = (trees.rp_of(known, row.group), "the group's RP") if row.source == ANY else (row.source, "the source")
-        if root is None:
-            return "no RP range has the group, so it sends no Join"
-        if known.router.has(root):
-            return None
-        path = trees.route(known, root)
-        if path is None:
-            return self.no_route(known, what, root)
-        if (row.source != ANY and path.is_connected) or trees.upstream_neighbour(known, row.group, row.source):
-            return None
-        where = f"{path.next_hop} on interface {path.iface}, towards {what} {root}"
-        return f"{where}, is no neighbour: no Hello of it is there, so it sends no Join"
-
-    @staticmethod
-    def no_route(known, what, root):
-        found = trees.longest([(route.prefix, route) for route in known.routes], ip_address(root))
-        if found is None:
-            return f"it has no route to {what} {root}, so it sends no Join"
-        return f"its interface {found.iface}, which leads to {what} {root}, is down, so it sends no Join"
+                    told = f" has joined {words.tree(row.group, row.source)}, and {why}, so it sends no Join"
+                    yield self.at_router(name, told)
 
     # ---- packets that nobody took
 

@@ -3,7 +3,7 @@ from collections import defaultdict
 from dataclasses import dataclass
 from ipaddress import ip_address
 
-from pimtext import outgoing, printed, spoken, trees, words
+from pimtext import printed, reasons, spoken, trees, words
 from pimtext.printed import ANY
 
 
@@ -166,8 +166,8 @@ def serving(world, group, source, link):
     if not here:
         return None, f"no router has an interface on {link} that is up"
     for state, number in here:
-        against = outgoing.unserved(state, group, source, number)
-        if against and outgoing.causes(state, group, source, number):
+        against = reasons.unserved(state, group, source, number)
+        if against and reasons.causes(state, group, source, number):
             return None, f"{state.router.name} knows of its wish, but {'; '.join(against)}"
     return None, unwanted(here, group, source, link)
 
@@ -258,11 +258,11 @@ def stopped(state, group, source, link, below):
     if not set(numbers) & state.up:
         return f"{name} has no interface on {link} that is up"
     for number in numbers:
-        against = outgoing.obstacles(state, group, source, number)
+        against = reasons.obstacles(state, group, source, number)
         if against:
             return f"{name}, on {words.place(state.router, number)}: {'; '.join(against)}"
     whose = f"no Join for {group} of {below.router.name} is there" if below else "no wish of a host is there"
-    if any(outgoing.causes(state, group, source, number) for number in numbers):
+    if any(reasons.causes(state, group, source, number) for number in numbers):
         whose = "the packets come from there"
     return f"{name}, on {words.place(state.router, numbers[0])}: {whose}"
 
@@ -274,7 +274,7 @@ def hop_line(world, hop, group, source):
     state, how = hop.state, hop.taken
     where = "in a Register" if hop.iface is None else f"on {words.place(state.router, hop.iface)}"
     by = f", by {how.by}" if how.by and hop.iface is not None else ""
-    sent = [f"sends it on {words.place(state.router, number)}: " + ", ".join(outgoing.causes(state, group, source, number))
+    sent = [f"sends it on {words.place(state.router, number)}: " + ", ".join(reasons.causes(state, group, source, number))
             for number in sorted(how.out)]
     sent += [f"registers it with {world.named(how.rp)}"] if how.rp else []
     rows = state.of(printed.Active, group=group, source=source)

@@ -10,18 +10,24 @@ from pimtext import packets, printed, scenario
 from pimtext.printed import ANY
 
 SOURCE_SPECIFIC = ip_network("232.0.0.0/8")
+# The assert metric of a router without a route.
+UNREACHABLE = (0x7FFFFFFF, 0xFFFFFFFE)
 
 
 @dataclass
 class Known:
-    """A router with what it knows: its rows, the interfaces that are up, its routes and RP ranges after all moves, and what its
-    neighbours said by their last Hello, by interface and address."""
+    """A router with what it knows: its rows, the interfaces that are up, its routes and RP ranges after all moves, what its
+    neighbours said by their last Hello, by interface and address, by interface the querier that it gave way to last, and by
+    interface, group, source and sender the last Assert that came."""
     router: scenario.Router
     rows: list
     up: set
     routes: list
     rps: list
     hellos: dict = field(default_factory=dict)
+    queriers: dict = field(default_factory=dict)
+    asserts: dict = field(default_factory=dict)
+    moment: int = 0
 
     def of(self, table, /, **values):
         return printed.rows_of(self.rows, table, **values)
@@ -67,7 +73,7 @@ def known(played, steps, tables):
         if step.verdict == "done" and step.did is not None:
             follow(found[step.router], step)
     for name, table in tables.items():
-        found[name].rows = table.rows
+        found[name].rows, found[name].moment = table.rows, table.moment
     return found
 
 
@@ -77,19 +83,50 @@ def follow(state, step):
             state.up.add(step.iface)
         case "down":
             state.up.discard(step.iface)
+            state.queriers.pop(step.iface, None)
         case "routes":
             state.routes = scenario.routes_of(step.did["list"])
         case "rps":
             state.rps = scenario.rps_of(step.did["list"])
         case "frame" | "deliver" | "settle":
-            hear(state, step.iface, step.taken())
+            hear(state, step)
 
 
-def hear(state, iface, data):
-    """Keeps what a Hello says that came on an interface."""
-    if iface is not None and packets.is_pim(data, packets.HELLO):
+def hear(state, step):
+    """Keeps what a Hello, an Assert or a query says that came on an interface."""
+    data = step.taken()
+    if step.iface is None:
+        return
+    if packets.is_pim(data, packets.HELLO):
         packet = packets.read_on_link(data)
-        state.hellos[iface, packet.source] = packet.body
+        state.hellos[step.iface, packet.source] = packet.body
+    elif packets.is_pim(data, packets.ASSERT):
+        packet = packets.read_on_link(data)
+        whom = ANY if packet.body.source == "0.0.0.0" else packet.body.source
+        state.asserts[step.iface, packet.body.group, whom, packet.source] = packet.body
+    elif data[9] == packets.IGMP:
+        hear_query(state, step.iface, step.moment, packets.read_on_link(data))
+
+
+@dataclass(frozen=True)
+class OtherQuerier:
+    """The querier that a router gave way to, until the end; it has adopted these values."""
+    address: str
+    end: int
+    robustness: int
+    interval: int
+
+
+def hear_query(state, iface, moment, packet):
+    """A query from a lower address makes its sender the querier, with its values, for so long as RFC 3376 has it (8.5)."""
+    own = state.router.interfaces[iface]
+    if not isinstance(packet.body, packets.Query) or not 0 < int(ip_address(packet.source)) < int(own.own.ip):
+        return
+    table = state.router.table
+    robustness = packet.body.robustness or table.get("rv", 2)
+    interval = packet.body.interval or table.get("qi", 125)
+    end = moment + 1000 * robustness * interval + 100 * table.get("qri", 100) // 2
+    state.queriers[iface] = OtherQuerier(packet.source, end, robustness, interval)
 
 
 # ---- where packets come from
@@ -175,6 +212,12 @@ def is_dr(state, number):
     return dr_of(state, number) == state.router.interfaces[number].address
 
 
+def querier_of(state, number):
+    """The querier of an interface, None where that is the router itself."""
+    other = state.queriers.get(number)
+    return other if other is not None and other.end > state.moment else None
+
+
 def assert_roles(state, group, source, role):
     return {row.iface for row in state.of(printed.AssertState, group=group, source=source, role=role)}
 
@@ -197,8 +240,20 @@ def lost_pruned(state, group, source):
 
 
 def lost_source(state, group, source):
-    """lost_assert(S,G), as at rest: there a loser's winner is better than the router."""
-    return assert_roles(state, group, source, "loser") - {rpf_interface(state, source)}
+    """lost_assert(S,G)"""
+    rows = state.of(printed.AssertState, group=group, source=source, role="loser")
+    return {row.iface for row in rows if is_beaten(state, row)} - {rpf_interface(state, source)}
+
+
+def is_beaten(state, row):
+    """Whether the winner of an assert of a source is better than the router is with its own route to the source."""
+    won = state.asserts.get((row.iface, row.group, row.source, row.winner))
+    path, own = route(state, row.source), state.router.interfaces[row.iface].address
+    if won is None:
+        return True
+    mine = (path.preference, path.metric) if path else (0, 0) if state.router.has(row.source) else UNREACHABLE
+    theirs = (won.rpt, won.preference, won.metric, -int(ip_address(row.winner)))
+    return theirs < (False, *mine, -int(ip_address(own)))
 
 
 def served(state, group, source):

@@ -1,4 +1,6 @@
-"""Why an interface is in a tree's list of outgoing interfaces, or isn't, in words."""
+"""Why an interface is in a tree's list of outgoing interfaces, or isn't, and why no Join leaves, in words."""
+from ipaddress import ip_address
+
 from pimtext import printed, trees
 from pimtext.printed import ANY
 
@@ -48,3 +50,32 @@ def reasons(state, group, source):
         why = causes(state, group, source, interface.number)
         if why:
             yield interface.number, interface.number in there, why, obstacles(state, group, source, interface.number)
+
+
+# ---- Joins
+
+
+def is_root(state, group, source):
+    """Whether a tree begins at the router, which then joins it nowhere: it is the RP, or the source is on a link of it."""
+    return state.router.has(trees.root_of(state, group, source)) or (source != ANY and trees.is_connected(state, source))
+
+
+def why_no_join(state, group, source):
+    """Why the Join of a tree reaches nobody; "" where it does, or the tree begins here."""
+    root, what = trees.root_of(state, group, source), "the group's RP" if source == ANY else "the source"
+    if root is None:
+        return "no RP range has the group"
+    if is_root(state, group, source) or trees.upstream_neighbour(state, group, source) is not None:
+        return ""
+    path = trees.route(state, root)
+    if path is None:
+        return no_route(state, what, root)
+    where = f"{path.next_hop} on interface {path.iface}, towards {what} {root}"
+    return f"{where}, is no neighbour: no Hello of it is there"
+
+
+def no_route(state, what, root):
+    found = trees.longest([(route.prefix, route) for route in state.routes], ip_address(root))
+    if found is None or state.router.has(root):
+        return f"it has no route to {what} {root}"
+    return f"its interface {found.iface}, which leads to {what} {root}, is down"

@@ -1,0 +1,115 @@
+"""`tools/mroute`: what users of FRR look for, as text and as JSON."""
+import json
+import subprocess
+import sys
+import tempfile
+import unittest
+from pathlib import Path
+
+from pimtext import scenario, story, trees, views
+from tests import stored
+from tests.networks import GROUP, HOST, RP, SOURCE, Network
+
+
+def called(*words):
+    ran = subprocess.run([sys.executable, stored.TOOLS / "mroute", *map(str, words)], capture_output=True, text=True)
+    return ran.returncode, ran.stdout, ran.stderr
+
+
+class Shown(unittest.TestCase):
+    def setUp(self):
+        folder = tempfile.TemporaryDirectory()
+        self.addCleanup(folder.cleanup)
+        self.path = Path(folder.name) / "net.toml"
+        self.path.write_text(Network().text())
+
+    def view(self, name, *words):
+        status, out, err = called(self.path, "--json", *words)
+        self.assertEqual((status, err), (0, ""))
+        return next(each for each in json.loads(out)["routers"] if each["router"] == name)
+
+    def test_mroutes(self):
+        shared, own = self.view("east")["mroute"]
+        self.assertEqual((shared["source"], shared["group"], shared["flags"]), ("*", GROUP, "SC"))
+        self.assertEqual((shared["incoming"], shared["rpf_neighbour"]), ({"interface": 0, "link": "hub-east"}, "10.0.2.2"))
+        self.assertEqual(shared["outgoing"], [{"interface": 1, "link": "home", "why": [f"hosts want (*, {GROUP})"]}])
+        self.assertEqual((own["source"], own["by"]), (SOURCE, "shared tree"))
+        (first,) = self.view("west")["mroute"]
+        self.assertEqual((first["flags"], first["registers"], first["by"]), ("SFT", True, "source tree"))
+
+    def test_whether_a_join_leaves(self):
+        shared, own = self.view("east")["upstream"]
+        self.assertEqual((shared["sends_joins"], shared["rpf_neighbour"], shared["next_join"]), (True, "10.0.2.2", 65000))
+        self.assertEqual((own["joined"], own["rpt"], own["kept_alive_until"]), (True, "notpruned", 215000))
+        (first,) = self.view("west")["upstream"]
+        self.assertEqual((first["sends_joins"], first["why_none"]), (False, "the tree begins here"))
+
+    def test_neighbours_with_the_options_of_their_hellos(self):
+        (known,) = self.view("east")["neighbours"]
+        self.assertEqual(known, {
+            "interface": 0, "link": "hub-east", "address": "10.0.2.2", "until": 110000, "is_dr": False,
+            "priority": 1, "generation": 3, "propagation": 500, "override": 2500,
+        })
+        self.assertTrue(self.view("hub")["neighbours"][1]["is_dr"])
+
+    def test_groups_with_their_querier(self):
+        (group,) = self.view("east")["groups"]
+        self.assertEqual((group["group"], group["mode"], group["querier"], group["is_served"]), (GROUP, "exclude", "10.8.0.1", True))
+
+    def test_the_rp_in_use(self):
+        (rp,) = self.view("hub")["rps"]
+        self.assertEqual((rp["range"], rp["rp"], rp["is_own"], rp["groups"]), ("239.0.0.0/8", RP, True, [GROUP]))
+
+    def test_after_a_move(self):
+        self.assertEqual(self.view("east", "--at", 0)["neighbours"], [])
+        self.assertEqual(len(self.view("east", "--at", 10)["neighbours"]), 1)
+        self.assertEqual(self.view("east", "--at", 10)["mroute"], [])
+        self.assertEqual(called(self.path, "--at", 0)[1].splitlines()[0], "before the first move")
+
+    def test_as_text(self):
+        status, out, _ = called(self.path, "--router", "east")
+        self.assertEqual(status, 0)
+        lines = [line.split() for line in out.splitlines()]
+        self.assertIn(["*", GROUP, "SC", "0", "hub-east", "10.0.2.2", "1", "home", "(hosts", "want", "(*,", f"{GROUP}))"], lines)
+        self.assertIn(["1", "home", GROUP, "exclude", "265.000", "s", "-", "10.8.0.1", "yes"], lines)
+        for title in ("mroute", "pim upstream", "pim interface", "pim neighbor", "igmp groups", "pim rp-info"):
+            self.assertIn(f"  show ip {title}", out.splitlines())
+        self.assertNotIn(HOST, out)
+
+    def test_moves_and_routers_that_are_not_there(self):
+        for words, wanted in (
+            (["--at", 99], "there is no move 99: the scenario has"),
+            (["--router", "none"], "there is no router none: its routers are west, hub, east"),
+        ):
+            status, out, err = called(self.path, *words)
+            self.assertEqual((status, out), (1, ""))
+            self.assertIn(wanted, err)
+
+
+class Stored(unittest.TestCase):
+    """All stored scenarios, by their stored lines."""
+
+    def test_each_is_shown_and_its_branches_are_those_of_the_trees(self):
+        for path, lines in stored.played():
+            played = scenario.read(path)
+            steps, tables = story.played(played, lines)
+            for name, state in trees.known(played, steps, tables).items():
+                view = views.router(state)
+                shown = {(each["group"], each["source"]): {out["interface"] for out in each["outgoing"]} for each in view["mroute"]}
+                with self.subTest(path.name, router=name):
+                    json.dumps(view)
+                    list(views.text(view))
+                    for branch in trees.branches(state):
+                        self.assertEqual(shown[branch.group, branch.source], set(branch.outgoing))
+
+    def test_a_querier_that_falls_silent_and_comes_back(self):
+        path = stored.EXAMPLES / "querier_takes_over.toml"
+        queriers = []
+        for number in (11, 12, 13, 19):
+            told = json.loads(called(path, "--json", "--router", "higher", "--at", number)[1])
+            queriers.append(told["routers"][0]["interfaces"][0]["querier"])
+        self.assertEqual(queriers, ["10.4.0.1", "10.4.0.2", "10.4.0.2", "10.4.0.1"])
+
+
+if __name__ == "__main__":
+    unittest.main()

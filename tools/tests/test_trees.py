@@ -1,0 +1,107 @@
+"""What is computed of a router's tables is what the router does: where data leave, and with which RP they are registered.
+
+PLACES and SEED in the environment ask for another number of the stored scenarios' packets (40) and for others.
+"""
+import os
+import random
+import unittest
+from concurrent.futures import ThreadPoolExecutor
+
+from pimtext import packets, scenario, served, story, trees
+from tests import stored
+from tests.networks import GROUP, Network
+
+PLACES, SEED = int(os.environ.get("PLACES", 40)), int(os.environ.get("SEED", 1))
+
+
+def is_taken(step, kind):
+    """Whether a move of its own brought a packet of this kind, which was taken."""
+    if step.verdict != "done" or step.is_settle() or step.taken() is None:
+        return False
+    return isinstance(packet_of(step).body, kind)
+
+
+def packet_of(step):
+    return packets.read(step.taken()) if step.iface is None else packets.read_on_link(step.taken())
+
+
+def found(kind):
+    """The stored scenarios' moves that bring a packet of this kind: (scenario, step)."""
+    for path, lines in stored.played():
+        played = scenario.read(path)
+        yield from ((played, step) for step in story.played(played, lines)[0] if is_taken(step, kind))
+
+
+def before(played, step):
+    """What the router of a step knows just before it."""
+    cut = scenario.Scenario(played.routers, played.moves[:step.move - 1])
+    steps, tables = story.played(cut, scenario.run_text(cut.text()))
+    return trees.known(cut, steps, tables)[step.router]
+
+
+def told(state, packet, iface):
+    """The links on which its data is to leave, and the RP to which Registers are to go."""
+    inner = packet.body.inner if isinstance(packet.body, packets.Register) else packet
+    group, source = inner.destination, inner.source
+    is_rp = packet.destination == trees.rp_of(state, group)
+    what = served.taken(state, group, source, iface) if iface is not None else served.registered(state, group, source)
+    out = what.out if iface is not None or is_rp else ()
+    return (sorted(map(state.link, out)), [what.rp] if what.rp else []) if inner.ttl > 1 else ([], [])
+
+
+class Told(unittest.TestCase):
+    def compare(self, kind, is_wanted):
+        places = [(played, step) for played, step in found(kind) if is_wanted(packet_of(step))]
+        chosen = random.Random(SEED).sample(places, min(PLACES, len(places)))
+        with ThreadPoolExecutor(2) as pool:
+            for (_, step), state in zip(chosen, pool.map(lambda place: before(*place), chosen)):
+                left = sorted(sent.where for sent in step.sent if sent.kind == "copy")
+                registers = [sent.where for sent in step.sent if sent.is_unicast() and step.iface is not None]
+                with self.subTest(step.answer(), move=step.move, router=step.router):
+                    self.assertEqual(told(state, packet_of(step), step.iface), (left, registers))
+
+    def test_data_leave_where_it_is_told(self):
+        self.compare(packets.Data, lambda packet: True)
+
+    def test_data_in_registers_leave_where_it_is_told(self):
+        self.compare(packets.Register, lambda packet: not packet.body.is_null)
+
+
+class Drs(unittest.TestCase):
+    """Two routers on a link: who is its DR."""
+
+    def dr(self, **options):
+        network = Network()
+        network.routers[2]["iface"][0].update(options)
+        played = scenario.scenario_of({"router": network.routers, "move": network.moves()})
+        known = trees.known(played, *story.played(played, scenario.run_text(network.text())))
+        return {trees.dr_of(known["hub"], 1), trees.dr_of(known["east"], 0)}
+
+    def test_the_higher_address(self):
+        self.assertEqual(self.dr(), {"10.0.2.3"})
+
+    def test_the_higher_priority(self):
+        self.assertEqual(self.dr(priority=0), {"10.0.2.2"})
+
+    def test_a_neighbour_that_tells_none(self):
+        network = Network()
+        hello = packets.write_hello("10.8.0.9", packets.Hello(105))
+        network.said = [{"do": "frame", "router": "east", "iface": 1, "hex": hello.hex()}]
+        network.routers[2]["iface"][1]["priority"] = 100
+        played = scenario.scenario_of({"router": network.routers, "move": network.moves()})
+        known = trees.known(played, *story.played(played, scenario.run_text(network.text())))
+        self.assertEqual(trees.dr_of(known["east"], 1), "10.8.0.9")
+
+
+class Joined(unittest.TestCase):
+    def test_the_trees_of_a_network(self):
+        network = Network()
+        played = scenario.scenario_of({"router": network.routers, "move": network.moves()})
+        known = trees.known(played, *story.played(played, scenario.run_text(network.text())))
+        shared = {name: [(each.incoming, set(each.outgoing)) for each in trees.branches(state) if (each.group, each.source) == (GROUP, "*")]
+                  for name, state in known.items()}
+        self.assertEqual(shared, {"west": [], "hub": [(None, {1})], "east": [(0, {1})]})
+
+
+if __name__ == "__main__":
+    unittest.main()
