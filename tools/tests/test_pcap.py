@@ -1,5 +1,6 @@
-"""Captures of all stored scenarios, read by tshark: nothing is malformed, and there are as many packets as lines."""
+"""Captures of all stored scenarios: there are as many packets as lines, and for tshark nothing is malformed."""
 import shutil
+import struct
 import subprocess
 import tempfile
 import unittest
@@ -8,6 +9,7 @@ from pathlib import Path
 
 from pimtext import scenario, story
 from tests import stored
+from tests.networks import GROUP, SOURCE, TO_EX, Network, data, report
 
 pcap = stored.tool("pcap")
 # In this scenario a source's data claim to be PIM.
@@ -18,7 +20,55 @@ WRONG = "(pim || igmp) && (_ws.malformed || _ws.expert.severity >= warning)"
 
 def sent_of(path, lines):
     read = scenario.read(path)
-    return read, [sent for step in story.played(read, lines)[0] for sent in step.sent]
+    return read, list(pcap.seen(read, story.played(read, lines)[0], False))
+
+
+def blocks(content):
+    """The blocks of a file: kind and body."""
+    while content:
+        kind, size = struct.unpack("<II", content[:8])
+        yield kind, content[8:size - 4]
+        assert content[size - 4:size] == content[4:8]
+        content = content[size:]
+
+
+def packets_in(content):
+    """The interfaces' numbers, bytes and comments of a file's packets."""
+    for kind, body in blocks(content):
+        if kind == pcap.PACKET:
+            number, _, _, size, _ = struct.unpack("<IIIII", body[:20])
+            rest = body[20 + size + -size % 4:]
+            yield number, body[20:20 + size], rest[4:4 + struct.unpack("<HH", rest[:4])[1]].decode()
+
+
+class Written(unittest.TestCase):
+    def network(self, *said):
+        network = Network(*said)
+        read = scenario.scenario_of({"router": network.routers, "move": network.moves()})
+        return read, story.played(read, scenario.run_text(network.text()))[0]
+
+    def test_what_routers_and_hosts_sent(self):
+        read, steps = self.network()
+        written = list(packets_in(b"".join(pcap.capture(read, pcap.seen(read, steps, True)))))
+        hosts = [(list(read.links())[number], comment) for number, _, comment in written if comment.startswith("given to")]
+        self.assertEqual([link for link, _ in hosts], ["home", "studio"])
+        self.assertIn(f"TO_EX {GROUP}", hosts[0][1])
+        self.assertIn(f"{SOURCE} > {GROUP}: data", hosts[1][1])
+        self.assertEqual(len(written) - len(hosts), sum(len(step.sent) for step in steps))
+        self.assertIn(bytes.fromhex(data()["hex"]), [content for _, content, _ in written])
+
+    def test_what_several_routers_take_is_one_packet(self):
+        both = [report(TO_EX, GROUP, router=name, iface=number, host="10.0.2.77") for name, number in (("hub", 1), ("east", 0))]
+        for said, count in ((both, 1), (both + both, 2), (both[:1] * 3, 3)):
+            read, steps = self.network(*said)
+            self.assertEqual(sum(each.comment.startswith("given to") for each in pcap.seen(read, steps, True)), count)
+
+    def test_bytes_that_are_no_packet(self):
+        for text in ("", "ff", "45000021" * 500):
+            read, steps = self.network({"do": "frame", "router": "east", "iface": 1, "hex": text})
+            (given,) = [each for each in pcap.seen(read, steps, True) if each.comment.startswith("given to")]
+            self.assertIn("malformed", given.comment)
+            self.assertIn(bytes.fromhex(text), [content for _, content, _ in packets_in(b"".join(pcap.capture(read, [given])))])
 
 
 def fields(path, *names, where="frame"):
@@ -52,7 +102,7 @@ class Captured(unittest.TestCase):
         read, sent = sent_of(path, path.with_suffix(".out").read_text().splitlines())
         self.out.write_bytes(b"".join(pcap.capture(read, sent)))
         rows = fields(self.out, "frame.interface_name", "frame.time_epoch", "ip.src")
-        self.assertEqual(Counter(row[0] for row in rows), Counter(each.where for each in sent))
+        self.assertEqual(Counter(row[0] for row in rows), Counter(each.link for each in sent))
         self.assertEqual([round(float(row[1]) * 1000) for row in rows], [each.moment for each in sent])
 
 
