@@ -3,6 +3,7 @@
 The program plays a scenario from its beginning, so the moves of all coming moments are planned and played at once. Where
 what they bring isn't what the plan was made for, as where a host answers a query, or a packet has to be delivered, the moves
 up to then are kept and the rest is planned anew. Of the kept moves those that did nothing are dropped: time that only passed.
+What is kept is neither written nor read again: the program takes milliseconds for it.
 """
 from dataclasses import dataclass, field, replace
 
@@ -73,18 +74,25 @@ class Batch:
 
 @dataclass
 class Player:
-    """The routers' tables in the scenario file, the draw of each for time that passes, and the moves that are kept."""
+    """The routers' tables in the scenario file, the draw of each for time that passes, and the moves that are kept: as the file has
+    them in `texts`, with their steps, and with how many lines these print. `teller` stands behind them."""
     routers: list
     draws: dict
     moves: list = field(default_factory=list)
+    texts: list = field(default_factory=list)
+    steps: list = field(default_factory=list)
+    lines: int = 0
     clocks: dict = field(default_factory=dict)
     tables: dict = field(default_factory=dict)
     played: scenario.Scenario | None = None
     told: list = field(default_factory=list)
+    teller: story.Teller | None = None
     size: int = FEWEST
 
     def __post_init__(self):
         self.clocks = {table["name"]: 0 for table in self.routers}
+        self.played = scenario.scenario_of({"router": self.routers})
+        self.teller = story.Teller(self.played)
 
     def plan(self, traffic, stepped, step, end, settle):
         """As many of the coming batches as are played at once, with their moves, by a traffic of guesses."""
@@ -103,13 +111,14 @@ class Player:
 
     def play(self, planned):
         """Plays what is kept and then these, which get their steps."""
-        moves = self.moves + [move for batch in planned for move in batch.moves]
-        self.played = scenario.scenario_of({"router": self.routers, "move": moves})
-        self.told, self.tables = story.played(self.played, scenario.run_text(self.played.text()))
-        coming = [batch for batch in planned for _ in batch.moves]
-        for step in self.told:
-            if step.move > len(self.moves):
-                coming[step.move - len(self.moves) - 1].steps.append(step)
+        coming = [(batch, move) for batch in planned for move in batch.moves]
+        texts = self.texts + [scenario.line_of(move) for _, move in coming]
+        lines = scenario.run_text(scenario.text_of_rows(self.routers, texts))
+        self.played = replace(self.played, moves=self.moves + [move for _, move in coming])
+        steps, self.tables = self.teller.after(self.played).told(lines[self.lines:])
+        for step in steps:
+            coming[step.move - len(self.moves) - 1][0].steps.append(step)
+        self.told = self.steps + steps
 
     def keep(self, batch):
         """Keeps the moves of a batch that did anything. Answers its packets, which have the numbers of the kept moves."""
@@ -117,12 +126,21 @@ class Player:
         for place in batch.busy():
             move = batch.moves[place]
             self.moves.append(move)
+            self.texts.append(scenario.line_of(move))
             numbers[batch.before + place + 1] = len(self.moves)
             if move["do"] == "advance":
                 self.clocks[move["router"]] = batch.moment
-        return [replace(sent, move=numbers[sent.move]) for step in batch.steps for sent in step.sent]
+        steps = [replace(step, move=numbers[step.move], sent=numbered(step.sent, numbers)) for step in batch.steps if step.move in numbers]
+        self.steps += steps
+        self.lines += sum(1 + len(step.sent) for step in steps)
+        self.teller.follow(steps, len(self.moves))
+        return [sent for step in steps for sent in step.sent]
 
     def grow(self, is_whole):
         """The next plan is larger after one that was kept whole."""
         self.size = min(2 * self.size, MOST) if is_whole else FEWEST
 
+
+def numbered(packets, numbers):
+    """Packets with the numbers that their moves have by now."""
+    return [replace(sent, move=numbers[sent.move]) for sent in packets]

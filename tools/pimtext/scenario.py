@@ -125,12 +125,22 @@ def value_text(value):
     return json.dumps(value, ensure_ascii=False)
 
 
-def rows_text(name, tables):
-    return "\n".join([f"{name} = [", *(f"  {value_text(table)}," for table in tables), "]"])
+def line_of(table):
+    """A router's or a move's line."""
+    return f"  {value_text(table)},"
+
+
+def rows_text(name, texts):
+    return "\n".join([f"{name} = [", *texts, "]"])
+
+
+def text_of_rows(routers, texts):
+    """The text of routers, and of the lines of moves."""
+    return rows_text("router", map(line_of, routers)) + "\n\n" + rows_text("move", texts) + "\n"
 
 
 def text_of(routers, moves):
-    return rows_text("router", routers) + "\n\n" + rows_text("move", moves) + "\n"
+    return text_of_rows(routers, map(line_of, moves))
 
 
 # ---- played

@@ -96,6 +96,23 @@ class Teller:
         self.begun = 0
         self.settling = iter(())
 
+    def after(self, scenario):
+        """Another one that goes on where this one is, in a scenario that has more moves."""
+        other = Teller(scenario)
+        other.moments, other.sent, other.taken, other.begun = dict(self.moments), list(self.sent), self.taken, self.begun
+        return other
+
+    def follow(self, steps, begun):
+        """Goes on past the steps of whole moves, up to the move of this number."""
+        self.begun, made = begun, 0
+        for step in steps:
+            self.sent += step.sent
+            if step.is_settle():
+                made += 1
+                self.taken = step.brought.number if made == SETTLE_LIMIT else len(self.sent)
+            elif step.did["do"] == "advance" and step.verdict == "done":
+                self.moments[step.router] = step.moment
+
     def moment(self, router):
         return self.moments.get(router, 0)
 
@@ -181,8 +198,13 @@ class Teller:
         return None if said is None else Tables(said.router, self.moment(said.router))
 
 
+    def told(self, lines):
+        """All steps, and the tables by routers' names."""
+        parts = list(self.tell(lines))
+        steps = [part for part in parts if isinstance(part, Step)]
+        return steps, {part.router: part for part in parts if isinstance(part, Tables)}
+
+
 def played(scenario, lines):
-    """All steps, and the tables by routers' names."""
-    told = list(Teller(scenario).tell(lines))
-    steps = [part for part in told if isinstance(part, Step)]
-    return steps, {part.router: part for part in told if isinstance(part, Tables)}
+    """The same of a scenario."""
+    return Teller(scenario).told(lines)

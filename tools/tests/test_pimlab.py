@@ -72,11 +72,17 @@ class Called(unittest.TestCase):
         with tempfile.TemporaryDirectory() as room:
             shutil.copy(PIMLAB, room)
             shutil.copy(PIMLAB.parent / "crates.txt", room)
+            shutil.copytree(PIMLAB.parent / "tools" / "pimtext", f"{room}/tools/pimtext")
             os.mkdir(f"{room}/crates")
-            how = {"env": {"PATH": "/nowhere"}, "capture_output": True}
+            how = {"env": {"PATH": "/nowhere", "XDG_CACHE_HOME": room}, "capture_output": True}
             ran = subprocess.run([sys.executable, Path(room) / "pimlab", "check", ONE_JOIN], **how)
         self.assertEqual((ran.returncode, ran.stdout, ran.stderr.count(b"\n")), (1, b"", 1))
         self.assertIn(b"there is no command `rt`", ran.stderr)
+
+    def test_a_build_that_there_is_not(self):
+        status, out, err = called("check", ONE_JOIN, env={**os.environ, "PIMLAB_BUILD": "fast"})
+        self.assertEqual((status, out, err.count(b"\n")), (1, b"", 1))
+        self.assertIn(b"should be one of proved, unproved, sanitized", err)
 
 
 if __name__ == "__main__":

@@ -1,0 +1,49 @@
+"""What is built before any proof, and where it is kept: in the user's cache folder, for all clones, by the sum of the sources."""
+import hashlib
+import os
+from pathlib import Path
+
+TOP = Path(__file__).resolve().parent.parent.parent
+# As the kit compiles what it has proved, but for the level.
+FLAGS = [
+    "--target=x86_64-unknown-linux-gnu", "-march=x86-64", "--no-default-config", "-no-canonical-prefixes", "-Wno-override-module",
+    "-ffunction-sections", "-fdata-sections", "-fno-vectorize", "-fno-slp-vectorize", "-O2",
+]
+LLVM_FLAGS = [
+    "-no-trap-after-noreturn", "-trap-unreachable", "-no-x86-call-frame-opt", "-disable-machine-licm", "-disable-postra-machine-licm",
+    "-sink-common-insts=false",
+]
+
+
+def crates_below(name, named, found):
+    """Puts the crates that a crate stands on into `found`, and the crate itself."""
+    if name in named and name not in found:
+        found.add(name)
+        for below in named[name]:
+            crates_below(below, named, found)
+    return found
+
+
+def crates_of(name):
+    """A crate and those of the repository that it stands on, each with the names of what it stands on itself."""
+    lines = (line.partition(":") for line in (TOP / "crates.txt").read_text().splitlines() if ":" in line)
+    named = {head.split()[0]: below.split() for head, _, below in lines if not head.startswith("#")}
+    return {each: named[each] for each in sorted(crates_below(name, named, set()))}
+
+
+def sum_of_sources(name, *others):
+    """A sum of what an unproved build of a crate reads: the sources, without their proofs, and how they are compiled."""
+    total = hashlib.sha256(repr((FLAGS, LLVM_FLAGS)).encode())
+    for each, below in crates_of(name).items():
+        total.update(f"{each}: {' '.join(below)}\n".encode())
+        for source in sorted((TOP / "crates" / each / "src").rglob("*.rt")):
+            total.update(f"{source.relative_to(TOP)} {source.stat().st_size}\n".encode() + source.read_bytes())
+    for other in others:
+        total.update(other.read_bytes())
+    return total.hexdigest()[:32]
+
+
+def cache():
+    """The folder in which builds are kept."""
+    given = os.environ.get("XDG_CACHE_HOME", "")
+    return Path(given if os.path.isabs(given) else os.path.expanduser("~/.cache")) / "viqeshor"

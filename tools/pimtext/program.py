@@ -1,0 +1,82 @@
+"""Which build of the program is run: the proved binary where it is newer than its sources, else an unproved one, which is kept."""
+import os
+import sys
+
+from pimtext.kept import TOP, cache, sum_of_sources
+
+PROVED = TOP / "crates" / "pimlab" / "out" / "pimlab"
+# What PIMLAB_BUILD may say, and how the file of such an unproved build ends.
+BUILDS = {"proved": "", "unproved": "", "sanitized": "-sanitized"}
+
+
+def is_proved():
+    """The proved binary is there, and newer than every source."""
+    if not os.access(PROVED, os.X_OK):
+        return False
+    built = PROVED.stat().st_mtime
+    for folder, folders, files in os.walk(TOP / "crates"):
+        folders[:] = [name for name in folders if name != "out"]
+        sources = [os.path.join(folder, name) for name in files if name.endswith((".rt", ".antt"))]
+        if any(os.stat(source).st_mtime > built for source in sources):
+            return False
+    return True
+
+
+def build(path):
+    """Builds both unproved programs: one to a path, the sanitized one beside it. Answers the seconds."""
+    # This takes a while to load, and most calls don't build.
+    from pimtext import unproved
+    try:
+        return unproved.build_program(path)
+    except unproved.Failed as failed:
+        sys.stderr.write(str(failed))
+        sys.exit("pimlab: it couldn't be built")
+
+
+def build_once(path, ending):
+    """Has both programs kept."""
+    from pimtext import unproved
+    with unproved.alone("pimlab"):
+        if not os.path.exists(path + ending):
+            unproved.say("pimlab: building once, one to two minutes; the build isn't proved (./test builds and proves)")
+            seconds = build(path)
+            unproved.forget_old("pimlab-*")
+            unproved.say(f"pimlab: built in {seconds} s, and kept in {cache()}")
+
+
+def run_once(ending, words):
+    """Builds and runs where nothing can be kept; answers the status."""
+    import subprocess
+    import tempfile
+    with tempfile.TemporaryDirectory(prefix="pimlab-") as folder:
+        build(f"{folder}/pimlab")
+        return subprocess.run([f"{folder}/pimlab{ending}", *words]).returncode
+
+
+def unproved_program(ending, words):
+    """Where the unproved program is; where it can't be kept this process ends with it."""
+    path = f"{cache()}/pimlab-{sum_of_sources('pimlab')}"
+    if not os.access(path + ending, os.X_OK):
+        import shutil
+        if shutil.which("rt") is None:
+            sys.exit("pimlab: it isn't built, and there is no command `rt`, the Rattle kit's, that could build it")
+        try:
+            build_once(path, ending)
+        except OSError as error:
+            print(f"pimlab: building for this call alone, one to two minutes: {error}", file=sys.stderr, flush=True)
+            sys.exit(run_once(ending, words))
+    return path + ending
+
+
+def chosen(words=()):
+    """Where the program is that is to be run, built where it isn't there; the words are for a build that can't be kept."""
+    wanted = os.environ.get("PIMLAB_BUILD", "proved")
+    if wanted not in BUILDS:
+        sys.exit(f"pimlab: PIMLAB_BUILD is {wanted!r}, and should be one of {', '.join(BUILDS)}")
+    return str(PROVED) if wanted == "proved" and is_proved() else unproved_program(BUILDS[wanted], words)
+
+
+def run(words):
+    """Becomes the program with these words."""
+    path = chosen(words)
+    os.execv(path, [path, *words])
