@@ -1,0 +1,89 @@
+-- Worked runs of a split data plane: a source that is joined on 1 and sends on 0.
+use Rattle.std.specs.Prelude.{Bool, List, None, Option, Some, [], map, option_map, true, false, ℕ, ◌∷◌, ◌≡◌}
+use Rattle.pim_types.specs.declared.config.SptSwitch.{SptSwitch}
+use Rattle.pim_types.specs.declared.event.Event.{Event}
+use Rattle.pim_types.specs.declared.outcome.Outcome.{Outcome}
+use Rattle.pim_model.specs.Sets.{members}
+use Rattle.pim_model.specs.State.{State}
+use Rattle.pim_model.specs.Step.{state_after}
+use Rattle.pim_reach.specs.Named.{event_named}
+use Rattle.pim_types.specs.Keys.{source_key}
+use Rattle.pim_runs.specs.Base.{after, base, group, host, opened_with, source}
+use Rattle.pim_runs.specs.Data.{joined_and_sent}
+use Rattle.pim_runs.specs.Packets.{copy_on_1, copy_on_2, hello_of_10_0_2_9, host_packet, packet, to_exclude}
+use Rattle.pim_runs.specs.Words.{advance, done, done_with_copies, down, frame}
+use Rattle.pim_offload.specs.Offload.{Handling, Row, handled, told}
+use Rattle.pim_offload.specs.Split.{Notice, Split, caught_up, split_ran, whole}
+
+-- once the first Hellos have left
+abbrev pub at_ten : State
+at_ten = state_after joined_and_sent (advance 10 ∷ [])
+
+abbrev pub its_row : Option Row
+its_row = told at_ten group source
+
+-- what is done of a packet: nothing where it is the core's, else whether the core is to hear of it, and where it leaves
+abbrev pub way : Handling → Option (Bool × List ℕ)
+way (Handling.Forward alive list) = Some (alive, members at_ten list)
+way Handling.Drop = Some (false, [])
+way Handling.ToCore = None
+
+-- on 0 it comes from the source, and leaves on 1; on 1 it would make the router the winner of an assert; on 2 it is dropped
+abbrev pub EachLinkIsHandled : Type 0
+EachLinkIsHandled =
+    map (λ i. way (handled its_row i)) (0 ∷ 1 ∷ 2 ∷ [])
+    ≡ Some (true, 1 ∷ []) ∷ None ∷ Some (false, []) ∷ []
+
+abbrev pub split : Split
+split = whole at_ten (told at_ten)
+
+abbrev pub packets : List Event
+packets = frame 0 packet ∷ advance 15 ∷ frame 0 packet ∷ frame 0 packet ∷ []
+
+abbrev pub later : Split
+later = (split_ran split packets).1
+
+-- the core stands at 10, and has yet to hear of the last of three packets
+abbrev pub LastPacketIsOwed : Type 0
+LastPacketIsOwed =
+    ((split_ran split packets).0
+    ≡ done_with_copies 1 (copy_on_1 ∷ []) ∷ done [] ∷ done_with_copies 1 (copy_on_1 ∷ [])
+    ∷ done_with_copies 1 (copy_on_1 ∷ []) ∷ [])
+    × ((later.core).present ≡ 10) × (later.now ≡ 15)
+    × (map (λ (n : Notice). n.moment) later.owed ≡ 15 ∷ [])
+
+-- once the link to the receiver goes down the core stands at 15, nothing is owed, and the source was named
+abbrev pub after_down : Split
+after_down = (split_ran later (down 1 ∷ [])).1
+
+abbrev pub CoreCatchesUp : Type 0
+CoreCatchesUp =
+    ((after_down.core).present ≡ 15) × (map (λ (n : Notice). n.moment) after_down.owed ≡ [])
+    × (event_named (caught_up later) (down 1) ≡ source_key 0 group source ∷ [])
+
+-- ---- a source without a fact, at a router that never leaves the shared tree
+
+abbrev pub never : State
+never = state_after (opened_with (record base { spt = SptSwitch.Never })) (frame 2 to_exclude ∷ advance 10 ∷ [])
+
+abbrev pub on_shared_tree : List Outcome × Split
+on_shared_tree = split_ran (whole never (told never)) (advance 15 ∷ frame 0 packet ∷ frame 1 packet ∷ [])
+
+-- its packet leaves on 2, and one that comes on 1 is dropped; the core stands at 10, and hears of neither
+abbrev pub UnknownIsForwarded : Type 0
+UnknownIsForwarded =
+    (on_shared_tree.0 ≡ done [] ∷ done_with_copies 1 (copy_on_2 ∷ []) ∷ done [] ∷ [])
+    × (((on_shared_tree.1).core).present ≡ 10) × ((on_shared_tree.1).now ≡ 15)
+    × (map (λ (n : Notice). n.moment) (on_shared_tree.1).owed ≡ [])
+
+-- ---- a router on a host's link that isn't its DR
+
+abbrev pub beside_dr : State
+beside_dr = after (frame 2 hello_of_10_0_2_9 ∷ frame 2 host_packet ∷ [])
+
+-- the incoming interface is that of the shared tree, and a packet of the host, on 2, leaves nowhere; yet the core is to hear of it
+abbrev pub HostIsHeardOf : Type 0
+HostIsHeardOf =
+    (option_map (λ (r : Row). r.incoming) (told beside_dr group host) ≡ Some (Some 0))
+    × (map (λ i. way (handled (told beside_dr group host) i)) (0 ∷ 1 ∷ 2 ∷ [])
+    ≡ Some (false, []) ∷ Some (false, []) ∷ Some (true, []) ∷ [])
