@@ -1,9 +1,10 @@
 """Networks in Python: routes, hosts, lossy links, and the examples."""
 import inspect
 import subprocess
-import sys
+import tempfile
 import tomllib
 import unittest
+from pathlib import Path
 
 from lab import GroupRecord, Network, hosts, topology
 from lab.hosts import ALLOW, BLOCK, IS_EX, IS_IN, TO_EX, TO_IN, Wish
@@ -196,11 +197,85 @@ class Odd(unittest.TestCase):
         self.assertIn("knows of a host that wants 239.1.1.2", str(how))
 
 
+# What somebody gets wrong in a file, and the sentence.
+WRONG = [
+    ('net.rp("hubb")', "there is no router hubb; is hub meant?"),
+    ("net.rp(camera)", "the host camera is no router, nor the name of one"),
+    ('net.rp("hub", address=camera)', 'the host camera is no address of an RP: it is one as "10.0.1.1"'),
+    ('net.rp("hub", groups="239.1")', "'239.1' is no range of groups: it is one as \"239.0.0.0/8\""),
+    ('net.router("far", sqt="never")', "sqt is no setting of a router; is spt meant?"),
+    ('net.router("far", spt="no")', 'router "far": `spt` is the text "no"'),
+    ('net.links["west-hub"].configure("hub", prority=3)', "prority is no setting of an interface; is priority meant?"),
+    ('net.links["west-hub"].configure("east", priority=3)', "east is not on the link west-hub"),
+    ('net.host("third", "wset")', "there is no router or link wset; is west meant?"),
+    ('net.host("camera", "west")', "there is a 'camera' already"),
+    ('net.link("west", "hub", name="second", subnet="10.0.1/24")', "the subnet '10.0.1/24' is none: "),
+    ('Network(los=0.1)', "Network.__init__() got an unexpected keyword argument 'los'"),
+    ('viewer.joins("239.1.1.1")', "'Host' object has no attribute 'joins'; is join meant?"),
+    ('viewer.join("10.1.1.1")', "'10.1.1.1' is no group: it is an address from 224.0.0.0 to 239.255.255.255"),
+    ("viewer.join(camera)", "the host camera is no group"),
+    ('viewer.join("224.0.0.5")', "224.0.0.5 is in 224.0.0.0/24, and no router forwards its packets"),
+    ('viewer.join("232.1.1.1", "239.1.1.1")', "'239.1.1.1' is no source: it is a host, or the address of one"),
+    ('camera.send("239.1.1")', "'239.1.1' is no group"),
+    ('net.routers["west"].rows(net)', " is no table of a router"),
+    ('net.routers["west"].rows("Neighbor")', "'Neighbor' is no table of a router; is Neighbour meant?"),
+    ('net.run(1); net.routers["west"].rows(Neighbour, ifcae=0)', "Neighbour has no column ifcae; is iface meant?"),
+    ('net.run(1); net.packets("Hello")', "'Hello' is no kind of packet; is Hello meant?"),
+    ('net.run(1); net.tree("239.1.1.1", "somebody")', "'somebody' is no source"),
+    ('net.run(1); viewer.served("239.1.1.1", "10.99.0.1")', "the source 10.99.0.1 is in the subnet of no link that is up"),
+    ('net.tables()', "nothing has run yet"),
+    ('net.run(1); net.router("late")', "late: routers, links and hosts are made before the first run"),
+]
+BEFORE = """\
+from lab import Neighbour, Network
+net = Network()
+net.line("west", "hub", "east")
+camera, viewer = net.host("camera", "west"), net.host("viewer", "east")
+"""
+
+
+class Mistakes(unittest.TestCase):
+    def setUp(self):
+        folder = tempfile.TemporaryDirectory()
+        self.addCleanup(folder.cleanup)
+        self.path = Path(folder.name) / "net.py"
+
+    def ran(self, text, *words):
+        self.path.write_text(text)
+        ran = subprocess.run([stored.TOOLS / "lab", *words, self.path], capture_output=True, text=True)
+        return ran.returncode, ran.stdout, ran.stderr
+
+    def test_each_is_a_sentence_with_its_line(self):
+        for line, wanted in WRONG:
+            with self.subTest(line):
+                status, _, err = self.ran(BEFORE + line + ("\nnet.run(1)\n" if "spt=" in line else "\n"))
+                self.assertEqual((status, err.count("\n")), (1, 1), err)
+                self.assertTrue(err.startswith(f"{self.path}:{6 if 'spt=' in line else 5}: "), err)
+                self.assertIn(wanted, err)
+
+    def test_an_assert_that_fails_is_pythons(self):
+        status, _, err = self.ran(BEFORE + "assert False, 'as it should be'\n")
+        self.assertEqual(status, 1)
+        self.assertIn("Traceback", err)
+        self.assertIn("AssertionError: as it should be", err)
+
+    def test_a_file_that_is_not_there(self):
+        ran = subprocess.run([stored.TOOLS / "lab", "nowhere.py"], capture_output=True, text=True)
+        self.assertEqual((ran.returncode, ran.stderr), (1, "tools/lab: nowhere.py can't be read: No such file or directory\n"))
+
+    def test_what_is_odd_is_told_where_it_is_asked(self):
+        text = BEFORE + 'net.rp("hub")\nnet.run(10)\ncamera.send("239.1.1.1")\nnet.run(1)\n'
+        self.assertEqual(self.ran(text), (0, "", ""))
+        status, out, err = self.ran(text, "--why")
+        self.assertEqual((status, out), (0, ""))
+        self.assertRegex(err, r"\Anet.py:7: move [0-9]+ \(frame\), router west: nobody asks for 239.1.1.1 in this run\n\Z")
+
+
 class Examples(unittest.TestCase):
     def test_each_example(self):
-        for path in sorted((stored.TOOLS / "lab" / "examples").glob("*.py")):
+        for path in sorted((stored.TOOLS / "networks" / "examples").glob("*.py")):
             with self.subTest(path=path.name):
-                ran = subprocess.run([sys.executable, stored.TOOLS / "lab", path], capture_output=True, text=True)
+                ran = subprocess.run([stored.TOOLS / "lab", path], capture_output=True, text=True)
                 self.assertEqual((ran.returncode, ran.stderr), (0, ""))
 
 

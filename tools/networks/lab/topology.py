@@ -5,10 +5,13 @@ from ipaddress import IPv4Network
 from itertools import count
 
 from lab.lines import Line, calling
+from lab.mistakes import Mistake, is_known_key, table_given
 from pimtext.printed import Neighbour
 
 # Routes have OSPF's preference.
 PREFERENCE = 110
+# The keys of an interface that a link leaves to whoever makes it.
+IFACE_OPTIONS = ["priority", "propagation", "override"]
 
 
 @dataclass(eq=False)
@@ -31,10 +34,14 @@ class Router:
 
     def port(self, link):
         """Its first interface on a link."""
-        return next(port for port in self.ports if port.link is link)
+        found = next((port for port in self.ports if port.link is link), None)
+        if found is None:
+            raise Mistake(f"{self.name} is not on the link {link.name}")
+        return found
 
     def rows(self, kind, **values):
         """The rows of a table, as of the end of the last `run`, that have these values."""
+        table_given(kind, values)
         return self.net.tables()[self.name].of(kind, **values)
 
     def neighbours(self):
@@ -79,7 +86,9 @@ class Link:
 
     def configure(self, router, **options):
         """Sets keys of a router's interface on this link, as `priority`, before the first `run`."""
-        self.net.find(router).port(self).options.update(options)
+        for key in options:
+            is_known_key(key, IFACE_OPTIONS, "an interface")
+        self.net.known_router(router).port(self).options.update(options)
 
     def packets(self, kind=None):
         """What routers sent on it, all or of one kind: a class of pimtext.packets."""

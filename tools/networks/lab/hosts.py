@@ -2,6 +2,7 @@
 from dataclasses import dataclass, field
 
 from lab.lines import calling
+from lab.mistakes import group_given, source_given
 from lab.playing import Action
 from pimtext import packets
 
@@ -66,8 +67,8 @@ class Host:
     received: list = field(default_factory=list, repr=False)
 
     def join(self, group, source=None):
-        """Wants a group, of every source or of one, from the present on."""
-        old = self.wish(group)
+        """Wants a group, of every source or of one, a host or an address, from the present on."""
+        old, source = self.wish(group_given(group)), source and source_given(source)
         if source is None:
             self.turn(group, Wish(True, frozenset()))
         else:
@@ -75,7 +76,7 @@ class Host:
 
     def leave(self, group, source=None):
         """Wants it no more, or not of this source."""
-        old = self.wish(group)
+        old, source = self.wish(group_given(group)), source and source_given(source)
         if source is None:
             self.turn(group, NOTHING)
         else:
@@ -116,7 +117,7 @@ class Host:
 
     def send(self, group, payload=b"", ttl=16, after=0.0):
         """Sends a packet of data to a group, at the present or so many seconds later."""
-        data = packets.write_data(self.address, group, payload, ttl)
+        data = packets.write_data(self.address, group_given(group), payload, ttl)
         self.net.schedule(Speech(self, data), self.net.now + round(1000 * after))
 
     def stream(self, group, every=1.0, times=10):

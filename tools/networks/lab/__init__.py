@@ -20,9 +20,10 @@ sent is delivered. With `loss`, `delay` or `reorder` the packets between routers
 network with the same seed does the same. Hosts speak IGMPv3 and answer queries. Times that one gives are seconds; moments
 that one reads are ms, as in the tables.
 
-`python3 tools/lab FILE.py` runs such a file; tools/lab/examples has some.
+`tools/lab FILE.py` runs such a file; tools/networks/examples has some.
 """
 from lab.hosts import Host, Received
+from lab.mistakes import Mistake
 from lab.network import Network
 from lab.topology import Link, Router
 from lab.tree import Tree
@@ -30,6 +31,6 @@ from pimtext.printed import NEVER, Active, AssertState, Downstream, GroupRecord,
 from pimtext.scenario import Refused
 
 __all__ = [
-    "NEVER", "Active", "AssertState", "Downstream", "GroupRecord", "Host", "Link", "Neighbour", "Network", "Received", "Refused",
+    "NEVER", "Active", "AssertState", "Downstream", "GroupRecord", "Host", "Link", "Mistake", "Neighbour", "Network", "Received", "Refused",
     "Router", "SharedTree", "SourceRecord", "Tree", "Upstream",
 ]

@@ -1,21 +1,26 @@
 """A network: its routers, links and hosts, the packets between them, and time."""
 import random
+import weakref
 from dataclasses import dataclass
-from ipaddress import ip_network
 from itertools import count
 from pathlib import Path
 
 from lab.hosts import Host
 from lab.lines import Lines, calling
+from lab.mistakes import Mistake, group_given, is_known_key, kind_given, near, shown, source_given, subnet_given
 from lab.playing import Action, Player
 from lab.topology import Link, Port, Router, routes
 from lab.traffic import HOSTS, START, Chances, Traffic
 from lab.tree import tree_of
 from pimtext import notes, packets, scenario, served, toml_lines, trees, words
-from pimtext.faults import faults_of
+from pimtext.faults import ROUTER_KEYS, address_in, faults_of, is_host, prefix_in
 from pimtext.printed import ANY
 from pimtext.scenario import scenario_of, text_of
 
+# All networks of this run.
+MADE = []
+# The keys of a router that a network leaves to whoever makes it.
+ROUTER_OPTIONS = [key for key in ROUTER_KEYS if key not in ("name", "iface")]
 MOST_ROUTERS = 64
 FIRST_HOST = 101
 
@@ -45,6 +50,7 @@ class Network:
         self.now = self.present = self.stepped = 0
         self.player, self.sent, self.paths, self.odd = None, [], {}, []
         self.made, self.spoken = calling(), {}
+        MADE.append(weakref.ref(self))
         self.traffic = Traffic(self, None, Chances(seed, tuple(round(1000 * seconds) for seconds in delay), reorder))
         self.settles = not (loss or reorder or delay[1])
 
@@ -53,8 +59,10 @@ class Network:
     def router(self, name, **options):
         """A router; options are keys of the scenario file, as `spt="never"`."""
         self.is_new(name, self.routers)
+        for key in options:
+            is_known_key(key, ROUTER_OPTIONS, "a router")
         if len(self.routers) == MOST_ROUTERS:
-            raise ValueError(f"a network has at most {MOST_ROUTERS} routers")
+            raise Mistake(f"a network has at most {MOST_ROUTERS} routers")
         self.routers[name] = Router(name, options, self)
         return self.routers[name]
 
@@ -64,7 +72,7 @@ class Network:
         name = name or "-".join(router.name for router in routers)
         self.is_new(name, self.links)
         number = len(self.links) + 1
-        subnet = ip_network(subnet or f"10.{number >> 8}.{number & 255}.0/24")
+        subnet = subnet_given(subnet or f"10.{number >> 8}.{number & 255}.0/24")
         link = Link(name, subnet, cost, self.loss if loss is None else loss, self)
         for router in routers:
             port = Port(router, len(router.ports), link, str(subnet[len(link.ports) + 1]))
@@ -87,7 +95,7 @@ class Network:
         self.is_new(name, self.hosts)
         link = self.links.get(at) if isinstance(at, str) else at
         if not isinstance(link, Link):
-            link = self.link(at, name=name, loss=0.0)
+            link = self.link(self.known_router(at, " or link"), name=name, loss=0.0)
         host = Host(name, link, str(link.subnet[FIRST_HOST + len(link.hosts)]), self)
         link.hosts.append(host)
         self.hosts[name] = host
@@ -95,7 +103,11 @@ class Network:
 
     def rp(self, router, groups="224.0.0.0/4", address=None):
         """The RP of a range of groups. Where no address of it is given, it is that of a link of its own, which never fails."""
-        router = self.find(router)
+        router = self.known_router(router)
+        if not isinstance(groups, str) or prefix_in(groups) is None:
+            raise Mistake(f"{groups!r} is no range of groups: it is one as \"239.0.0.0/8\"")
+        if address is not None and (not isinstance(address, str) or not is_host(address_in(address) or 0)):
+            raise Mistake(f"{shown(address)} is no address of an RP: it is one as \"10.0.1.1\"")
         self.ranges = [row for row in self.ranges if row[0] != groups]
         self.ranges.append((groups, address or self.loopback(router)))
         if self.player:
@@ -116,13 +128,23 @@ class Network:
         """A router by its name, which is made where there is none."""
         if isinstance(router, Router):
             return router
+        if not isinstance(router, str):
+            raise Mistake(f"{shown(router)} is no router, nor the name of one")
         return self.routers.get(router) or self.router(router)
 
+    def known_router(self, router, or_what=""):
+        """A router that is there."""
+        if isinstance(router, str) and router not in self.routers:
+            raise Mistake(f"there is no router{or_what} {router}{near(router, list(self.routers))}")
+        return self.find(router)
+
     def is_new(self, name, among):
+        if not isinstance(name, str):
+            raise Mistake(f"{shown(name)} is no name: it is a text")
         if self.player:
-            raise ValueError(f"{name}: routers, links and hosts are made before the first run")
+            raise Mistake(f"{name}: routers, links and hosts are made before the first run")
         if name in among:
-            raise ValueError(f"there is a {name!r} already")
+            raise Mistake(f"there is a {name!r} already")
 
     def owner(self, address):
         """The router that has an address."""
@@ -145,7 +167,7 @@ class Network:
     def change(self, thing, is_up, ports):
         """A link or a router comes or goes: with it its ports, and routes change."""
         if self.player is None:
-            raise ValueError("links and routers go down after the first run")
+            raise Mistake("links and routers go down after the first run")
         if thing.is_up != is_up:
             thing.is_up = is_up
             self.settles = False
@@ -166,7 +188,7 @@ class Network:
 
     def routes(self, router, *texts):
         """Routes that go before those by shortest path, as `PREFIX NEXTHOP IFACE PREFERENCE METRIC`."""
-        router = self.find(router)
+        router = self.known_router(router)
         self.fixed[router] = self.fixed.get(router, ()) + texts
         if self.player:
             self.schedule(Action([self.news("routes", router, self.routes_of(router))]), self.now)
@@ -188,6 +210,9 @@ class Network:
     def start(self):
         """All interfaces come up at moment 0."""
         tables = [self.table(router) for router in self.routers.values()]
+        judge, number = faults_of(text_of(tables, []))
+        if number:
+            raise Mistake("; ".join(f"{fault.where}: {fault.what}" for fault in judge.faults))
         self.player = Player(tables, {name: self.draw() for name in self.routers})
         self.traffic.read = scenario_of({"router": tables})
         moves = [self.turned(port) for router in self.routers.values() for port in router.ports]
@@ -261,12 +286,12 @@ class Network:
     def tables(self):
         """What each router knows at the present, by names."""
         if self.player is None:
-            raise ValueError("nothing has run yet")
+            raise Mistake("nothing has run yet")
         return self.player.tables
 
     def tree(self, group, source=ANY):
         """The tree of a group and all sources, or of one, a host or an address, as it stands at the present."""
-        return tree_of(self.known(), group, getattr(source, "address", source))
+        return tree_of(self.known(), group_given(group), source if source == ANY else source_given(source))
 
     def known(self):
         """The same with what follows of the run: interfaces that are up, routes, RP ranges, Hellos."""
@@ -275,8 +300,11 @@ class Network:
 
     def served(self, host, group, source):
         """Whether a host is served of a source, a host or an address, at the present; as a text, hop by hop how, or why not."""
-        world, address = served.World(self.known()), getattr(source, "address", source)
-        return Served(*served.told(world, group, address, host.address, world.link_of(address), host.link.name))
+        world, address = served.World(self.known()), source_given(source)
+        origin = world.link_of(address)
+        if origin is None:
+            raise Mistake(f"the source {address} is in the subnet of no link that is up")
+        return Served(*served.told(world, group_given(group), address, host.address, origin, host.link.name))
 
     def notes(self):
         """What a reader would wonder about in the run, as `tools/why --run` has it, with the lines of the file that made it."""
@@ -286,6 +314,7 @@ class Network:
 
     def packets(self, kind=None):
         """What routers sent, in order, all or of one kind: a class of pimtext.packets, as Register."""
+        kind_given(kind)
         return [sent for sent in self.sent if kind is None or isinstance(sent.packet().body, kind)]
 
     def troubles(self):
@@ -305,3 +334,7 @@ class Network:
         """Writes it to a file."""
         Path(path).write_text(self.scenario())
 
+
+def made():
+    """The networks that this run has made and that are still in use."""
+    return [net for net in (known() for known in MADE) if net is not None]
