@@ -9,6 +9,8 @@ from dataclasses import dataclass
 SHORT, VERSION, CHECKSUM, LENGTH, ADDRESS, GROUP, OLD, UNKNOWN, FRAGMENT = range(1, 10)
 IGMP, UDP, PIM = 2, 17, 103
 ALL_PIM_ROUTERS = bytes((224, 0, 0, 13))
+# The type of service of routing protocols.
+ROUTING = 0xC0
 # The longest packet that comes on a link, and the longest one that comes as a unicast: a Register with such a one in it.
 MOST_IN_A_FRAME, MOST_IN_A_UNICAST = 1500, 1528
 HELLO, REGISTER, REGISTER_STOP, JOIN_PRUNE, ASSERT = 0, 1, 2, 3, 5
@@ -373,10 +375,10 @@ def with_number(data, place, number, size=2):
     return data[:place] + (number % 256 ** size).to_bytes(size, "big") + data[place + size:]
 
 
-def write(protocol, source, destination, ttl, body, options=b""):
+def write(protocol, source, destination, ttl, body, options=b"", service=0):
     """An IPv4 packet; options are a multiple of four bytes."""
     length = 20 + len(options)
-    head = bytes([0x40 + length // 4, 0]) + (length + len(body)).to_bytes(2, "big") + bytes([0, 0, 0, 0, ttl, protocol, 0, 0])
+    head = bytes([0x40 + length // 4, service]) + (length + len(body)).to_bytes(2, "big") + bytes([0, 0, 0, 0, ttl, protocol, 0, 0])
     head += octets(source) + octets(destination) + options
     return with_number(head, 10, sum16(head)) + body
 
@@ -408,7 +410,8 @@ def write_data(source, group, payload, ttl=16, port=5000):
 def write_pim(kind, source, destination, ttl, content):
     """A PIM message; the checksum of a Register is over its first 8 bytes."""
     body = bytes([0x20 | kind, 0, 0, 0]) + content
-    return write(PIM, source, destination, ttl, with_number(body, 2, sum16(body[:8] if kind == REGISTER else body)))
+    sum_of = body[:8] if kind == REGISTER else body
+    return write(PIM, source, destination, ttl, with_number(body, 2, sum16(sum_of)), service=ROUTING)
 
 
 def write_to_routers(kind, source, content):
@@ -435,6 +438,11 @@ def write_hello(source, hello):
     told = [number for number in options if number[2] is not None]
     content = b"".join(bytes([0, code, 0, size]) + value.to_bytes(size, "big") for code, size, value in told)
     return write_to_routers(HELLO, source, content)
+
+
+def shared_join(group, rp):
+    """The entries that join a shared tree."""
+    return GroupEntries(group, 32, (Entry(rp, 32, True, True),), ())
 
 
 def write_join_prune(source, upstream, groups, holdtime=210):

@@ -1,7 +1,9 @@
 """Packets read and written, and put in words."""
+import re
 import unittest
 
 from pimtext import packets, words
+from tests import stored
 
 
 class Written(unittest.TestCase):
@@ -25,6 +27,39 @@ class Written(unittest.TestCase):
 
     def test_odd_lengths_are_summed_with_a_zero(self):
         self.assertEqual(packets.sum16(b"\xff\xff\x12"), 0xFFFF - 0x1200)
+
+
+class Documented(unittest.TestCase):
+    """docs/PACKETS.md: the bytes of its tables are those of its packets."""
+    TEXT = (stored.TOOLS.parent / "docs" / "PACKETS.md").read_text()
+
+    def section(self, title):
+        return self.TEXT.partition(f"\n## {title}\n")[2].partition("\n## ")[0]
+
+    def bytes_of(self, title):
+        """The bytes in the first column of a section's table."""
+        return "".join(re.findall(r"^\| `([0-9a-f ]+)` \|", self.section(title), re.M)).replace(" ", "")
+
+    def packet(self, title):
+        return re.search(r"^    ([0-9a-f]+)$", self.section(title), re.M)[1]
+
+    def test_tables_are_the_bytes_of_the_packets(self):
+        header = self.bytes_of("The header that all have")
+        for title in ("A Hello", "A Join"):
+            self.assertEqual(header + self.bytes_of(title), self.packet(title))
+        assert_header = header.replace("0036", "002e").replace("cc91", "ce94").replace("0a000203", "0a050003")
+        self.assertEqual(assert_header + self.bytes_of("An Assert"), self.packet("An Assert"))
+
+    def test_they_are_written_so_and_read_back(self):
+        hello = packets.Hello(105, 500, 2500, 1, 31)
+        self.assertEqual(packets.write_hello("10.0.2.3", hello).hex(), self.packet("A Hello"))
+        self.assertEqual(packets.read(bytes.fromhex(self.packet("A Hello"))).body, hello)
+        join = packets.JoinPrune("10.0.2.2", 210, (packets.shared_join("239.1.1.1", "10.0.1.2"),))
+        self.assertEqual(packets.write_join_prune("10.0.2.3", "10.0.2.2", join.groups).hex(), self.packet("A Join"))
+        self.assertEqual(packets.read(bytes.fromhex(self.packet("A Join"))).body, join)
+        told = packets.Assert("232.1.1.1", 32, "10.1.0.50", False, 110, 20)
+        self.assertEqual(packets.write_assert("10.5.0.3", told).hex(), self.packet("An Assert"))
+        self.assertEqual(packets.read(bytes.fromhex(self.packet("An Assert"))).body, told)
 
 
 class Words(unittest.TestCase):
