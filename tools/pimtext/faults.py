@@ -8,12 +8,9 @@ from dataclasses import dataclass
 from difflib import get_close_matches
 
 from pimtext import toml_lines
+from pimtext.addresses import BELOW, address_in, dotted, is_group, is_host, mask, number_in, prefix_in, words_in
 
 MOST_ROUTERS, MOST_IFACES, MOST_ROUTES, MOST_RPS = 64, 120, 100_000, 256
-BELOW = 2**32
-MULTICAST = 0xE000_0000
-# What splits the words of a route, as Unicode has it.
-WHITE_SPACE = re.compile("[\t-\r \x85\xa0\u1680\u2000-\u200a\u2028\u2029\u202f\u205f\u3000]+")
 
 ROUTER_KEYS = ["name", "iface", "limit", "spt", "rv", "qi", "qri", "lmqi", "routes", "rps"]
 IFACE_KEYS = ["link", "address", "priority", "propagation", "override"]
@@ -101,29 +98,6 @@ def count(words):
     return f"{len(words)} word{'' if len(words) == 1 else 's'}"
 
 
-def dotted(address):
-    return ".".join(str(address >> shift & 255) for shift in (24, 16, 8, 0))
-
-
-def number_in(text):
-    """Decimal digits without a sign, below 2^32."""
-    return int(text) if re.fullmatch("[0-9]+", text) and int(text) < BELOW else None
-
-
-def address_in(text):
-    if not re.fullmatch(r"(?:0|[1-9][0-9]{0,2})(?:\.(?:0|[1-9][0-9]{0,2})){3}", text):
-        return None
-    parts = [int(part) for part in text.split(".")]
-    return sum(part << shift for part, shift in zip(parts, (24, 16, 8, 0))) if max(parts) < 256 else None
-
-
-def prefix_in(text):
-    """An address and a length, or None. A length is any number below 2^32 here."""
-    head, slash, tail = text.partition("/")
-    address, length = address_in(head), number_in(tail)
-    return (address, length) if slash and address is not None and length is not None else None
-
-
 def why_no_address(text):
     if not text:
         return "it is empty"
@@ -142,19 +116,6 @@ def why_no_prefix(text):
     if address_in(head) is None:
         return f"`{head}` is no address: {why_no_address(head)}"
     return f"`{tail}` is no length" if slash else "the length of the subnet is missing, as /24"
-
-
-def is_host(address):
-    """Not 0.0.0.0, and below 224.0.0.0."""
-    return 0 < address < MULTICAST
-
-
-def is_group(address):
-    return MULTICAST <= address <= 0xEFFF_FFFF
-
-
-def mask(length):
-    return (BELOW - 1) << (32 - length) & (BELOW - 1)
 
 
 # ---- the file as it is read: refusal 39
@@ -290,8 +251,7 @@ class Judge:
             if inner.kind != "text":
                 self.fault(inner.line, place, f"it is {found(inner)}, and a text is wanted: {form.partition('each ')[2]}")
                 continue
-            words = [word for word in WHITE_SPACE.split(inner.held) if word]
-            made += [route for route in [read(words, inner, place)] if route]
+            made += [route for route in [read(words_in(inner.held), inner, place)] if route]
         return made
 
     def numbers(self, words, names, inner, place):
@@ -403,7 +363,7 @@ def rp_fault(route):
         return f"the prefix length of {prefix} is above 32"
     if route.address & ~mask(route.length) & (BELOW - 1):
         return f"{prefix} has host bits set: {dotted(route.address & mask(route.length))}/{route.length} is the prefix"
-    if route.address < MULTICAST or route.address > 0xEFFF_FFFF or route.length < 4:
+    if not is_group(route.address) or route.length < 4:
         return f"{prefix} isn't inside 224.0.0.0/4"
     return None if is_host(route.next_hop) else f"the RP {dotted(route.next_hop)} is no host's address"
 

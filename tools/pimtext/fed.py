@@ -1,6 +1,7 @@
 """What each router of a scenario is fed: its configuration, and the events that reach it."""
 from dataclasses import dataclass
-from ipaddress import IPv4Interface
+
+from pimtext.addresses import dotted, prefix_in, range_words, route_words
 
 # The keys of a router's table, with the names and usual values of the library's settings.
 SETTINGS = {
@@ -23,8 +24,8 @@ class Event:
 def interfaces(table):
     """Each interface: its address, its prefix length, its DR priority and its two delays."""
     for row in table.get("iface", []):
-        own = IPv4Interface(row["address"])
-        yield str(own.ip), own.network.prefixlen, row.get("priority", 1), row.get("propagation", 500), row.get("override", 2500)
+        address, length = prefix_in(row["address"])
+        yield dotted(address), length, row.get("priority", 1), row.get("propagation", 500), row.get("override", 2500)
 
 
 def settings(table):
@@ -34,14 +35,12 @@ def settings(table):
 
 def routes(texts):
     """Each route: prefix, next hop, interface, preference, metric."""
-    for text in texts:
-        prefix, hop, *numbers = text.split()
-        yield prefix, hop, *map(int, numbers)
+    return map(route_words, texts)
 
 
 def ranges(texts):
     """Each RP range: prefix, RP."""
-    return (tuple(text.split()) for text in texts)
+    return map(range_words, texts)
 
 
 def event(step):

@@ -7,8 +7,10 @@ import subprocess
 import sys
 import tomllib
 from dataclasses import dataclass, field
-from ipaddress import IPv4Interface, IPv4Network, ip_interface, ip_network
+from ipaddress import IPv4Interface
 from pathlib import Path
+
+from pimtext.addresses import ranges_of, routes_of
 
 PIMLAB = Path(__file__).resolve().parent.parent.parent / "pimlab"
 
@@ -66,34 +68,13 @@ class Scenario:
         return text_of([router.table for router in self.routers], self.moves[:moves])
 
 
-@dataclass(frozen=True)
-class Route:
-    prefix: IPv4Network
-    next_hop: str
-    iface: int
-    preference: int = 0
-    metric: int = 0
-
-
-def routes_of(texts):
-    """Routes as they stand in the file."""
-    rows = [text.split() for text in texts]
-    return [Route(ip_network(prefix), hop, *map(int, numbers)) for prefix, hop, *numbers in rows]
-
-
-def rps_of(texts):
-    """RP ranges as they stand in the file: pairs of a prefix and an address."""
-    rows = [text.split() for text in texts]
-    return [(ip_network(prefix), rp) for prefix, rp in rows]
-
-
 def interface_of(number, table):
-    return Interface(number, table["link"], ip_interface(table["address"]), table.get("priority", 1))
+    return Interface(number, table["link"], IPv4Interface(table["address"]), table.get("priority", 1))
 
 
 def router_of(table):
     interfaces = [interface_of(number, row) for number, row in enumerate(table["iface"])]
-    return Router(table["name"], interfaces, table, routes_of(table.get("routes", [])), rps_of(table.get("rps", [])))
+    return Router(table["name"], interfaces, table, routes_of(table.get("routes", [])), ranges_of(table.get("rps", [])))
 
 
 def scenario_of(tables):

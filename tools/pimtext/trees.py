@@ -7,6 +7,7 @@ from dataclasses import dataclass, field
 from ipaddress import ip_address, ip_network
 
 from pimtext import packets, printed, scenario
+from pimtext.addresses import ranges_of, routes_of
 from pimtext.printed import ANY
 
 SOURCE_SPECIFIC = ip_network("232.0.0.0/8")
@@ -85,9 +86,9 @@ def follow(state, step):
             state.up.discard(step.iface)
             state.queriers.pop(step.iface, None)
         case "routes":
-            state.routes = scenario.routes_of(step.did["list"])
+            state.routes = routes_of(step.did["list"])
         case "rps":
-            state.rps = scenario.rps_of(step.did["list"])
+            state.rps = ranges_of(step.did["list"])
         case "frame" | "deliver" | "settle":
             hear(state, step)
 

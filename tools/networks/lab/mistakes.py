@@ -3,7 +3,7 @@ from difflib import get_close_matches
 from ipaddress import AddressValueError, IPv4Network, NetmaskValueError
 
 from pimtext import packets, printed
-from pimtext.faults import address_in, is_group, is_host
+from pimtext.addresses import address_in, is_group, is_host
 
 TABLES = list(printed.ROWS.values())
 LINK_LOCAL = IPv4Network("224.0.0.0/24")

@@ -13,7 +13,8 @@ from lab.topology import Link, Port, Router, routes
 from lab.traffic import HOSTS, START, Chances, Traffic
 from lab.tree import tree_of
 from pimtext import notes, packets, scenario, served, toml_lines, trees, words
-from pimtext.faults import ROUTER_KEYS, address_in, faults_of, is_host, prefix_in
+from pimtext.addresses import address_in, is_host, prefix_in
+from pimtext.faults import ROUTER_KEYS, faults_of
 from pimtext.printed import ANY
 from pimtext.scenario import scenario_of, text_of
 

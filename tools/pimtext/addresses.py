@@ -1,0 +1,89 @@
+"""Addresses, prefixes, routes and RP ranges as a scenario writes them: all tools read them here.
+
+A text is read as the program reads it: decimal numbers without leading zeros in an address, any zeros before other numbers,
+numbers below 2^32, and between the words of a route what Unicode calls white space.
+"""
+import re
+from dataclasses import dataclass
+from ipaddress import IPv4Network
+
+BELOW = 2**32
+MULTICAST, LAST_GROUP = 0xE000_0000, 0xEFFF_FFFF
+ADDRESS = re.compile(r"(?:0|[1-9][0-9]{0,2})(?:\.(?:0|[1-9][0-9]{0,2})){3}\Z")
+WHITE_SPACE = re.compile("[\t-\r \x85\xa0\u1680\u2000-\u200a\u2028\u2029\u202f\u205f\u3000]+")
+
+
+def words_in(text):
+    """The words of a route or a range."""
+    return [word for word in WHITE_SPACE.split(text) if word]
+
+
+def number_in(text):
+    """Decimal digits without a sign, below 2^32; None of any other text."""
+    return int(text) if re.fullmatch("[0-9]+", text) and int(text) < BELOW else None
+
+
+def address_in(text):
+    """An address as a number; None of any other text."""
+    if not ADDRESS.match(text):
+        return None
+    parts = [int(part) for part in text.split(".")]
+    return int.from_bytes(bytes(parts), "big") if max(parts) < 256 else None
+
+
+def prefix_in(text):
+    """An address and a length, or None. A length is any number below 2^32 here."""
+    head, slash, tail = text.partition("/")
+    address, length = address_in(head), number_in(tail)
+    return (address, length) if slash and address is not None and length is not None else None
+
+
+def dotted(number):
+    return ".".join(map(str, number.to_bytes(4, "big")))
+
+
+def is_host(address):
+    """Not 0.0.0.0, and below 224.0.0.0."""
+    return 0 < address < MULTICAST
+
+
+def is_group(address):
+    return MULTICAST <= address <= LAST_GROUP
+
+
+def mask(length):
+    return (BELOW - 1) << (32 - length) & (BELOW - 1)
+
+
+# ---- routes and ranges of a scenario
+
+
+def route_words(text):
+    """The parts of a route: prefix and next hop as they are written, interface, preference and metric."""
+    prefix, hop, *numbers = words_in(text)
+    return prefix, hop, *map(int, numbers)
+
+
+def range_words(text):
+    """The parts of an RP range as they are written: prefix and RP."""
+    prefix, rp = words_in(text)
+    return prefix, rp
+
+
+@dataclass(frozen=True)
+class Route:
+    prefix: IPv4Network
+    next_hop: str
+    iface: int
+    preference: int = 0
+    metric: int = 0
+
+
+def routes_of(texts):
+    """Routes that the program has taken."""
+    return [Route(IPv4Network(prefix), *rest) for prefix, *rest in map(route_words, texts)]
+
+
+def ranges_of(texts):
+    """RP ranges that the program has taken: pairs of a prefix and an address."""
+    return [(IPv4Network(prefix), rp) for prefix, rp in map(range_words, texts)]
