@@ -1,8 +1,14 @@
 """A router of a scenario that holds much, the packets that come to it, and the instructions that a run takes."""
 import re
 import subprocess
+import sys
 import tempfile
 from pathlib import Path
+
+sys.path.append(str(Path(__file__).resolve().parent.parent))
+from pimtext import packets  # noqa: E402
+from pimtext.addresses import dotted  # noqa: E402
+from pimtext.packets import Entry, GroupEntries, Record, octets  # noqa: E402
 
 TOP = Path(__file__).resolve().parent.parent.parent
 PROGRAM = TOP / "crates" / "pimlab" / "out" / "pimlab"
@@ -15,63 +21,53 @@ GROUPS_A_FRAME, SOURCES_A_FRAME = 70, 180
 RECORDS_A_REPORT = 183
 
 
-def inet_sum(data):
-    """The one's complement sum of the 16-bit words."""
-    total = sum(int.from_bytes(data[at : at + 2], "big") for at in range(0, len(data), 2))
-    while total > 0xFFFF:
-        total = (total & 0xFFFF) + (total >> 16)
-    return (0xFFFF - total).to_bytes(2, "big")
+def summed(data, place, is_right):
+    """A packet with the checksum at a place as it is, or with a wrong one."""
+    return data if is_right else packets.with_number(data, place, data[place] ^ 1, 1)
 
 
 def packet(source, payload, is_right=True):
     """A PIM message to all PIM routers on a link."""
-    check = inet_sum(payload)
-    if not is_right:
-        check = bytes([check[0] ^ 1, check[1]])
-    payload = payload[:2] + check + payload[4:]
-    header = bytes.fromhex("45c0") + (20 + len(payload)).to_bytes(2, "big") + bytes.fromhex("0000000001670000")
-    header += source.to_bytes(4, "big") + bytes.fromhex("e000000d")
-    return header[:10] + inet_sum(header) + header[12:] + payload
+    return summed(packets.write_to_routers(payload[0] & 15, dotted(source), payload[4:]), 22, is_right)
 
 
 def igmp_packet(source, destination, message, is_right=True):
     """An IGMP message with the Router Alert option."""
-    check = inet_sum(message)
-    message = message[:2] + (check if is_right else bytes([check[0] ^ 1, check[1]])) + message[4:]
-    header = bytes.fromhex("46c0") + (24 + len(message)).to_bytes(2, "big") + bytes.fromhex("0000000001020000")
-    header += source.to_bytes(4, "big") + destination.to_bytes(4, "big") + bytes.fromhex("94040000")
-    return header[:10] + inet_sum(header) + header[12:] + message
+    return summed(packets.write_igmp(dotted(source), dotted(destination), message, packets.ROUTING), 26, is_right)
+
+
+def data_packet(source, group, is_right=True):
+    """Data without a payload."""
+    return summed(packets.write(packets.UDP, dotted(source), dotted(group), 16, b""), 10, is_right)
 
 
 def addresses(sources):
-    return b"".join(source.to_bytes(4, "big") for source in sources)
+    return b"".join(octets(dotted(source)) for source in sources)
 
 
 def member_record(kind, group, sources=()):
     """A record of an IGMPv3 report."""
-    return bytes([kind, 0]) + len(sources).to_bytes(2, "big") + group.to_bytes(4, "big") + addresses(sources)
+    return Record(kind, dotted(group), tuple(map(dotted, sources)))
 
 
 def report_packet(host, records, is_right=True):
     """An IGMPv3 report of a host."""
-    message = bytes.fromhex("220000000000") + len(records).to_bytes(2, "big") + b"".join(records)
-    return igmp_packet(host, 0xE0000016, message, is_right)
+    return summed(packets.write_report(dotted(host), records, packets.ROUTING), 26, is_right)
+
+
+def entries(told):
+    """Sources, each with its flags."""
+    return tuple(Entry(dotted(address), 32, bool(flags & 2), bool(flags & 1)) for flags, address in told)
 
 
 def group_record(group, joins, prunes):
     """A group with the sources joined and pruned, each with its flags."""
-    record = bytes.fromhex("01000020") + group.to_bytes(4, "big")
-    record += len(joins).to_bytes(2, "big") + len(prunes).to_bytes(2, "big")
-    for flags, address in joins + prunes:
-        record += bytes([1, 0, flags, 32]) + address.to_bytes(4, "big")
-    return record
+    return GroupEntries(dotted(group), 32, entries(joins), entries(prunes))
 
 
-def join_prune(groups, is_right=True):
-    """A Join/Prune of the neighbour on interface 1 to the router."""
-    body = bytes.fromhex("230000000100") + (0x0A000102).to_bytes(4, "big")
-    body += bytes([0, len(groups)]) + bytes.fromhex("00d2")
-    return packet(0x0A000101, body + b"".join(groups), is_right)
+def join_prune(groups, is_right=True, source=0x0A000101, upstream=0x0A000102):
+    """A Join/Prune, where no other is named of the neighbour on interface 1 to the router."""
+    return summed(packets.write_join_prune(dotted(source), dotted(upstream), groups), 22, is_right)
 
 
 def move(**values):

@@ -9,8 +9,9 @@ from dataclasses import dataclass
 SHORT, VERSION, CHECKSUM, LENGTH, ADDRESS, GROUP, OLD, UNKNOWN, FRAGMENT = range(1, 10)
 IGMP, UDP, PIM = 2, 17, 103
 ALL_PIM_ROUTERS = bytes((224, 0, 0, 13))
-# The type of service of routing protocols.
+# The type of service of routing protocols, and the option that routers look at.
 ROUTING = 0xC0
+ROUTER_ALERT = b"\x94\x04\0\0"
 # The longest packet that comes on a link, and the longest one that comes as a unicast: a Register with such a one in it.
 MOST_IN_A_FRAME, MOST_IN_A_UNICAST = 1500, 1528
 HELLO, REGISTER, REGISTER_STOP, JOIN_PRUNE, ASSERT = 0, 1, 2, 3, 5
@@ -383,20 +384,31 @@ def write(protocol, source, destination, ttl, body, options=b"", service=0):
     return with_number(head, 10, sum16(head)) + body
 
 
+def with_header_sum(data):
+    """With the right checksum of the IP header."""
+    return with_number(data, 10, sum16(with_number(data[:4 * (data[0] & 15)], 10, 0)))
+
+
 def aged(data):
     """A packet with a TTL lower by one, and nothing else changed."""
-    head = 4 * (data[0] & 15)
-    older = with_number(with_number(data[:head], 8, data[8] - 1, 1), 10, 0)
-    return with_number(older, 10, sum16(older)) + data[head:]
+    return with_header_sum(with_number(data, 8, data[8] - 1, 1))
 
 
-def write_report(host, records):
+def write_igmp(source, destination, message, service=0):
+    """An IGMP message with its checksum."""
+    return write(IGMP, source, destination, 1, with_number(message, 2, sum16(message)), ROUTER_ALERT, service)
+
+
+def encoded_record(record):
+    """A record of a report."""
+    head = bytes([record.kind, 0]) + len(record.sources).to_bytes(2, "big") + octets(record.group)
+    return head + b"".join(map(octets, record.sources))
+
+
+def write_report(host, records, service=0):
     """What a host tells its routers by IGMPv3."""
-    body = bytes([0x22, 0, 0, 0, 0, 0]) + len(records).to_bytes(2, "big")
-    for record in records:
-        body += bytes([record.kind, 0]) + len(record.sources).to_bytes(2, "big") + octets(record.group)
-        body += b"".join(map(octets, record.sources))
-    return write(IGMP, host, "224.0.0.22", 1, with_number(body, 2, sum16(body)), b"\x94\x04\0\0")
+    body = bytes([0x22, 0, 0, 0, 0, 0]) + len(records).to_bytes(2, "big") + b"".join(map(encoded_record, records))
+    return write_igmp(host, "224.0.0.22", body, service)
 
 
 def write_data(source, group, payload, ttl=16, port=5000):
@@ -447,10 +459,13 @@ def shared_join(group, rp):
 
 def write_join_prune(source, upstream, groups, holdtime=210):
     content = encoded_unicast(upstream) + bytes([0, len(groups)]) + holdtime.to_bytes(2, "big")
-    for group in groups:
-        content += encoded_group(group.group, group.mask) + bytes([0, len(group.joins), 0, len(group.prunes)])
-        content += b"".join(map(encoded_source, (*group.joins, *group.prunes)))
-    return write_to_routers(JOIN_PRUNE, source, content)
+    return write_to_routers(JOIN_PRUNE, source, content + b"".join(map(encoded_entries, groups)))
+
+
+def encoded_entries(group):
+    """A group of a Join/Prune with its sources."""
+    counts = len(group.joins).to_bytes(2, "big") + len(group.prunes).to_bytes(2, "big")
+    return encoded_group(group.group, group.mask) + counts + b"".join(map(encoded_source, (*group.joins, *group.prunes)))
 
 
 def write_assert(source, told):
