@@ -1,0 +1,106 @@
+"""`tools/try_edits`, with a stand-in for the kit's judge."""
+import contextlib
+import io
+import unittest
+from unittest import mock
+
+from tests import stored
+from tests.rooms import kit, repository
+
+try_edits = stored.tool("try_edits")
+FILES = {
+    "crates.txt": "# the crates\nhigh: middle std\nmiddle: low\nlow: std\nother: std\n",
+    "crates/low/src/lib.rt": "low", "crates/low/out/kept": "what a check kept", "crates/low/edits/weak.edit": "a",
+    "crates/middle/src/lib.rt": "middle", "crates/middle/edits/one.edit": "b", "crates/middle/must-fail/two.edit": "c",
+    "crates/high/src/lib.rt": "high", "crates/other/src/lib.rt": "other",
+}
+# It refuses each edit that it finds in the folder of the crate.
+REFUSES = """\
+echo "$* in $(basename $(pwd))" >> {log}
+[ "$1" = lib ] && exit 0
+for edit in crates/$2/must-fail/*.edit; do echo "rt: must-fail $2/$(basename $edit .edit).edit: refused, as it must be: a goal"; done
+"""
+
+
+def tried(script, *words, files=FILES):
+    """The status, what is printed, and what the stand-in was asked."""
+    with repository(files) as room, mock.patch.object(try_edits, "ROOT", room):
+        log = room / "log"
+        out = io.StringIO()
+        with kit(room, script.replace("{log}", str(log))), mock.patch("sys.argv", ["try_edits", *words]):
+            with contextlib.redirect_stdout(out), contextlib.redirect_stderr(out):
+                try:
+                    status = try_edits.main()
+                except SystemExit as end:
+                    status = end.code
+        asked = log.read_text().splitlines() if log.exists() else []
+        left = {str(path.relative_to(room)) for path in room.rglob("*.edit")}
+        return status, out.getvalue().splitlines(), asked, left
+
+
+class Crates(unittest.TestCase):
+    def test_the_lowest_first_with_what_they_stand_on(self):
+        with repository(FILES) as room, mock.patch.object(try_edits, "ROOT", room):
+            found = try_edits.crates()
+            self.assertEqual(found, {"low": [], "other": [], "middle": ["low"], "high": ["middle"]})
+            order = list(found)
+            self.assertLess(order.index("low"), order.index("middle"))
+            self.assertLess(order.index("middle"), order.index("high"))
+            self.assertEqual(try_edits.all_below(["high"], found), ["low", "middle"])
+            self.assertEqual(try_edits.all_below(["low"], found), [])
+
+    def test_the_edits_of_this_repository_have_names_of_their_own(self):
+        for name in try_edits.crates():
+            names = [path.name for path in try_edits.edits_of(name)]
+            self.assertEqual(len(names), len(set(names)), name)
+
+
+class Tried(unittest.TestCase):
+    def test_all_edits_are_put_to_the_judge(self):
+        status, lines, asked, left = tried(REFUSES)
+        self.assertEqual(status, 0)
+        self.assertEqual(sorted(lines[:-1]), [f"{name}: refused: a goal" for name in ("low/weak", "middle/one", "middle/two")])
+        self.assertEqual(lines[-1], "3 refused, 0 STILL PROVED, 0 does not apply")
+        self.assertEqual([each.partition(" in ")[0] for each in asked], ["lib", "must-fail low", "must-fail middle"])
+        self.assertEqual(left, {name for name in FILES if name.endswith(".edit")})
+
+    def test_of_one_crate_with_what_is_below_it_built(self):
+        status, lines, asked, _ = tried(REFUSES, "middle")
+        self.assertEqual((status, lines[-1]), (0, "2 refused, 0 STILL PROVED, 0 does not apply"))
+        self.assertEqual(asked[0], "lib in low")
+
+    def test_an_edit_that_is_still_proved(self):
+        passes = REFUSES.replace("refused, as it must be: a goal", "NOT REFUSED")
+        status, lines, _, _ = tried(passes, "low")
+        self.assertEqual((status, lines), (1, ["low/weak: STILL PROVED", "0 refused, 1 STILL PROVED, 0 does not apply"]))
+
+    def test_an_edit_that_does_not_apply(self):
+        status, lines, _, _ = tried(REFUSES.replace("refused, as it must be: a goal", "BAD EDIT: no such line"), "low")
+        self.assertEqual((status, lines[0]), (1, "low/weak: does not apply: no such line"))
+
+    def test_a_judge_that_stops_before_all_are_tried(self):
+        status, lines, _, _ = tried(REFUSES.replace("*.edit; do", "one.edit; do"), "middle")
+        self.assertEqual(status, 2)
+        self.assertTrue(any(line.startswith("middle: the judge stopped: ") for line in lines), lines)
+
+    def test_a_judge_that_says_nothing(self):
+        status, lines, _, _ = tried('[ "$1" = lib ] || exit 0', "low")
+        self.assertEqual((status, lines[0]), (2, "low: the judge stopped: "))
+
+    def test_a_crate_below_that_is_not_proved(self):
+        status, lines, _, _ = tried("echo 'error: no proof'; exit 1", "middle")
+        self.assertEqual(status, 2)
+        self.assertIn("try_edits: low isn't proved, so no edit was tried", lines)
+
+    def test_two_edits_of_one_name(self):
+        status, _, asked, _ = tried(REFUSES, files={**FILES, "crates/low/must-fail/weak.edit": "d"})
+        self.assertEqual((status, asked), ("try_edits: crates/low has two edits weak.edit", []))
+
+    def test_a_crate_that_is_not_there(self):
+        status, lines, _, _ = tried(REFUSES, "lowest")
+        self.assertEqual(status, 2)
+        self.assertIn("crates.txt has no lowest", lines[-1])
+
+
+if __name__ == "__main__":
+    unittest.main()
