@@ -1,0 +1,312 @@
+"""`tools/computed_run`: which equations it makes of a scenario, and what it makes of the kernel's answers.
+
+The kernel is a stand-in here. With KERNEL=1 in the environment the kit's own is asked too, which takes minutes the first time.
+"""
+import contextlib
+import io
+import os
+import random
+import re
+import subprocess
+import sys
+import tempfile
+import unittest
+from pathlib import Path
+from unittest import mock
+
+from tests import stored
+from tests.rooms import kit, repository
+
+run = stored.tool("computed_run")
+ONE_JOIN = stored.DATA / "one_join.toml"
+SEED = int(os.environ.get("SEED", 1))
+
+
+def cases():
+    """The stored scenarios that can be put to the definitions and aren't refused: their path and case."""
+    for path, _ in stored.played():
+        with contextlib.suppress(run.SetAside):
+            yield path, run.read_case(path)[0]
+
+
+def read(text, lines):
+    """The case of a scenario's text beside these lines."""
+    with repository({"case.toml": text, "case.out": "".join(f"{line}\n" for line in lines)}) as room:
+        return run.read_case(room / "case.toml")[0]
+
+
+# ---- texts as numbers
+
+
+class Numbers(unittest.TestCase):
+    def test_each_printed_row_is_that_of_its_numbers(self):
+        rows = {line for _, lines in stored.played() for line in lines if re.match("[A-Z] ", line)}
+        self.assertGreater(len(rows), 500)
+        for row in rows:
+            self.assertEqual(run.row_words(run.row_numbers(row.split(" "))), row)
+
+    def test_answers(self):
+        for words in ("done", "refused 24", *(f"ignored {name}" for name in run.IGNORED)):
+            self.assertEqual(run.answer_words(run.answer_number(words.split(" "))), words)
+
+    def test_texts_that_the_program_refuses_are_no_terms(self):
+        for reader, texts in (
+            (run.addr, ("10.0.0", "10.0.0.256", "10.0.0.01", "10.0.0.1 ", "")), (run.prefix, ("10.0.0.0", "10.0.0.0/", "10.0.0.0/4294967296")),
+            (run.packet, ("4", "4g", " 45")), (run.numeral, ("-1", "+1", "4294967296", "1.0")),
+            (run.route, ("10.0.0.0/8 10.0.0.1 0 1", "10.0.0.0/8 10.0.0.1 0 1 2 3")),
+        ):
+            for text in texts:
+                with self.subTest(text), self.assertRaises(ValueError):
+                    reader(text)
+
+    def test_known_terms(self):
+        self.assertEqual(run.prefix("10.0.0.0/8"), "(record { address = (addr 167772160); length = 8 })")
+        self.assertEqual(run.event_kind({"do": "advance", "moment": 7}), "EventKind.Advance 7")
+        self.assertEqual(run.event_kind({"do": "frame", "iface": 1, "hex": "AB"}), 'EventKind.Frame (record { number = 1 }) (from_hex (codes "ab"))')
+        self.assertEqual(run.listing(["1", "2"]), "(1 ∷ 2 ∷ [])")
+
+
+# ---- a scenario beside its lines
+
+
+class Read(unittest.TestCase):
+    def test_each_expected_line_is_in_its_case(self):
+        for path, case in cases():
+            lines = path.with_suffix(".out").read_text().splitlines()
+            with self.subTest(path.name):
+                self.assertEqual(case.shown, lines + ["the tables"] * case.is_cut)
+                self.assertEqual(len(case.lines), len(case.shown))
+                self.assertEqual(len(case.moves), sum(line[0] == run.ANSWER for line in case.lines))
+
+    def test_what_is_set_aside(self):
+        aside = {}
+        for path in stored.DATA.glob("*.toml"):
+            try:
+                run.read_case(path)
+            except run.SetAside as reason:
+                aside[path.name] = str(reason)
+        known = "its text is refused, before|it ends with an error that no|isn't UTF-8|isn't TOML|two interfaces on its link"
+        self.assertFalse({name: why for name, why in aside.items() if not re.search(known, why)})
+
+    def test_a_refused_configuration(self):
+        for path in stored.DATA.glob("*.err"):
+            number = int(re.search(r"refused: (\d+)", path.read_text() + " refused: 0")[1])
+            if number in run.REFUSALS:
+                case, refusal = run.read_case(path.with_suffix(".toml"))
+                self.assertEqual((refusal, case.lines), (run.REFUSALS[number], []))
+        with repository({"a.toml": "", "a.out": "", "a.err": "2\npimlab: scenario refused: 31\n"}) as room:
+            self.assertEqual(run.refusal_of(room / "a.toml"), "InterfaceAddress")
+            (room / "a.err").write_text("2\npimlab: scenario refused: 39\n")
+            with self.assertRaises(run.SetAside):
+                run.refusal_of(room / "a.toml")
+            (room / "a.err").write_text("2\npimlab: scenario refused: 31\n")
+            (room / "a.out").write_text("move 1 r done\n")
+            with self.assertRaises(run.Differs):
+                run.refusal_of(room / "a.toml")
+
+
+def spoilt(lines, chance):
+    """The lines with one of them changed, left out, doubled, put elsewhere or added."""
+    lines, at = list(lines), chance.randrange(len(lines))
+    match chance.randrange(5):
+        case 0:
+            digits = [place for place, char in enumerate(lines[at]) if char in "0123456789abcdef"]
+            if digits:
+                place = chance.choice(digits)
+                other = chance.choice([char for char in "0123456789" if char != lines[at][place]])
+                lines[at] = lines[at][:place] + other + lines[at][place + 1:]
+        case 1:
+            del lines[at]
+        case 2:
+            lines.insert(at, lines[at])
+        case 3:
+            lines.insert(chance.randrange(len(lines)), lines.pop(at))
+        case 4:
+            lines.insert(at, chance.choice(["", " ", lines[at] + " ", lines[at].upper(), "move 1 r done", "frame 1 n 45"]))
+    return lines
+
+
+class Spoilt(unittest.TestCase):
+    """Another line than the stored one is never put to the kernel as the stored one."""
+
+    def test_no_spoilt_line_is_read_as_the_right_one(self):
+        chance = random.Random(SEED)
+        tried = 0
+        for path, case in cases():
+            text, lines = path.read_text(), path.with_suffix(".out").read_text().splitlines()
+            for _ in range(3 if len(lines) < 400 else 0):
+                wrong = spoilt(lines, chance)
+                if wrong == lines:
+                    continue
+                tried += 1
+                with self.subTest(path.name, wrong=next((pair for pair in zip(wrong, lines) if pair[0] != pair[1]), "the end")):
+                    try:
+                        self.assertNotEqual((read(text, wrong).lines, read(text, wrong).is_cut), (case.lines, case.is_cut))
+                    except run.Differs:
+                        pass
+        self.assertGreater(tried, 200)
+
+    def test_a_last_line_without_its_end(self):
+        with repository({"a.toml": ONE_JOIN.read_text(), "a.out": "move 1 r done"}) as room, self.assertRaises(run.Differs):
+            run.read_case(room / "a.toml")
+
+
+# ---- what is asked of the kernel
+
+
+def parsed(term):
+    """A list of the definitions, as a list."""
+    def without_end(found):
+        return [without_end(each) for each in found[:-1]] if isinstance(found, list) else found
+    return without_end(eval(term.replace("(", "[").replace(")", "]").replace(" ∷ ", ",")))
+
+
+class Computing:
+    """A kernel to which the machine's lines are these: it refuses the facts about them that don't hold."""
+
+    def __init__(self, lines):
+        self.lines, self.checks = lines, 0
+
+    def check(self, files):
+        self.checks += 1
+        facts = re.findall(r"^fact_(\d+) : take (\d+) \((.*)\) ≡ (.*)$", files["Probe"], re.M)
+        return "logic=ok\n" + "".join(self.told(number, int(count), of, right) for number, count, of, right in facts)
+
+    def told(self, number, count, of, right):
+        part = re.fullmatch(r"drop (\d+) \(line_at (\d+) \(transcript nodes moves\)\)", of)
+        if part is None:
+            return "" if self.lines[:count] == parsed(right) else f"error: `fact_{number}`: it isn't\n"
+        start, place = int(part[1]), int(part[2])
+        line = (self.lines[place] if place < len(self.lines) else [])[start:start + count]
+        return f"error: `fact_{number}`: {' ∷ '.join(map(str, [*line, '[]']))} isn't []\n" if line else ""
+
+
+class Asked(unittest.TestCase):
+    def case(self):
+        return run.read_case(ONE_JOIN)[0]
+
+    def test_the_equations_of_a_case(self):
+        text = run.equations(self.case(), None)
+        self.assertIn("pub configured : configs_test ", text)
+        self.assertIn(" ≡ Ok tt\n", text)
+        self.assertIn(f"expected = {run.listing(map(run.numbers, self.case().lines))}", text)
+        whole = re.search(r"^pub holds : (.*) ≡ expected$", text, re.M)[1]
+        self.assertEqual(whole, f"take {len(self.case().lines)} (transcript nodes moves)" if self.case().is_cut else "transcript nodes moves")
+        self.assertEqual(len(re.findall(r"^move_\d+ = ", text, re.M)), len(self.case().moves))
+
+    def test_those_of_a_refused_configuration(self):
+        text = run.equations(self.case(), "Overlap")
+        self.assertIn(" ≡ Err Refusal.Overlap\n", text)
+        self.assertNotIn("pub holds", text)
+
+    def test_the_first_line_that_differs_is_found(self):
+        case = self.case()
+        for place in range(len(case.lines)):
+            computed = [list(line) for line in case.lines]
+            computed[place] = [*computed[place][:-1], computed[place][-1] + 1]
+            kernel = Computing(computed)
+            machine = run.Machine(kernel, case)
+            self.assertEqual((machine.first_difference(), machine.line(place)), (place, computed[place]))
+            self.assertLess(kernel.checks, 8)
+
+    def test_a_line_too_few_and_one_too_many(self):
+        case = self.case()
+        self.assertIn("computed: no line", run.first_difference(Computing(case.lines[:-1]), case))
+        more = run.first_difference(Computing([*case.lines, [run.ANSWER, 0]]), case)
+        self.assertIn(f"line {len(case.lines) + 1} differs\n    expected: no line", more)
+
+    def test_it_is_told_in_words(self):
+        case = self.case()
+        computed = [list(line) for line in case.lines]
+        computed[0] = [run.ANSWER, run.IGNORED["Already"]]
+        said = run.first_difference(Computing(computed), case)
+        self.assertEqual(said, "line 1 differs\n    expected: move 1 r done\n    computed: move 1 r ignored Already")
+
+    def test_all_lines_right_is_no_verdict(self):
+        with self.assertRaises(run.NoVerdict):
+            run.first_difference(Computing(self.case().lines), self.case())
+
+
+class Kernels(unittest.TestCase):
+    """What a check of the kit prints, and what it is taken for."""
+
+    def check(self, script, seconds=20):
+        with tempfile.TemporaryDirectory() as folder, kit(Path(folder), script):
+            (Path(folder) / "crates").mkdir()
+            kernel = run.Kernel(Path(folder), seconds)
+            (Path(folder) / "crates" / "cases").mkdir()
+            return kernel.check({"Case1": "text"}), sorted(path.name for path in kernel.folder.rglob("*.antt"))
+
+    def test_it_has_to_refuse_what_is_false(self):
+        told, files = self.check("echo logic=checked; echo error: Canary.antt")
+        self.assertIn("logic=", told)
+        self.assertEqual(files, ["Canary.antt", "Case1.antt", "Lib.antt", "Lib.antt"])
+        for script in ("echo logic=checked", "echo error: Canary.antt", "true", "echo no such command; exit 127"):
+            with self.subTest(script), self.assertRaises(run.NoVerdict):
+                self.check(script)
+
+    def test_a_check_that_does_not_end(self):
+        with self.assertRaisesRegex(run.NoVerdict, "no end after 1 seconds"):
+            self.check("sleep 30", 1)
+
+
+class Told(unittest.TestCase):
+    """The whole tool, with a check that says what a test has it say."""
+
+    def called(self, script, files, *words):
+        out = io.StringIO()
+        with repository(files) as room, kit(room, script), mock.patch.object(run, "ROOT", room):
+            (room / "out" / "computed_run" / "crates" / "cases").mkdir(parents=True)
+            argv = ["computed_run", *words, *(str(room / name) for name in files if name.endswith(".toml"))]
+            with mock.patch.object(run, "scratch_repository"), mock.patch("sys.argv", argv), contextlib.redirect_stdout(out):
+                with self.assertRaises(SystemExit) as end:
+                    run.main()
+        return end.exception.code, out.getvalue().splitlines()
+
+    def files(self, *names):
+        lines = ONE_JOIN.with_suffix(".out").read_text()
+        return {f"{name}{ending}": text for name in names for ending, text in ((".toml", ONE_JOIN.read_text()), (".out", lines))}
+
+    def test_what_the_kernel_proves_holds(self):
+        told = self.called("echo logic=checked; echo error: Canary.antt", self.files("a", "b"))
+        self.assertEqual(told, (0, ["a: holds", "b: holds", "2 hold, 0 don't, 0 set aside"]))
+
+    def test_what_it_does_not_prove_does_not_hold(self):
+        status, lines = self.called("echo logic=checked; echo error: Canary.antt; echo error: Case2.antt:9: '`configured`'", self.files("a", "b"))
+        self.assertEqual((status, lines), (1, ["a: holds", "b: does not hold: a configuration is refused", "1 hold, 1 don't, 0 set aside"]))
+
+    def test_what_has_no_verdict_is_set_aside(self):
+        status, lines = self.called("exit 1", self.files("a", "b"))
+        self.assertEqual((status, lines[-1]), (0, "0 hold, 0 don't, 2 set aside"))
+        self.assertTrue(lines[0].startswith("a: set aside: too large for the kernel"), lines)
+
+    def test_lines_that_no_run_prints_are_told_without_the_kernel(self):
+        files = self.files("a")
+        files["a.out"] = files["a.out"].replace("move 1 r done", "move 1 r dome")
+        status, lines = self.called("false", files)
+        self.assertEqual((status, lines[0]), (1, "a: does not hold: line 1 is none that is printed there: 'move 1 r dome'"))
+
+    def test_texts_that_are_none(self):
+        status, lines = self.called("false", {"a.toml": "router = 5\n", "a.out": "", "b.toml": "= 3\n", "b.out": ""})
+        self.assertEqual(status, 0)
+        self.assertTrue(lines[0].startswith("a: set aside: its text isn't that of a scenario"), lines)
+        self.assertTrue(lines[1].startswith("b: set aside: b.toml isn't TOML"), lines)
+
+
+@unittest.skipUnless(os.environ.get("KERNEL"), "KERNEL=1 asks the kit's kernel")
+class WithTheKernel(unittest.TestCase):
+    def test_right_lines_hold_and_wrong_ones_do_not(self):
+        right = ONE_JOIN.with_suffix(".out").read_text()
+        wrong = right.replace("move 5 r done", "move 5 r ignored Already", 1)
+        self.assertNotEqual(right, wrong)
+        text = ONE_JOIN.read_text()
+        with repository({"right.toml": text, "right.out": right, "wrong.toml": text, "wrong.out": wrong}) as room:
+            words = [sys.executable, stored.TOOLS / "computed_run", "--seconds", "1200", room / "right.toml", room / "wrong.toml"]
+            ran = subprocess.run(words, capture_output=True, text=True)
+        self.assertEqual(ran.returncode, 1)
+        self.assertIn("right: holds", ran.stdout)
+        self.assertIn("wrong: does not hold: ", ran.stdout)
+
+
+if __name__ == "__main__":
+    unittest.main()
