@@ -1,17 +1,22 @@
 -- The premises, computed.
-use Rattle.std.proofs.Common.{◌≡◌, [], ◌∷◌, Some, Ok, refl, lit≤}
+use Rattle.std.proofs.Common.{◌≡◌, ◌+◌, [], ◌∷◌, length, Some, Ok, refl, lit≤}
+use Rattle.pim_ip.specs.Ipv4.{packet_of}
 use Rattle.pim_model.specs.declared.accepted.Accepted.{Accepted}
 use Rattle.pim_model.specs.Cause.{done_as}
 use Rattle.pim_model.specs.Limits.{config_test}
+use Rattle.pim_model.specs.Network.{At, network_ran}
 use Rattle.igmp_wire.specs.declared.report.RecordType.{RecordType}
 use Rattle.pim_ready.proofs.Steps.{run_is_settled}
 use Rattle.pim_runs.proofs.OnLiterals.{machine_on_literals}
 use Rattle.pim_words.specs.Copies.{happens}
+use Rattle.pim_runs.specs.Words.{unicast}
+use Rattle.pim_served.specs.Roots.{CanRegister, IsRegister}
 use Rattle.pim_served.specs.Served.{Asks, CanAnswer, CanCarry}
 use Rattle.pim_served.specs.Ways.{CanGoOn, CanTake, IsGroup, IsNew, state_of, up_address}
 use Rattle.pim_served.proofs.Hosts.{host_asks}
+use Rattle.pim_served.proofs.Registered.{register_is_brought}
 use Rattle.pim_served.proofs.Whole.{each_packet_is_served}
-use Rattle.pim_served_runs.specs.Chain.{ChainIsServed, chain, first, first_meets, first_place, group, report, request, rp, second, second_meets, second_place, source, third_place}
+use Rattle.pim_served_runs.specs.Chain.{ChainIsServed, PacketIsServed, chain, content, first, first_meets, first_place, group, register, report, request, rp, second, second_meets, second_place, sent, source, third, third_meets, third_place}
 
 is_group : IsGroup group rp
 unfolding machine_on_literals
@@ -40,6 +45,10 @@ accepted_first = refl
 accepted_second : config_test second ≡ Ok tt
 unfolding machine_on_literals
 accepted_second = refl
+
+accepted_third : config_test third ≡ Ok tt
+unfolding machine_on_literals
+accepted_third = refl
 
 first_carries : CanCarry source first_place
 unfolding machine_on_literals
@@ -112,3 +121,42 @@ unfolding machine_on_literals
 chain_is_served =
     each_packet_is_served chain group rp source 3 first_place second_place report (third_place ∷ []) is_group asks
     (second_takes, second_goes_on, third_takes) (second_carries, tt) refl (refl, (refl, (refl, tt))) ((refl, (refl, tt)), ((refl, tt), (tt, tt)))
+
+-- ---- a packet in a Register
+
+third_registers : CanRegister group rp source (state_of third_place)
+unfolding machine_on_literals
+third_registers = record {
+  settled = run_is_settled third third_meets accepted_third;
+  own = refl;
+  rp_known = refl;
+  unknown = refl;
+  room = refl;
+}
+
+-- it needs a TTL of one more than the routers that pass it on
+is_register : IsRegister group source rp register content (1 + length (first_place ∷ second_place ∷ []))
+unfolding machine_on_literals
+is_register = record {
+  outer = packet_of register;
+  reads = refl;
+  of_pim = refl;
+  destination = refl;
+  inner = sent;
+  packet = packet_of sent;
+  is = refl;
+  inner_reads = refl;
+  fits = lit≤ tt;
+  group = refl;
+  source = refl;
+  is_data = refl;
+  same = refl;
+  time_to_live = refl;
+}
+
+pub packet_is_served : PacketIsServed
+unfolding machine_on_literals
+packet_is_served f =
+    f.served (unicast register) content 1 (lit≤ tt)
+    (register_is_brought (network_ran chain (At 0 report ∷ f.joins)).1 group rp source 0
+    (1 + length (first_place ∷ second_place ∷ [])) register content third_place f.root refl third_registers is_register)

@@ -1,18 +1,20 @@
 -- Three routers in a line: a host's, one between, and the RP.
-use Rattle.std.specs.Prelude.{List, [], ℕ, ◌∷◌}
-use Rattle.pim_ip.specs.Ipv4.{all_pim_routers, igmp_packet_text, pim_packet_text}
+use Rattle.std.specs.Prelude.{List, [], length, ℕ, ◌++◌, ◌∷◌}
+use Rattle.pim_ip.specs.Ipv4.{all_pim_routers, header_text, igmp_packet_text, pim_packet_text}
 use Rattle.pim_types.specs.declared.config.Config.{Config}
 use Rattle.pim_types.specs.declared.event.Event.{Event}
 use Rattle.pim_wire.specs.Hellos.{hello_text}
+use Rattle.pim_wire.specs.Registers.{register_text}
 use Rattle.igmp_wire.specs.Reports.{report_text}
 use Rattle.igmp_wire.specs.Values.{Record}
 use Rattle.igmp_wire.specs.declared.report.RecordType.{RecordType}
-use Rattle.pim_model.specs.Network.{Network, Station}
+use Rattle.pim_model.specs.Network.{At, Network, Station, moved, network_ran}
 use Rattle.pim_model.specs.State.{opening}
 use Rattle.pim_model.specs.Step.{state_after}
 use Rattle.pim_model.specs.Tables.{hop_at}
 use Rattle.pim_runs.specs.Base.{all_groups, base, interface, prefix, route_by, rp_for}
-use Rattle.pim_runs.specs.Words.{address, frame, up}
+use Rattle.pim_runs.specs.Words.{address, frame, unicast, up}
+use Rattle.pim_served.specs.Flows.{IsFlowed}
 use Rattle.pim_served.specs.Ways.{Place}
 use Rattle.pim_served.specs.Whole.{IsServedFrom}
 
@@ -97,3 +99,23 @@ report = frame 0 (igmp_packet_text (address 10 0 3 9) (address 224 0 0 22) (repo
 -- its host is served
 abbrev pub ChainIsServed : Type 0
 ChainIsServed = IsServedFrom chain group rp source 3 first_place second_place report (third_place ∷ [])
+
+-- a packet of the source, of 16 bytes behind its header, and the Register round it that a router far away sends to the RP
+abbrev pub content : List ℕ
+content = 0x13 ∷ 0x8C ∷ 0x13 ∷ 0x8C ∷ 0 ∷ 16 ∷ 0 ∷ 0 ∷ 1 ∷ 2 ∷ 3 ∷ 4 ∷ 5 ∷ 6 ∷ 7 ∷ 8 ∷ []
+
+abbrev pub packet_of : ℕ → List ℕ
+packet_of time_to_live = header_text [] time_to_live 17 source group (length content) ++ content
+
+-- three routers are to pass it on
+abbrev pub sent : List ℕ
+sent = packet_of 4
+
+abbrev pub register : List ℕ
+register = pim_packet_text 16 (address 10 9 0 1) rp (register_text sent)
+
+-- it comes to the host's link, where it can be passed on no more
+abbrev pub PacketIsServed : Type 0
+PacketIsServed = (f : ChainIsServed)
+    → IsFlowed (moved (network_ran chain (At 0 report ∷ f.joins)).1 (At 2 (unicast register))).1 group source 3 content 1
+    (first_place ∷ second_place ∷ [])
