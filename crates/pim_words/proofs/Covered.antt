@@ -68,7 +68,7 @@ of_named P (q ∷ qs) k f e =
 
 -- ---- a source on each interface
 
-any_in_range : (p : ℕ → Bool) (a n i : ℕ) → a ≤ i → i < a + n → p i ≡ true → list_any p (range_with_len a n) ≡ true
+pub any_in_range : (p : ℕ → Bool) (a n i : ℕ) → a ≤ i → i < a + n → p i ≡ true → list_any p (range_with_len a n) ≡ true
 any_in_range p a zero i le lt e = absurd (omega (arith, le, lt))
 any_in_range p a (suc n) i le lt e = go (a == i) refl (any_in_range p (a + 1) n i)
   where

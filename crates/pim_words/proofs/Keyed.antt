@@ -177,7 +177,7 @@ module _ (P Q : Key → Type 0) where
   unfolding source_record_due
   source_due_kept s i g src f = members_kept s i g _ f
 
-  fired_kept : (s : State) (kind : TimerKind) (k : Key) → Kept P Q s → Kept P Q (fired s kind k).0
+  pub fired_kept : (s : State) (kind : TimerKind) (k : Key) → Kept P Q s → Kept P Q (fired s kind k).0
   unfolding fired fire_row downstream_expired neighbour_due keepalive_due override_timer_due join_timer_due
       other_querier_gone querying_on group_repeat_due source_repeat_due sources_sent general_query_due hello_due
   fired_kept s TimerKind.Neighbour k f = f

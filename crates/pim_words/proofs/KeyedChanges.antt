@@ -121,7 +121,7 @@ module _ (P Q : Key → Type 0) (n : ℕ) (spread : (g src : ℕ) → Q (source_
       is_rp s (registered_group r) p.destination ≡ true → Q (source_key 0 (registered_group r) (registered_source r))
   Names s a = Unit {0}
 
-  change_kept : (s : State) → IsSettled s → (w : ℕ) (a : Accepted) → Names s a → Kept P Q s → Kept P Q (change s w a).state
+  pub change_kept : (s : State) → IsSettled s → (w : ℕ) (a : Accepted) → Names s a → Kept P Q s → Kept P Q (change s w a).state
   unfolding change iface_up querier_up querying rps_replaced register_stop_seen
   change_kept s settled w (Accepted.Advance moment) names f = f
   change_kept s settled w (Accepted.Up i) names f = f

@@ -27,3 +27,10 @@ pub mod Few
 pub mod Asks
 pub mod Hops
 pub mod NetHops
+pub mod Walks
+pub mod Repeats
+pub mod RepeatsKept
+pub mod Lasting
+pub mod Registered
+pub mod LiesUnder
+pub mod Shorter

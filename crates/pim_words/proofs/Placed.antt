@@ -1,4 +1,4 @@
--- An Assert, and data, that is accepted came on a configured interface.
+-- An Assert, and data, that is accepted came on a configured interface, and so an interface that comes up is configured.
 use Rattle.std.proofs.Common.{◌≡◌, ℕ, ◌<◌, ◌==◌, Bool, true, false, cond, nat_le, Ok, Err, Result, refl, arith}
 use Rattle.std.proofs.lemmas.Bool.Decides.{nat_tests}
 use Rattle.pim_ip.specs.Ipv4.{Packet, ipv4_reading}
@@ -21,6 +21,7 @@ module _ (n : ℕ) where
   abbrev pub IsIn : Accepted → Type 0
   IsIn (Accepted.Assert i from a) = i.number < n
   IsIn (Accepted.Data i p) = i.number < n
+  IsIn (Accepted.Up i) = i.number < n
   IsIn _ = Unit {0}
 
   abbrev Accepts : Judged → Type 0
@@ -122,8 +123,9 @@ kind_is_placed s (EventKind.Frame i bytes) =
 kind_is_placed s (EventKind.Unicast bytes) =
     read_then (iface_count s) (ipv4_reading bytes) _ (unicast_packet_is_placed (iface_count s) s)
 kind_is_placed s (EventKind.Up i) =
-    refuse_then (iface_count s) _ Refusal.NoInterface _
-    (ignore_then (iface_count s) _ Ignored.Already _ (accepted (iface_count s) (Accepted.Up i) tt))
+    in_then (iface_count s) (nat_le (iface_count s) i.number) Refusal.NoInterface _
+    (λ e. ignore_then (iface_count s) _ Ignored.Already _
+    (accepted (iface_count s) (Accepted.Up i) (below (iface_count s) i.number e)))
 kind_is_placed s (EventKind.Down i) =
     refuse_then (iface_count s) _ Refusal.NoInterface _
     (ignore_then (iface_count s) _ Ignored.Already _ (accepted (iface_count s) (Accepted.Down i) tt))

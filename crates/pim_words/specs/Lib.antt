@@ -6,3 +6,4 @@ pub mod Brought
 pub mod Answers
 pub mod Hops
 pub mod NetHops
+pub mod Uncounted

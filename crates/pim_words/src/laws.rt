@@ -8,6 +8,7 @@ ghost use Rattle.pim_words.specs.Hops.{HopsEnd};
 ghost use Rattle.pim_words.specs.Independent.{OtherGroupsKeep, OtherGroupsOutlast};
 ghost use Rattle.pim_words.specs.NetHops.{NetHopsEnd};
 ghost use Rattle.pim_words.specs.Served.{ListIsServed, MemberIsServed, ServedHere, SourceIsServed};
+ghost use Rattle.pim_words.specs.Uncounted.{EachIsShorter, EachLiesUnder, UncountedStayBounded};
 
 /// The copies of an event are one text on each of some configured interfaces, ascending: on each link at most once.
 pub fn never_twice()
@@ -102,6 +103,22 @@ pub fn asserts_stay_bounded()
 /// So all that counts is at most the limit, once for each interface and once more.
 pub fn counted_stay_bounded()
     ensures { CountedStayBounded }
+{}
+
+/// Other facts are of an interface, or lie under one that counts: what is still to be asked under the records of its group and
+/// sources, registers under sources.
+pub fn each_lies_under()
+    ensures { EachLiesUnder }
+{}
+
+/// So they are no more than those.
+pub fn each_is_shorter()
+    ensures { EachIsShorter }
+{}
+
+/// All of them, the Join and override timers left out, are at most twice the limit and two for each interface.
+pub fn uncounted_stay_bounded()
+    ensures { UncountedStayBounded }
 {}
 
 /// Data gives at most a copy on each interface and one Register, or else one Assert.

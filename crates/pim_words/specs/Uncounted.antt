@@ -1,0 +1,60 @@
+-- The facts that don't count: each is of an interface, or lies under a fact that does.
+use Rattle.std.specs.List.{list_all, list_any}
+use Rattle.std.specs.Prelude.{Bool, List, Ok, length, nat_lt, true, ℕ, ◌&&◌, ◌*◌, ◌+◌, ◌≡◌, ◌≤◌}
+use Rattle.pim_types.specs.Keys.{group_in, iface_in, iface_key, same_key}
+use Rattle.pim_types.specs.declared.config.Config.{Config}
+use Rattle.pim_types.specs.declared.event.Event.{Event}
+use Rattle.pim_types.specs.declared.fact.GroupRepeatRow.{GroupRepeatRow}
+use Rattle.pim_types.specs.declared.fact.InterfaceRow.{InterfaceRow}
+use Rattle.pim_types.specs.declared.fact.Key.{Key}
+use Rattle.pim_types.specs.declared.fact.QuerierRow.{QuerierRow}
+use Rattle.pim_types.specs.declared.fact.RegisterRow.{RegisterRow}
+use Rattle.pim_types.specs.declared.fact.SendingRow.{SendingRow}
+use Rattle.pim_types.specs.declared.fact.SourceRepeatRow.{SourceRepeatRow}
+use Rattle.pim_model.specs.Limits.{config_test}
+use Rattle.pim_model.specs.Querier.{is_sending}
+use Rattle.pim_model.specs.State.{State, iface_count, opening}
+use Rattle.pim_model.specs.Step.{state_after}
+use Rattle.pim_model.specs.Tables.{has_row}
+
+-- the key of a configured interface
+abbrev pub is_of_interface : State → Key → Bool
+is_of_interface s k = same_key (iface_key (iface_in k)) k && nat_lt (iface_in k) (iface_count s)
+
+-- interfaces are configured and queriers up; a query's repeat lies under the record of its group, what is left to send of a
+-- source's query under the record of the source, the time of the next sending under a source of its group on its interface;
+-- a register lies under its source
+pub record LiesUnder (s : State) : Type 0 where
+  pub interfaces : list_all (λ (e : Key × InterfaceRow). is_of_interface s e.0) s.interfaces ≡ true
+  pub queriers : list_all (λ (e : Key × QuerierRow). has_row s.interfaces e.0) s.queriers ≡ true
+  pub group_repeats : list_all (λ (e : Key × GroupRepeatRow). has_row s.group_records e.0) s.group_repeats ≡ true
+  pub sendings : list_all (λ (e : Key × SendingRow). has_row s.source_records e.0) s.sendings ≡ true
+  pub source_repeats : list_all (λ (e : Key × SourceRepeatRow).
+      list_any (is_sending (iface_in e.0) (group_in e.0)) s.sendings) s.source_repeats ≡ true
+  pub registers : list_all (λ (e : Key × RegisterRow). has_row s.sources e.0) s.registers ≡ true
+
+-- so it is after any events from the opening with an accepted configuration
+abbrev pub EachLiesUnder : Type 0
+EachLiesUnder = (c : Config) (events : List Event) → config_test c ≡ Ok tt → LiesUnder (state_after (opening c) events)
+
+-- so each of these tables is no longer than the one that it lies under
+pub record IsShorter (s : State) : Type 0 where
+  pub interfaces : length s.interfaces ≤ iface_count s
+  pub queriers : length s.queriers ≤ length s.interfaces
+  pub group_repeats : length s.group_repeats ≤ length s.group_records
+  pub sendings : length s.sendings ≤ length s.source_records
+  pub source_repeats : length s.source_repeats ≤ length s.sendings
+  pub registers : length s.registers ≤ length s.sources
+
+abbrev pub EachIsShorter : Type 0
+EachIsShorter = (c : Config) (events : List Event) → config_test c ≡ Ok tt → IsShorter (state_after (opening c) events)
+
+-- all of them, without the Join and override timers
+abbrev pub uncounted : State → ℕ
+uncounted s =
+    length s.interfaces + length s.queriers + length s.group_repeats + length s.sendings + length s.source_repeats
+    + length s.registers
+
+abbrev pub UncountedStayBounded : Type 0
+UncountedStayBounded = (c : Config) (events : List Event) → config_test c ≡ Ok tt
+    → uncounted (state_after (opening c) events) ≤ 2 * (c.limit + length c.interfaces)
