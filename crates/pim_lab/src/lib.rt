@@ -10,8 +10,9 @@ mod station;
 mod table;
 mod trouble;
 
-pub use pim_net::{MemoryWire, UdpWire, Wire};
+pub use pim_net::{MemoryWire, Move, Net, NetLog, Node, UdpWire, Wire};
 pub use pim_scenario::{
-    Answer, Command, Complaint, WireKind, Words, fault, load, read_scenario, read_words, refused,
+    Answer, Command, Complaint, Link, RouterText, Scenario, ScenarioMove, WireKind, Words, fault,
+    load, read_scenario, read_words, refused,
 };
 pub use playing::{check_text, play};
