@@ -14,5 +14,5 @@ mod stance;
 
 pub use assert_timer::fired;
 pub use clearing::{clear, clear_alone};
-pub use message::{data_seen_of_group, data_seen_of_source, received};
+pub use message::{data_seen, received};
 pub use naming::{is_full, named_keys};

@@ -6,7 +6,7 @@ ghost use Rattle.pim_model.specs.Tables.{has_row};
 ghost use Rattle.pim_world.specs.Visits.{raised};
 ghost use Rattle.pim_world.specs.Turns.{saying};
 ghost use Rattle.pim_macros.specs.Sights.{IsSourceSight, IsStarSight};
-ghost use Rattle.pim_asserts.specs.Receiving.{after_action, goes_on_to_star, source_asserted, stance_at, wins_with};
+ghost use Rattle.pim_asserts.specs.Receiving.{after_action, data_key, goes_on_to_star, source_asserted, stance_at, wins_with};
 ghost use Rattle.pim_asserts.specs.Visits.{action_nodes, data_nodes, key_nodes, new_assert_nodes, received_nodes, source_asserted_nodes, taken_nodes};
 
 use crate::action::{Action, action_of};
@@ -233,7 +233,7 @@ fn asserts_by_data(world: &World, key: Key, stance: Stance) -> bool
 }
 
 // Takes data as an event of the machine of a key, in which the router stands so, and which asserts with this metric.
-fn data_seen(
+fn take_data(
     world: &mut World,
     turn: &mut Turn,
     meter: &mut Meter,
@@ -256,10 +256,8 @@ fn data_seen(
     win_with(world, turn, meter, key, stance.metric, asserted)
 }
 
-/// Takes data on an interface on which the router forwards the group, as an event of the machine of (*,G): where it
-/// could assert and none has won or lost yet, it wins, and the meter rises by the nodes that lead to the facts of the group.
-/// An error is want of memory.
-pub fn data_seen_of_group(
+// Takes data as an event of the machine of (*,G).
+fn data_seen_of_group(
     world: &mut World,
     turn: &mut Turn,
     meter: &mut Meter,
@@ -276,18 +274,12 @@ pub fn data_seen_of_group(
 {
     let stance = star_stance(world, star, iface);
     let asserted = star.metric(world.address(iface));
-    data_seen(
-        world,
-        turn,
-        meter,
-        Key::star(iface, star.group),
-        stance,
-        asserted,
-    )
+    let key = Key::star(iface, star.group);
+    take_data(world, turn, meter, key, stance, asserted)
 }
 
-/// The same of a source of a group, as an event of the machine of (S,G).
-pub fn data_seen_of_source(
+// The same of a source of a group, as an event of the machine of (S,G).
+fn data_seen_of_source(
     world: &mut World,
     turn: &mut Turn,
     meter: &mut Meter,
@@ -306,5 +298,28 @@ pub fn data_seen_of_source(
     let stance = source_stance(world, sight, iface);
     let asserted = sight.metric(world.address(iface));
     let key = Key::source(iface, sight.star.group, sight.source);
-    data_seen(world, turn, meter, key, stance, asserted)
+    take_data(world, turn, meter, key, stance, asserted)
+}
+
+/// Takes data on an interface on which the router forwards it, as an event of the machine of (S,G) with SPTbit(S,G), else
+/// of (*,G): where it could assert and none has won or lost yet, it wins, and the meter rises by the nodes that lead to the facts
+/// of the source, or the group. An error is want of memory.
+pub fn data_seen(
+    world: &mut World,
+    turn: &mut Turn,
+    meter: &mut Meter,
+    sight: &SourceSight,
+    iface: IfaceId,
+) -> Result<(), AllocError>
+    requires sight { IsSourceSight world.old sight.now }
+    requires below { iface.number < 120 }
+    ensures state { OnOk result (world.new ≡ (data_seen world.old (data_key sight.now iface.number)).0) }
+    ensures messages { OnOk result (turn.new ≡ saying turn.old (data_seen world.old (data_key sight.now iface.number)).1) }
+    ensures at_least { OnOk result (raised meter.old (data_nodes world.old (data_key sight.now iface.number)) ≤ meter.new) }
+{
+    if sight.spt {
+        data_seen_of_source(world, turn, meter, sight, iface)
+    } else {
+        data_seen_of_group(world, turn, meter, &sight.star, iface)
+    }
 }

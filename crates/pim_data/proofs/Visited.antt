@@ -51,15 +51,11 @@ module _ (s : State) (g src i old new : ℕ) where
       → new ≡ old → raised old (stray_nodes s g src i) ≤ new
   none_stray on spt is at off same = stray_counted on spt is at (none_asked old new _ on off same)
 
-  pub one_stray : (on spt b : Bool) → spt ≡ spt_bit s g src
-      → on ≡ (if spt_bit s g src then inherited_olist s g src else inherited_olist_rpt s g src) i → on ≡ true → spt ≡ b
-      → raised old (data_nodes s (if b then source_key i g src else star_key i g)) ≤ new
+  pub one_stray : (on spt : Bool) → spt ≡ spt_bit s g src
+      → on ≡ (if spt_bit s g src then inherited_olist s g src else inherited_olist_rpt s g src) i → on ≡ true
+      → raised old (data_nodes s (if spt then source_key i g src else star_key i g)) ≤ new
       → raised old (stray_nodes s g src i) ≤ new
-  one_stray on spt b is at there tree least =
-      stray_counted on spt is at
-      (one_asked old new _ on there
-      (by_as_many old new (data_nodes s (if b then source_key i g src else star_key i g)) _
-      (λ k. data_nodes s (if sym tree k then source_key i g src else star_key i g)) least))
+  one_stray on spt is at there least = stray_counted on spt is at (one_asked old new _ on there least)
 
   pub chosen_on_source_tree : is_rpf_interface s src i ≡ true → spt_bit s g src ≡ true → new ≡ old
       → raised old (chosen_nodes s g src i) ≤ new

@@ -8,7 +8,7 @@ ghost use Rattle.pim_register.specs.Outgoing.{LeavesOn};
 ghost use Rattle.pim_data.specs.Visits.{chosen_nodes, stray_nodes, watched_nodes};
 ghost use Rattle.pim_world.specs.Visits.{raised};
 
-use pim_asserts::{data_seen_of_group, data_seen_of_source};
+use pim_asserts::data_seen;
 use pim_ifset::IfSet;
 use pim_macros::SourceSight;
 use pim_types::IfaceId;
@@ -64,10 +64,7 @@ fn take_stray(
     if !is_on_list(sight, iface) {
         return Ok(());
     }
-    if sight.spt {
-        return data_seen_of_source(world, turn, meter, sight, iface);
-    }
-    data_seen_of_group(world, turn, meter, &sight.star, iface)
+    data_seen(world, turn, meter, sight, iface)
 }
 
 /// The list on the shortest path tree, on the shared tree, or of neither; with what the packet changes there.
