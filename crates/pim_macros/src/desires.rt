@@ -39,6 +39,13 @@ impl StarSight {
         !self.is_empty(self.immediate_olist())
     }
 
+    /// RPTJoinDesired(G): it is JoinDesired(*,G), since there is no (*,*,RP).
+    pub fn rpt_join_desired(&self) -> bool
+        ensures { InStar self.now (λ s g. result ≡ join_desired_star s g) }
+    {
+        self.join_desired()
+    }
+
     /// RPF'(*,G).
     #[tactic(auto, unfolding(pim_model::specs::Desires::rpf_star))]
     pub fn rpf_neighbour(&self) -> Option<Hop>

@@ -3,13 +3,36 @@ ghost use Rattle.std.specs.Prelude.{◌≡◌};
 ghost use Rattle.pim_world.specs.Shown.{Shows};
 ghost use Rattle.pim_macros.specs.Sights.{InSource, InStar, wanted_by_group};
 ghost use Rattle.pim_model.specs.AssertMacros.{forwarding_set};
-ghost use Rattle.pim_model.specs.Sets.{immediate_olist, immediate_olist_star, inherited_olist, inherited_olist_rpt, lost_assert, lost_assert_rpt, lost_assert_star, pim_exclude, pim_include, pim_include_star, serves, serves_star, tunnel};
+ghost use Rattle.pim_model.specs.Neighbours.{is_dr};
+ghost use Rattle.pim_model.specs.Receivers.{local_receiver_exclude, local_receiver_include, local_receiver_star};
+ghost use Rattle.pim_model.specs.Sets.{immediate_olist, immediate_olist_star, inherited_olist, inherited_olist_rpt, joins, joins_star, lost_assert, lost_assert_rpt, lost_assert_star, pim_exclude, pim_include, pim_include_star, prunes, serves, serves_star, tunnel};
 
 use crate::interfaces::interface_of;
 use crate::sight::{SourceSight, StarSight};
 use pim_ifset::IfSet;
 
 impl StarSight {
+    /// joins(*,G).
+    pub fn joins(&self) -> IfSet
+        ensures { InStar self.now (λ s g. Shows result (joins_star s g)) }
+    {
+        self.joined
+    }
+
+    /// local_receiver_include(*,G).
+    pub fn local_receiver_include(&self) -> IfSet
+        ensures { InStar self.now (λ s g. Shows result (local_receiver_star s g)) }
+    {
+        self.receivers
+    }
+
+    /// I_am_DR: of each interface.
+    pub fn i_am_dr(&self) -> IfSet
+        ensures { InStar self.now (λ s g. Shows result (is_dr s)) }
+    {
+        self.dr
+    }
+
     /// lost_assert(*,G) (RFC 7761, section 4.6.5).
     #[tactic(auto, unfolding(pim_model::specs::Sets::lost_assert_star, pim_model::specs::Unicast::rpf_interface_rp))]
     pub fn lost_assert(&self) -> IfSet
@@ -46,6 +69,37 @@ impl StarSight {
 }
 
 impl SourceSight {
+    /// joins(S,G), with the register tunnel where it is there.
+    pub fn joins(&self) -> IfSet
+        ensures interfaces { InSource self.now (λ s g src. Shows result (joins s g src)) }
+        ensures tunnel { InSource self.now (λ s g src. result.tunnel ≡ tunnel s g src) }
+    {
+        let mut joins = self.joined;
+        joins.set_tunnel(self.tunnel);
+        joins
+    }
+
+    /// prunes(S,G,rpt).
+    pub fn prunes(&self) -> IfSet
+        ensures { InSource self.now (λ s g src. Shows result (prunes s g src)) }
+    {
+        self.pruned
+    }
+
+    /// local_receiver_include(S,G).
+    pub fn local_receiver_include(&self) -> IfSet
+        ensures { InSource self.now (λ s g src. Shows result (local_receiver_include s g src)) }
+    {
+        self.included
+    }
+
+    /// local_receiver_exclude(S,G).
+    pub fn local_receiver_exclude(&self) -> IfSet
+        ensures { InSource self.now (λ s g src. Shows result (local_receiver_exclude s g src)) }
+    {
+        self.excluded
+    }
+
     /// lost_assert(S,G) (RFC 7761, section 4.6.5).
     #[tactic(auto, unfolding(pim_model::specs::Sets::lost_assert, pim_model::specs::Unicast::rpf_interface, pim_model::specs::Sets::is_beaten))]
     pub fn lost_assert(&self) -> IfSet
