@@ -1,11 +1,67 @@
--- Each named source counts for two at most: a row and a put, or a removal.
-use Rattle.std.proofs.Common.{ℕ, ◌+◌, ◌≤◌, arith}
+-- Each named source counts for two, a row and a put, or for one, a removal.
+use Rattle.std.proofs.Common.{◌≡◌, ◌≤◌, ℕ, ◌+◌, ◌*◌, Bool, true, false, List, [], ◌∷◌, ◌++◌, ap, length, sym, ◌∙◌, arith}
+use Rattle.std.specs.List.{sum_by}
+use Rattle.std.specs.Prelude.{if◌then◌else◌}
+use Rattle.std.proofs.lemmas.List.{length-map}
+use Rattle.std.proofs.lemmas.List.Sums.{sum_by-cons, sum_by_push}
 use Rattle.pim_trie.specs.Meter.{raised}
+use Rattle.pim_types.specs.declared.fact.Key.{Key}
+use Rattle.pim_model.specs.State.{State}
+use Rattle.pim_model.specs.Tables.{has_row}
+use Rattle.pim_macros.specs.declared.name.SourceGroup.{SourceGroup}
+use Rattle.pim_fanout.specs.Before.{name_key}
+use Rattle.pim_fanout.specs.Named.{keys_of}
+use Rattle.pim_fanout.specs.Refreshing.{touches_in, touches_of}
 
-pub both_raised : (c e : ℕ) → raised (raised c 1) (raised e 1) ≤ raised c e + 2
+both_raised : (c e : ℕ) → raised (raised c 1) (raised e 1) ≡ raised (raised c e) 2
 unfolding raised
 both_raised c e = omega arith
 
-pub one_raised : (c e : ℕ) → raised (raised c 1) e ≤ raised c e + 2
+one_raised : (c e : ℕ) → raised (raised c 1) e ≡ raised (raised c e) 1
 unfolding raised
 one_raised c e = omega arith
+
+pub one_put : (c e : ℕ) (known : Bool) → known ≡ true
+    → raised (raised c 1) (raised e 1) ≡ raised (raised c e) (if known then 2 else 1)
+one_put c e known is = rw is (both_raised c e)
+
+pub one_taken_out : (c e : ℕ) (known : Bool) → known ≡ false
+    → raised (raised c 1) e ≡ raised (raised c e) (if known then 2 else 1)
+one_taken_out c e known is = rw is (one_raised c e)
+
+raised_on : (c m n : ℕ) → raised (raised c m) n ≡ raised c (m + n)
+unfolding raised
+raised_on c m n = omega arith
+
+-- of a loop over sources: one more
+pub one_more : {X : Type 0} (f : X → ℕ) (xs ys : List X) (x : X) (old before new : ℕ) → ys ≡ xs ++ x ∷ []
+    → before ≡ raised old (sum_by f xs) → new ≡ raised before (f x) → new ≡ raised old (sum_by f ys)
+one_more f xs ys x old before new more so one =
+    one ∙ ap (λ (n : ℕ). raised n (f x)) so ∙ raised_on old (sum_by f xs) (f x)
+    ∙ ap (raised old) (sym (ap (sum_by f) more ∙ sum_by_push f xs x))
+
+-- ---- for all of them no more than two each
+
+two_at_most : (known : Bool) → (if known then 2 else 1) ≤ 2
+two_at_most true = omega arith
+two_at_most false = omega arith
+
+touches_few : (s : State) (ks : List Key) → touches_in s ks ≤ 2 * length ks
+touches_few s [] = omega arith
+touches_few s (k ∷ ks) =
+    let all = sum_by-cons (touches_of s) k ks in
+    let one = two_at_most (has_row s.sources k) in
+    let rest = touches_few s ks in
+    omega (arith, all, one, rest)
+
+at_most_sum : (old new n : ℕ) → new ≡ raised old n → new ≤ old + n
+unfolding raised
+at_most_sum old new n is = omega (arith, is)
+
+pub costs_few : (s : State) (names : List SourceGroup) (old new : ℕ) → new ≡ raised old (touches_in s (keys_of names))
+    → new ≤ old + 2 * length names
+costs_few s names old new is =
+    let few = touches_few s (keys_of names) in
+    let sum = at_most_sum old new (touches_in s (keys_of names)) is in
+    let same : length (keys_of names) ≡ length names = length-map names name_key in
+    omega (arith, few, sum, same)

@@ -1,4 +1,4 @@
-mod Counts
+pub mod Counts
 pub mod Few
 mod Listed
 mod Opened

@@ -10,32 +10,32 @@ use Rattle.pim_macros.specs.declared.sight.StarSight.{StarSight}
 use Rattle.pim_world.specs.Visits.{source_nodes, star_nodes}
 use Rattle.pim_world.proofs.Visits.{none_visited, one_asked, raised_by_none, rises_by, two_in_turn}
 use Rattle.pim_fanout.specs.Before.{name_key}
-use Rattle.pim_fanout.specs.declared.name.SourceName.{SourceName}
+use Rattle.pim_macros.specs.declared.name.SourceGroup.{SourceGroup}
 use Rattle.pim_fanout.specs.Visits.{is_last, last_group, last_star_nodes, next_last, seen_nodes}
 
 -- sources with the same key are the same
-pub same_name : (n m : SourceName) → name_key n ≡ name_key m → n ≡ m
+pub same_name : (n m : SourceGroup) → name_key n ≡ name_key m → n ≡ m
 same_name n m e = λ i. record { group = (e i).group; source = unwrap_or (e i).source (addr 0) }
 
 module _ (s : State) (last : Option Addr) where
-  pub next_as : (later : Option Addr) (n m : SourceName) → name_key n ≡ name_key m → later ≡ next_last s last n
+  pub next_as : (later : Option Addr) (n m : SourceGroup) → name_key n ≡ name_key m → later ≡ next_last s last n
       → later ≡ next_last s last m
   next_as later n m same moved = moved ∙ ap (next_last s last) (same_name n m same)
 
-  pub counted_as : (old new : ℕ) (n m : SourceName) → name_key n ≡ name_key m → raised old (seen_nodes s last n) ≤ new
+  pub counted_as : (old new : ℕ) (n m : SourceGroup) → name_key n ≡ name_key m → raised old (seen_nodes s last n) ≤ new
       → raised old (seen_nodes s last m) ≤ new
-  counted_as old new n m same = subst (λ (x : SourceName). raised old (seen_nodes s last x) ≤ new) (same_name n m same)
+  counted_as old new n m same = subst (λ (x : SourceGroup). raised old (seen_nodes s last x) ≤ new) (same_name n m same)
 
   -- a source without a fact
-  pub none_seen : (name : SourceName) → has_row s.sources (name_key name) ≡ false → last ≡ next_last s last name
+  pub none_seen : (name : SourceGroup) → has_row s.sources (name_key name) ≡ false → last ≡ next_last s last name
   none_seen name none = rw none refl
 
   -- and one with a fact, whose group's sight is the last one then
-  pub one_seen : (star : StarSight) (name : SourceName) → has_row s.sources (name_key name) ≡ true → star.group ≡ name.group
+  pub one_seen : (star : StarSight) (name : SourceGroup) → has_row s.sources (name_key name) ≡ true → star.group ≡ name.group
       → last_group (Some star) ≡ next_last s last name
   one_seen star name fact group = rw fact (ap Some group)
 
-  pub sight_counted : (old next new : ℕ) (star : Addr) (name : SourceName) → has_row s.sources (name_key name) ≡ true
+  pub sight_counted : (old next new : ℕ) (star : Addr) (name : SourceGroup) → has_row s.sources (name_key name) ≡ true
       → star ≡ name.group → raised old (last_star_nodes s last name.group) ≤ next
       → raised next (source_nodes s star name.source) ≤ new → raised old (seen_nodes s last name) ≤ new
   sight_counted old next new star name fact group first second =

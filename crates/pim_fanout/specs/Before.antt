@@ -17,7 +17,7 @@ use Rattle.pim_macros.specs.declared.sight.SourceSight.{SourceSight}
 use Rattle.pim_opening.specs.Openings.{touched_sources}
 use Rattle.pim_fanout.specs.declared.before.KnownSource.{KnownSource}
 use Rattle.pim_fanout.specs.declared.before.SourceBefore.{SourceBefore}
-use Rattle.pim_fanout.specs.declared.name.SourceName.{SourceName}
+use Rattle.pim_macros.specs.declared.name.SourceGroup.{SourceGroup}
 
 -- the touched sources, each under its key, ascending: by group, then by source
 unfoldable pub opened_sources : State → Touched → List Key
@@ -25,7 +25,7 @@ opened_sources o touched =
     flat_map (λ g. map (source_key 0 g) (touched_sources o touched g)) (groups_of (touched_keys o touched))
 
 -- the key of a source fact
-abbrev pub name_key : SourceName → Key
+abbrev pub name_key : SourceGroup → Key
 name_key n = source_key 0 n.group.bits n.source.bits
 
 abbrev pub seen_key : SourceSight → Key

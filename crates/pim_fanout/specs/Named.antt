@@ -8,7 +8,7 @@ use Rattle.pim_model.specs.Tables.{has_row}
 use Rattle.pim_world.specs.declared.touched.Touched.{Touched}
 use Rattle.pim_reach.specs.Named.{is_named, is_same_beside, is_same_sight}
 use Rattle.pim_fanout.specs.Before.{name_key, opened_sources}
-use Rattle.pim_fanout.specs.declared.name.SourceName.{SourceName}
+use Rattle.pim_macros.specs.declared.name.SourceGroup.{SourceGroup}
 
 -- what is compared of a source is the same in both states
 abbrev pub is_same_source : ℕ → ℕ → State → State → Bool
@@ -23,5 +23,5 @@ is_changed o a k =
 unfoldable pub named_among : State → State → Touched → List Key
 named_among o a touched = filter (is_changed o a) (opened_sources o touched)
 
-abbrev pub keys_of : List SourceName → List Key
+abbrev pub keys_of : List SourceGroup → List Key
 keys_of names = map name_key names

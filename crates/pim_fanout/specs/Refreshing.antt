@@ -1,9 +1,10 @@
 -- The forwarding cache beside the number of rows that were evaluated, and what it is to make named rows anew.
-use Rattle.std.specs.Prelude.{List, [], ℕ, ◌++◌, ◌∷◌}
+use Rattle.std.specs.List.{sum_by}
+use Rattle.std.specs.Prelude.{List, [], if◌then◌else◌, ℕ, ◌++◌, ◌∷◌}
 use Rattle.pim_trie.specs.Meter.{raised}
 use Rattle.pim_types.specs.declared.fact.Key.{Key}
 use Rattle.pim_model.specs.State.{State}
-use Rattle.pim_model.specs.Tables.{Table}
+use Rattle.pim_model.specs.Tables.{Table, has_row}
 use Rattle.pim_macros.specs.declared.rows.SourceAnswers.{SourceAnswers}
 use Rattle.pim_cached.specs.Kept.{Cache, refreshed}
 use Rattle.pim_mfc.specs.Kept.{Kept}
@@ -23,6 +24,13 @@ uncounted c = record { mfc = record c.mfc { changes = 0 }; evaluated = 0 }
 -- puts, removals and rows evaluated, together
 unfoldable pub touches : CacheValue → ℕ
 touches c = raised (c.mfc).changes c.evaluated
+
+-- of a named source with a fact, a row is evaluated and put; of another one it is taken out
+abbrev pub touches_of : State → Key → ℕ
+touches_of s k = if has_row s.sources k then 2 else 1
+
+abbrev pub touches_in : State → List Key → ℕ
+touches_in s names = sum_by (touches_of s) names
 
 -- of whatever the old rows show, the new ones show the named sources as the state has them, and the others as they were
 abbrev pub Refreshes : List Key → State → Table SourceAnswers → Table SourceAnswers → Type 0

@@ -15,10 +15,10 @@ use Rattle.pim_opening.specs.Visits.{touched_nodes}
 use Rattle.pim_fanout.specs.Before.{name_key}
 use Rattle.pim_fanout.specs.declared.before.KnownSource.{KnownSource}
 use Rattle.pim_fanout.specs.declared.before.SourceBefore.{SourceBefore}
-use Rattle.pim_fanout.specs.declared.name.SourceName.{SourceName}
+use Rattle.pim_macros.specs.declared.name.SourceGroup.{SourceGroup}
 
 -- the row of a source is evaluated where there is a fact of it
-abbrev pub named_nodes : State → SourceName → ℕ
+abbrev pub named_nodes : State → SourceGroup → ℕ
 named_nodes s name =
     if has_row s.sources (name_key name) then star_nodes s name.group + source_nodes s name.group name.source else 0
 
@@ -37,20 +37,20 @@ abbrev pub last_star_nodes : State → Option Addr → Addr → ℕ
 last_star_nodes s last group = if is_last last group then 0 else star_nodes s group
 
 -- a source, which is gathered where there is a fact of it
-abbrev pub seen_nodes : State → Option Addr → SourceName → ℕ
+abbrev pub seen_nodes : State → Option Addr → SourceGroup → ℕ
 seen_nodes s last name =
     if has_row s.sources (name_key name)
     then last_star_nodes s last name.group + source_nodes s name.group name.source else 0
 
-abbrev pub next_last : State → Option Addr → SourceName → Option Addr
+abbrev pub next_last : State → Option Addr → SourceGroup → Option Addr
 next_last s last name = if has_row s.sources (name_key name) then Some name.group else last
 
-abbrev pub seen_in_turn : State → Option Addr → List SourceName → ℕ
+abbrev pub seen_in_turn : State → Option Addr → List SourceGroup → ℕ
 seen_in_turn s last names = nodes_in_turn (next_last s) (seen_nodes s) last names
 
 -- ---- as they are at the opening
 
-abbrev pub name_in : ℕ → ℕ → SourceName
+abbrev pub name_in : ℕ → ℕ → SourceGroup
 name_in g src = record { group = addr g; source = addr src }
 
 -- which sources of the group are touched, and these
@@ -63,7 +63,7 @@ before_nodes s touched = sum_by (group_before_nodes s touched) (groups_of (touch
 
 -- ---- as they are to be compared
 
-abbrev pub known_name : KnownSource → SourceName
+abbrev pub known_name : KnownSource → SourceGroup
 known_name known = record { group = known.sight.star.group; source = known.sight.source }
 
 -- a source is gathered where it had a fact

@@ -12,8 +12,7 @@ ghost use Rattle.pim_types.specs.Keys.{source_key};
 ghost use Rattle.pim_world.specs.Groups.{numbers_of};
 ghost use Rattle.pim_world.specs.Visits.{source_nodes};
 
-use crate::name::SourceName;
-use pim_macros::{SourceSight, StarSight};
+use pim_macros::{SourceGroup, SourceSight, StarSight};
 use pim_opening::touched_sources;
 use pim_types::fact::RegisterState;
 use pim_types::{Addr, IfaceId, Key, Series};
@@ -39,7 +38,7 @@ pub struct KnownSource {
 /// A touched source. Of one that has no fact nothing is gathered.
 #[derive(Clone, Copy)]
 pub enum SourceBefore {
-    Unknown(SourceName),
+    Unknown(SourceGroup),
     Known(KnownSource),
 }
 
@@ -60,10 +59,10 @@ impl Model for Before {
 
 impl KnownSource {
     /// Whose it is.
-    pub fn name(&self) -> SourceName
+    pub fn name(&self) -> SourceGroup
         ensures { name_key result ≡ seen_key self.now.sight }
     {
-        SourceName {
+        SourceGroup {
             group: self.sight.star.group,
             source: self.sight.source,
         }
@@ -72,7 +71,7 @@ impl KnownSource {
 
 impl SourceBefore {
     /// Whose it is.
-    pub fn name(&self) -> SourceName
+    pub fn name(&self) -> SourceGroup
         ensures { name_key result ≡ key_before self.now }
     {
         match self {
@@ -168,7 +167,7 @@ fn gather_sources(
 {
     let mut last = None;
     for (source, ()) in sources.iter() {
-        let name = SourceName {
+        let name = SourceGroup {
             group,
             source: *source,
         };
@@ -183,7 +182,7 @@ pub(crate) fn seen(
     world: &World,
     meter: &mut Meter,
     last: &mut Option<StarSight>,
-    name: SourceName,
+    name: SourceGroup,
 ) -> SourceBefore
     requires { IfSome last.old (IsStarSight world.now) }
     ensures key { key_before result ≡ name_key name }
@@ -225,7 +224,7 @@ fn known(world: &World, meter: &mut Meter, star: &StarSight, source: Addr) -> Kn
 
 /// Whether there is a fact of the source.
 #[tactic(auto, unfolding(pim_model::specs::Tables::has_row))]
-pub(crate) fn has_fact(world: &World, name: SourceName) -> bool
+pub(crate) fn has_fact(world: &World, name: SourceGroup) -> bool
     ensures { result ≡ has_row world.now.sources (name_key name) }
 {
     let key = Key::source(IfaceId::NONE, name.group, name.source);

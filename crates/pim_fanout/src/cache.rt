@@ -1,14 +1,13 @@
 //! The forwarding cache with what an event costs it.
-ghost use Rattle.std.specs.Prelude.{◌≡◌, ◌≤◌, ◌+◌, ◌*◌, OnOk, length, sum_by};
+ghost use Rattle.std.specs.Prelude.{◌≡◌, ◌≤◌, OnOk, sum_by};
 ghost use Rattle.pim_fanout.specs.Before.{name_key};
-ghost use Rattle.pim_fanout.specs.Refreshing.{Refreshes, RefreshesOne, nothing_cached, touches, uncounted};
+ghost use Rattle.pim_fanout.specs.Refreshing.{Refreshes, RefreshesOne, nothing_cached, touches, touches_in, touches_of, uncounted};
 ghost use Rattle.pim_fanout.specs.Named.{keys_of};
 ghost use Rattle.pim_fanout.specs.Visits.{named_nodes};
 ghost use Rattle.pim_trie.specs.Meter.{raised};
 
 use crate::before::has_fact;
-use crate::name::SourceName;
-use pim_macros::row;
+use pim_macros::{Evaluations, SourceGroup, row};
 use pim_mfc::Mfc;
 use pim_trie::Meter;
 use pim_world::World;
@@ -18,7 +17,7 @@ use std::marker::Model;
 /// The forwarding cache, and how many rows were evaluated for it.
 pub struct Cache {
     mfc: Mfc,
-    evaluated: u64,
+    evaluated: Evaluations,
 }
 
 // Written out, so that it is proved once (docs/PROOF_NOTES.md, Drops).
@@ -46,7 +45,7 @@ impl Cache {
     {
         Cache {
             mfc: Mfc::new(alloc),
-            evaluated: 0,
+            evaluated: Evaluations::none(),
         }
     }
 
@@ -63,34 +62,33 @@ impl Cache {
     pub fn touched(&self) -> u64
         ensures { result ≡ touches self.now }
     {
-        self.mfc.changes().saturating_add(self.evaluated)
+        self.mfc.changes().saturating_add(self.evaluated.count())
     }
 
-    /// Begins both counts anew.
+    /// An event begins: both counts are 0.
     pub fn reset(&mut self)
         ensures { self.new ≡ uncounted self.old }
     {
         self.mfc.reset();
-        self.evaluated = 0;
+        self.evaluated = Evaluations::none();
     }
 
     // Makes the row of a source anew, or takes it out.
-    #[tactic(auto, unfolding(crate::specs::Refreshing::touches))]
     fn refresh_one(
         &mut self,
         world: &World,
         meter: &mut Meter,
-        name: SourceName,
+        name: SourceGroup,
     ) -> Result<(), AllocError>
         ensures shown { OnOk result (RefreshesOne (name_key name) world.now self.old.mfc.rows self.new.mfc.rows) }
-        ensures few { OnOk result (touches self.new ≤ touches self.old + 2) }
+        ensures few { OnOk result (touches self.new ≡ raised (touches self.old) (touches_of world.now (name_key name))) }
         ensures at_least { raised meter.old (named_nodes world.now name) ≤ meter.new }
     {
         if !has_fact(world, name) {
-            self.mfc.remove(name.group, name.source);
+            self.mfc.remove(name);
             return Ok(());
         }
-        let made = row(world, name.group, name.source, meter, &mut self.evaluated);
+        let made = row(world, name, meter, &mut self.evaluated);
         self.mfc.put(made)?;
         Ok(())
     }
@@ -102,10 +100,10 @@ impl Cache {
         &mut self,
         world: &World,
         meter: &mut Meter,
-        names: &[SourceName],
+        names: &[SourceGroup],
     ) -> Result<(), AllocError>
         ensures shown { OnOk result (Refreshes (keys_of names.now) world.now self.old.mfc.rows self.new.mfc.rows) }
-        ensures few { OnOk result (touches self.new ≤ touches self.old + 2 * length names.now) }
+        ensures few { OnOk result (touches self.new ≡ raised (touches self.old) (touches_in world.now (keys_of names.now))) }
         ensures at_least { OnOk result (raised meter.old (sum_by (named_nodes world.now) names.now) ≤ meter.new) }
     {
         for name in names {

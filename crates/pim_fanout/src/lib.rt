@@ -6,11 +6,9 @@ pub mod before;
 pub mod cache;
 mod compare;
 pub mod laws;
-pub mod name;
 pub mod naming;
 
 pub use before::{Before, KnownSource, SourceBefore};
 pub use cache::Cache;
 pub use compare::{is_same_address, is_same_path};
-pub use name::SourceName;
 pub use naming::named;

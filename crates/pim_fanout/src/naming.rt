@@ -10,8 +10,7 @@ ghost use Rattle.pim_world.specs.declared.touched.Touched.{Touched};
 
 use crate::before::{Before, KnownSource, SourceBefore, has_fact, seen};
 use crate::compare::is_same_source;
-use crate::name::SourceName;
-use pim_macros::StarSight;
+use pim_macros::{SourceGroup, StarSight};
 use pim_types::Series;
 use pim_world::{Meter, World};
 use std::alloc::{AllocError, Global};
@@ -61,7 +60,7 @@ fn named_of(
     alloc: Global,
     meter: &mut Meter,
     sources: &[SourceBefore],
-) -> Result<Vec<SourceName>, AllocError>
+) -> Result<Vec<SourceGroup>, AllocError>
     ensures named { IfOk result (λ names. (o : State) → AreBefore o sources.now
         → keys_of names.items ≡ filter (is_changed o world.now) (map key_before sources.now)) }
     ensures at_least { OnOk result (raised meter.old (naming_nodes world.now sources.now) ≤ meter.new) }
@@ -86,7 +85,7 @@ pub fn named(
     alloc: Global,
     meter: &mut Meter,
     before: &Before,
-) -> Result<Series<SourceName>, AllocError>
+) -> Result<Series<SourceGroup>, AllocError>
     ensures named { IfOk result (λ names. (o : State) (touched : Touched) → IsBefore o touched before.now
         → keys_of names ≡ named_among o world.now touched) }
     ensures at_least { OnOk result (raised meter.old (naming_nodes world.now before.now) ≤ meter.new) }

@@ -7,6 +7,7 @@ pub mod desires;
 pub mod forwarding;
 pub mod gather;
 pub mod interfaces;
+pub mod name;
 pub mod registers;
 pub mod rows;
 pub mod sets;
@@ -15,5 +16,6 @@ pub mod updates;
 pub mod views;
 
 pub use gather::upstream_of;
-pub use rows::{Made, SourceAnswers, row};
+pub use name::SourceGroup;
+pub use rows::{Evaluations, Made, SourceAnswers, row};
 pub use sight::{SourceSight, StarSight};

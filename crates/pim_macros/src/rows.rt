@@ -17,6 +17,7 @@ ghost use Rattle.pim_world.specs.Shown.{Shows};
 ghost use Rattle.pim_world.specs.Visits.{source_nodes, star_nodes};
 ghost use Rattle.pim_types.specs.Keys.{source_key, star_key};
 
+use crate::name::SourceGroup;
 use crate::sight::{SourceSight, StarSight};
 use pim_ifset::IfSet;
 use pim_trie::Meter;
@@ -58,6 +59,44 @@ pub struct SourceAnswers {
     /// The place of the source's own row when this was evaluated, if it had one. It is no answer, but a hint for `keep_alive` of
     /// `World`.
     pub place: Option<usize>,
+}
+
+/// How many rows were evaluated: `row` alone raises it, and nobody sets it back. It stays at `u64::MAX`.
+#[derive(Drop)]
+pub struct Evaluations {
+    count: u64,
+}
+
+impl Model for Evaluations {
+    ghost use Rattle.std.specs.Prelude.{ℕ};
+
+    ghost Value = { ℕ };
+
+    ghost view = { λ e. e.count };
+}
+
+impl Evaluations {
+    /// None yet.
+    pub fn none() -> Self
+        ensures { result ≡ 0 }
+    {
+        Evaluations { count: 0 }
+    }
+
+    /// The rows evaluated.
+    pub fn count(&self) -> u64
+        ensures { result ≡ self.now }
+    {
+        self.count
+    }
+
+    // One row more.
+    #[tactic(auto, unfolding(pim_trie::specs::Meter::raised))]
+    fn raise(&mut self)
+        ensures { self.new ≡ raised self.old 1 }
+    {
+        self.count = self.count.saturating_add(1);
+    }
 }
 
 /// The answers of a source of a group, as `row` has evaluated them.
@@ -232,23 +271,23 @@ fn is_registered(world: &World, group: Addr, source: Addr) -> bool
 }
 
 /// A row of the forwarding cache: the answers of a source of a group now, evaluated of one sight. The meter rises by the
-/// nodes that its look-ups visit. The number of rows evaluated rises by one, and stays at `u64::MAX`.
-#[tactic(auto, unfolding(pim_trie::specs::Meter::raised))]
-pub fn row(world: &World, group: Addr, source: Addr, meter: &mut Meter, evaluated: &mut u64) -> Made
-    ensures group { result.group ≡ group }
-    ensures source { result.source ≡ source }
-    ensures answers { ShowsAnswers result.answers (answers world.now group.bits source.bits) }
+/// nodes that its look-ups visit. The number of rows evaluated rises by one.
+pub fn row(world: &World, name: SourceGroup, meter: &mut Meter, evaluated: &mut Evaluations) -> Made
+    ensures group { result.group ≡ name.group }
+    ensures source { result.source ≡ name.source }
+    ensures answers { ShowsAnswers result.answers (answers world.now name.group.bits name.source.bits) }
     ensures counted { evaluated.new ≡ raised evaluated.old 1 }
-    ensures at_least { raised meter.old (star_nodes world.now group + source_nodes world.now group source) ≤ meter.new }
+    ensures at_least { raised meter.old (star_nodes world.now name.group + source_nodes world.now name.group name.source)
+        ≤ meter.new }
 {
-    *evaluated = evaluated.saturating_add(1);
-    let star = StarSight::of(world, group, meter);
-    let sight = SourceSight::of(world, star, source, meter);
-    let place = world.store().source_place(group, source);
-    let answers = sight.answers(is_registered(world, group, source), place);
+    evaluated.raise();
+    let star = StarSight::of(world, name.group, meter);
+    let sight = SourceSight::of(world, star, name.source, meter);
+    let place = world.store().source_place(name.group, name.source);
+    let answers = sight.answers(is_registered(world, name.group, name.source), place);
     Made {
-        group,
-        source,
+        group: name.group,
+        source: name.source,
         answers,
     }
 }

@@ -7,10 +7,10 @@ ghost use Rattle.pim_types.specs.Keys.{source_key};
 
 use crate::cache_row::CacheRow;
 use crate::forward::{Forward, decided};
-use pim_macros::{Made, SourceAnswers};
+use pim_macros::{Made, SourceAnswers, SourceGroup};
 use pim_source_trie::SourceTrie;
 use pim_trie::Meter;
-use pim_types::{Addr, IfaceId};
+use pim_types::IfaceId;
 use std::alloc::{AllocError, Global};
 use std::marker::Model;
 
@@ -81,20 +81,21 @@ impl Mfc {
 
     /// Takes the row of a source out; that counts, whether there was one or not. It takes no memory.
     #[tactic(auto, unfolding(crate::specs::Kept::without_row, pim_trie::specs::Meter::raised))]
-    pub fn remove(&mut self, group: Addr, source: Addr)
-        ensures { self.new ≡ without_row self.old group.bits source.bits }
+    pub fn remove(&mut self, name: SourceGroup)
+        ensures { self.new ≡ without_row self.old name.group.bits name.source.bits }
     {
-        self.rows.remove(group, Some(source));
+        self.rows.remove(name.group, Some(name.source));
         self.changes = self.changes.saturating_add(1);
     }
 
-    /// The forwarding row of a source.
-    pub fn cached(&self, group: Addr, source: Addr) -> Option<CacheRow>
-        ensures { result ≡ option_map cache_row (kept_row self.now group.bits source.bits) }
+    /// The forwarding row of a source. No event looks it up.
+    pub fn cached(&self, name: SourceGroup) -> Option<CacheRow>
+        ensures { result ≡ option_map cache_row (kept_row self.now name.group.bits name.source.bits) }
     {
-        // No event looks this up.
-        let mut uncounted = Meter::new();
-        let row = self.rows.get(group, Some(source), &mut uncounted)?;
+        let mut uncounted = Meter::outside_events();
+        let row = self
+            .rows
+            .get(name.group, Some(name.source), &mut uncounted)?;
         Some(CacheRow::of(row))
     }
 
@@ -104,19 +105,18 @@ impl Mfc {
     #[tactic(auto, unfolding(crate::specs::Kept::decided))]
     pub fn forward(
         &self,
-        group: Addr,
-        source: Addr,
+        name: SourceGroup,
         iif: IfaceId,
         time_to_live: u8,
         meter: &mut Meter,
     ) -> Option<Forward>
-        ensures decided { ForwardsAs result (decided self.now group.bits source.bits iif.number time_to_live) }
-        ensures visited { meter.new ≡ raised meter.old (nodes_visited (keys_in self.now.rows) group (Some source)) }
-        ensures at_most { nodes_visited (keys_in self.now.rows) group (Some source) ≤ 66 }
-        ensures at_least { IsTrue (has_row self.now.rows (source_key 0 group.bits source.bits))
-            → 1 ≤ nodes_visited (keys_in self.now.rows) group (Some source) }
+        ensures decided { ForwardsAs result (decided self.now name.group.bits name.source.bits iif.number time_to_live) }
+        ensures visited { meter.new ≡ raised meter.old (nodes_visited (keys_in self.now.rows) name.group (Some name.source)) }
+        ensures at_most { nodes_visited (keys_in self.now.rows) name.group (Some name.source) ≤ 66 }
+        ensures at_least { IsTrue (has_row self.now.rows (source_key 0 name.group.bits name.source.bits))
+            → 1 ≤ nodes_visited (keys_in self.now.rows) name.group (Some name.source) }
     {
-        let row = self.rows.get(group, Some(source), meter)?;
+        let row = self.rows.get(name.group, Some(name.source), meter)?;
         decided(row, iif, time_to_live)
     }
 }

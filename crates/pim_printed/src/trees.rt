@@ -33,8 +33,7 @@ fn push_group(
 ) -> Result<(), AllocError>
     ensures { OnOk result (rows.new.items ≡ rows.old.items ++ lines_of_group world.now group.bits) }
 {
-    // No event looks this up.
-    let mut uncounted = Meter::new();
+    let mut uncounted = Meter::outside_events();
     let star = StarSight::of(world, group, &mut uncounted);
     for (source, ()) in world.sources(alloc, group, &mut uncounted)?.iter() {
         push_source(world, &star, *source, rows)?;
@@ -53,7 +52,7 @@ fn push_source(
     ensures { OnOk result (rows.new.items ≡ rows.old.items
         ++ tree_line star.now.group.bits source.bits (tree_state world.now star.now.group.bits source.bits)) }
 {
-    let mut uncounted = Meter::new();
+    let mut uncounted = Meter::outside_events();
     let sight = SourceSight::of(world, *star, source, &mut uncounted);
     let is_pruned = match sight.tree_state() {
         TreeState::NotJoined => return Ok(()),

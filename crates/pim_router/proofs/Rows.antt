@@ -3,6 +3,7 @@ use Rattle.std.specs.Prelude.{if◌then◌else◌}
 use Rattle.std.proofs.Common.{◌≡◌, ◌≤◌, ◌+◌, ◌*◌, ℕ, Bool, false, List, Option, Some, IfSome, Result, Ok, Err, IfOk, length, refl, ap, subst, sym, ◌∙◌, arith}
 use Rattle.std.proofs.lemmas.List.{length-map}
 use Rattle.pim_types.specs.declared.fact.Key.{Key}
+use Rattle.pim_trie.specs.Meter.{raised}
 use Rattle.pim_model.specs.Cache.{cached}
 use Rattle.pim_model.specs.Clearing.{clear}
 use Rattle.pim_model.specs.declared.accepted.Accepted.{Accepted}
@@ -25,10 +26,12 @@ use Rattle.pim_store.specs.PimTables.{AreKeyed, pim_tables}
 use Rattle.pim_world.specs.declared.touched.Touched.{Touched}
 use Rattle.pim_fanout.specs.Before.{IsBefore}
 use Rattle.pim_fanout.specs.Contains.{Contains}
-use Rattle.pim_fanout.specs.Refreshing.{Refreshes}
+use Rattle.pim_fanout.specs.Laws.{names_of}
+use Rattle.pim_fanout.specs.Refreshing.{Refreshes, touches_in}
 use Rattle.pim_fanout.specs.Named.{keys_of, named_among}
 use Rattle.pim_fanout.specs.declared.before.SourceBefore.{SourceBefore}
-use Rattle.pim_fanout.specs.declared.name.SourceName.{SourceName}
+use Rattle.pim_macros.specs.declared.name.SourceGroup.{SourceGroup}
+use Rattle.pim_fanout.proofs.Counts.{costs_few}
 use Rattle.pim_fanout.proofs.Few.{names_are_few}
 use Rattle.pim_fanout.proofs.Shown.{event_shows_rows, firing_shows_rows, present_shows_rows}
 use Rattle.pim_router.specs.Settling.{AreNamed, AreNames, cleared_by}
@@ -42,9 +45,8 @@ use Rattle.pim_router.proofs.Taking.{taken_is_done}
 pub names_opened : (o changed a : State) (touched : Touched) (opening : List GroupOpening) (before : List SourceBefore)
     (names : List Key) → IsQuiet o → AreKeyed (pim_tables a) → Contains touched o changed → a ≡ changed
     → opening ≡ opening_of o touched → IsBefore o touched before → AreNamed before (cleared_by opening a).0 names
-    → AreNames o changed names
+    → AreNames o changed touched names
 names_opened o changed a touched opening before names quiet keyed covers is opens befores named = record {
-  touched = touched;
   covers = covers;
   are = named o touched befores
       ∙ ap (λ (vs : List GroupOpening). named_among o (cleared_by vs a).0 touched) opens
@@ -54,18 +56,26 @@ names_opened o changed a touched opening before names quiet keyed covers is open
 }
 
 -- they are few
-few_of : (o changed : State) (names : List SourceName) → AreNames o changed (keys_of names)
+few_of : (o changed : State) (touched : Touched) (names : List SourceGroup) → AreNames o changed touched (keys_of names)
     → length names ≤ length (named_by o changed)
-few_of o changed names are =
+few_of o changed touched names are =
     let here : length (keys_of names) ≤ length (named_by o changed) =
     subst (λ (ks : List Key). length ks ≤ length (named_by o changed)) (sym are.are)
-    (names_are_few o changed are.touched) in
+    (names_are_few o changed touched) in
     let same : length (keys_of names) ≡ length names = length-map names _ in
     omega (arith, here, same)
 
 pub each_ok : {A E : Type 0} {P Q : A → Type 0} (r : Result A E) → ((x : A) → P x → Q x) → IfOk r P → IfOk r Q
 each_ok (Ok x) f p = f x p
 each_ok (Err e) f p = tt
+
+-- their rows, and no others, are touched
+pub touches_named : (o changed t : State) (touched : Touched) (names slice : List SourceGroup) (old new : ℕ)
+    → AreNames o changed touched (keys_of names) → slice ≡ names → new ≡ raised old (touches_in t (keys_of slice))
+    → new ≡ raised old (touches_in t (names_of o changed touched))
+touches_named o changed t touched names slice old new are sliced costs =
+    costs ∙ ap (λ (ns : List SourceGroup). raised old (touches_in t (keys_of ns))) sliced
+    ∙ ap (λ (ks : List Key). raised old (touches_in t ks)) are.are
 
 -- ---- after an event
 
@@ -79,52 +89,56 @@ named_timeless s w (Accepted.JoinPruneToMe i m) timeless = refl
 named_timeless s w (Accepted.Advance moment) timeless = absurd (timeless moment refl)
 named_timeless s w a timeless = refl
 
-module _ (s : State) (w : ℕ) (a : Accepted) (timeless : (m : ℕ) → ¬ (a ≡ Accepted.Advance m)) (names : List SourceName)
-    (are : AreNames s (change s w a).state (keys_of names)) where
-  pub rows_after : (t : State) (old new : Table SourceAnswers) (lent : InterfaceTable) (slice : List SourceName)
+module _ (s : State) (w : ℕ) (a : Accepted) (timeless : (m : ℕ) → ¬ (a ≡ Accepted.Advance m)) (touched : Touched)
+    (names : List SourceGroup) (are : AreNames s (change s w a).state touched (keys_of names)) where
+  pub rows_after : (t : State) (old new : Table SourceAnswers) (lent : InterfaceTable) (slice : List SourceGroup)
       → IsQuiet s → lent ≡ interfaces_of s → length lent.configured ≤ 120 → t ≡ (taken s w a).state
       → slice ≡ names → Refreshes (keys_of slice) t old new → ShowsRows old (cached s) → ShowsRows new (cached t)
   rows_after t old new lent slice quiet lends few is sliced refreshed_so shows =
       let refreshes : Refreshes (keys_of names) t old new =
-      subst (λ (ns : List SourceName). Refreshes (keys_of ns) t old new) sliced refreshed_so in
+      subst (λ (ns : List SourceGroup). Refreshes (keys_of ns) t old new) sliced refreshed_so in
       let same : t ≡ (done s w (change s w a)).state = is ∙ ap (λ x. x.state) (taken_is_done s w a timeless) in
       let within : length s.configured ≤ 120 = subst (λ (x : InterfaceTable). length x.configured ≤ 120) lends few in
       subst (λ (u : State). ShowsRows new (cached u)) (sym same)
-      (event_shows_rows s quiet within w a are.touched are.covers new
-      (subst (λ (u : State). ShowsRows new (refreshed (named_among s (clear s (change s w a).state).0 are.touched) u (cached s)))
+      (event_shows_rows s quiet within w a touched are.covers new
+      (subst (λ (u : State). ShowsRows new (refreshed (named_among s (clear s (change s w a).state).0 touched) u (cached s)))
       same
       (subst (λ (ks : List Key). ShowsRows new (refreshed ks t (cached s))) are.are (refreshes (cached s) shows))))
 
-  pub cost_after : (old new : ℕ) (slice : List SourceName) → slice ≡ names → new ≤ old + 2 * length slice → new ≤ old + 2 * length (named_of s w a)
-  cost_after old new slice sliced costs =
-      let lengths : length slice ≡ length names = ap (λ (ns : List SourceName). length ns) sliced in
+  pub cost_after : (t : State) (old new : ℕ) (slice : List SourceGroup) → slice ≡ names
+      → new ≡ raised old (touches_in t (keys_of slice)) → new ≤ old + 2 * length (named_of s w a)
+  cost_after t old new slice sliced costs =
+      let most : new ≤ old + 2 * length slice = costs_few t slice old new costs in
+      let lengths : length slice ≡ length names = ap (λ (ns : List SourceGroup). length ns) sliced in
       let few : length names ≤ length (named_by s (change s w a).state) =
-      few_of s (change s w a).state names are in
+      few_of s (change s w a).state touched names are in
       let same : length (named_by s (change s w a).state) ≡ length (named_of s w a) =
       ap (λ (ks : List Key). length ks) (sym (named_timeless s w a timeless)) in
-      omega (arith, costs, few, same, lengths)
+      omega (arith, most, few, same, lengths)
 
 -- ---- after a timer's end
 
-module _ (s : State) (w : ℕ) (e : Ending) (names : List SourceName) (are : AreNames s (own_firing s e) (keys_of names)) where
-  pub rows_fired : (t : State) (old new : Table SourceAnswers) (lent : InterfaceTable) (slice : List SourceName)
+module _ (s : State) (w : ℕ) (e : Ending) (touched : Touched) (names : List SourceGroup)
+    (are : AreNames s (own_firing s e) touched (keys_of names)) where
+  pub rows_fired : (t : State) (old new : Table SourceAnswers) (lent : InterfaceTable) (slice : List SourceGroup)
       → IsQuiet s → lent ≡ interfaces_of s → length lent.configured ≤ 120 → t ≡ (fire_once w s e).0
       → slice ≡ names → Refreshes (keys_of slice) t old new → ShowsRows old (cached s) → ShowsRows new (cached t)
   rows_fired t old new lent slice quiet lends few is sliced refreshed_so shows =
       let refreshes : Refreshes (keys_of names) t old new =
-      subst (λ (ns : List SourceName). Refreshes (keys_of ns) t old new) sliced refreshed_so in
+      subst (λ (ns : List SourceGroup). Refreshes (keys_of ns) t old new) sliced refreshed_so in
       let within : length s.configured ≤ 120 = subst (λ (x : InterfaceTable). length x.configured ≤ 120) lends few in
       subst (λ (u : State). ShowsRows new (cached u)) (sym is)
-      (firing_shows_rows s quiet within w e are.touched are.covers new
-      (subst (λ (u : State). ShowsRows new (refreshed (named_among s (clear s (own_firing s e)).0 are.touched) u (cached s))) is
+      (firing_shows_rows s quiet within w e touched are.covers new
+      (subst (λ (u : State). ShowsRows new (refreshed (named_among s (clear s (own_firing s e)).0 touched) u (cached s))) is
       (subst (λ (ks : List Key). ShowsRows new (refreshed ks t (cached s))) are.are (refreshes (cached s) shows))))
 
-  pub cost_fired : (old new : ℕ) (slice : List SourceName) → slice ≡ names → new ≤ old + 2 * length slice
-      → new ≤ old + 2 * length (named_by s (own_firing s e))
-  cost_fired old new slice sliced costs =
-      let lengths : length slice ≡ length names = ap (λ (ns : List SourceName). length ns) sliced in
-      let few : length names ≤ length (named_by s (own_firing s e)) = few_of s (own_firing s e) names are in
-      omega (arith, costs, few, lengths)
+  pub cost_fired : (t : State) (old new : ℕ) (slice : List SourceGroup) → slice ≡ names
+      → new ≡ raised old (touches_in t (keys_of slice)) → new ≤ old + 2 * length (named_by s (own_firing s e))
+  cost_fired t old new slice sliced costs =
+      let most : new ≤ old + 2 * length slice = costs_few t slice old new costs in
+      let lengths : length slice ≡ length names = ap (λ (ns : List SourceGroup). length ns) sliced in
+      let few : length names ≤ length (named_by s (own_firing s e)) = few_of s (own_firing s e) touched names are in
+      omega (arith, most, few, lengths)
 
 -- ---- what the router shows of them
 

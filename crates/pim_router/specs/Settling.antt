@@ -39,7 +39,6 @@ AreNamed before cleared names = (o : State) (touched : Touched) → IsBefore o t
     → names ≡ named_among o cleared touched
 
 -- they are those that are named of the sources which a change touches, where what it touches covers it
-pub record AreNames (o changed : State) (names : List Key) : Type 0 where
-  pub touched : Touched
+pub record AreNames (o changed : State) (touched : Touched) (names : List Key) : Type 0 where
   pub covers : Contains touched o changed
   pub are : names ≡ names_of o changed touched

@@ -1,6 +1,7 @@
 //! One event: it is judged; what is accepted changes the state, where there is room for its facts.
 ghost use Rattle.std.specs.Prelude.{◌≡◌, ◌≤◌, ◌<◌, ◌+◌, ◌*◌, [], IfOk, IsOk, IsOkUnless, IsTrue, Ok, OnOk, length, true, ℕ};
-ghost use Rattle.pim_fanout.specs.Refreshing.{touches};
+ghost use Rattle.pim_fanout.specs.Laws.{names_of};
+ghost use Rattle.pim_fanout.specs.Refreshing.{touches, touches_in};
 ghost use Rattle.pim_fanout.specs.Named.{keys_of};
 ghost use Rattle.pim_ip.specs.declared.fault.Fault.{Fault};
 ghost use Rattle.pim_locality.specs.Rest.{IsAtRest};
@@ -32,9 +33,10 @@ use crate::plan::{Plan, planned};
 use crate::settle::settle;
 use crate::time::advance;
 use pim_data::Leaving;
-use pim_fanout::{Before, Cache, SourceName};
+use pim_fanout::{Before, Cache};
 use pim_intake::judge;
 use pim_ip::Ipv4View;
+use pim_macros::SourceGroup;
 use pim_mfc::Forward;
 use pim_model::Accepted;
 use pim_opening::Opening;
@@ -62,7 +64,7 @@ fn stopped(alloc: Global, stop: Stop) -> Outcome
 #[derive(Drop)]
 struct Changed {
     outcome: Outcome,
-    names: Series<SourceName>,
+    names: Series<SourceGroup>,
 }
 
 // What there is room for, but for time that passes: its own change, what follows of it, and last the packets that go on.
@@ -81,7 +83,7 @@ fn change_world(
     ensures outcome { IfOk result (λ changed. changed.outcome ≡ outcome_of (taken world.old turn.old.draw accepted.now)) }
     ensures state { OnOk result (world.new ≡ (taken world.old turn.old.draw accepted.now).state) }
     ensures names { IfOk result (λ changed. AreNames world.old (change world.old turn.old.draw accepted.now).state
-        (keys_of changed.names)) }
+        plan.now.touched (keys_of changed.names)) }
     ensures fault { IsOkUnless result Fault.Memory }
     ensures at_least { OnOk result (raised meter.old (taken_nodes world.old plan.now.touched accepted.now) ≤ meter.new) }
 {
@@ -124,6 +126,8 @@ fn take_change(
     ensures outcome { IfOk result (λ outcome. outcome ≡ outcome_of (taken world.old turn.old.draw accepted.now)) }
     ensures state { OnOk result (world.new ≡ (taken world.old turn.old.draw accepted.now).state) }
     ensures shown { OnOk result (ShowsRows cache.new.mfc.rows (cached world.new)) }
+    ensures touched { OnOk result (touches cache.new ≡ raised (touches cache.old) (touches_in world.new
+        (names_of world.old (change world.old turn.old.draw accepted.now).state plan.now.touched))) }
     ensures few { OnOk result (touches cache.new
         ≤ touches cache.old + 2 * length (named_of world.old turn.old.draw accepted.now)) }
     ensures fault { IsOkUnless result Fault.Memory }
@@ -202,13 +206,13 @@ fn by_row(
     ensures visited { meter.old ≡ 0 → has_row cache.now.mfc.rows (fact_key packet.now) ≡ true → IsWithinPath meter.new }
     ensures rises { meter.old ≤ meter.new }
 {
-    cache.mfc().forward(
-        packet.destination(),
-        packet.source(),
-        iface,
-        packet.time_to_live(),
-        meter,
-    )
+    let name = SourceGroup {
+        source: packet.source(),
+        group: packet.destination(),
+    };
+    cache
+        .mfc()
+        .forward(name, iface, packet.time_to_live(), meter)
 }
 
 // A packet of data: it goes by the row of its source, where that alone decides it.
@@ -297,7 +301,8 @@ fn take_accepted(
     }
 }
 
-/// Takes an event. Both counts begin anew: the meter's, of the nodes that its look-ups visit, and the cache's.
+/// Takes an event. Its cost is counted from 0: in the meter the nodes that its look-ups visit, in the cache the rows that it
+/// touches.
 #[tactic(auto, unfolding(pim_model::specs::Step::step))]
 pub(crate) fn take_in(
     alloc: Global,
@@ -308,6 +313,8 @@ pub(crate) fn take_in(
 ) -> Result<Outcome, Fault>
     requires rest { IsAtRest world.old }
     requires shown { ShowsRows cache.old.mfc.rows (cached world.old) }
+    requires uncounted { touches cache.old ≡ 0 }
+    requires unvisited { is_frame event.now.kind ≡ true → meter.old ≡ 0 }
     ensures outcome { IfOk result (λ outcome. outcome ≡ outcome_of (step world.old event.now)) }
     ensures state { OnOk result (world.new ≡ (step world.old event.now).state) }
     ensures rest { OnOk result (IsAtRest world.new) }
@@ -315,9 +322,8 @@ pub(crate) fn take_in(
     ensures cheap { OnOk result (IsCheap world.old event.now meter.new (touches cache.new)) }
     ensures fault { IsOkUnless result Fault.Memory }
     ensures sure { IsTrue (needs_no_memory (step world.old event.now).answer) → IsOk result }
+    ensures rises { OnOk result (meter.old ≤ meter.new) }
 {
-    meter.reset();
-    cache.reset();
     match judge(alloc, world, event, meter)? {
         Ok(accepted) => take_accepted(alloc, world, cache, event, &accepted, meter),
         Err(stop) => Ok(stopped(alloc, stop)),

@@ -7,7 +7,7 @@ ghost use Rattle.pim_mfc.specs.Laws.{ShowsRows, TellsRow};
 ghost use Rattle.pim_model.specs.Cache.{cached};
 ghost use Rattle.pim_router.specs.Costs.{IsCheap, IsLastCheap};
 ghost use Rattle.pim_ip.specs.declared.fault.Fault.{Fault};
-ghost use Rattle.pim_model.specs.Step.{run, state_after, step};
+ghost use Rattle.pim_model.specs.Step.{outcome_of, run, state_after, step};
 ghost use Rattle.pim_model.specs.Limits.{config_test};
 ghost use Rattle.pim_model.specs.State.{opening};
 ghost use Rattle.pim_model.specs.Cause.{OutcomesAreAsked};
@@ -21,8 +21,9 @@ ghost use Rattle.pim_words.specs.Bounded.{IsBounded};
 
 use crate::event::take_in;
 use pim_fanout::Cache;
+use pim_macros::SourceGroup;
 use pim_mfc::CacheRow;
-use pim_trie::Meter;
+use pim_trie::Probes;
 use pim_types::{Addr, Config, Emission, Event, Fault, Outcome, Refusal, Row, Table, Verdict};
 use pim_world::World;
 use std::alloc::{AllocError, Global};
@@ -38,7 +39,7 @@ pub struct Router {
     cache: Cache,
     // Of the last event.
     copies: u32,
-    meter: Meter,
+    probes: Probes,
 }
 
 impl Model for Router {
@@ -53,7 +54,7 @@ impl Model for Router {
 
     ghost view = { λ r. if r.failed then nothing_shown else record {
       standing = Some (record { state = r.world; copies = r.copies });
-      probes = r.meter;
+      probes = r.probes.meter;
       touched = touches r.cache;
     } };
 
@@ -78,7 +79,7 @@ impl Router {
                 world,
                 cache: Cache::new(alloc),
                 copies: 0,
-                meter: Meter::new(),
+                probes: Probes::new(),
             })),
             Err(refusal) => Ok(Err(refusal)),
         }
@@ -118,7 +119,7 @@ impl Router {
         if self.failed {
             return None;
         }
-        self.cache.mfc().cached(group, source)
+        self.cache.mfc().cached(SourceGroup { source, group })
     }
 
     /// The trie nodes that the last event visited: 0 where there was none yet, and where the router has failed. Of an event
@@ -129,7 +130,7 @@ impl Router {
         if self.failed {
             return 0;
         }
-        self.meter.count()
+        self.probes.meter.count()
     }
 
     /// The rows of the forwarding cache that the last event evaluated, put in and took out: 0 where there was none yet,
@@ -183,12 +184,12 @@ impl Router {
             return Err(Fault::Failed);
         }
         self.failed = true;
-        let outcome = take_in(
+        let outcome = take_next(
             self.alloc,
             &mut self.world,
             &mut self.cache,
             event,
-            &mut self.meter,
+            &mut self.probes,
         )?;
         hand_over(outcome.emissions.into_vec(), emissions)?;
         self.copies = outcome.copies;
@@ -223,7 +224,7 @@ impl Router {
             &mut self.world,
             &mut self.cache,
             events,
-            &mut self.meter,
+            &mut self.probes,
         )?;
         self.copies = last_copies(self.copies, &outcomes);
         self.failed = false;
@@ -257,13 +258,37 @@ fn last_copies(before: u32, outcomes: &[Outcome]) -> u32
     copies
 }
 
+// Takes an event. It begins both counts anew: of the nodes that its look-ups visit, and of the rows of the cache that it
+// touches.
+fn take_next(
+    alloc: Global,
+    world: &mut World,
+    cache: &mut Cache,
+    event: &Event,
+    probes: &mut Probes,
+) -> Result<Outcome, Fault>
+    requires rest { IsAtRest world.old }
+    requires shown { ShowsRows cache.old.mfc.rows (cached world.old) }
+    ensures outcome { IfOk result (λ outcome. outcome ≡ outcome_of (step world.old event.now)) }
+    ensures state { OnOk result (world.new ≡ (step world.old event.now).state) }
+    ensures rest { OnOk result (IsAtRest world.new) }
+    ensures shown { OnOk result (ShowsRows cache.new.mfc.rows (cached world.new)) }
+    ensures cheap { OnOk result (IsCheap world.old event.now probes.new.meter (touches cache.new)) }
+    ensures fault { IsOkUnless result Fault.Memory }
+    ensures sure { IsTrue (needs_no_memory (step world.old event.now).answer) → IsOk result }
+{
+    probes.begin();
+    cache.reset();
+    take_in(alloc, world, cache, event, &mut probes.meter)
+}
+
 // Takes events one after the other.
 fn run_world(
     alloc: Global,
     world: &mut World,
     cache: &mut Cache,
     events: &[Event],
-    meter: &mut Meter,
+    probes: &mut Probes,
 ) -> Result<Vec<Outcome>, Fault>
     requires rest { IsAtRest world.old }
     requires shown { ShowsRows cache.old.mfc.rows (cached world.old) }
@@ -271,13 +296,13 @@ fn run_world(
     ensures state { OnOk result (world.new ≡ state_after world.old events.now) }
     ensures rest { OnOk result (IsAtRest world.new) }
     ensures shown { OnOk result (ShowsRows cache.new.mfc.rows (cached world.new)) }
-    ensures cheap { OnOk result (IsLastCheap world.old events.now meter.new (touches cache.new)) }
+    ensures cheap { OnOk result (IsLastCheap world.old events.now probes.new.meter (touches cache.new)) }
     ensures fault { IsOkUnless result Fault.Memory }
     ensures sure { events.now ≡ [] → IsOk result }
 {
     let mut outcomes = Vec::new(alloc);
     for event in events {
-        outcomes.push(take_in(alloc, world, cache, event, meter)?)?;
+        outcomes.push(take_next(alloc, world, cache, event, probes)?)?;
     }
     Ok(outcomes)
 }

@@ -8,8 +8,8 @@ ghost use Rattle.pim_router.specs.Visits.{cleared_nodes, followed_alone_nodes, f
 ghost use Rattle.pim_trie.specs.Meter.{raised};
 ghost use Rattle.pim_world.specs.Turns.{saying};
 
-use pim_fanout::{Before, SourceName, named};
-use pim_macros::{SourceSight, StarSight};
+use pim_fanout::{Before, named};
+use pim_macros::{SourceGroup, SourceSight, StarSight};
 use pim_opening::{GroupOpening, Opening, SourceOpening};
 use pim_types::{Emission, Fault, Series};
 use pim_world::{Meter, Turn, World};
@@ -40,7 +40,7 @@ fn follow_all(
     meter: &mut Meter,
     opening: &Opening,
     before: &Before,
-) -> Result<Series<SourceName>, AllocError>
+) -> Result<Series<SourceGroup>, AllocError>
     ensures state { OnOk result (world.new ≡ (followed_by opening.now world.old turn.old.draw).0) }
     ensures messages { OnOk result (turn.new ≡ saying turn.old (followed_by opening.now world.old turn.old.draw).1) }
     ensures named { IfOk result (λ names. AreNamed before.now (cleared_by opening.now world.old).0 (keys_of names)) }
@@ -61,7 +61,7 @@ fn follow_source(
     group: &GroupOpening,
     opened: SourceOpening,
     before: &Before,
-) -> Result<Series<SourceName>, AllocError>
+) -> Result<Series<SourceGroup>, AllocError>
     requires whole { group.now.is_whole ≡ false }
     requires alone { group.now.sources ≡ opened ∷ [] }
     ensures state { OnOk result (world.new ≡ (followed_by (group.now ∷ []) world.old turn.old.draw).0) }
@@ -86,7 +86,7 @@ fn follow(
     meter: &mut Meter,
     opening: &Opening,
     before: &Before,
-) -> Result<Series<SourceName>, AllocError>
+) -> Result<Series<SourceGroup>, AllocError>
     ensures state { OnOk result (world.new ≡ (followed_by opening.now world.old turn.old.draw).0) }
     ensures messages { OnOk result (turn.new ≡ saying turn.old (followed_by opening.now world.old turn.old.draw).1) }
     ensures named { IfOk result (λ names. AreNamed before.now (cleared_by opening.now world.old).0 (keys_of names)) }
@@ -108,7 +108,7 @@ pub(crate) fn settle(
     opening: &Opening,
     before: &Before,
     emissions: &mut Vec<Emission>,
-) -> Result<Series<SourceName>, Fault>
+) -> Result<Series<SourceGroup>, Fault>
     ensures state { OnOk result (world.new ≡ (settled_by opening.now world.old turn.old.messages turn.old.draw).0) }
     ensures sent { OnOk result (emissions.new.items ≡ emissions.old.items
         ++ (settled_by opening.now world.old turn.old.messages turn.old.draw).1) }

@@ -1,6 +1,7 @@
 //! Time that passes: timers end one after the other, and what follows of each end is settled before the next one.
 ghost use Rattle.std.specs.Prelude.{◌≡◌, ◌≤◌, ◌+◌, ◌*◌, ◌^◌, ◌++◌, [], IfOk, IsOkUnless, OnOk, length, option_map, true};
-ghost use Rattle.pim_fanout.specs.Refreshing.{touches};
+ghost use Rattle.pim_fanout.specs.Laws.{names_of};
+ghost use Rattle.pim_fanout.specs.Refreshing.{touches, touches_in};
 ghost use Rattle.pim_fanout.specs.Named.{keys_of};
 ghost use Rattle.pim_ip.specs.declared.fault.Fault.{Fault};
 ghost use Rattle.pim_laws.specs.Laws.{IsReady, ends_from};
@@ -22,7 +23,8 @@ ghost use Rattle.pim_router.specs.Ends.{ending_of, has_other_sources, keeps_grou
 ghost use Rattle.pim_tables.specs.Ends.{due_of};
 
 use crate::settle::settle;
-use pim_fanout::{Before, Cache, SourceName};
+use pim_fanout::{Before, Cache};
+use pim_macros::SourceGroup;
 use pim_messages::Outbox;
 use pim_opening::Opening;
 use pim_types::{Addr, Emission, Fault, IfaceId, Key, Outcome, Series, Timer, TimerKind, Verdict};
@@ -136,7 +138,7 @@ fn fire_world(
     meter: &mut Meter,
     due: (u64, Timer),
     emissions: &mut Vec<Emission>,
-) -> Result<Series<SourceName>, Fault>
+) -> Result<Series<SourceGroup>, Fault>
     requires lawful { IsLawful world.old }
     requires quiet { IsQuiet world.old }
     requires begun { turn.old.messages ≡ [] }
@@ -144,7 +146,8 @@ fn fire_world(
     ensures state { OnOk result (world.new ≡ (fire_once turn.old.draw world.old (ending_of due)).0) }
     ensures sent { OnOk result (emissions.new.items
         ≡ emissions.old.items ++ (fire_once turn.old.draw world.old (ending_of due)).1) }
-    ensures names { IfOk result (λ names. AreNames world.old (own_firing world.old (ending_of due)) (keys_of names)) }
+    ensures names { IfOk result (λ names. AreNames world.old (own_firing world.old (ending_of due))
+        (touched_by_end world.old due.1.kind due.1.key) (keys_of names)) }
     ensures draw { OnOk result (turn.new.draw ≡ turn.old.draw) }
     ensures fault { IsOkUnless result Fault.Memory }
     ensures at_least { OnOk result (raised meter.old (firing_nodes world.old due) ≤ meter.new) }
@@ -176,6 +179,8 @@ fn fire_once(
     ensures sent { OnOk result (emissions.new.items
         ≡ emissions.old.items ++ (fire_once turn.old.draw world.old (ending_of due)).1) }
     ensures shown { OnOk result (ShowsRows cache.new.mfc.rows (cached world.new)) }
+    ensures touched { OnOk result (touches cache.new ≡ raised (touches cache.old) (touches_in world.new
+        (names_of world.old (own_firing world.old (ending_of due)) (touched_by_end world.old due.1.kind due.1.key)))) }
     ensures few { OnOk result (touches cache.new
         ≤ touches cache.old + 2 * length (named_by world.old (own_firing world.old (ending_of due)))) }
     ensures draw { OnOk result (turn.new.draw ≡ turn.old.draw) }

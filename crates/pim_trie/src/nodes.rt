@@ -83,8 +83,12 @@ pub(crate) fn part_under<V>(
     nodes: &Slab<Node<V>>,
     root: Option<usize>,
     prefix: Prefix,
+    meter: &mut Meter,
 ) -> Option<usize>
     requires { IsHeld nodes.now [] root }
+    ensures visited { prefix.length ≤ 32 → (t : Tree V) → Held nodes.now [] root t
+        → meter.new ≡ raised meter.old (visits t (path_of prefix)) }
+    ensures rises { meter.old ≤ meter.new }
     ensures pending { IsPending nodes.now (option_to_list result) }
     ensures entries { pending_entries nodes.now (option_to_list result)
         ≡ filter (is_under prefix) (entries_of nodes.now root) }
@@ -92,7 +96,7 @@ pub(crate) fn part_under<V>(
     if prefix.length > 32 {
         return None;
     }
-    reach(nodes, root, prefix, &mut Meter::new())
+    reach(nodes, root, prefix, meter)
 }
 
 // The last value on the way of the address, and its prefix.

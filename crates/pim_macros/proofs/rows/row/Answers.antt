@@ -8,7 +8,7 @@ use Rattle.pim_macros.proofs.rows.row.Goals as goal
 pub returns-clause-answers : goal.returns-clause-answers
 returns-clause-answers c =
     let s = c.args.world.now in
-    let group : (c.of-sight.result).star.group ≡ c.args.group =
+    let group : (c.of-sight.result).star.group ≡ c.args.name.group =
     ap (λ (t : StarSight). t.group) c.of-sight.ensures.star ∙ c.of-star.ensures.group in
     let source = c.of-sight.ensures.source in
     let registered =

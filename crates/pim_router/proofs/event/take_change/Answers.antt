@@ -1,12 +1,13 @@
 use Rattle.pim_fanout.specs.Refreshing.{touches}
-use Rattle.pim_router.proofs.Rows.{cost_after, rows_after}
+use Rattle.pim_model.specs.Step.{change}
+use Rattle.pim_router.proofs.Rows.{cost_after, rows_after, touches_named}
 use Rattle.pim_world.proofs.Visits.{rises_by, then_rises}
 use Rattle.pim_router.proofs.event.take_change.Goals as goal
 
 pub returns-clause-shown : goal.returns-clause-shown
 returns-clause-shown c =
     rows_after c.args.world.now c.args.turn.now.draw c.args.accepted.now c.requires.timeless
-    c.in_ok-outcome.field-0.names c.in_ok-outcome.ensures.names c.change_world.new.world c.args.cache.now.mfc.rows
+    c.args.plan.now.touched c.in_ok-outcome.field-0.names c.in_ok-outcome.ensures.names c.change_world.new.world c.args.cache.now.mfc.rows
     c.refresh.new.self.mfc.rows c.interfaces.result.now c.as_slice.result.now c.requires.rest.quiet
     c.interfaces.ensures c.recall_few.ensures c.in_ok-outcome.ensures.state c.as_slice.ensures
     c.in_ok-refresh.ensures.shown c.requires.shown
@@ -14,9 +15,17 @@ returns-clause-shown c =
 pub returns-clause-few : goal.returns-clause-few
 returns-clause-few c =
     cost_after c.args.world.now c.args.turn.now.draw c.args.accepted.now c.requires.timeless
-    c.in_ok-outcome.field-0.names c.in_ok-outcome.ensures.names (touches c.args.cache.now) (touches c.refresh.new.self)
+    c.args.plan.now.touched c.in_ok-outcome.field-0.names c.in_ok-outcome.ensures.names c.change_world.new.world (touches c.args.cache.now)
+    (touches c.refresh.new.self)
     c.as_slice.result.now c.as_slice.ensures c.in_ok-refresh.ensures.few
 
 pub returns-clause-at_least : goal.returns-clause-at_least
 returns-clause-at_least c =
     then_rises _ _ _ _ c.in_ok-outcome.ensures.at_least (rises_by _ _ _ c.in_ok-refresh.ensures.at_least)
+
+pub returns-clause-touched : goal.returns-clause-touched
+returns-clause-touched c =
+    touches_named c.args.world.now (change c.args.world.now c.args.turn.now.draw c.args.accepted.now).state
+    c.change_world.new.world c.args.plan.now.touched c.in_ok-outcome.field-0.names c.as_slice.result.now
+    (touches c.args.cache.now) (touches c.refresh.new.self) c.in_ok-outcome.ensures.names c.as_slice.ensures
+    c.in_ok-refresh.ensures.few

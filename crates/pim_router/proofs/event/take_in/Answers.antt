@@ -1,6 +1,8 @@
-use Rattle.std.proofs.Common.{sym, ◌∙◌}
+use Rattle.std.proofs.Common.{arith, sym, ◌∙◌}
+use Rattle.std.proofs.lemmas.Result.{on_ok_weaker}
+use Rattle.pim_world.proofs.Visits.{at_least_itself, rises_by}
 use Rattle.pim_fanout.specs.Refreshing.{touches}
-use Rattle.pim_router.proofs.Costs.{is_cheap, none_touched, untouched}
+use Rattle.pim_router.proofs.Costs.{is_cheap, untouched}
 use Rattle.pim_router.proofs.Plainly.{stop_isnt_plain}
 use Rattle.pim_router.proofs.Taking.{accepted_unsurely, fails_unsurely, rests_after}
 use Rattle.pim_router.proofs.event.take_in.Goals as goal
@@ -10,8 +12,8 @@ returns-in_err-accepted-clause-sure c =
     fails_unsurely c.args.world.now c.args.event.now c.judge.result c.from_residual.result c.in_err-accepted.field-0.0
     c.judge.ensures.sure c.in_err-accepted.was
 
-pub take_accepted-requires-clause-uncounted : goal.take_accepted-requires-clause-uncounted
-take_accepted-requires-clause-uncounted c = none_touched c.args.cache.now c.reset-2.new.self c.reset-2.ensures
+pub take_accepted-requires-clause-unvisited : goal.take_accepted-requires-clause-unvisited
+take_accepted-requires-clause-unvisited c = λ frame. c.judge.ensures.uncounted frame ∙ c.requires.unvisited frame
 
 pub returns-in-Ok-clause-rest : goal.returns-in-Ok-clause-rest
 returns-in-Ok-clause-rest c =
@@ -25,8 +27,15 @@ returns-in-Ok-clause-sure c =
 
 pub returns-in-Err-clause-cheap : goal.returns-in-Err-clause-cheap
 returns-in-Err-clause-cheap c =
-    is_cheap c.args.world.now c.requires.rest c.args.event.now c.judge.new.meter (touches c.reset-2.new.self)
+    is_cheap c.args.world.now c.requires.rest c.args.event.now c.judge.new.meter (touches c.args.cache.now)
     (λ is. absurd (stop_isnt_plain c.args.world.now c.args.event.now c.requires.rest c.in-Err.stop
     (sym c.in_ok-accepted.ensures.value ∙ c.in-Err.is) is))
-    (untouched (touches c.reset-2.new.self) c.args.world.now c.args.event.now
-    (none_touched c.args.cache.now c.reset-2.new.self c.reset-2.ensures))
+    (untouched (touches c.args.cache.now) c.args.world.now c.args.event.now c.requires.uncounted)
+
+pub returns-in-Ok-clause-rises : goal.returns-in-Ok-clause-rises
+returns-in-Ok-clause-rises c =
+    on_ok_weaker c.take_accepted.result
+    (λ e. omega (arith, rises_by _ _ _ (at_least_itself _ _ _ c.judge.ensures.visited), e)) c.take_accepted.ensures.rises
+
+pub returns-in-Err-clause-rises : goal.returns-in-Err-clause-rises
+returns-in-Err-clause-rises c = rises_by _ _ _ (at_least_itself _ _ _ c.judge.ensures.visited)

@@ -8,28 +8,28 @@ pub loop-event-init : goal.loop-event-init
 loop-event-init c = (
   runs_begin c.args.world.now c.args.events.now c.new-outcomes.result.items c.new-outcomes.ensures.items c.requires.rest,
   c.requires.shown,
-  counts_none c.args.world.now c.args.events.now c.args.meter.now (touches c.args.cache.now),
+  counts_none c.args.world.now c.args.events.now c.args.probes.now.meter (touches c.args.cache.now),
 )
 
-pub take_in-requires-clause-rest : goal.take_in-requires-clause-rest
-take_in-requires-clause-rest c = c.loop-event.invariant.0.rest
+pub take_next-requires-clause-rest : goal.take_next-requires-clause-rest
+take_next-requires-clause-rest c = c.loop-event.invariant.0.rest
 
-pub take_in-requires-clause-shown : goal.take_in-requires-clause-shown
-take_in-requires-clause-shown c = c.loop-event.invariant.1
+pub take_next-requires-clause-shown : goal.take_next-requires-clause-shown
+take_next-requires-clause-shown c = c.loop-event.invariant.1
 
 pub loop-event-preserved : goal.loop-event-preserved
 loop-event-preserved c = (
-  runs_next c.args.world.now c.args.events.now c.loop-event.event-index c.loop-event.world c.take_in.new.world
+  runs_next c.args.world.now c.args.events.now c.loop-event.event-index c.loop-event.world c.take_next.new.world
       c.loop-event.outcomes.items
-      c.push.new.self.items c.event-item.result c.loop-event-test.true c.event-item.is c.in_ok-take_in.ensures.rest
-      c.in_ok-take_in.ensures.state
+      c.push.new.self.items c.event-item.result c.loop-event-test.true c.event-item.is c.in_ok-take_next.ensures.rest
+      c.in_ok-take_next.ensures.state
       (c.in_ok-push.ensures.items
-      ∙ ap (λ o. c.loop-event.outcomes.items ++ o ∷ []) c.in_ok-take_in.ensures.outcome) c.loop-event.invariant.0,
-  c.in_ok-take_in.ensures.shown,
-  counts_next c.args.world.now c.args.events.now c.loop-event.event-index c.loop-event.world c.take_in.new.world
-      c.event-item.result c.loop-event.meter (touches c.loop-event.cache) c.take_in.new.meter
-      (touches c.take_in.new.cache) c.loop-event-test.true c.event-item.is c.in_ok-take_in.ensures.state
-      c.in_ok-take_in.ensures.cheap c.loop-event.invariant.2,
+      ∙ ap (λ o. c.loop-event.outcomes.items ++ o ∷ []) c.in_ok-take_next.ensures.outcome) c.loop-event.invariant.0,
+  c.in_ok-take_next.ensures.shown,
+  counts_next c.args.world.now c.args.events.now c.loop-event.event-index c.loop-event.world c.take_next.new.world
+      c.event-item.result c.loop-event.probes.meter (touches c.loop-event.cache) c.take_next.new.probes.meter
+      (touches c.take_next.new.cache) c.loop-event-test.true c.event-item.is c.in_ok-take_next.ensures.state
+      c.in_ok-take_next.ensures.cheap c.loop-event.invariant.2,
 )
 
 pub returns-clause-outcomes : goal.returns-clause-outcomes
@@ -50,5 +50,5 @@ returns-clause-shown c = c.loop-event.invariant.1
 
 pub returns-clause-cheap : goal.returns-clause-cheap
 returns-clause-cheap c =
-    counts_all c.args.world.now c.args.events.now c.loop-event.event-index c.loop-event.world c.loop-event.meter
+    counts_all c.args.world.now c.args.events.now c.loop-event.event-index c.loop-event.world c.loop-event.probes.meter
     (touches c.loop-event.cache) c.loop-event-test.false c.loop-event.invariant.2

@@ -10,4 +10,4 @@ abbrev pub invariant-loop-event : goal.invariant-loop-event
 invariant-loop-event l =
     Runs l.fn.world l.events l.world l.outcomes.items (drop l.event-index l.events)
     × ShowsRows l.cache.mfc.rows (cached l.world)
-    × Counted l.fn.world l.events l.event-index l.world l.meter (touches l.cache)
+    × Counted l.fn.world l.events l.event-index l.world l.probes.meter (touches l.cache)

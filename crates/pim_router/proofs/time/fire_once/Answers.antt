@@ -1,15 +1,17 @@
 use Rattle.std.proofs.Common.{ap, ◌∙◌}
 use Rattle.pim_model.specs.Firing.{fire_once}
+use Rattle.pim_model.specs.Reach.{own_firing}
 use Rattle.pim_world.specs.Turns.{Taking}
 use Rattle.pim_fanout.specs.Refreshing.{touches}
-use Rattle.pim_router.proofs.Rows.{cost_fired, rows_fired}
-use Rattle.pim_router.specs.Ends.{ending_of}
+use Rattle.pim_router.proofs.Rows.{cost_fired, rows_fired, touches_named}
+use Rattle.pim_router.specs.Ends.{ending_of, touched_by_end}
 use Rattle.pim_world.proofs.Visits.{rises_by, then_rises}
 use Rattle.pim_router.proofs.time.fire_once.Goals as goal
 
 pub returns-clause-shown : goal.returns-clause-shown
 returns-clause-shown c =
-    rows_fired c.args.world.now c.args.turn.now.draw (ending_of c.args.due) c.in_ok-names.names
+    rows_fired c.args.world.now c.args.turn.now.draw (ending_of c.args.due)
+    (touched_by_end c.args.world.now c.args.due.1.kind c.args.due.1.key) c.in_ok-names.names
     c.in_ok-names.ensures.names c.fire_world.new.world c.args.cache.now.mfc.rows c.refresh.new.self.mfc.rows
     c.interfaces.result.now c.as_slice.result.now c.requires.quiet c.interfaces.ensures c.recall_few.ensures
     (c.in_ok-names.ensures.state ∙ ap (λ w. (fire_once w c.args.world.now (ending_of c.args.due)).0)
@@ -18,10 +20,19 @@ returns-clause-shown c =
 
 pub returns-clause-few : goal.returns-clause-few
 returns-clause-few c =
-    cost_fired c.args.world.now c.args.turn.now.draw (ending_of c.args.due) c.in_ok-names.names
-    c.in_ok-names.ensures.names (touches c.args.cache.now) (touches c.refresh.new.self) c.as_slice.result.now
+    cost_fired c.args.world.now c.args.turn.now.draw (ending_of c.args.due)
+    (touched_by_end c.args.world.now c.args.due.1.kind c.args.due.1.key) c.in_ok-names.names
+    c.in_ok-names.ensures.names c.fire_world.new.world (touches c.args.cache.now) (touches c.refresh.new.self)
+    c.as_slice.result.now
     c.as_slice.ensures c.in_ok-refresh.ensures.few
 
 pub returns-clause-at_least : goal.returns-clause-at_least
 returns-clause-at_least c =
     then_rises _ _ _ _ c.in_ok-names.ensures.at_least (rises_by _ _ _ c.in_ok-refresh.ensures.at_least)
+
+pub returns-clause-touched : goal.returns-clause-touched
+returns-clause-touched c =
+    touches_named c.args.world.now (own_firing c.args.world.now (ending_of c.args.due)) c.fire_world.new.world
+    (touched_by_end c.args.world.now c.args.due.1.kind c.args.due.1.key) c.in_ok-names.names c.as_slice.result.now
+    (touches c.args.cache.now) (touches c.refresh.new.self) c.in_ok-names.ensures.names c.as_slice.ensures
+    c.in_ok-refresh.ensures.few

@@ -13,6 +13,7 @@ use Rattle.pim_opening.specs.Visits.{opening_nodes}
 use Rattle.pim_trie.specs.Meter.{raised}
 use Rattle.pim_world.proofs.Visits.{rises_by, then_rises, two_in_turn}
 use Rattle.pim_world.specs.declared.touched.Touched.{Touched}
+use Rattle.pim_router.specs.Settling.{AreNames}
 use Rattle.pim_router.specs.Visits.{end_nodes, firing_nodes}
 use Rattle.pim_router.proofs.time.fire_world.Goals as goal
 
@@ -38,13 +39,15 @@ returns-clause-sent c =
 pub returns-clause-names : goal.returns-clause-names
 returns-clause-names c =
     each_ok c.settle.result
-    (λ names named. names_opened c.args.world.now (own_firing c.args.world.now (ending_of c.args.due)) c.fired.new.world
+    (λ names named. subst (λ (t : Touched). AreNames c.args.world.now (own_firing c.args.world.now (ending_of c.args.due)) t
+    (keys_of names)) c.in_ok-touched.ensures
+    (names_opened c.args.world.now (own_firing c.args.world.now (ending_of c.args.due)) c.fired.new.world
     c.in_ok-touched.touched c.in_ok-opening.opening c.in_ok-before.before (keys_of names) c.requires.quiet
     c.recall_keyed.ensures
     (end_touched c.args.world.now c.args.due c.in_ok-touched.touched c.requires.lawful c.in_ok-touched.ensures)
     (end_fired c.args.world.now c.args.due c.set_present.new.self c.fired.new.world c.set_present.ensures
     c.in_ok-fired.ensures.state)
-    c.in_ok-opening.ensures.opening c.in_ok-before.ensures.before named)
+    c.in_ok-opening.ensures.opening c.in_ok-before.ensures.before named))
     c.settle.ensures.named
 
 pub returns-clause-at_least : goal.returns-clause-at_least

@@ -1,14 +1,14 @@
-use Rattle.std.proofs.Common.{◌≤◌, ◌+◌, ◌*◌, take}
+use Rattle.std.proofs.Common.{◌≡◌, ◌≤◌, take}
 use Rattle.std.specs.List.{sum_by}
 use Rattle.pim_trie.specs.Meter.{raised}
 use Rattle.pim_fanout.specs.Visits.{named_nodes}
-use Rattle.pim_fanout.specs.Refreshing.{Refreshes, touches}
+use Rattle.pim_fanout.specs.Refreshing.{Refreshes, touches, touches_in}
 use Rattle.pim_fanout.specs.Named.{keys_of}
 use Rattle.pim_fanout.proofs.cache.Cache.refresh.Given as goal
 
 abbrev pub invariant-loop-name : goal.invariant-loop-name
 invariant-loop-name l = record {
   shown : Refreshes (keys_of (take l.name-index l.names)) l.world (l.fn.self.mfc).rows (l.self.mfc).rows;
-  few : touches l.self ≤ touches l.fn.self + 2 * l.name-index;
+  few : touches l.self ≡ raised (touches l.fn.self) (touches_in l.world (keys_of (take l.name-index l.names)));
   visited : raised l.fn.meter (sum_by (named_nodes l.world) (take l.name-index l.names)) ≤ l.meter;
 }

@@ -2,7 +2,7 @@ use Rattle.std.proofs.Common.{refl, sym, ◌∙◌}
 use Rattle.pim_mfc.specs.Kept.{with_row, without_row}
 use Rattle.pim_mfc.proofs.Shown.{removal_refreshes}
 use Rattle.pim_fanout.specs.Refreshing.{touches}
-use Rattle.pim_fanout.proofs.Counts.{both_raised, one_raised}
+use Rattle.pim_fanout.proofs.Counts.{one_put, one_taken_out}
 use Rattle.pim_fanout.proofs.Refreshed.{put_named}
 use Rattle.pim_world.proofs.Visits.{none_asked, one_asked}
 use Rattle.pim_fanout.proofs.cache.Cache.refresh_one.Goals as goal
@@ -16,7 +16,8 @@ returns-then-not-has_fact-clause-shown c =
 pub returns-then-not-has_fact-clause-few : goal.returns-then-not-has_fact-clause-few
 unfolding touches without_row
 returns-then-not-has_fact-clause-few c =
-    rw (← c.self.view_is, c.remove.ensures) (one_raised (c.self.inside.mfc).changes c.self.inside.evaluated)
+    rw (← c.self.view_is, c.remove.ensures) (one_taken_out (c.self.inside.mfc).changes c.self.inside.evaluated _
+    (sym c.has_fact.ensures ∙ c.if-not-has_fact.true))
 
 pub returns-clause-shown : goal.returns-clause-shown
 returns-clause-shown c =
@@ -29,7 +30,8 @@ pub returns-clause-few : goal.returns-clause-few
 unfolding touches with_row
 returns-clause-few c =
     rw (← c.self.view_is, c.in_ok-put.ensures.ok, c.row-made.ensures.counted)
-    (both_raised (c.self.inside.mfc).changes c.self.inside.evaluated)
+    (one_put (c.self.inside.mfc).changes c.self.inside.evaluated _
+    (sym c.has_fact.ensures ∙ c.if-not-has_fact.false))
 
 pub returns-then-not-has_fact-clause-at_least : goal.returns-then-not-has_fact-clause-at_least
 returns-then-not-has_fact-clause-at_least c =

@@ -3,7 +3,7 @@ use pim_types::Addr;
 
 /// (S,G).
 #[derive(Clone, Copy)]
-pub struct SourceName {
-    pub group: Addr,
+pub struct SourceGroup {
     pub source: Addr,
+    pub group: Addr,
 }
