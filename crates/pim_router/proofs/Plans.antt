@@ -1,4 +1,5 @@
 -- Plans of events: each kind's fits where its parts do.
+use Rattle.std.specs.Prelude.{if◌then◌else◌}
 use Rattle.std.proofs.Common.{◌≡◌, ℕ, Bool, true, false, List, ap, inl, inr, refl, subst, sym, ◌∙◌}
 use Rattle.pim_types.specs.declared.fact.Key.{Key}
 use Rattle.pim_model.specs.declared.accepted.Accepted.{Accepted}
@@ -22,8 +23,8 @@ use Rattle.pim_wire.specs.Values.{JoinPrune}
 use Rattle.pim_model.specs.Downstream.{joined_keys, pruned_keys}
 use Rattle.pim_downstream.specs.declared.named.Named.{Named}
 use Rattle.pim_macros.specs.declared.sight.SourceSight.{SourceSight}
-use Rattle.pim_router.specs.OtherRoutes.{IsTouched, with_routes}
-use Rattle.pim_router.specs.Planning.{Fits, HasKeys, HasSight, HasSomeKeys, HasSomeSight, IsSightOf, Supplies}
+use Rattle.pim_router.specs.OtherRoutes.{with_routes}
+use Rattle.pim_router.specs.Planning.{Fits, HasKeys, HasSight, HasSomeKeys, HasSomeSight, IsSightOf, Supplies, touched_of}
 use Rattle.pim_router.specs.declared.plan.Means.{Means}
 use Rattle.pim_router.specs.declared.plan.Plan.{Plan}
 use Rattle.pim_router.proofs.Touching.{MakesNone, facts_covered, packet_covered}
@@ -31,55 +32,72 @@ use Rattle.pim_router.proofs.Touching.{MakesNone, facts_covered, packet_covered}
 module _ (s : State) (a : Accepted) (plan : Plan) where
   -- some keys are touched
   pub keys_fit : (keys : List Key) (means : Means) → (let p : Plan = record { touched = Touched.Keys keys; means = means } in plan ≡ p)
-      → is_full s a ≡ false → ((w : ℕ) → Concerns keys s (change s w a).state) → Supplies s a means → Fits s a plan
-  keys_fit keys means is room covers supplied =
-      subst (λ (p : Plan). Fits s a p) (sym is) (record { room = room; covers = λ w. inl (covers w); means = supplied })
+      → Touched.Keys keys ≡ touched_of s a → is_full s a ≡ false → ((w : ℕ) → Concerns keys s (change s w a).state)
+      → Supplies s a means → Fits s a plan
+  keys_fit keys means is touches room covers supplied =
+      subst (λ (p : Plan). Fits s a p) (sym is)
+      (record { room = room; touches = touches; covers = λ w. inl (covers w); means = supplied })
 
   -- all may be touched
   all_fit : (let p : Plan = record { touched = Touched.All; means = Means.Nothing } in plan ≡ p)
-      → is_full s a ≡ false → ((w : ℕ) → IsWithin s (change s w a).state) → Supplies s a Means.Nothing → Fits s a plan
-  all_fit is room covers supplied =
+      → Touched.All ≡ touched_of s a → is_full s a ≡ false → ((w : ℕ) → IsWithin s (change s w a).state)
+      → Supplies s a Means.Nothing → Fits s a plan
+  all_fit is touches room covers supplied =
       subst (λ (p : Plan). Fits s a p) (sym is)
-      (record { room = room; covers = λ w. inl (covers w); means = supplied })
+      (record { room = room; touches = touches; covers = λ w. inl (covers w); means = supplied })
 
 -- all may be touched, of an event whose kind is known
 pub all_planned : (s : State) (a b : Accepted) (plan : Plan)
-    → (let p : Plan = record { touched = Touched.All; means = Means.Nothing } in plan ≡ p) → a ≡ b → is_full s b ≡ false
-    → MakesNone b → Supplies s b Means.Nothing → Fits s a plan
-all_planned s a b plan whole is room none supplied =
+    → (let p : Plan = record { touched = Touched.All; means = Means.Nothing } in plan ≡ p) → a ≡ b
+    → Touched.All ≡ touched_of s b → is_full s b ≡ false → MakesNone b → Supplies s b Means.Nothing → Fits s a plan
+all_planned s a b plan whole is touches room none supplied =
     subst (λ (x : Accepted). Fits s x plan) (sym is)
-    (all_fit s b plan whole room (λ w. facts_covered s w b none) supplied)
+    (all_fit s b plan whole touches room (λ w. facts_covered s w b none) supplied)
+
+-- keys that are touched on a condition
+pub keys_where : (on : Bool) (keys none : List Key) (otherwise : Touched) → on ≡ true → keys ≡ none
+    → Touched.Keys keys ≡ (if on then Touched.Keys none else otherwise)
+keys_where on keys none otherwise is are = rw is (ap Touched.Keys are)
+
+pub all_where : (on : Bool) (keys : Touched) → on ≡ false → Touched.All ≡ (if on then keys else Touched.All)
+all_where on keys is = rw is refl
+
+pub these_where : (on : Bool) (keys first second : List Key) → on ≡ true → keys ≡ first
+    → Touched.Keys keys ≡ Touched.Keys (if on then first else second)
+these_where on keys first second is are = rw is (ap Touched.Keys are)
+
+pub those_where : (on : Bool) (keys first second : List Key) → on ≡ false → keys ≡ second
+    → Touched.Keys keys ≡ Touched.Keys (if on then first else second)
+those_where on keys first second is are = rw is (ap Touched.Keys are)
 
 -- ---- routes and RP ranges
 
--- these keys are touched, which take all that is moved, or all are
+-- these keys are touched, which take all that is moved
 module _ (s : State) (a : Accepted) (touched : Touched) (keys : List Key) where
-  moves_contained : (none : MakesNone a) → ((w : ℕ) → MovesAlone keys s (change s w a).state) → (t : Touched)
-      → IsTouched t keys → (w : ℕ) → Contains t s (change s w a).state
-  moves_contained none moves Touched.All those w = inl (facts_covered s w a none)
-  moves_contained none moves (Touched.Keys ks) those w =
-      inr (subst (λ (qs : List Key). MovesAlone qs s (change s w a).state) (sym those) (moves w))
-
-  moved_fits : MakesNone a → is_full s a ≡ false → Supplies s a Means.Nothing
-      → ((w : ℕ) → MovesAlone keys s (change s w a).state) → IsTouched touched keys
+  moved_fits : Touched.Keys keys ≡ touched_of s a → is_full s a ≡ false → Supplies s a Means.Nothing
+      → ((w : ℕ) → MovesAlone keys s (change s w a).state) → touched ≡ Touched.Keys keys
       → (let p : Plan = record { touched = touched; means = Means.Nothing } in Fits s a p)
-  moved_fits none room supplied moves those =
-      record { room = room; covers = moves_contained none moves touched those; means = supplied }
+  moved_fits touches room supplied moves those = record {
+    room = room;
+    touches = those ∙ touches;
+    covers = λ w. subst (λ (t : Touched). Contains t s (change s w a).state) (sym those) (inr (moves w));
+    means = supplied;
+  }
 
 pub routes_fit : (s : State) (routes : List Route) (touched : Touched)
-    → IsTouched touched (keys_by_routes s (with_routes s routes))
+    → touched ≡ Touched.Keys (keys_by_routes s (with_routes s routes))
     → (let p : Plan = record { touched = touched; means = Means.Nothing } in Fits s (Accepted.Routes routes) p)
-unfolding is_full change
+unfolding is_full change touched_of
 routes_fit s routes touched those =
-    moved_fits s (Accepted.Routes routes) touched (keys_by_routes s (with_routes s routes)) tt refl tt
+    moved_fits s (Accepted.Routes routes) touched (keys_by_routes s (with_routes s routes)) refl refl tt
     (λ w. routes_move s w routes) those
 
 pub rps_fit : (s : State) (ranges : List RpRange) (touched : Touched)
-    → IsTouched touched (keys_by_rps s (rps_replaced s ranges))
+    → touched ≡ Touched.Keys (keys_by_rps s (rps_replaced s ranges))
     → (let p : Plan = record { touched = touched; means = Means.Nothing } in Fits s (Accepted.Rps ranges) p)
-unfolding is_full change
+unfolding is_full change touched_of
 rps_fit s ranges touched those =
-    moved_fits s (Accepted.Rps ranges) touched (keys_by_rps s (rps_replaced s ranges)) tt refl tt
+    moved_fits s (Accepted.Rps ranges) touched (keys_by_rps s (rps_replaced s ranges)) refl refl tt
     (λ w. rps_move s w ranges) those
 
 -- ---- room
@@ -107,11 +125,13 @@ module _ (s : State) (i : IfaceId) (p : Packet) where
       → sight.star.group.bits ≡ p.destination → sight.source.bits ≡ p.source → IsSourceSight s sight
       → is_full s (Accepted.Data i p) ≡ false
       → keys ≡ packet_keys s sight.star.group.bits sight.source.bits i.number → Fits s (Accepted.Data i p) plan
+  unfolding touched_of
   data_fits sight keys plan is group source shown room those =
-      keys_fit s (Accepted.Data i p) plan keys (Means.Sight sight) is room
-      (packet_covered s i p keys
-      (those ∙ ap (λ (n : ℕ). packet_keys s n sight.source.bits i.number) group
-      ∙ ap (λ (n : ℕ). packet_keys s p.destination n i.number) source))
+      let are : keys ≡ packet_keys s p.destination p.source i.number =
+      those ∙ ap (λ (n : ℕ). packet_keys s n sight.source.bits i.number) group
+      ∙ ap (λ (n : ℕ). packet_keys s p.destination n i.number) source in
+      keys_fit s (Accepted.Data i p) plan keys (Means.Sight sight) is (ap Touched.Keys are) room
+      (packet_covered s i p keys are)
       (record { shown = shown; group = group; source = source })
 
 -- what is taken, where there is room and where there is none

@@ -220,14 +220,19 @@ of_second p xs ys none some =
 -- ---- what was accepted
 
 module _ (s : State) where
+  pub named_keys : (i : IfaceId) (m : JoinPrune) (joined pruned keys : List Key)
+      → joined ≡ joined_keys s i.number m → pruned ≡ pruned_keys i.number m → keys ≡ joined ++ pruned
+      → keys ≡ joined_keys s i.number m ++ pruned_keys i.number m
+  named_keys i m joined pruned keys joins prunes all =
+      all ∙ ap (λ ks. ks ++ pruned) joins ∙ ap (λ ks. joined_keys s i.number m ++ ks) prunes
+
   pub named_covered : (i : IfaceId) (m : JoinPrune) (joined pruned keys : List Key)
       → joined ≡ joined_keys s i.number m → pruned ≡ pruned_keys i.number m → keys ≡ joined ++ pruned
       → (w : ℕ) → Concerns keys s (change s w (Accepted.JoinPruneToMe i m)).state
   unfolding touched_by_event change
   named_covered i m joined pruned keys joins prunes all w =
-      let those : keys ≡ joined_keys s i.number m ++ pruned_keys i.number m =
-      all ∙ ap (λ ks. ks ++ pruned) joins ∙ ap (λ ks. joined_keys s i.number m ++ ks) prunes in
-      subst (λ ks. Concerns ks s (change s w (Accepted.JoinPruneToMe i m)).state) (sym those)
+      subst (λ ks. Concerns ks s (change s w (Accepted.JoinPruneToMe i m)).state)
+      (sym (named_keys i m joined pruned keys joins prunes all))
       (record {
         agrees = change_touches s w (Accepted.JoinPruneToMe i m)
             (joined_keys s i.number m ++ pruned_keys i.number m) refl;

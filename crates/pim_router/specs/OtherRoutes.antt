@@ -1,12 +1,10 @@
 -- What is touched where routes or RP ranges are new.
-use Rattle.std.specs.Prelude.{Bool, List, not, ℕ, ◌≡◌}
+use Rattle.std.specs.Prelude.{Bool, List, not, ℕ}
 use Rattle.pim_types.specs.declared.config.Route.{Route}
-use Rattle.pim_types.specs.declared.fact.Key.{Key}
 use Rattle.pim_model.specs.Rows.{same_both, same_path}
 use Rattle.pim_model.specs.State.{State}
 use Rattle.pim_model.specs.Tables.{same_option}
 use Rattle.pim_model.specs.Unicast.{route, rp_of}
-use Rattle.pim_world.specs.declared.touched.Touched.{Touched}
 
 abbrev pub with_routes : State → List Route → State
 with_routes s routes = record s { routes = routes }
@@ -17,8 +15,3 @@ has_other_route o c address = not (same_both same_path (route o address) (route 
 
 abbrev pub has_other_rp : State → State → ℕ → Bool
 has_other_rp o c g = not (same_option (rp_of o g) (rp_of c g))
-
--- these keys are touched, or all
-abbrev pub IsTouched : Touched → List Key → Type 0
-IsTouched Touched.All keys = Unit {0}
-IsTouched (Touched.Keys touched) keys = touched ≡ keys

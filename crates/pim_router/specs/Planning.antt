@@ -1,14 +1,22 @@
 -- What is planned of an event before its change.
-use Rattle.std.specs.Prelude.{List, None, Option, Some, false, true, ℕ, ◌≡◌}
+use Rattle.std.specs.Prelude.{List, [], None, Option, Some, false, filter, if◌then◌else◌, not, true, ℕ, ◌++◌, ◌∷◌, ◌≡◌}
+use Rattle.pim_types.specs.Keys.{is_star, source_key}
 use Rattle.pim_types.specs.declared.fact.Key.{Key}
 use Rattle.pim_model.specs.declared.accepted.Accepted.{Accepted}
 use Rattle.pim_model.specs.Downstream.{joined_keys, pruned_keys}
-use Rattle.pim_model.specs.Full.{is_full}
+use Rattle.pim_model.specs.Full.{asserted_keys, is_full, reported_groups, reported_sources}
+use Rattle.pim_model.specs.Registers.{registered_group, registered_source}
 use Rattle.pim_model.specs.State.{State}
-use Rattle.pim_model.specs.Step.{change}
+use Rattle.pim_model.specs.Step.{change, rps_replaced}
+use Rattle.pim_locality.specs.Touches.{packet_keys}
+use Rattle.pim_reach.specs.Moved.{keys_by_routes, keys_by_rps}
+use Rattle.pim_neighbours.specs.Refreshed.{is_refreshed}
+use Rattle.pim_querier.specs.Reports.{all_move_ends}
+use Rattle.pim_world.specs.declared.touched.Touched.{Touched}
 use Rattle.pim_macros.specs.Sights.{IsSourceSight}
 use Rattle.pim_macros.specs.declared.sight.SourceSight.{SourceSight}
 use Rattle.pim_fanout.specs.Contains.{Contains}
+use Rattle.pim_router.specs.OtherRoutes.{with_routes}
 use Rattle.pim_router.specs.declared.plan.Means.{Means}
 use Rattle.pim_router.specs.declared.plan.Plan.{Plan}
 
@@ -42,9 +50,30 @@ Supplies s (Accepted.JoinPruneSeen i m) means = HasKeys (joined_keys s i.number 
 Supplies s (Accepted.Data i p) means = HasSight s p.destination p.source means
 Supplies s _ means = Unit {0}
 
--- there is room for what it names, what it touches covers its change, and it has what that needs
+-- What it touches: the keys that it names, or that it moves; none where it moves ends alone. An interface that goes up or
+-- down may touch all, and so may a Hello that says more than that its neighbour lasts.
+unfoldable pub touched_of : State → Accepted → Touched
+touched_of s (Accepted.Hello i from h) =
+    if is_refreshed s.neighbours i.number from.bits h then Touched.Keys [] else Touched.All
+touched_of s (Accepted.JoinPruneToMe i m) = Touched.Keys (joined_keys s i.number m ++ pruned_keys i.number m)
+touched_of s (Accepted.JoinPruneSeen i m) = Touched.Keys (filter (λ k. not (is_star k)) (pruned_keys i.number m))
+touched_of s (Accepted.Assert i from a) = Touched.Keys (asserted_keys i.number a)
+touched_of s (Accepted.Query i from q) = Touched.Keys []
+touched_of s (Accepted.Report i records) =
+    Touched.Keys (if all_move_ends s i.number records then []
+    else reported_groups i.number records ++ reported_sources i.number records)
+touched_of s (Accepted.Data i p) = Touched.Keys (packet_keys s p.destination p.source i.number)
+touched_of s (Accepted.Register p r) = Touched.Keys (source_key 0 (registered_group r) (registered_source r) ∷ [])
+touched_of s (Accepted.RegisterStop from stop) = Touched.Keys (source_key 0 stop.group.bits stop.source.bits ∷ [])
+touched_of s (Accepted.Routes routes) = Touched.Keys (keys_by_routes s (with_routes s routes))
+touched_of s (Accepted.Rps ranges) = Touched.Keys (keys_by_rps s (rps_replaced s ranges))
+touched_of s _ = Touched.All
+
+-- there is room for what it names, what it touches is told, no more and no less, and covers its change, which has what it
+-- needs
 pub record Fits (s : State) (a : Accepted) (plan : Plan) : Type 0 where
   pub room : is_full s a ≡ false
+  pub touches : plan.touched ≡ touched_of s a
   pub covers : (w : ℕ) → Contains plan.touched s (change s w a).state
   pub means : Supplies s a plan.means
 

@@ -38,11 +38,6 @@ use Rattle.pim_router.specs.Settling.{cleared_by}
 
 -- ---- what new routes and RP ranges touch
 
--- where it is told what is touched
-abbrev pub where_told : Touched → ℕ → ℕ
-where_told Touched.All nodes = 0
-where_told (Touched.Keys keys) nodes = nodes
-
 -- the route to an address, in the table there is and in the new one
 abbrev pub both_routes_nodes : State → List Route → ℕ → ℕ
 both_routes_nodes s routes address =

@@ -1,6 +1,6 @@
 //! What is planned of an event before its change: whether there is room for the facts that it names, what its change
 //! touches, and what that needs. Each kind of event says all three in one place.
-ghost use Rattle.std.specs.Prelude.{◌≡◌, ◌≤◌, ◌∷◌, [], IfOk, IfSome, OnOk, filter, not};
+ghost use Rattle.std.specs.Prelude.{◌≡◌, ◌≤◌, ◌∷◌, [], IfOk, OnOk, filter, not, true};
 ghost use Rattle.pim_types.specs.Keys.{is_star, source_key};
 ghost use Rattle.pim_model.specs.Registers.{registered_group, registered_source};
 ghost use Rattle.pim_model.specs.declared.accepted.Accepted.{Accepted as AcceptedValue};
@@ -9,8 +9,10 @@ ghost use Rattle.pim_locality.specs.Touches.{packet_keys};
 ghost use Rattle.pim_macros.specs.Sights.{IsSourceSight};
 ghost use Rattle.pim_downstream.specs.Visits.{named_nodes};
 ghost use Rattle.pim_mrib.specs.Routes.{rp_nodes};
+ghost use Rattle.pim_model.specs.Limits.{are_routes, are_rps};
+ghost use Rattle.pim_router.specs.Naming.{IsConfigured};
 ghost use Rattle.pim_router.specs.Planning.{IsPlanned, IsSightOf};
-ghost use Rattle.pim_router.specs.Visits.{data_plan_nodes, routes_nodes, rps_nodes, where_told};
+ghost use Rattle.pim_router.specs.Visits.{data_plan_nodes, routes_nodes, rps_nodes};
 ghost use Rattle.pim_trie.specs.Meter.{raised};
 
 use crate::rerouted::{touched_by_routes, touched_by_rps};
@@ -278,10 +280,9 @@ fn plan_routes(
     meter: &mut Meter,
     routes: &[Route],
 ) -> Result<Option<Plan>, AllocError>
+    requires { are_routes world.now.configured routes.now ≡ true }
     ensures plan { IfOk result (λ plan. IsPlanned world.now (AcceptedValue.Routes routes.now) plan) }
-    ensures at_least { IfOk result (λ plan. IfSome plan (λ plan.
-        raised meter.old (where_told plan.touched (routes_nodes world.now routes.now)) ≤ meter.new)) }
-    ensures rises { OnOk result (meter.old ≤ meter.new) }
+    ensures at_least { OnOk result (raised meter.old (routes_nodes world.now routes.now) ≤ meter.new) }
 {
     let touched = touched_by_routes(world, turn.alloc, meter, routes)?;
     let means = Means::Nothing;
@@ -295,10 +296,9 @@ fn plan_rps(
     meter: &mut Meter,
     ranges: &[RpRange],
 ) -> Result<Option<Plan>, AllocError>
+    requires { are_rps ranges.now ≡ true }
     ensures plan { IfOk result (λ plan. IsPlanned world.now (AcceptedValue.Rps ranges.now) plan) }
-    ensures at_least { IfOk result (λ plan. IfSome plan (λ plan.
-        raised meter.old (where_told plan.touched (rps_nodes world.now ranges.now)) ≤ meter.new)) }
-    ensures rises { OnOk result (meter.old ≤ meter.new) }
+    ensures at_least { OnOk result (raised meter.old (rps_nodes world.now ranges.now) ≤ meter.new) }
 {
     let touched = touched_by_rps(world, turn.alloc, meter, ranges)?;
     let means = Means::Nothing;
@@ -313,7 +313,8 @@ pub(crate) fn planned(
     meter: &mut Meter,
     accepted: &Accepted<'_>,
 ) -> Result<Option<Plan>, AllocError>
-    requires { IsAtRest world.now }
+    requires rest { IsAtRest world.now }
+    requires configured { IsConfigured world.now accepted.now }
     ensures plan { IfOk result (λ plan. IsPlanned world.now accepted.now plan) }
     ensures rises { OnOk result (meter.old ≤ meter.new) }
 {

@@ -1,8 +1,9 @@
 //! Which keys new routes, or new RP ranges, touch: those of what they move, of which there are facts. The new ones stand
 //! in a table of their own, beside those there are.
 ghost use Rattle.std.specs.List.{flat_map};
-ghost use Rattle.std.specs.Prelude.{◌≡◌, ◌≤◌, ◌++◌, IfOk, IfSome, OnOk, filter, map, not, sum_by};
+ghost use Rattle.std.specs.Prelude.{◌≡◌, ◌≤◌, ◌++◌, IfOk, OnOk, filter, map, not, sum_by, true};
 ghost use Rattle.pim_types.specs.Keys.{source_key, star_key};
+ghost use Rattle.pim_model.specs.Limits.{are_routes, are_rps};
 ghost use Rattle.pim_model.specs.Rows.{same_both, same_path};
 ghost use Rattle.pim_model.specs.Step.{rps_replaced};
 ghost use Rattle.pim_model.specs.Unicast.{route};
@@ -10,8 +11,9 @@ ghost use Rattle.pim_reach.specs.Moved.{keys_by_routes, keys_by_rps, moved_of_gr
 ghost use Rattle.pim_reach.specs.Named.{has_same_rp};
 ghost use Rattle.pim_trie.specs.Meter.{raised};
 ghost use Rattle.pim_world.specs.Groups.{numbers_of};
-ghost use Rattle.pim_router.specs.OtherRoutes.{IsTouched, has_other_route, has_other_rp, with_routes};
-ghost use Rattle.pim_router.specs.Visits.{both_routes_nodes, both_rps_nodes, moved_group_nodes, moved_nodes, routes_nodes, rps_nodes, where_told};
+ghost use Rattle.pim_world.specs.declared.touched.Touched.{Touched as TouchedValue};
+ghost use Rattle.pim_router.specs.OtherRoutes.{has_other_route, has_other_rp, with_routes};
+ghost use Rattle.pim_router.specs.Visits.{both_routes_nodes, both_rps_nodes, moved_group_nodes, moved_nodes, routes_nodes, rps_nodes};
 
 use pim_fanout::{is_same_address, is_same_path};
 use pim_mrib::Mrib;
@@ -20,30 +22,28 @@ use pim_world::{Meter, Touched, World};
 use std::alloc::{AllocError, Global};
 use std::collections::BTreeMap;
 
-// A table of these routes; none where the router doesn't take them.
-fn table_of_routes(
-    world: &World,
-    alloc: Global,
-    routes: &[Route],
-) -> Result<Option<Mrib>, AllocError>
-    ensures { IfOk result (λ made. IfSome made (λ next. next.routes ≡ routes.now)) }
+// A table of these routes.
+fn table_of_routes(world: &World, alloc: Global, routes: &[Route]) -> Result<Mrib, AllocError>
+    requires { are_routes world.now.configured routes.now ≡ true }
+    ensures { IfOk result (λ next. next.routes ≡ routes.now) }
 {
     let mut next = Mrib::new(alloc);
     match next.replace(world.interfaces(), routes) {
-        Ok(Ok(())) => Ok(Some(next)),
-        Ok(Err(_)) => Ok(None),
+        Ok(Ok(())) => Ok(next),
+        Ok(Err(_)) => unreachable!(),
         Err(_) => Err(AllocError),
     }
 }
 
-// A table of these RP ranges; none where the router doesn't take them.
-fn table_of_ranges(alloc: Global, ranges: &[RpRange]) -> Result<Option<Mrib>, AllocError>
-    ensures { IfOk result (λ made. IfSome made (λ next. next.ranges ≡ ranges.now)) }
+// A table of these RP ranges.
+fn table_of_ranges(alloc: Global, ranges: &[RpRange]) -> Result<Mrib, AllocError>
+    requires { are_rps ranges.now ≡ true }
+    ensures { IfOk result (λ next. next.ranges ≡ ranges.now) }
 {
     let mut next = Mrib::new(alloc);
     match next.replace_rps(ranges) {
-        Ok(Ok(())) => Ok(Some(next)),
-        Ok(Err(_)) => Ok(None),
+        Ok(Ok(())) => Ok(next),
+        Ok(Err(_)) => unreachable!(),
         Err(_) => Err(AllocError),
     }
 }
@@ -168,44 +168,38 @@ fn keys_with_other_rp(
 }
 
 /// What new routes touch: the groups with any fact whose RP has another route, and of the other groups the sources with any
-/// fact that have one. All may be touched by routes that the router doesn't take. The meter rises by the nodes that the look-ups
-/// visit, at least those of the RP of each group and of the routes that are compared.
+/// fact that have one. The meter rises by the nodes that the look-ups visit, at least those of the RP of each group and of the
+/// routes that are compared.
 pub(crate) fn touched_by_routes(
     world: &World,
     alloc: Global,
     meter: &mut Meter,
     routes: &[Route],
 ) -> Result<Touched, AllocError>
-    ensures touched { IfOk result (λ touched. IsTouched touched (keys_by_routes world.now (with_routes world.now routes.now))) }
-    ensures at_least { IfOk result (λ touched. raised meter.old (where_told touched (routes_nodes world.now routes.now)) ≤ meter.new) }
-    ensures rises { OnOk result (meter.old ≤ meter.new) }
+    requires { are_routes world.now.configured routes.now ≡ true }
+    ensures touched { IfOk result (λ touched. touched
+        ≡ TouchedValue.Keys (keys_by_routes world.now (with_routes world.now routes.now))) }
+    ensures at_least { OnOk result (raised meter.old (routes_nodes world.now routes.now) ≤ meter.new) }
 {
-    match table_of_routes(world, alloc, routes)? {
-        Some(next) => {
-            let groups = world.groups(alloc)?;
-            Ok(Touched::Keys(keys_of_groups(world, alloc, meter, &next, &groups)?))
-        }
-        None => Ok(Touched::All),
-    }
+    let next = table_of_routes(world, alloc, routes)?;
+    let groups = world.groups(alloc)?;
+    Ok(Touched::Keys(keys_of_groups(world, alloc, meter, &next, &groups)?))
 }
 
-/// What new RP ranges touch: the groups with any fact that have another RP. All may be touched by ranges that the router
-/// doesn't take. The meter rises by the nodes that the look-ups visit, at least those of the RPs of each group.
+/// What new RP ranges touch: the groups with any fact that have another RP. The meter rises by the nodes that the look-ups
+/// visit, at least those of the RPs of each group.
 pub(crate) fn touched_by_rps(
     world: &World,
     alloc: Global,
     meter: &mut Meter,
     ranges: &[RpRange],
 ) -> Result<Touched, AllocError>
-    ensures touched { IfOk result (λ touched. IsTouched touched (keys_by_rps world.now (rps_replaced world.now ranges.now))) }
-    ensures at_least { IfOk result (λ touched. raised meter.old (where_told touched (rps_nodes world.now ranges.now)) ≤ meter.new) }
-    ensures rises { OnOk result (meter.old ≤ meter.new) }
+    requires { are_rps ranges.now ≡ true }
+    ensures touched { IfOk result (λ touched. touched
+        ≡ TouchedValue.Keys (keys_by_rps world.now (rps_replaced world.now ranges.now))) }
+    ensures at_least { OnOk result (raised meter.old (rps_nodes world.now ranges.now) ≤ meter.new) }
 {
-    match table_of_ranges(alloc, ranges)? {
-        Some(next) => {
-            let groups = world.groups(alloc)?;
-            Ok(Touched::Keys(keys_with_other_rp(world, alloc, meter, &next, &groups)?))
-        }
-        None => Ok(Touched::All),
-    }
+    let next = table_of_ranges(alloc, ranges)?;
+    let groups = world.groups(alloc)?;
+    Ok(Touched::Keys(keys_with_other_rp(world, alloc, meter, &next, &groups)?))
 }

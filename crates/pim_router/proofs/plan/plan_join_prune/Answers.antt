@@ -1,8 +1,10 @@
-use Rattle.std.proofs.Common.{refl}
+use Rattle.std.proofs.Common.{ap, refl}
 use Rattle.pim_model.specs.declared.accepted.Accepted.{Accepted}
+use Rattle.pim_world.specs.declared.touched.Touched.{Touched}
+use Rattle.pim_router.specs.Planning.{touched_of}
 use Rattle.pim_router.specs.declared.plan.Means.{Means}
 use Rattle.pim_router.proofs.Plans.{join_prune_room, keys_fit}
-use Rattle.pim_router.proofs.Touching.{named_covered}
+use Rattle.pim_router.proofs.Touching.{named_covered, named_keys}
 use Rattle.pim_router.proofs.plan.plan_join_prune.Goals as goal
 
 pub returns-then-branch-clause-plan : goal.returns-then-branch-clause-plan
@@ -11,9 +13,12 @@ returns-then-branch-clause-plan c =
     c.in_ok-named.ensures.pruned c.in_ok-is_full.ensures c.if-branch.true
 
 pub returns-clause-plan : goal.returns-clause-plan
+unfolding touched_of
 returns-clause-plan c =
     keys_fit c.args.world.now (Accepted.JoinPruneToMe c.args.iface c.args.message.now) _ c.in_ok-keys.field-0
     (Means.Keys c.in_ok-named.named) refl
+    (ap Touched.Keys (named_keys c.args.world.now c.args.iface c.args.message.now _ _ c.in_ok-keys.field-0
+    c.in_ok-named.ensures.joined c.in_ok-named.ensures.pruned c.in_ok-keys.ensures))
     (join_prune_room c.args.world.now c.args.iface c.args.message.now _ _ _ _ _ c.holdtime.ensures
     c.in_ok-named.ensures.joined c.in_ok-named.ensures.pruned c.in_ok-is_full.ensures c.if-branch.false)
     (named_covered c.args.world.now c.args.iface c.args.message.now _ _ c.in_ok-keys.field-0 c.in_ok-named.ensures.joined

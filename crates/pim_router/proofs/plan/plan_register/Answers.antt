@@ -2,6 +2,8 @@ use Rattle.std.proofs.Common.{◌∷◌, [], ap, sym, ◌∙◌}
 use Rattle.pim_types.specs.declared.fact.Key.{Key}
 use Rattle.pim_model.specs.declared.accepted.Accepted.{Accepted}
 use Rattle.pim_model.specs.Full.{is_full}
+use Rattle.pim_world.specs.declared.touched.Touched.{Touched}
+use Rattle.pim_router.specs.Planning.{touched_of}
 use Rattle.pim_router.specs.declared.plan.Means.{Means}
 use Rattle.pim_router.proofs.Plans.{keys_fit}
 use Rattle.pim_router.proofs.Touching.{register_covered}
@@ -13,12 +15,12 @@ unfolding is_full
 returns-then-is_full-clause-plan c = sym c.is_full.ensures.full ∙ c.if-is_full.true
 
 pub returns-clause-plan : goal.returns-clause-plan
-unfolding is_full
+unfolding is_full touched_of
 returns-clause-plan c =
+    let those = c.in_ok-keys.ensures ∙ ap (λ (k : Key). k ∷ []) c.registered_key.ensures in
     keys_fit c.args.world.now (Accepted.Register c.args.packet.now c.args.register.now) c.of_keys.result
-    c.in_ok-keys.keys Means.Nothing c.of_keys.ensures (sym c.is_full.ensures.full ∙ c.if-is_full.false)
-    (register_covered c.args.world.now c.args.packet.now c.args.register.now c.in_ok-keys.keys
-    (c.in_ok-keys.ensures ∙ ap (λ (k : Key). k ∷ []) c.registered_key.ensures)) tt
+    c.in_ok-keys.keys Means.Nothing c.of_keys.ensures (ap Touched.Keys those) (sym c.is_full.ensures.full ∙ c.if-is_full.false)
+    (register_covered c.args.world.now c.args.packet.now c.args.register.now c.in_ok-keys.keys those) tt
 
 pub returns-then-is_full-clause-at_least : goal.returns-then-is_full-clause-at_least
 returns-then-is_full-clause-at_least c = at_least_itself _ _ _ c.is_full.ensures.visited

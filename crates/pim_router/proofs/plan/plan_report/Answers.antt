@@ -1,8 +1,9 @@
-use Rattle.std.proofs.Common.{sym, ◌∙◌}
+use Rattle.std.proofs.Common.{[], sym, ◌∙◌}
 use Rattle.pim_model.specs.declared.accepted.Accepted.{Accepted}
 use Rattle.pim_model.specs.Full.{is_full}
+use Rattle.pim_router.specs.Planning.{touched_of}
 use Rattle.pim_router.specs.declared.plan.Means.{Means}
-use Rattle.pim_router.proofs.Plans.{keys_fit}
+use Rattle.pim_router.proofs.Plans.{keys_fit, these_where, those_where}
 use Rattle.pim_router.proofs.Touching.{moved_covered, reported_covered}
 use Rattle.pim_router.proofs.plan.plan_report.Goals as goal
 
@@ -11,17 +12,21 @@ unfolding is_full
 returns-then-branch c = sym c.in_ok-is_full.ensures ∙ c.if-branch.true
 
 pub returns-then-all_move_ends : goal.returns-then-all_move_ends
-unfolding is_full
+unfolding is_full touched_of
 returns-then-all_move_ends c =
     keys_fit c.args.world.now (Accepted.Report c.args.iface c.args.report.now) c.of_keys.result c.new.result
-    Means.Nothing c.of_keys.ensures (sym c.in_ok-is_full.ensures ∙ c.if-branch.false)
+    Means.Nothing c.of_keys.ensures
+    (these_where _ c.new.result [] _ (sym c.all_move_ends.ensures ∙ c.if-all_move_ends.true) c.new.ensures)
+    (sym c.in_ok-is_full.ensures ∙ c.if-branch.false)
     (moved_covered c.args.world.now c.args.iface c.args.report.now c.new.result c.requires.settled
     (sym c.all_move_ends.ensures ∙ c.if-all_move_ends.true) c.new.ensures) tt
 
 pub returns : goal.returns
-unfolding is_full
+unfolding is_full touched_of
 returns c =
     keys_fit c.args.world.now (Accepted.Report c.args.iface c.args.report.now) c.of_keys-2.result c.in_ok-keys.keys
-    Means.Nothing c.of_keys-2.ensures (sym c.in_ok-is_full.ensures ∙ c.if-branch.false)
+    Means.Nothing c.of_keys-2.ensures
+    (those_where _ c.in_ok-keys.keys [] _ (sym c.all_move_ends.ensures ∙ c.if-all_move_ends.false) c.in_ok-keys.ensures)
+    (sym c.in_ok-is_full.ensures ∙ c.if-branch.false)
     (reported_covered c.args.world.now c.args.iface c.args.report.now c.in_ok-keys.keys c.requires.settled
     c.in_ok-keys.ensures) tt

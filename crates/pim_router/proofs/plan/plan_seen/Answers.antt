@@ -3,17 +3,20 @@ use Rattle.pim_types.specs.declared.fact.Key.{Key}
 use Rattle.pim_types.specs.Keys.{is_star}
 use Rattle.pim_model.specs.declared.accepted.Accepted.{Accepted}
 use Rattle.pim_model.specs.Full.{is_full}
+use Rattle.pim_world.specs.declared.touched.Touched.{Touched}
+use Rattle.pim_router.specs.Planning.{touched_of}
 use Rattle.pim_router.specs.declared.plan.Means.{Means}
 use Rattle.pim_router.proofs.Plans.{keys_fit}
 use Rattle.pim_router.proofs.Touching.{seen_covered}
 use Rattle.pim_router.proofs.plan.plan_seen.Goals as goal
 
 pub returns-clause-plan : goal.returns-clause-plan
-unfolding is_full
+unfolding is_full touched_of
 returns-clause-plan c =
+    let those = c.in_ok-of_sources.ensures ∙ ap (λ (ks : List Key). filter (λ k. not (is_star k)) ks) c.deref.ensures.value in
     keys_fit c.args.world.now (Accepted.JoinPruneSeen c.args.iface c.args.message.now) _ c.in_ok-of_sources.field-0
-    (Means.Keys c.in_ok-named.named) refl refl
+    (Means.Keys c.in_ok-named.named) refl
+    (ap Touched.Keys (those ∙ ap (λ (ks : List Key). filter (λ k. not (is_star k)) ks) c.in_ok-named.ensures.pruned)) refl
     (seen_covered c.args.world.now c.args.iface c.args.message.now _ c.in_ok-of_sources.field-0
-    c.in_ok-named.ensures.pruned
-    (c.in_ok-of_sources.ensures ∙ ap (λ (ks : List Key). filter (λ k. not (is_star k)) ks) c.deref.ensures.value))
+    c.in_ok-named.ensures.pruned those)
     (c.in_ok-named.ensures.joined, c.in_ok-named.ensures.pruned)

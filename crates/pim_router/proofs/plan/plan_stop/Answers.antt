@@ -2,15 +2,17 @@ use Rattle.std.proofs.Common.{◌∷◌, [], ap, refl, ◌∙◌}
 use Rattle.pim_types.specs.declared.fact.Key.{Key}
 use Rattle.pim_model.specs.declared.accepted.Accepted.{Accepted}
 use Rattle.pim_model.specs.Full.{is_full}
+use Rattle.pim_world.specs.declared.touched.Touched.{Touched}
+use Rattle.pim_router.specs.Planning.{touched_of}
 use Rattle.pim_router.specs.declared.plan.Means.{Means}
 use Rattle.pim_router.proofs.Plans.{keys_fit}
 use Rattle.pim_router.proofs.Touching.{stop_covered}
 use Rattle.pim_router.proofs.plan.plan_stop.Goals as goal
 
 pub returns : goal.returns
-unfolding is_full
+unfolding is_full touched_of
 returns c =
+    let those = c.in_ok-keys.ensures ∙ ap (λ (k : Key). k ∷ []) c.source.ensures in
     keys_fit c.args.world.now (Accepted.RegisterStop c.args.from c.args.stop.now) c.of_keys.result c.in_ok-keys.keys
-    Means.Nothing c.of_keys.ensures refl
-    (stop_covered c.args.world.now c.args.from c.args.stop.now c.in_ok-keys.keys
-    (c.in_ok-keys.ensures ∙ ap (λ (k : Key). k ∷ []) c.source.ensures)) tt
+    Means.Nothing c.of_keys.ensures (ap Touched.Keys those) refl
+    (stop_covered c.args.world.now c.args.from c.args.stop.now c.in_ok-keys.keys those) tt
