@@ -1,11 +1,10 @@
 -- How headers are written.
 use Rattle.std.proofs.Common.{◌≡◌, ℕ, ◌+◌, ◌-◌, ◌/◌, ◌%◌, ◌≤◌, List, [], ◌∷◌, ◌++◌, length, take, drop, set, get_or, refl, sym, ap, ◌∙◌, arith}
-use Rattle.std.proofs.lemmas.List.{append_assoc, length-append, length-drop, length-set, drop-set-lt, get_or-set_other, take_more, take_more_set, drop-drop, take_at, drop_at, take-append-le, drop-append-le, length-take-le}
+use Rattle.std.proofs.lemmas.List.{append_assoc, drop_all, length-append, length-drop, length-set, drop-set-lt, get_or-set_other, take_more, take_more_set, drop-drop, take_at, drop_at, take-append-le, drop-append-le, length-take-le}
 use borrow.Rule.Slice.PartMut.{put_mid}
 use Rattle.byteorder.specs.Endian.{big_bytes}
 use Rattle.pim_ip.specs.Checksum.{sum16, with_checksum}
-use Rattle.pim_ip.specs.Ipv4.{Packet, copy_text}
-use Rattle.pim_ip.specs.View.{packet_from}
+use Rattle.pim_ip.specs.View.{lowered}
 
 -- nothing of two elements is left past two
 drop-take-2 : (xs : List ℕ) → drop 2 (take 2 xs) ≡ []
@@ -67,13 +66,49 @@ take-set_time_to_live header time_to_live long =
     take_more changed 9 0 (omega arith)
     ∙ rw (take_more_set header 8 time_to_live (omega arith), protocol) (append_assoc (take 8 header) (time_to_live ∷ []) (get_or header 9 0 ∷ []))
 
--- a copied header that was given another time to live and then its checksum
-pub copy_text-written : (header payload copy written : List ℕ) (time_to_live : ℕ) (p : Packet) → packet_from header payload ≡ p
-    → 20 ≤ length header → copy ≡ header → time_to_live ≡ get_or copy 8 0 - 1
-    → written ≡ with_checksum (take 10 (set copy 8 time_to_live)) (drop 12 (set copy 8 time_to_live))
-    → written ++ payload ≡ copy_text p
-unfolding copy_text
-copy_text-written header payload copy written time_to_live p is long same lower made =
-    let first = take-set_time_to_live header time_to_live (omega arith) in
-    let last = drop-set-lt 12 header 8 time_to_live (omega arith) in
-    rw (← is, made, same, first, last, lower, same) refl
+-- two bytes in the place of the checksum of a header with another time to live
+pub lowered-put : (header buf : List ℕ) (time_to_live checksum : ℕ) → 12 ≤ length header
+    → buf ≡ checksum / 256 % 256 ∷ checksum % 256 ∷ drop 2 (take 2 (drop 10 (set header 8 time_to_live)))
+    → time_to_live ≡ get_or header 8 0 - 1
+    → checksum ≡ sum16 ((take 8 header ++ time_to_live ∷ get_or header 9 0 ∷ []) ++ 0 ∷ 0 ∷ drop 12 header)
+    → put_mid 10 2 (set header 8 time_to_live) buf ≡ lowered header
+unfolding lowered with_checksum
+lowered-put header buf time_to_live checksum long written lower made =
+    let front : List ℕ = take 8 header ++ time_to_live ∷ get_or header 9 0 ∷ [] in
+    let rest : List ℕ = drop 12 header in
+    put_mid-two (set header 8 time_to_live) 10 (checksum / 256 % 256) (checksum % 256) buf written
+    ∙ rw (take-set_time_to_live header time_to_live long, drop-set-lt 12 header 8 time_to_live (omega arith), made) (sym (append_assoc front (big_bytes 2 (sum16 (front ++ 0 ∷ 0 ∷ rest))) rest))
+    ∙ ap (λ t. with_checksum (take 8 header ++ t ∷ get_or header 9 0 ∷ []) rest) lower
+
+-- what was put behind others, with its header changed
+pub put_behind : (before header payload changed all : List ℕ) (start size : ℕ) → all ≡ before ++ (header ++ payload) → start ≡ length before
+    → size ≡ length header → put_mid start size all changed ≡ before ++ (changed ++ payload)
+put_behind before header payload changed all start size is at long =
+    let front : take start all ≡ before = rw is (take_at before (header ++ payload) start (sym at)) in
+    let back : drop size (drop start all) ≡ payload =
+    rw (is, drop_at before (header ++ payload) start (sym at)) (drop_at header payload size (sym long)) in
+    rw (front, back) refl
+
+pub length-lowered : (header : List ℕ) → 12 ≤ length header → length (lowered header) ≡ length header
+unfolding lowered
+length-lowered header long =
+    let front : List ℕ = take 8 header ++ (get_or header 8 0 - 1) ∷ get_or header 9 0 ∷ [] in
+    rw (length-with_checksum front (drop 12 header), length-append (take 8 header) ((get_or header 8 0 - 1) ∷ get_or header 9 0 ∷ []), length-take-le 8 header (omega arith), length-drop 12 header)
+    (omega arith)
+
+-- a header behind others, lowered in its place
+pub lowered_behind : (before header payload changed all items : List ℕ) (start size len : ℕ) → 12 ≤ length header → all ≡ items
+    → items ≡ before ++ (header ++ payload) → len ≡ length items → start ≡ length before → size ≡ length header
+    → changed ≡ lowered (take size (drop start all))
+    → take len (put_mid start size all changed ++ drop (length (put_mid start size all changed)) items) ≡ before ++ (lowered header ++ payload)
+lowered_behind before header payload changed all items start size len enough seen is counted at long made =
+    let text : List ℕ = before ++ (changed ++ payload) in
+    let here : take size (drop start all) ≡ header =
+    rw (seen, is, drop_at before (header ++ payload) start (sym at)) (take_at header payload size (sym long)) in
+    let now : changed ≡ lowered header = made ∙ ap lowered here in
+    let same : length changed ≡ length header = ap length now ∙ length-lowered header enough in
+    let whole : length text ≡ length items =
+    rw (is, length-append before (changed ++ payload), length-append changed payload, length-append before (header ++ payload), length-append header payload) (omega (arith, same)) in
+    let put = put_behind before header payload changed all start size (seen ∙ is) at long in
+    rw (put, drop_all (length text) items (omega (arith, whole)))
+    (take_at text [] len (omega (arith, whole, counted)) ∙ ap (λ x. before ++ (x ++ payload)) now)

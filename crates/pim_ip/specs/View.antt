@@ -30,6 +30,11 @@ pub record IsPacket (header payload : List ℕ) : Type 0 where
 pub record ReadsAs (text : List ℕ) (packet : Packet) : Type 0 where
   pub reading : (more : List ℕ) → length (text ++ more) ≤ packet_limit → ipv4_reading (text ++ more) ≡ Ok packet
 
+-- a header with its time to live one lower, and the checksum made anew
+unfoldable pub lowered : List ℕ → List ℕ
+lowered header =
+    with_checksum (take 8 header ++ (slice_index header 8 - 1) ∷ slice_index header 9 ∷ []) (drop 12 header)
+
 -- the header of a copy: the time to live one lower, and the checksum made anew
 unfoldable pub copied_header : Packet → List ℕ
 copied_header p =

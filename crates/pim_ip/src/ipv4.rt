@@ -1,11 +1,12 @@
 //! IPv4 packets, read.
-ghost use Rattle.std.specs.Prelude.{◌≡◌, ◌+◌, ◌≤◌, ◌++◌, length, IsTrue, OnOk, OnErr};
+ghost use Rattle.std.specs.Prelude.{◌≡◌, ◌+◌, ◌*◌, ◌%◌, ◌≤◌, ◌++◌, length, IsTrue, OnOk, OnErr};
 ghost use Rattle.byteorder.specs.Endian.{big_from};
-ghost use Rattle.pim_ip.specs.Ipv4.{packet_limit, is_source, copy_text, ipv4_reading};
-ghost use Rattle.pim_ip.specs.View.{ReadsAs, copied};
+ghost use Rattle.pim_ip.specs.Ipv4.{packet_limit, is_source, copy_text, ipv4_reading, version_of};
+ghost use Rattle.pim_ip.specs.Checksum.{sum16};
+ghost use Rattle.pim_ip.specs.View.{ReadsAs, copied, lowered};
 
 use crate::addr::Addr;
-use crate::checksum::{set_checksum, sum16};
+use crate::checksum::sum16;
 use crate::refusal::Refusal;
 use crate::write::write_both;
 use byteorder::{BigEndian, ByteOrder};
@@ -27,9 +28,6 @@ pub const PROTOCOL_PIM: u8 = 103;
 
 /// The length of a header without options, in bytes.
 const HEADER_LENGTH: usize = 20;
-
-/// The length of the longest header, in bytes.
-const LONGEST_HEADER: usize = 60;
 
 /// Where the checksum stands in a header.
 pub(crate) const CHECKSUM_PLACE: usize = 10;
@@ -171,6 +169,33 @@ pub fn read_ipv4(bytes: &[u8]) -> Result<Ipv4View<'_>, Refusal>
     Ok(Ipv4View { header, payload })
 }
 
+/// A header's checksum after one of its words was lowered by so many times 256 (RFC 1624). It is never 0xFFFF, since
+/// the sum of a header's words isn't 0.
+fn raised_checksum(checksum: u16, times: u8) -> u16
+    ensures { result ≡ (checksum + 256 * times) % 65535 }
+{
+    let raised = u32::from(checksum) + 256 * u32::from(times);
+    if raised >= 0xFFFF {
+        (raised - 0xFFFF) as u16
+    } else {
+        raised as u16
+    }
+}
+
+/// Lowers the time to live of a header by one (0 stays 0), and makes its checksum anew by that difference.
+fn lower_time_to_live(header: &mut [u8])
+    requires long_enough { 20 ≤ length header.old }
+    requires version { version_of header.old ≡ 4 }
+    requires summed { sum16 header.old ≡ 0 }
+    ensures { header.new ≡ lowered header.old }
+{
+    let time_to_live = header[8];
+    let lower = time_to_live.saturating_sub(1);
+    let checksum = raised_checksum(u16_at(header, CHECKSUM_PLACE), time_to_live - lower);
+    header[8] = lower;
+    BigEndian::write_u16(&mut header[CHECKSUM_PLACE..CHECKSUM_PLACE + 2], checksum);
+}
+
 /// Writes the packet at the end as it leaves: with a time to live one lower (0 stays 0), and the
 /// checksum made anew. An `Err` changes nothing.
 pub fn write_copy(packet: &Ipv4View<'_>, out: &mut Vec<u8>) -> Result<(), AllocError>
@@ -178,10 +203,8 @@ pub fn write_copy(packet: &Ipv4View<'_>, out: &mut Vec<u8>) -> Result<(), AllocE
     ensures err { OnErr result (out.new.items ≡ out.old.items) }
     ensures reads { ReadsAs (copy_text packet.now) (copied packet.now) }
 {
-    let mut bytes = [0; LONGEST_HEADER];
-    let header = &mut bytes[..packet.header.len()];
-    header.copy_from_slice(packet.header);
-    header[8] = header[8].saturating_sub(1);
-    set_checksum(header, CHECKSUM_PLACE);
-    write_both(header, packet.payload, out)
+    let start = out.len();
+    write_both(packet.header, packet.payload, out)?;
+    lower_time_to_live(&mut out[start..start + packet.header.len()]);
+    Ok(())
 }

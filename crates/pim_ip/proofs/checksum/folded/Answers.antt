@@ -1,8 +1,10 @@
-use Rattle.std.proofs.Common.{◌≡◌, ◌%◌, bit_and, arith}
+use Rattle.std.proofs.Common.{◌≡◌, ◌+◌, ◌/◌, ◌%◌, ◌∙◌, ap, bit_and, arith, sym}
 use Rattle.std.proofs.lemmas.Grind.{and_numeral}
-use Rattle.pim_ip.proofs.ChecksumLemmas.{ones-folded}
+use Rattle.pim_ip.proofs.ChecksumLemmas.{ones-folded, ones-small}
+use Rattle.pim_ip.specs.Checksum.{ones}
 use Rattle.pim_ip.proofs.checksum.folded.Goals as goal
 
-pub returns-clause-same : goal.returns-clause-same
-returns-clause-same c =
-    λ more. let low : bit_and c.args.sum 65535 ≡ c.args.sum % 65536 = grind (arith, and_numeral) in rw low (ones-folded c.args.sum more (omega arith))
+pub returns : goal.returns
+returns c =
+    let low : bit_and c.args.sum 65535 ≡ c.args.sum % 65536 = grind (arith, and_numeral) in
+    rw low (sym (ones-small (c.args.sum % 65536 + c.args.sum / 65536) (omega arith)) ∙ ap ones (omega arith) ∙ ones-folded c.args.sum 0 ∙ ap ones (omega arith))
