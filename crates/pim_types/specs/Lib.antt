@@ -1,2 +1,4 @@
+pub mod FieldOrder
 pub mod Keys
+pub mod Packed
 pub mod Timers

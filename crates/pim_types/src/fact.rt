@@ -1,14 +1,20 @@
 //! The key of all facts and timers, and the row of each kind of fact.
-ghost use Rattle.std.specs.Prelude.{◌≡◌};
+ghost use Rattle.std.specs.Prelude.{◌≡◌, ◌<◌, ◌^◌};
+ghost use Rattle.std.proofs.Common.{refl};
+ghost use Rattle.std.specs.Cmp.{partial_order_from_agreeing_total};
+ghost use Rattle.std.specs.Ordering.{as_partial_cmp};
+ghost use Rattle.pim_types.specs.FieldOrder.{fields_cmp, fields_tied, fields_total};
 ghost use Rattle.pim_types.specs.Keys.{iface_key, neighbour_key, rpt_key, source_key, star_key};
+ghost use Rattle.pim_types.specs.Packed.{lower, source_number, upper};
 
 use crate::config::IfaceId;
 use pim_ip::{Addr, LanDelay};
+use std::cmp::Ordering;
 
 /// The key of every fact and of every timer. What a fact doesn't have is 0, or `None`: a fact of the
 /// whole router has interface 0, one of an interface group 0.0.0.0; `source: None` is (*,G), and a
 /// neighbour's address stands in `source`. Keys compare by these fields in this order.
-#[derive(Clone, Copy, PartialEq, Eq, PartialOrd, Ord, Hash)]
+#[derive(Clone, Copy, PartialEq, Eq, Hash)]
 pub struct Key {
     pub iface: IfaceId,
     pub group: Addr,
@@ -17,7 +23,51 @@ pub struct Key {
     pub rpt: bool,
 }
 
+impl PartialOrd for Key {
+    ghost partial_cmp = { as_partial_cmp fields_cmp };
+
+    ghost laws = { partial_order_from_agreeing_total fields_cmp fields_total (λ k q. refl) fields_tied };
+
+    fn partial_cmp(&self, other: &Key) -> Option<Ordering> {
+        Some(self.cmp(other))
+    }
+}
+
+// A look-up in an ordered table compares some ten keys, and two numbers are compared faster than four fields.
+impl Ord for Key {
+    ghost cmp = { fields_cmp };
+
+    ghost total = { fields_total };
+
+    ghost matches_partial_cmp = { λ k q. refl };
+
+    ghost matches_eq = { fields_tied };
+
+    fn cmp(&self, other: &Key) -> Ordering {
+        let (one, two) = (self.upper(), other.upper());
+        if one != two {
+            return one.cmp(&two);
+        }
+        self.lower().cmp(&other.lower())
+    }
+}
+
 impl Key {
+    // The interface and the group, as one number.
+    fn upper(self) -> u64
+        ensures number { result ≡ upper self }
+        ensures in_range { self.group.bits < 2 ^ 32 }
+    {
+        u64::from(self.iface.number) << 32 | u64::from(self.group.bits)
+    }
+
+    // The source and whether the state is (S,G,rpt), as one number.
+    fn lower(self) -> u64
+        ensures { result ≡ lower self }
+    {
+        source_number(self.source) << 1 | u64::from(self.rpt)
+    }
+
     /// The key of (*,G) on an interface.
     pub fn star(iface: IfaceId, group: Addr) -> Key
         ensures { result ≡ star_key iface.number group.bits }
@@ -73,6 +123,17 @@ impl Key {
         ensures { result ≡ star_key 0 group.bits }
     {
         Key::star(IfaceId::NONE, group)
+    }
+}
+
+// A source as a number: none is 0, and below all others.
+fn source_number(source: Option<Addr>) -> u64
+    ensures number { result ≡ source_number source }
+    ensures bound { result < 2 ^ 33 }
+{
+    match source {
+        Some(source) => 1 << 32 | u64::from(source.bits),
+        None => 0,
     }
 }
 
