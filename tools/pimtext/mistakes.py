@@ -74,8 +74,8 @@ class Mistakes:
                 elif rp and rp != usual:
                     other[name, rp, usual, next(each for each in by_name if by_name[each] == usual)].append(group)
         for (name, rp, usual, peer), groups in other.items():
-            told = f": the RP of {some(groups)} is {rp} here, and {usual} at router {peer} ({self.lines.words(self.lines.router(peer))})"
-            yield self.at_router(name, told)
+            theirs = f"{usual} at router {peer} ({self.lines.words(self.lines.router(peer))})"
+            yield self.at_router(name, f": the RP of {some(groups)} is {rp} here, and {theirs}")
         for (name, rp, usual), groups in unaware.items():
             whom = f" is the RP of {some(groups)} to other routers, by its address {usual}"
             own = f"takes {rp} for it" if rp else "has no RP for it itself"

@@ -350,7 +350,8 @@ def read(data, limit=MOST_IN_A_UNICAST):
 
 
 def read_on_link(data):
-    """The same as a router takes it on a link: what claims to be PIM and goes to another group than that of all routers is data."""
+    """The same as a router takes it on a link: what claims to be PIM and goes to another group than that of all PIM routers is
+    data."""
     is_data = data[9:10] == bytes([PIM]) and data[16:20] != ALL_PIM_ROUTERS
     return read_data(data) if is_data else read(data, MOST_IN_A_FRAME)
 
@@ -379,9 +380,9 @@ def with_number(data, place, number, size=2):
 def write(protocol, source, destination, ttl, body, options=b"", service=0):
     """An IPv4 packet; options are a multiple of four bytes."""
     length = 20 + len(options)
-    head = bytes([0x40 + length // 4, service]) + (length + len(body)).to_bytes(2, "big") + bytes([0, 0, 0, 0, ttl, protocol, 0, 0])
-    head += octets(source) + octets(destination) + options
-    return with_number(head, 10, sum16(head)) + body
+    head = bytes([0x40 + length // 4, service]) + (length + len(body)).to_bytes(2, "big")
+    head += bytes([0, 0, 0, 0, ttl, protocol, 0, 0]) + octets(source) + octets(destination) + options
+    return with_header_sum(head) + body
 
 
 def with_header_sum(data):

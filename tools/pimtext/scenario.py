@@ -5,11 +5,11 @@ What the program would refuse isn't looked for here: these are the scenarios tha
 import json
 import subprocess
 import sys
-import tomllib
 from dataclasses import dataclass, field
 from ipaddress import IPv4Interface
 from pathlib import Path
 
+from pimtext import toml_lines
 from pimtext.addresses import ranges_of, routes_of
 
 PIMLAB = Path(__file__).resolve().parent.parent.parent / "pimlab"
@@ -85,10 +85,10 @@ def scenario_of(tables):
 def read(path):
     """The scenario of a file; ends the program with a line where it isn't there or isn't TOML."""
     try:
-        return scenario_of(tomllib.loads(Path(path).read_text()))
+        return scenario_of(toml_lines.plain(toml_lines.read(Path(path).read_text("utf-8"))))
     except OSError as reason:
         sys.exit(f"{path} can't be read: {reason.strerror}")
-    except (tomllib.TOMLDecodeError, UnicodeDecodeError) as reason:
+    except (toml_lines.Unreadable, UnicodeDecodeError) as reason:
         sys.exit(f"{path} isn't TOML: {reason}")
     except (KeyError, ValueError, TypeError) as reason:
         sys.exit(f"{path} is no scenario ({reason}); tools/why {path} says what is wrong")

@@ -212,7 +212,9 @@ def next_up(world, state, group, tree):
         where = words.place(state.router, path.iface)
         return None, f"{name} sends no Join towards {whom}: {world.named(path.next_hop)} on {where} is no neighbour"
     above = world.owner(hop.address)
-    return (above, state.link(path.iface)) if above else (None, f"{name} sends its Joins to {hop.address}, which no router here has")
+    if above is None:
+        return None, f"{name} sends its Joins to {hop.address}, which no router here has"
+    return above, state.link(path.iface)
 
 
 def climb(world, group, source, state, link):

@@ -4,7 +4,7 @@ Moments are ms; an end is None where none runs, and "never" where it doesn't com
 """
 from ipaddress import ip_address
 
-from pimtext import printed, reasons, trees, words
+from pimtext import printed, reasons, trees
 from pimtext.printed import ANY
 
 
@@ -44,15 +44,22 @@ def mroute(state, group, source):
     leaves, kept = [], []
     for number, is_there, why, against in reasons.reasons(state, group, source):
         told = {**place(state, number), "why": why}
-        (leaves if is_there else kept).append(told if is_there else {**told, "kept_off": against or ["it is where they come from"]})
+        if is_there:
+            leaves.append(told)
+        else:
+            kept.append({**told, "kept_off": against or ["it is where they come from"]})
     tunnel = bool(state.of(printed.Active, group=group, source=source, register="join"))
     number = incoming(state, group, source)
     return {
-        "source": source, "group": group, "flags": flags(state, group, source, bool(leaves) or tunnel), "incoming": place(state, number),
-        "by": "source tree" if is_by_source(state, group, source) else "shared tree", "registers": tunnel,
-        "rpf_neighbour": None if number is None else neighbour(state, group, source), "outgoing": leaves, "kept_off": kept,
-        "is_rp": state.router.has(trees.rp_of(state, group)),
+        "source": source, "group": group, "flags": flags(state, group, source, bool(leaves) or tunnel),
+        "by": "source tree" if is_by_source(state, group, source) else "shared tree", "is_rp": is_rp(state, group),
+        "incoming": place(state, number), "rpf_neighbour": None if number is None else neighbour(state, group, source),
+        "registers": tunnel, "outgoing": leaves, "kept_off": kept,
     }
+
+
+def is_rp(state, group):
+    return state.router.has(trees.rp_of(state, group))
 
 
 def is_by_source(state, group, source):
@@ -75,10 +82,10 @@ def neighbour(state, group, source):
 def flags(state, group, source, is_sent):
     """The letters of FRR: sparse, connected hosts, pruned, pruned off the shared tree, registering, SPTbit."""
     hosts = trees.included(state, group, ANY) | (trees.included(state, group, source) if source != ANY else set())
-    told = [
-        ("S", True), ("C", hosts), ("P", not is_sent), ("R", state.of(printed.SharedTree, group=group, source=source, state="pruned")),
-        ("F", state.of(printed.Active, group=group, source=source, register="join")), ("T", trees.has_spt_bit(state, group, source)),
-    ]
+    pruned = state.of(printed.SharedTree, group=group, source=source, state="pruned")
+    registering = state.of(printed.Active, group=group, source=source, register="join")
+    has_bit = trees.has_spt_bit(state, group, source)
+    told = zip("SCPRFT", (True, hosts, not is_sent, pruned, registering, has_bit))
     return "".join(letter for letter, holds in told if holds)
 
 
@@ -87,15 +94,19 @@ def flags(state, group, source, is_sent):
 
 def upstream(state, group, source):
     path, hop = trees.route(state, trees.root_of(state, group, source)), trees.upstream_neighbour(state, group, source)
-    joined, active = state.of(printed.Upstream, group=group, source=source), state.of(printed.Active, group=group, source=source)
-    rpt = [row.state for row in state.of(printed.SharedTree, group=group, source=source)]
+    tables = (printed.Upstream, printed.Active, printed.SharedTree)
+    joined, active, rpt = (row_of(state, table, group, source) for table in tables)
     return {
-        "source": source, "group": group, "rpf": place(state, path.iface if path else None), "next_hop": path.next_hop if path else None,
-        "rpf_neighbour": hop.address if hop else None, "by_assert": bool(hop and hop.is_winner), "joined": bool(joined),
-        "sends_joins": bool(joined and hop), "next_join": end(joined[0].end) if joined and hop else None,
-        "why_none": why_none(state, group, source, joined), "kept_alive_until": end(active[0].end) if active else None,
-        "rpt": rpt[0] if rpt else None,
+        "source": source, "group": group, "rpf": place(state, path and path.iface), "next_hop": path and path.next_hop,
+        "rpf_neighbour": hop and hop.address, "by_assert": bool(hop and hop.is_winner), "joined": bool(joined),
+        "sends_joins": bool(joined and hop), "next_join": end(joined.end) if joined and hop else None,
+        "why_none": why_none(state, group, source, joined), "kept_alive_until": active and end(active.end),
+        "rpt": rpt and rpt.state,
     }
+
+
+def row_of(state, table, group, source):
+    return next(iter(state.of(table, group=group, source=source)), None)
 
 
 def why_none(state, group, source, joined):
@@ -111,19 +122,22 @@ def why_none(state, group, source, joined):
 
 
 def interface(state, each):
+    told = {**place(state, each.number), "address": str(each.own), "is_up": each.number in state.up, "priority": each.priority}
+    if not told["is_up"]:
+        return told
     querier = trees.querier_of(state, each.number)
     return {
-        **place(state, each.number), "address": str(each.own), "is_up": each.number in state.up, "priority": each.priority,
-        "dr": trees.dr_of(state, each.number), "is_dr": trees.is_dr(state, each.number),
+        **told, "dr": trees.dr_of(state, each.number), "is_dr": trees.is_dr(state, each.number),
         "querier": querier.address if querier else each.address, "is_querier": querier is None,
-        "querier_until": querier.end if querier else None,
-    } if each.number in state.up else {**place(state, each.number), "address": str(each.own), "is_up": False}
+        "querier_until": querier and querier.end,
+    }
 
 
 def pim_neighbour(state, row):
     said = state.hellos.get((row.iface, row.address))
     told = {name: getattr(said, name, None) for name in ("priority", "generation", "propagation", "override")}
-    return {**place(state, row.iface), "address": row.address, "until": end(row.end), "is_dr": trees.dr_of(state, row.iface) == row.address, **told}
+    is_dr = trees.dr_of(state, row.iface) == row.address
+    return {**place(state, row.iface), "address": row.address, "until": end(row.end), "is_dr": is_dr, **told}
 
 
 def igmp_group(state, row):
@@ -148,9 +162,9 @@ def wanted_of(row, sources):
 
 
 def rp_range(state, prefix, rp):
-    path = trees.route(state, rp)
     used = sorted({group for group, _ in keys(state) if trees.rp_of(state, group) == rp}, key=ip_address)
-    return {"range": str(prefix), "rp": rp, "is_own": state.router.has(rp), "rpf": place(state, path.iface if path else None), "groups": used}
+    towards = place(state, trees.rpf_interface(state, rp))
+    return {"range": str(prefix), "rp": rp, "is_own": state.router.has(rp), "rpf": towards, "groups": used}
 
 
 # ---- all
@@ -167,91 +181,3 @@ def router(state):
         "groups": [igmp_group(state, row) for row in state.of(printed.GroupRecord)],
         "rps": [rp_range(state, *each) for each in state.rps],
     }
-
-
-# ---- as text
-
-
-def table(title, heads, rows):
-    """A table with its columns below one another; nothing where it has no rows."""
-    if not rows:
-        return
-    cells = [heads, *[[("-" if cell is None else str(cell)) for cell in row] for row in rows]]
-    widths = [max(map(len, column)) for column in zip(*cells)]
-    yield f"  {title}"
-    for row in cells:
-        yield "    " + "  ".join(text.ljust(width) for text, width in zip(row, widths)).rstrip()
-
-
-def at(told):
-    return "-" if told is None else f"{told['interface']} {told['link']}"
-
-
-def until(moment):
-    return "never" if moment == "never" else words.seconds(moment)
-
-
-def outgoing_words(entry):
-    """Each interface of the list with its reasons, then those that are kept off it."""
-    said = [f"{at(each)} ({', '.join(each['why'])})" for each in entry["outgoing"]]
-    said += ["register"] * entry["registers"]
-    return said + [f"not {at(each)} ({'; '.join(each['kept_off'])})" for each in entry["kept_off"]]
-
-
-def coming_words(entry):
-    """Where packets come from; at the RP, what isn't taken from a source's tree comes in Registers."""
-    return "Registers" if entry["is_rp"] and entry["by"] == "shared tree" else at(entry["incoming"])
-
-
-def mroute_rows(entries):
-    """A row for each interface that an entry names; the entry's own columns stand in the first."""
-    for entry in entries:
-        head = [entry["source"], entry["group"], entry["flags"], coming_words(entry), entry["rpf_neighbour"]]
-        first, *rest = outgoing_words(entry) or ["none"]
-        yield [*head, first]
-        yield from (["", "", "", "", "", each] for each in rest)
-
-
-def upstream_row(entry):
-    joined = "joined" if entry["joined"] else "not joined"
-    neighbour = entry["rpf_neighbour"] and entry["rpf_neighbour"] + " (assert winner)" * entry["by_assert"]
-    leaves = f"to {entry['rpf_neighbour']} at {until(entry['next_join'])}" if entry["sends_joins"] else f"none: {entry['why_none']}"
-    return [entry["source"], entry["group"], at(entry["rpf"]), neighbour, joined, leaves, until(entry["kept_alive_until"]), entry["rpt"]]
-
-
-def interface_row(entry):
-    if not entry["is_up"]:
-        return [at(entry), entry["address"], "down", None, None]
-    others = [("itself" if entry[mine] else entry[name]) for name, mine in (("dr", "is_dr"), ("querier", "is_querier"))]
-    return [at(entry), entry["address"], "up", *others]
-
-
-def neighbour_row(entry):
-    options = [entry[name] for name in ("priority", "generation", "propagation", "override")]
-    return [at(entry), entry["address"], "DR" if entry["is_dr"] else "", until(entry["until"]), *options]
-
-
-def group_row(entry):
-    sources = [("not " if each["is_excluded"] else "") + each["source"] for each in entry["sources"]]
-    whose = "yes" if entry["is_served"] else "no"
-    return [at(entry), entry["group"], entry["mode"], until(entry["until"]), ", ".join(sources) or None, entry["querier"], whose]
-
-
-def rp_row(entry):
-    return [entry["range"], entry["rp"], "itself" if entry["is_own"] else at(entry["rpf"]), ", ".join(entry["groups"]) or None]
-
-
-def text(view):
-    """The lines of a router."""
-    yield f"router {view['router']} at {words.seconds(view['moment'])}"
-    heads = ["Source", "Group", "Flags", "Incoming", "From", "Outgoing"]
-    yield from table("show ip mroute", heads, list(mroute_rows(view["mroute"])))
-    heads = ["Source", "Group", "RPF", "RPF'", "State", "Join", "Kept alive until", "(S,G,rpt)"]
-    yield from table("show ip pim upstream", heads, list(map(upstream_row, view["upstream"])))
-    heads = ["Interface", "Address", "State", "DR", "IGMP querier"]
-    yield from table("show ip pim interface", heads, list(map(interface_row, view["interfaces"])))
-    heads = ["Interface", "Neighbour", "DR", "Until", "Priority", "Generation", "Propagation", "Override"]
-    yield from table("show ip pim neighbor", heads, list(map(neighbour_row, view["neighbours"])))
-    heads = ["Interface", "Group", "Mode", "Until", "Sources", "Querier", "Served here"]
-    yield from table("show ip igmp groups", heads, list(map(group_row, view["groups"])))
-    yield from table("show ip pim rp-info", ["Range", "RP", "Towards", "Groups"], list(map(rp_row, view["rps"])))

@@ -43,7 +43,7 @@ class Mended(unittest.TestCase):
 
 class Spoilt(unittest.TestCase):
     def test_each_cut_and_each_length_and_count(self):
-        # The header length and the total length, and then: options; a group, its joins and prunes; the records with their sources.
+        # Beside the header's two: options; groups, and a group's joins and prunes; records, and the sources of each.
         places = {"Hello": 4, "Join/Prune": 3, "Assert": 0, "report": 5}
         for name, data in ALL.items():
             with self.subTest(name):
@@ -59,7 +59,8 @@ class Spoilt(unittest.TestCase):
         """A Hello cut between two options is lawful; any other message is not."""
         for name, data in ALL.items():
             head = hostile.header_of(data)
-            lawful = [size for size in range(head, len(data)) if refusal(hostile.with_checksum_mended(data[:size]), LIMIT) is None]
+            mended = {size: hostile.with_checksum_mended(data[:size]) for size in range(head, len(data))}
+            lawful = [size for size, cut in mended.items() if refusal(cut, LIMIT) is None]
             with self.subTest(name):
                 self.assertEqual(lawful, [head + 4, head + 10, head + 18, head + 26] if name == "Hello" else [])
 
@@ -88,8 +89,8 @@ class Ignored(unittest.TestCase):
             self.assertEqual(self.reason(hostile.with_type(HELLO, kind)), "OtherType")
 
     def test_what_is_heard(self):
-        moves = [{"do": "frame", "iface": 0, "hex": each.hex()} for each in (HELLO, JOIN, REPORT)] + [{"do": "advance", "moment": 1}]
-        self.assertEqual(hostile.heard(moves), {(0, octets(NEIGHBOUR))})
+        moves = [{"do": "frame", "iface": 0, "hex": each.hex()} for each in (HELLO, JOIN, REPORT)]
+        self.assertEqual(hostile.heard([*moves, {"do": "advance", "moment": 1}]), {(0, octets(NEIGHBOUR))})
 
 
 class Stored(unittest.TestCase):
@@ -113,7 +114,8 @@ class Stored(unittest.TestCase):
             before = (stored.DATA / f"{name}.out").read_text().splitlines()
             put = [line for line in lines if line.startswith("move ") and not line.endswith(" done")]
             self.assertGreater(len(put), 40, name)
-            self.assertEqual(len(lines), len(before) + len(put) - sum(" ignored " in line or " refused " in line for line in before))
+            already = [line for line in before if " ignored " in line or " refused " in line]
+            self.assertEqual(len(lines), len(before) + len(put) - len(already))
 
 
 if __name__ == "__main__":

@@ -185,7 +185,8 @@ class Odd(unittest.TestCase):
         net.rp("r2")
         net.host("viewer", "r2").join(GROUP)
         net.run(5)
-        self.assertTrue(any(note.startswith(f"test_lab.py:{line}: router r1: the RP of {GROUP} is 10.9.9.9") for note in net.notes()))
+        wanted = f"test_lab.py:{line}: router r1: the RP of {GROUP} is 10.9.9.9"
+        self.assertTrue(any(note.startswith(wanted) for note in net.notes()))
 
     def test_a_host_is_served(self):
         net, camera, viewer = small()

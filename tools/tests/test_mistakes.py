@@ -52,7 +52,8 @@ class Mistakes(unittest.TestCase):
     def test_a_report_at_a_router_that_is_not_dr(self):
         network = Network()
         network.routers.append(router("spare", [("home", "10.8.0.2/24")]))
-        self.told(network, network.said_line(0), f"it isn't the DR of home, which is spare (10.8.0.2) and has no report of {GROUP}")
+        told = f"it isn't the DR of home, which is spare (10.8.0.2) and has no report of {GROUP}"
+        self.told(network, network.said_line(0), told)
         network.said.append(report(TO_EX, GROUP, router="spare", iface=0))
         self.assertFalse([note for note in noted(network) if "isn't the DR" in note])
 
@@ -86,7 +87,8 @@ class Mistakes(unittest.TestCase):
         for made in network.routers:
             made["rps"] = ["239.0.0.0/8 10.0.2.2"]
         network.router("west")["routes"] = []
-        self.told(network, network.line("west"), f"is the DR of the source {SOURCE} and has no route to 10.0.2.2, the RP of {GROUP}")
+        told = f"is the DR of the source {SOURCE} and has no route to 10.0.2.2, the RP of {GROUP}"
+        self.told(network, network.line("west"), told)
 
     def test_the_name_of_a_link_that_is_almost_another_one(self):
         for name in ("hub-eats", "Hub-East", "elsewhere"):

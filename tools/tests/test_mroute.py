@@ -6,7 +6,7 @@ import tempfile
 import unittest
 from pathlib import Path
 
-from pimtext import scenario, story, trees, views
+from pimtext import scenario, story, trees, view_text, views
 from tests import stored
 from tests.networks import GROUP, HOST, RP, SOURCE, Network
 
@@ -14,6 +14,10 @@ from tests.networks import GROUP, HOST, RP, SOURCE, Network
 def called(*words):
     ran = subprocess.run([sys.executable, stored.TOOLS / "mroute", *map(str, words)], capture_output=True, text=True)
     return ran.returncode, ran.stdout, ran.stderr
+
+
+def outgoing(entry):
+    return [each["interface"] for each in entry["outgoing"]]
 
 
 class Shown(unittest.TestCase):
@@ -54,7 +58,8 @@ class Shown(unittest.TestCase):
 
     def test_groups_with_their_querier(self):
         (group,) = self.view("east")["groups"]
-        self.assertEqual((group["group"], group["mode"], group["querier"], group["is_served"]), (GROUP, "exclude", "10.8.0.1", True))
+        self.assertEqual((group["group"], group["mode"]), (GROUP, "exclude"))
+        self.assertEqual((group["querier"], group["is_served"]), ("10.8.0.1", True))
 
     def test_the_rp_in_use(self):
         (rp,) = self.view("hub")["rps"]
@@ -95,12 +100,12 @@ class Stored(unittest.TestCase):
             steps, tables = story.played(played, lines)
             for name, state in trees.known(played, steps, tables).items():
                 view = views.router(state)
-                shown = {(each["group"], each["source"]): {out["interface"] for out in each["outgoing"]} for each in view["mroute"]}
+                shown = {(each["group"], each["source"]): outgoing(each) for each in view["mroute"]}
                 with self.subTest(path.name, router=name):
                     json.dumps(view)
-                    list(views.text(view))
+                    list(view_text.text(view))
                     for branch in trees.branches(state):
-                        self.assertEqual(shown[branch.group, branch.source], set(branch.outgoing))
+                        self.assertEqual(shown[branch.group, branch.source], sorted(branch.outgoing))
 
     def test_a_querier_that_falls_silent_and_comes_back(self):
         path = stored.EXAMPLES / "querier_takes_over.toml"

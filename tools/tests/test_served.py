@@ -1,13 +1,21 @@
-"""Whether a host is served: where its stream ends, and why."""
+"""Whether a host is served: where its stream ends, and why.
+
+TRIALS and SEED in the environment ask for another number of random networks (8) and for others.
+"""
+import os
+import random
 import subprocess
 import sys
 import tempfile
 import unittest
 from pathlib import Path
 
+import lab
 from pimtext import packets, scenario, served, story
 from tests import stored
 from tests.networks import ALLOW, GROUP, HOST, RP, SOURCE, SSM, TO_EX, Network, data, report, router
+
+TRIALS, SEED = int(os.environ.get("TRIALS", 8)), int(os.environ.get("SEED", 1))
 
 
 def answer(network, *asked):
@@ -31,7 +39,8 @@ class Served(unittest.TestCase):
         self.assertTrue(is_served)
         self.assertEqual(lines[0], f"({SOURCE}, {GROUP}) from studio to {HOST} on home")
         self.assertEqual([line.split()[0] for line in lines[1:-1]], ["west", "hub", "east"])
-        self.assertIn(f"hub takes it on 0 west-hub, by the source's tree; sends it on 1 hub-east: Join ({SOURCE}, {GROUP})", lines[2])
+        self.assertIn("hub takes it on 0 west-hub, by the source's tree; ", lines[2])
+        self.assertIn(f"; sends it on 1 hub-east: Join ({SOURCE}, {GROUP}), Join (*, {GROUP})", lines[2])
         self.assertIn(f"sends it on 1 home: hosts want (*, {GROUP})", lines[3])
 
     def test_by_a_register_and_the_shared_tree(self):
@@ -73,7 +82,8 @@ class Served(unittest.TestCase):
     def test_an_rp_that_does_not_know_that_it_is_one(self):
         network = Network()
         network.router("hub")["rps"] = []
-        self.ends(network, f"hub has no RP for {GROUP}", "west takes it on 0 studio; its Registers are stopped", "east waits for it")
+        stopped = "west takes it on 0 studio; its Registers are stopped"
+        self.ends(network, f"hub has no RP for {GROUP}", stopped, "east waits for it")
 
     def test_no_route(self):
         network = Network()
@@ -113,6 +123,58 @@ class Served(unittest.TestCase):
         wins = packets.write_assert("10.0.2.9", packets.Assert(GROUP, 32, SOURCE, False, 0, 0))
         network.said += [{"do": "frame", "router": "hub", "iface": 1, "hex": each.hex()} for each in (hello, wins)]
         self.ends(network, f"hub, on 1 hub-east: it lost the assert of ({SOURCE}, {GROUP}) to 10.0.2.9")
+
+
+def network_of(chance):
+    """A network of some routers with what may be wrong in one, a source, and two hosts."""
+    net = lab.Network(seed=chance.random(), step=2)
+    names = [f"r{number}" for number in range(chance.randint(3, 6))]
+    for name in names:
+        wrong = {"rps": chance.choice([[], ["239.0.0.0/8 10.77.7.7"]])} if chance.random() < 0.12 else {}
+        net.router(name, **wrong, **({"spt": "never"} if chance.random() < 0.25 else {}))
+    for number, name in enumerate(names[1:], 1):
+        net.link(name, names[chance.randrange(number)])
+    net.link(*chance.sample(names, 2), name="lan")
+    if chance.random() < 0.85:
+        net.rp(chance.choice(names))
+    for name in names:
+        if chance.random() < 0.1:
+            net.routes(name, "0.0.0.0/0 10.0.1.200 0 1 1")
+    source, *hosts = (net.host(name, chance.choice([*names, "lan"])) for name in ("camera", "first", "second"))
+    return net, source, hosts
+
+
+def run_a_while(net, source, hosts, group, chance):
+    """Hosts ask for the group or for the source, and a link may fail."""
+    net.run(10)
+    for host in hosts:
+        if chance.random() < 0.85:
+            host.join(group, source if group.startswith("232") or chance.random() < 0.2 else None)
+    net.run(6)
+    if chance.random() < 0.3:
+        source.send(group)
+        net.run(4)
+    if chance.random() < 0.3:
+        chance.choice([link for link in net.links.values() if link is not source.link]).down()
+        net.run(2)
+
+
+class Received(unittest.TestCase):
+    def test_what_is_told_of_a_host_is_what_comes_of_the_next_packet(self):
+        for seed in range(SEED, SEED + TRIALS):
+            chance = random.Random(seed)
+            net, source, hosts = network_of(chance)
+            group = chance.choice([GROUP, GROUP, SSM])
+            run_a_while(net, source, hosts, group, chance)
+            told = [host.served(group, source) for host in hosts]
+            before = [len(host.received) for host in hosts]
+            source.send(group, b"the next one")
+            net.run(2)
+            for host, how, count in zip(hosts, told, before):
+                # On the source's own link no router is between; and a host hears what another one on its link wants.
+                if host.link is not source.link and (host.wants(group, source.address) or not how):
+                    with self.subTest(str(how), seed=seed):
+                        self.assertEqual(bool(how), len(host.received) > count)
 
 
 class Asked(unittest.TestCase):

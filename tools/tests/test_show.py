@@ -4,6 +4,7 @@ from collections import Counter
 
 from pimtext import scenario, story
 from tests import stored
+from tests.rooms import repository
 
 show = stored.tool("show")
 
@@ -28,6 +29,14 @@ class Shown(unittest.TestCase):
         self.assertIn("move 18 last: settle brings on 1 first-last: packet 27 of first, data: done", said)
         self.assertIn("    2 home     239.1.1.1  exclude  260.001 s", said)
         self.assertIn("router rp at 0.001 s", said)
+
+    def test_a_byte_order_mark_and_a_table_over_several_lines_are_taken(self):
+        path = stored.EXAMPLES / "lan_assert.toml"
+        text = path.read_text().replace("{ do =", "{\n  do =")
+        self.assertNotEqual(text, path.read_text())
+        with repository({"scenario.toml": "\ufeff" + text}) as room:
+            self.assertEqual(scenario.read(room / "scenario.toml"), scenario.read(path))
+            self.assertEqual(scenario.run_file(room / "scenario.toml"), scenario.run_file(path))
 
     def test_lines_of_another_scenario_are_found(self):
         lines = (stored.EXAMPLES / "one_join.out").read_text().splitlines()

@@ -9,7 +9,7 @@ from concurrent.futures import ThreadPoolExecutor
 
 from pimtext import packets, scenario, served, story, trees
 from tests import stored
-from tests.networks import GROUP, Network
+from tests.networks import SOURCE, Network
 
 PLACES, SEED = int(os.environ.get("PLACES", 40)), int(os.environ.get("SEED", 1))
 
@@ -98,9 +98,10 @@ class Joined(unittest.TestCase):
         network = Network()
         played = scenario.scenario_of({"router": network.routers, "move": network.moves()})
         known = trees.known(played, *story.played(played, scenario.run_text(network.text())))
-        shared = {name: [(each.incoming, set(each.outgoing)) for each in trees.branches(state) if (each.group, each.source) == (GROUP, "*")]
-                  for name, state in known.items()}
-        self.assertEqual(shared, {"west": [], "hub": [(None, {1})], "east": [(0, {1})]})
+        found = {(name, branch.source): branch for name, state in known.items() for branch in trees.branches(state)}
+        shared = {name: (branch.incoming, set(branch.outgoing)) for (name, source), branch in found.items() if source == "*"}
+        self.assertEqual(shared, {"hub": (None, {1}), "east": (0, {1})})
+        self.assertEqual({name for name, source in found if source == SOURCE}, {"west", "hub", "east"})
 
 
 if __name__ == "__main__":

@@ -18,7 +18,9 @@ FILES = {
 REFUSES = """\
 echo "$* in $(basename $(pwd))" >> {log}
 [ "$1" = lib ] && exit 0
-for edit in crates/$2/must-fail/*.edit; do echo "rt: must-fail $2/$(basename $edit .edit).edit: refused, as it must be: a goal"; done
+for edit in crates/$2/must-fail/*.edit; do
+  echo "rt: must-fail $2/$(basename $edit .edit).edit: refused, as it must be: a goal"
+done
 """
 
 

@@ -31,6 +31,6 @@ from pimtext.printed import NEVER, Active, AssertState, Downstream, GroupRecord,
 from pimtext.scenario import Refused
 
 __all__ = [
-    "NEVER", "Active", "AssertState", "Downstream", "GroupRecord", "Host", "Link", "Mistake", "Neighbour", "Network", "Received", "Refused",
-    "Router", "SharedTree", "SourceRecord", "Tree", "Upstream",
+    "NEVER", "Active", "AssertState", "Downstream", "GroupRecord", "Host", "Link", "Mistake", "Neighbour", "Network", "Received",
+    "Refused", "Router", "SharedTree", "SourceRecord", "Tree", "Upstream",
 ]

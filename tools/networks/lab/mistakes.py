@@ -8,7 +8,8 @@ from pimtext.addresses import address_in, is_group, is_host
 TABLES = list(printed.ROWS.values())
 LINK_LOCAL = IPv4Network("224.0.0.0/24")
 KINDS = [
-    packets.Hello, packets.Register, packets.RegisterStop, packets.JoinPrune, packets.Assert, packets.Query, packets.Report, packets.Data,
+    packets.Hello, packets.Register, packets.RegisterStop, packets.JoinPrune, packets.Assert, packets.Query, packets.Report,
+    packets.Data,
 ]
 
 
@@ -59,17 +60,23 @@ def subnet_given(subnet):
         raise Mistake(f"the subnet {subnet!r} is none: {wrong}; wanted is one as \"10.0.1.0/24\"") from None
 
 
+def one_of(kind, known, what):
+    """A sentence where a class is none of these; a name of one in its place is told so."""
+    if kind not in known:
+        name = getattr(kind, "__name__", kind)
+        shown_as = name if isinstance(kind, type) else repr(kind)
+        raise Mistake(f"{shown_as} is no {what}{near(name, [each.__name__ for each in known])}")
+
+
 def table_given(kind, values):
     """A table of a router and the columns that are asked of it, or a sentence."""
-    names = [table.__name__ for table in TABLES]
-    if kind not in TABLES:
-        raise Mistake(f"{getattr(kind, '__name__', repr(kind))} is no table of a router{near(getattr(kind, '__name__', kind), names)}")
+    one_of(kind, TABLES, "table of a router")
     for column in values:
         if column not in kind._fields:
             raise Mistake(f"{kind.__name__} has no column {column}{near(column, kind._fields)}")
 
 
 def kind_given(kind):
-    if kind is not None and kind not in KINDS:
-        names = [each.__name__ for each in KINDS]
-        raise Mistake(f"{getattr(kind, '__name__', repr(kind))} is no kind of packet{near(getattr(kind, '__name__', kind), names)}")
+    """A kind of packet, None for all, or a sentence."""
+    if kind is not None:
+        one_of(kind, KINDS, "kind of packet")

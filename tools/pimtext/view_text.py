@@ -1,0 +1,90 @@
+"""What `pimtext.views` has of a router, as tables for people."""
+from pimtext import words
+
+
+def table(title, heads, rows):
+    """A table with its columns below one another; nothing where it has no rows."""
+    if not rows:
+        return
+    cells = [heads, *[[("-" if cell is None else str(cell)) for cell in row] for row in rows]]
+    widths = [max(map(len, column)) for column in zip(*cells)]
+    yield f"  {title}"
+    for row in cells:
+        yield "    " + "  ".join(text.ljust(width) for text, width in zip(row, widths)).rstrip()
+
+
+def at(told):
+    return "-" if told is None else f"{told['interface']} {told['link']}"
+
+
+def until(moment):
+    return "never" if moment == "never" else words.seconds(moment)
+
+
+def outgoing_words(entry):
+    """Each interface of the list with its reasons, then those that are kept off it."""
+    said = [f"{at(each)} ({', '.join(each['why'])})" for each in entry["outgoing"]]
+    said += ["register"] * entry["registers"]
+    return said + [f"not {at(each)} ({'; '.join(each['kept_off'])})" for each in entry["kept_off"]]
+
+
+def coming_words(entry):
+    """Where packets come from; at the RP, what isn't taken from a source's tree comes in Registers."""
+    return "Registers" if entry["is_rp"] and entry["by"] == "shared tree" else at(entry["incoming"])
+
+
+def mroute_rows(entries):
+    """A row for each interface that an entry names; the entry's own columns stand in the first."""
+    for entry in entries:
+        head = [entry["source"], entry["group"], entry["flags"], coming_words(entry), entry["rpf_neighbour"]]
+        first, *rest = outgoing_words(entry) or ["none"]
+        yield [*head, first]
+        yield from (["", "", "", "", "", each] for each in rest)
+
+
+def upstream_row(entry):
+    joined = "joined" if entry["joined"] else "not joined"
+    neighbour = entry["rpf_neighbour"] and entry["rpf_neighbour"] + " (assert winner)" * entry["by_assert"]
+    leaves = f"none: {entry['why_none']}"
+    if entry["sends_joins"]:
+        leaves = f"to {entry['rpf_neighbour']} at {until(entry['next_join'])}"
+    head = [entry["source"], entry["group"], at(entry["rpf"]), neighbour, joined, leaves]
+    return [*head, until(entry["kept_alive_until"]), entry["rpt"]]
+
+
+def interface_row(entry):
+    if not entry["is_up"]:
+        return [at(entry), entry["address"], "down", None, None]
+    others = [("itself" if entry[mine] else entry[name]) for name, mine in (("dr", "is_dr"), ("querier", "is_querier"))]
+    return [at(entry), entry["address"], "up", *others]
+
+
+def neighbour_row(entry):
+    options = [entry[name] for name in ("priority", "generation", "propagation", "override")]
+    return [at(entry), entry["address"], "DR" if entry["is_dr"] else "", until(entry["until"]), *options]
+
+
+def group_row(entry):
+    sources = [("not " if each["is_excluded"] else "") + each["source"] for each in entry["sources"]]
+    whose = "yes" if entry["is_served"] else "no"
+    return [at(entry), entry["group"], entry["mode"], until(entry["until"]), ", ".join(sources) or None, entry["querier"], whose]
+
+
+def rp_row(entry):
+    return [entry["range"], entry["rp"], "itself" if entry["is_own"] else at(entry["rpf"]), ", ".join(entry["groups"]) or None]
+
+
+def text(view):
+    """The lines of a router."""
+    yield f"router {view['router']} at {words.seconds(view['moment'])}"
+    heads = ["Source", "Group", "Flags", "Incoming", "From", "Outgoing"]
+    yield from table("show ip mroute", heads, list(mroute_rows(view["mroute"])))
+    heads = ["Source", "Group", "RPF", "RPF'", "State", "Join", "Kept alive until", "(S,G,rpt)"]
+    yield from table("show ip pim upstream", heads, list(map(upstream_row, view["upstream"])))
+    heads = ["Interface", "Address", "State", "DR", "IGMP querier"]
+    yield from table("show ip pim interface", heads, list(map(interface_row, view["interfaces"])))
+    heads = ["Interface", "Neighbour", "DR", "Until", "Priority", "Generation", "Propagation", "Override"]
+    yield from table("show ip pim neighbor", heads, list(map(neighbour_row, view["neighbours"])))
+    heads = ["Interface", "Group", "Mode", "Until", "Sources", "Querier", "Served here"]
+    yield from table("show ip igmp groups", heads, list(map(group_row, view["groups"])))
+    yield from table("show ip pim rp-info", ["Range", "RP", "Towards", "Groups"], list(map(rp_row, view["rps"])))
