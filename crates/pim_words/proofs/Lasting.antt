@@ -215,7 +215,7 @@ cleared_same : (s : State) (c : Cleared) → Same s (cleared s c).0
 unfolding cleared assert_forgotten without_spt_bit
 cleared_same s c = grind arith
 
-clear_same : (o s : State) → Same s (clear o s).0
+pub clear_same : (o s : State) → Same s (clear o s).0
 unfolding clear clear_all settle_registers
 clear_same o s =
     kept_to_the_end (to_clear o) cleared (λ t. Same s t) (λ t c f e. cleared_same t c ∙ f)

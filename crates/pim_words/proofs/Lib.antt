@@ -34,3 +34,7 @@ pub mod Lasting
 pub mod Registered
 pub mod LiesUnder
 pub mod Shorter
+pub mod OverrideEnds
+pub mod Announced
+pub mod Said
+pub mod EndSoon

@@ -77,7 +77,7 @@ unfolding assert_due wins_again assert_forgotten
 assert_left s k r = grind arith
 
 -- a row that fires, or none
-row_fires : {R : Type 0} (P : State → Type 0) (s : State) (fire : R → State × List Message) (o : Option R) → P s
+pub row_fires : {R : Type 0} (P : State → Type 0) (s : State) (fire : R → State × List Message) (o : Option R) → P s
     → ((r : R) → P (fire r).0) → P (option_map_or fire o (s, [])).0
 row_fires P s fire None f g = f
 row_fires P s fire (Some r) f g = g r

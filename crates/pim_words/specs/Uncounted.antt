@@ -1,12 +1,14 @@
 -- The facts that don't count: each is of an interface, or lies under a fact that does.
 use Rattle.std.specs.List.{list_all, list_any}
-use Rattle.std.specs.Prelude.{Bool, List, Ok, length, nat_lt, true, ℕ, ◌&&◌, ◌*◌, ◌+◌, ◌≡◌, ◌≤◌}
+use Rattle.std.specs.Prelude.{Bool, List, Ok, length, nat_le, nat_lt, true, ℕ, ◌&&◌, ◌*◌, ◌+◌, ◌≡◌, ◌≤◌}
 use Rattle.pim_types.specs.Keys.{group_in, iface_in, iface_key, same_key}
 use Rattle.pim_types.specs.declared.config.Config.{Config}
 use Rattle.pim_types.specs.declared.event.Event.{Event}
+use Rattle.pim_types.specs.declared.event.EventKind.{EventKind}
 use Rattle.pim_types.specs.declared.fact.GroupRepeatRow.{GroupRepeatRow}
 use Rattle.pim_types.specs.declared.fact.InterfaceRow.{InterfaceRow}
 use Rattle.pim_types.specs.declared.fact.Key.{Key}
+use Rattle.pim_types.specs.declared.fact.OverrideTimerRow.{OverrideTimerRow}
 use Rattle.pim_types.specs.declared.fact.QuerierRow.{QuerierRow}
 use Rattle.pim_types.specs.declared.fact.RegisterRow.{RegisterRow}
 use Rattle.pim_types.specs.declared.fact.SendingRow.{SendingRow}
@@ -58,3 +60,26 @@ uncounted s =
 abbrev pub UncountedStayBounded : Type 0
 UncountedStayBounded = (c : Config) (events : List Event) → config_test c ≡ Ok tt
     → uncounted (state_after (opening c) events) ≤ 2 * (c.limit + length c.interfaces)
+
+-- ---- override timers: each ends soon
+
+-- the longest override interval that is configured or that a Hello announces, in ms
+abbrev pub longest_override : ℕ
+longest_override = 65535
+
+-- a frame is a list of numbers below 256
+abbrev pub are_bytes : List ℕ → Bool
+are_bytes bytes = list_all (λ b. nat_lt b 256) bytes
+
+abbrev pub is_of_bytes : EventKind → Bool
+is_of_bytes (EventKind.Frame i bytes) = are_bytes bytes
+is_of_bytes kind = true
+
+-- in a state, no override timer ends later
+abbrev pub OverridesEndSoon : State → Type 0
+OverridesEndSoon s = list_all (λ (e : Key × OverrideTimerRow). nat_le (e.1).end (s.present + longest_override)) s.override_timers ≡ true
+
+-- so it is after any events whose frames are of bytes
+abbrev pub EachOverrideEndsSoon : Type 0
+EachOverrideEndsSoon = (c : Config) (events : List Event) → config_test c ≡ Ok tt
+    → list_all (λ (e : Event). is_of_bytes e.kind) events ≡ true → OverridesEndSoon (state_after (opening c) events)

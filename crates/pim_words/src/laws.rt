@@ -8,7 +8,7 @@ ghost use Rattle.pim_words.specs.Hops.{HopsEnd};
 ghost use Rattle.pim_words.specs.Independent.{OtherGroupsKeep, OtherGroupsOutlast};
 ghost use Rattle.pim_words.specs.NetHops.{NetHopsEnd};
 ghost use Rattle.pim_words.specs.Served.{ListIsServed, MemberIsServed, ServedHere, SourceIsServed};
-ghost use Rattle.pim_words.specs.Uncounted.{EachIsShorter, EachLiesUnder, UncountedStayBounded};
+ghost use Rattle.pim_words.specs.Uncounted.{EachIsShorter, EachLiesUnder, EachOverrideEndsSoon, UncountedStayBounded};
 
 /// The copies of an event are one text on each of some configured interfaces, ascending: on each link at most once.
 pub fn never_twice()
@@ -119,6 +119,11 @@ pub fn each_is_shorter()
 /// All of them, the Join and override timers left out, are at most twice the limit and two for each interface.
 pub fn uncounted_stay_bounded()
     ensures { UncountedStayBounded }
+{}
+
+/// Each override timer ends within 65.535 s of the present, after any events whose frames are of bytes.
+pub fn each_override_ends_soon()
+    ensures { EachOverrideEndsSoon }
 {}
 
 /// Data gives at most a copy on each interface and one Register, or else one Assert.
