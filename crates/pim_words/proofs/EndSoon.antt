@@ -83,8 +83,9 @@ change_present s w (Accepted.RegisterStop from r) = refl
 time_soon : (s : State) (w moment : ℕ) → s.present ≤ moment → EndsSoon s → EndsSoon (advanced s w moment).state
 time_soon s w moment le f =
     subst (λ (n : ℕ). IsSoon n (advanced s w moment).state) (sym (there s w moment))
-    (time_walks (IsSoon moment) (IsSoon moment) moment (soon_moves moment) (soon_fires moment) (λ o c w g h. soon_follows moment o c w h) s w
-    moment (no_later moment) (soon_later s.present moment le s f))
+    (time_walks (IsSoon moment) (λ o t. IsSoon moment t) moment (soon_moves moment)
+    (λ t m kind k le g. soon_fires moment (record t { present = m }) kind k (soon_moves moment t m le g))
+    (λ o c w g h. soon_follows moment o c w h) s w moment (no_later moment) (soon_later s.present moment le s f))
 
 settled_soon : (o : State) (c : State × List Message) (w : ℕ) → EndsSoon c.0 → EndsSoon (settled o c w).0
 settled_soon o c w f =
@@ -97,7 +98,7 @@ changed_soon s w a said f =
 
 step_soon : (s : State) (e : Event) → is_of_bytes e.kind ≡ true → EndsSoon s → EndsSoon (step s e).state
 step_soon s e bytes f =
-    event_walks EndsSoon EndsSoon s e f (λ moment le. time_soon s e.draw moment le f)
+    event_walks EndsSoon (λ o t. EndsSoon t) s e f (λ moment le. time_soon s e.draw moment le f)
     (λ a is. changed_soon s e.draw a (subst IsSaid is (kind_said s e.kind bytes)).accepts f) (λ o c w g h. settled_soon o c w h)
 
 ran_soon : (events : List Event) (s : State) → list_all (λ (e : Event). is_of_bytes e.kind) events ≡ true → EndsSoon s

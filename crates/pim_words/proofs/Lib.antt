@@ -38,3 +38,6 @@ pub mod OverrideEnds
 pub mod Announced
 pub mod Said
 pub mod EndSoon
+pub mod Wanted
+pub mod WantedRuns
+pub mod FewJoins

@@ -325,8 +325,9 @@ module _ (n : ℕ) where
   holds_on s e f = record {
     settled = step_is_settled s e f.settled;
     links = ap (λ (cs : List InterfaceConfig). length cs) (sym (step_configured s e).configured) ∙ f.links;
-    between = event_walks Between Mid s e f.between
-        (λ moment le. time_walks Between Mid moment (λ t m le g. moves t m g) fires (λ o c w g h. follows o c w h) s e.draw moment
+    between = event_walks Between (λ o t. Mid t) s e f.between
+        (λ moment le. time_walks Between (λ o t. Mid t) moment (λ t m le g. moves t m g)
+        (λ t m kind k le g. fires (record t { present = m }) kind k (moves t m g)) (λ o c w g h. follows o c w h) s e.draw moment
         (in_time moment) f.between)
         (λ a is. changes s f.settled e.draw a (placed a is) f.between) (λ o c w g h. follows o c w h);
   }

@@ -21,17 +21,16 @@ use Rattle.pim_laws.proofs.UnchangedLaws.{full_or_taken}
 use Rattle.pim_ready.specs.Ready.{IsTimeless}
 use Rattle.pim_ready.proofs.Judgements.{IsJudged, kind_is_judged}
 
--- P holds between two events, and between two firings; Mid after a change, before what follows from it
-module _ (P Mid : State → Type 0) where
+-- P holds between two events, and between two firings; Mid of the opening and of a change, before what follows from it
+module _ (P : State → Type 0) (Mid : State → State → Type 0) where
   -- time that passes no further than a moment
   module _ (last : ℕ) (moves : (s : State) (m : ℕ) → m ≤ last → P s → P (record s { present = m }))
-      (fires : (s : State) (kind : TimerKind) (k : Key) → P s → Mid (fired s kind k).0)
-      (follows : (o : State) (change : State × List Message) (w : ℕ) → P o → Mid change.0 → P (settled o change w).0) where
+      (fires : (s : State) (m : ℕ) (kind : TimerKind) (k : Key) → m ≤ last → P s → Mid s (fired (record s { present = m }) kind k).0)
+      (follows : (o : State) (change : State × List Message) (w : ℕ) → P o → Mid o change.0 → P (settled o change w).0) where
     once_walks : (w : ℕ) (s : State) (e : Ending) → e.end ≤ last → P s → P (fire_once w s e).0
     unfolding fire_once
     once_walks w s e le f =
-        let opened : State = record s { present = e.end } in
-        follows s (fired opened e.timer.kind e.timer.key) w f (fires opened e.timer.kind e.timer.key (moves s e.end le f))
+        follows s (fired (record s { present = e.end }) e.timer.kind e.timer.key) w f (fires s e.end e.timer.kind e.timer.key le f)
 
     in_time : (a b c : ℕ) → a ≤ b → b ≤ c → a ≤ c
     in_time a b c x y = omega (arith, x, y)
@@ -71,10 +70,10 @@ module _ (s : State) where
   timely (EventKind.Advance moment) m is = moment_timely moment m (nat_lt moment s.present) _ refl is
   timely kind m is = timeless kind tt m is
 
-module _ (P Mid : State → Type 0) (s : State) (e : Event) (stays : P s)
+module _ (P : State → Type 0) (Mid : State → State → Type 0) (s : State) (e : Event) (stays : P s)
     (passes : (moment : ℕ) → s.present ≤ moment → P (advanced s e.draw moment).state)
-    (changes : (a : Accepted) → judged s e.kind ≡ Ok a → Mid (change s e.draw a).state)
-    (follows : (o : State) (change : State × List Message) (w : ℕ) → P o → Mid change.0 → P (settled o change w).0) where
+    (changes : (a : Accepted) → judged s e.kind ≡ Ok a → Mid s (change s e.draw a).state)
+    (follows : (o : State) (change : State × List Message) (w : ℕ) → P o → Mid o change.0 → P (settled o change w).0) where
   done_walks : (a : Accepted) → judged s e.kind ≡ Ok a → P (done s e.draw (change s e.draw a)).state
   unfolding done
   done_walks a is = follows s _ e.draw stays (changes a is)

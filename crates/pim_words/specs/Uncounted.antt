@@ -1,18 +1,21 @@
--- The facts that don't count: each is of an interface, or lies under a fact that does.
+-- The facts that don't count: each is of an interface, lies under a fact that counts, runs for what is wanted, or ends soon.
 use Rattle.std.specs.List.{list_all, list_any}
-use Rattle.std.specs.Prelude.{Bool, List, Ok, length, nat_le, nat_lt, true, ℕ, ◌&&◌, ◌*◌, ◌+◌, ◌≡◌, ◌≤◌}
-use Rattle.pim_types.specs.Keys.{group_in, iface_in, iface_key, same_key}
+use Rattle.std.specs.Prelude.{Bool, List, Ok, if◌then◌else◌, length, nat_le, nat_lt, true, ℕ, ◌&&◌, ◌*◌, ◌+◌, ◌≡◌, ◌≤◌}
+use Rattle.pim_types.specs.Keys.{group_in, iface_in, iface_key, is_star, same_key, source_in}
 use Rattle.pim_types.specs.declared.config.Config.{Config}
 use Rattle.pim_types.specs.declared.event.Event.{Event}
 use Rattle.pim_types.specs.declared.event.EventKind.{EventKind}
 use Rattle.pim_types.specs.declared.fact.GroupRepeatRow.{GroupRepeatRow}
 use Rattle.pim_types.specs.declared.fact.InterfaceRow.{InterfaceRow}
+use Rattle.pim_types.specs.declared.fact.JoinTimerRow.{JoinTimerRow}
 use Rattle.pim_types.specs.declared.fact.Key.{Key}
 use Rattle.pim_types.specs.declared.fact.OverrideTimerRow.{OverrideTimerRow}
 use Rattle.pim_types.specs.declared.fact.QuerierRow.{QuerierRow}
 use Rattle.pim_types.specs.declared.fact.RegisterRow.{RegisterRow}
 use Rattle.pim_types.specs.declared.fact.SendingRow.{SendingRow}
 use Rattle.pim_types.specs.declared.fact.SourceRepeatRow.{SourceRepeatRow}
+use Rattle.pim_model.specs.Desires.{join_desired, join_desired_star}
+use Rattle.pim_model.specs.Full.{counted}
 use Rattle.pim_model.specs.Limits.{config_test}
 use Rattle.pim_model.specs.Querier.{is_sending}
 use Rattle.pim_model.specs.State.{State, iface_count, opening}
@@ -83,3 +86,27 @@ OverridesEndSoon s = list_all (λ (e : Key × OverrideTimerRow). nat_le (e.1).en
 abbrev pub EachOverrideEndsSoon : Type 0
 EachOverrideEndsSoon = (c : Config) (events : List Event) → config_test c ≡ Ok tt
     → list_all (λ (e : Event). is_of_bytes e.kind) events ≡ true → OverridesEndSoon (state_after (opening c) events)
+
+-- ---- Join timers: each runs for what is wanted
+
+-- (*,G) or (S,G), by its key
+abbrev pub is_wanted : State → Key → Bool
+is_wanted s k = if is_star k then join_desired_star s (group_in k) else join_desired s (group_in k) (source_in k)
+
+abbrev pub EachJoinIsWanted : Type 0
+EachJoinIsWanted = (c : Config) (events : List Event) → config_test c ≡ Ok tt
+    → list_all (λ (e : Key × JoinTimerRow). is_wanted (state_after (opening c) events) e.0)
+    (state_after (opening c) events).join_timers ≡ true
+
+-- so they are no more than the records, downstream rows and sources by which it is wanted
+abbrev pub JoinTimersStayBounded : Type 0
+JoinTimersStayBounded = (c : Config) (events : List Event) → config_test c ≡ Ok tt
+    → length (state_after (opening c) events).join_timers ≤ c.limit
+
+-- all facts but the override timers
+abbrev pub all_but_overrides : State → ℕ
+all_but_overrides s = counted s + uncounted s + length s.join_timers
+
+abbrev pub AllStayBounded : Type 0
+AllStayBounded = (c : Config) (events : List Event) → config_test c ≡ Ok tt
+    → all_but_overrides (state_after (opening c) events) ≤ c.limit * (length c.interfaces + 4) + 2 * length c.interfaces

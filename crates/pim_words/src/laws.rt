@@ -8,7 +8,7 @@ ghost use Rattle.pim_words.specs.Hops.{HopsEnd};
 ghost use Rattle.pim_words.specs.Independent.{OtherGroupsKeep, OtherGroupsOutlast};
 ghost use Rattle.pim_words.specs.NetHops.{NetHopsEnd};
 ghost use Rattle.pim_words.specs.Served.{ListIsServed, MemberIsServed, ServedHere, SourceIsServed};
-ghost use Rattle.pim_words.specs.Uncounted.{EachIsShorter, EachLiesUnder, EachOverrideEndsSoon, UncountedStayBounded};
+ghost use Rattle.pim_words.specs.Uncounted.{AllStayBounded, EachIsShorter, EachJoinIsWanted, EachLiesUnder, EachOverrideEndsSoon, JoinTimersStayBounded, UncountedStayBounded};
 
 /// The copies of an event are one text on each of some configured interfaces, ascending: on each link at most once.
 pub fn never_twice()
@@ -119,6 +119,21 @@ pub fn each_is_shorter()
 /// All of them, the Join and override timers left out, are at most twice the limit and two for each interface.
 pub fn uncounted_stay_bounded()
     ensures { UncountedStayBounded }
+{}
+
+/// Each Join timer runs for what is wanted.
+pub fn each_join_is_wanted()
+    ensures { EachJoinIsWanted }
+{}
+
+/// So they are within the limit.
+pub fn join_timers_stay_bounded()
+    ensures { JoinTimersStayBounded }
+{}
+
+/// All facts but the override timers are bounded by the limit and the number of interfaces.
+pub fn all_stay_bounded()
+    ensures { AllStayBounded }
 {}
 
 /// Each override timer ends within 65.535 s of the present, after any events whose frames are of bytes.
