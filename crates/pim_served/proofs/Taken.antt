@@ -4,7 +4,7 @@ use Rattle.std.proofs.lemmas.Bool.{or_left, or_right, both_ways}
 use Rattle.std.proofs.lemmas.List.Folds.{list_any-append}
 use Rattle.std.specs.List.{Contains, list_any}
 use Rattle.std.specs.Option.{option_map_or}
-use Rattle.pim_types.specs.Keys.{group_in, is_on, rpt_key, same_key, source_key, star_key}
+use Rattle.pim_types.specs.Keys.{group_in, iface_in, is_on, rpt_key, same_key, source_key, star_key}
 use Rattle.pim_types.specs.declared.config.InterfaceConfig.{InterfaceConfig}
 use Rattle.pim_types.specs.declared.fact.AssertRow.{AssertRow}
 use Rattle.pim_types.specs.declared.fact.DownstreamRow.{DownstreamRow}
@@ -15,16 +15,16 @@ use Rattle.pim_wire.specs.Values.{JoinPrune}
 use Rattle.pim_model.specs.declared.accepted.Accepted.{Accepted}
 use Rattle.pim_model.specs.Asserts.{assert_forgotten, without_spt, without_spt_bit}
 use Rattle.pim_model.specs.Clearing.{clear}
-use Rattle.pim_model.specs.Desires.{join_desired_star}
+use Rattle.pim_model.specs.Desires.{is_immediate_empty, join_desired, join_desired_star}
 use Rattle.pim_model.specs.Downstream.{asserts_after_joins, holdtime_end, is_named, joined_keys, joined_row, keys_taken, pruned_keys, row_after, rpt_rows_joined, to_me, touched_keys}
 use Rattle.pim_model.specs.Firing.{settled}
 use Rattle.pim_model.specs.Messages.{Message}
 use Rattle.pim_model.specs.Registers.{settle_registers}
-use Rattle.pim_model.specs.Sets.{Set, assert_source, assert_star, immediate_olist_star, is_empty, is_loser, joins_star, lost_assert_star, prunes, spt_bit}
+use Rattle.pim_model.specs.Sets.{Set, assert_source, assert_star, immediate_olist, immediate_olist_star, is_beaten, is_empty, is_loser, joins, joins_star, lost_assert, lost_assert_star, prunes, spt_bit}
 use Rattle.pim_model.specs.State.{State, iface_count, ifaces}
 use Rattle.pim_model.specs.Step.{change, done}
 use Rattle.pim_model.specs.Tables.{Table, drop_at, has_row, keys_in, later_end, row_at, rows_where, set_row}
-use Rattle.pim_model.specs.Unicast.{is_rpf_interface_rp}
+use Rattle.pim_model.specs.Unicast.{is_rpf_interface, is_rpf_interface_rp}
 use Rattle.pim_laws.proofs.ListLaws.{each_passes}
 use Rattle.pim_laws.proofs.RowLaws.{has_row_any, has_row_without, row_drop_away, row_put, row_put_away, still_absent}
 use Rattle.pim_laws.proofs.SettlingLaws.{kept_by_clearing}
@@ -39,7 +39,7 @@ use Rattle.pim_locality.proofs.UntoldKeys.{same_by_scope}
 use Rattle.pim_asked.proofs.Same.{Rows, settled_same}
 use Rattle.pim_words.proofs.Links.{is_below}
 use Rattle.pim_words.proofs.Made.{step_taken}
-use Rattle.pim_served.specs.Joins.{JoinsStar, StarJoinIsTaken, TakesStar}
+use Rattle.pim_served.specs.Joins.{JoinsSource, JoinsStar, JoinsTree, SourceJoinIsTaken, StarJoinIsTaken, TakesSource, TakesStar}
 use Rattle.pim_served.proofs.Leaves.{ends_configured, rest_agrees, taken_is_done, untouched}
 
 -- ---- the row of a key that is set
@@ -137,6 +137,47 @@ joined_is end (suc n) (Some r) e = record {
   lasts = end_again r.expiry end;
 }
 
+module _ (s : State) (k : Key) (tree : k.rpt ≡ false) (m : JoinPrune) (f : JoinsTree s k m) where
+  abbrev rule_of : Key → Option DownstreamRow
+  rule_of q = row_after s (iface_in k) m.holdtime (joined_keys s (iface_in k) m) (pruned_keys (iface_in k) m) q
+
+  tree_rule_is : rule_of k ≡ joined_row (holdtime_end s m.holdtime) m.holdtime (row_at s.downstream k)
+  unfolding row_after
+  tree_rule_is = rw (f.joined, f.unpruned, tree) refl
+
+  tree_row : row_at (to_me s (iface_in k) m).downstream k ≡ rule_of k
+  unfolding to_me keys_taken touched_keys
+  tree_row =
+      becomes_set rule_of k
+      (touched_keys s (iface_in k) (joined_keys s (iface_in k) m) (pruned_keys (iface_in k) m)) s.downstream
+      (named_first (joined_keys s (iface_in k) m ++ pruned_keys (iface_in k) m) (rpt_rows_joined s (iface_in k) (joined_keys s (iface_in k) m)) k
+      (named_first (joined_keys s (iface_in k) m) (pruned_keys (iface_in k) m) k f.joined))
+
+  tree_joined : IsJoined (holdtime_end s m.holdtime) (row_at (to_me s (iface_in k) m).downstream k)
+  tree_joined =
+      subst (IsJoined (holdtime_end s m.holdtime)) (sym (tree_row ∙ tree_rule_is))
+      (joined_is (holdtime_end s m.holdtime) m.holdtime (row_at s.downstream k) f.lasts)
+
+  -- ---- the assert
+
+  no_loser_left : is_loser (row_at (to_me s (iface_in k) m).asserts k) ≡ false
+  unfolding to_me keys_taken asserts_after_joins
+  no_loser_left = go (row_at (asserts_after_joins s (joined_keys s (iface_in k) m)) k) refl
+    where
+      stays : Key × AssertRow → Bool
+      stays e = not (is_loser (Some e.1) && is_named (joined_keys s (iface_in k) m) e.0)
+
+      go : (o : Option AssertRow) → row_at (asserts_after_joins s (joined_keys s (iface_in k) m)) k ≡ o → is_loser o ≡ false
+      go None e = refl
+      go (Some r) e =
+          unlost (is_loser (Some r))
+          (ap (λ b. not (is_loser (Some r) && b)) (sym f.joined)
+          ∙ row_of_each (λ x. stays x ≡ true) k r (filter stays s.asserts) (each_passes stays s.asserts) e)
+        where
+          unlost : (b : Bool) → not (b && true) ≡ true → b ≡ false
+          unlost true e = cc
+          unlost false e = refl
+
 module _ (s : State) (i g : ℕ) (m : JoinPrune) (f : JoinsStar s i g m) where
   abbrev joined : List Key
   joined = joined_keys s i m
@@ -146,21 +187,6 @@ module _ (s : State) (i g : ℕ) (m : JoinPrune) (f : JoinsStar s i g m) where
 
   abbrev rule : Key → Option DownstreamRow
   rule k = row_after s i m.holdtime joined pruned k
-
-  star_rule : rule (star_key i g) ≡ joined_row (holdtime_end s m.holdtime) m.holdtime (row_at s.downstream (star_key i g))
-  unfolding row_after
-  star_rule = rw (f.joined, f.unpruned) refl
-
-  star_row : row_at (to_me s i m).downstream (star_key i g) ≡ rule (star_key i g)
-  unfolding to_me keys_taken touched_keys
-  star_row =
-      becomes_set rule (star_key i g) (touched_keys s i joined pruned) s.downstream
-      (named_first (joined ++ pruned) (rpt_rows_joined s i joined) (star_key i g) (named_first joined pruned (star_key i g) f.joined))
-
-  star_joined : IsJoined (holdtime_end s m.holdtime) (row_at (to_me s i m).downstream (star_key i g))
-  star_joined =
-      subst (IsJoined (holdtime_end s m.holdtime)) (sym (star_row ∙ star_rule))
-      (joined_is (holdtime_end s m.holdtime) m.holdtime (row_at s.downstream (star_key i g)) f.lasts)
 
   -- ---- (S,G,rpt), which the message doesn't prune
 
@@ -206,26 +232,6 @@ module _ (s : State) (i g : ℕ) (m : JoinPrune) (f : JoinsStar s i g m) where
         go false none =
             stays_set rule tree (touched_keys s i joined pruned) s.downstream
             (no_row (row_at s.downstream tree) none ∙ sym tree_rule) ∙ tree_rule
-
-  -- ---- the assert
-
-  no_loser_left : is_loser (assert_star (to_me s i m) g i) ≡ false
-  unfolding to_me keys_taken asserts_after_joins
-  no_loser_left = go (row_at (asserts_after_joins s joined) (star_key i g)) refl
-    where
-      stays : Key × AssertRow → Bool
-      stays e = not (is_loser (Some e.1) && is_named joined e.0)
-
-      go : (o : Option AssertRow) → row_at (asserts_after_joins s joined) (star_key i g) ≡ o → is_loser o ≡ false
-      go None e = refl
-      go (Some r) e =
-          unlost (is_loser (Some r))
-          (ap (λ b. not (is_loser (Some r) && b)) (sym f.joined)
-          ∙ row_of_each (λ x. stays x ≡ true) (star_key i g) r (filter stays s.asserts) (each_passes stays s.asserts) e)
-        where
-          unlost : (b : Bool) → not (b && true) ≡ true → b ≡ false
-          unlost true e = cc
-          unlost false e = refl
 
 -- ---- what clearing leaves
 
@@ -326,6 +332,20 @@ pub wanted_star : (t : State) (g i : ℕ) → i < iface_count t → immediate_ol
 unfolding join_desired_star
 wanted_star t g i within e = ap not (not_empty t (immediate_olist_star t g) i within e)
 
+listed_source : (t : State) (g src i : ℕ) → has_row t.downstream (source_key i g src) ≡ true
+    → is_loser (assert_source t g src i) ≡ false → immediate_olist t g src i ≡ true
+unfolding immediate_olist joins lost_assert
+listed_source t g src i there unlost = rw (there, unlost) (last (not (is_rpf_interface t src i)) (is_beaten t g src i))
+  where
+    last : (b c : Bool) → not (b && false && c) ≡ true
+    last true c = refl
+    last false c = refl
+
+wanted_source : (t : State) (g src i : ℕ) → i < iface_count t → immediate_olist t g src i ≡ true
+    → join_desired t g src ≡ true
+unfolding join_desired is_immediate_empty
+wanted_source t g src i within e = rw (not_empty t (immediate_olist t g src) i within e) refl
+
 -- ---- the law
 
 pub takes_star : (s : State) (w i g : ℕ) (m : JoinPrune) → JoinsStar s i g m
@@ -336,8 +356,8 @@ takes_star s w i g m f =
     let t : State = (settled s c w).0 in
     let row : IsJoined (holdtime_end s m.holdtime) (row_at t.downstream (star_key i g)) =
     subst (λ (d : Table DownstreamRow). IsJoined (holdtime_end s m.holdtime) (row_at d (star_key i g)))
-    (sym (same_downstream s c w)) (star_joined s i g m f) in
-    let unlost : is_loser (assert_star t g i) ≡ false = star_unlost s c w g i (no_loser_left s i g m f) in
+    (sym (same_downstream s c w)) (tree_joined s (star_key i g) refl m f) in
+    let unlost : is_loser (assert_star t g i) ≡ false = star_unlost s c w g i (no_loser_left s (star_key i g) refl m f) in
     let listed : immediate_olist_star t g i ≡ true =
     listed_star t g i (ap is_some row.is) unlost in
     record {
@@ -361,3 +381,34 @@ star_join_is_taken s e i m g was f =
     subst (λ (t : State). TakesStar s t i.number g m)
     (sym (ap (λ a. a.state) (step_taken s e (Accepted.JoinPruneToMe i m) was ∙ taken_is_done s e.draw (Accepted.JoinPruneToMe i m) refl)))
     (takes_star s e.draw i.number g m f)
+
+takes_source : (s : State) (w i g src : ℕ) (m : JoinPrune) → JoinsSource s i g src m
+    → TakesSource s (settled s (to_me s i m, []) w).0 i g src m
+unfolding has_row to_me keys_taken
+takes_source s w i g src m f =
+    let c : State × List Message = (to_me s i m, []) in
+    let t : State = (settled s c w).0 in
+    let row : IsJoined (holdtime_end s m.holdtime) (row_at t.downstream (source_key i g src)) =
+    subst (λ (d : Table DownstreamRow). IsJoined (holdtime_end s m.holdtime) (row_at d (source_key i g src)))
+    (sym (same_downstream s c w)) (tree_joined s (source_key i g src) refl m f) in
+    let unlost : is_loser (assert_source t g src i) ≡ false =
+    source_unlost s c w g src i (no_loser_left s (source_key i g src) refl m f) in
+    let listed : immediate_olist t g src i ≡ true = listed_source t g src i (ap is_some row.is) unlost in
+    record {
+      holds = record { row = row.row; found = row.is; unpruned = row.pending; lasts = row.lasts };
+      unlost = unlost;
+      listed = listed;
+      wanted = λ within.
+          wanted_source t g src i
+          (subst (λ (cs : List InterfaceConfig). i < length cs) (sym (still_configured s c w ∙ to_me_configured)) within) listed;
+    }
+  where
+    to_me_configured : (to_me s i m).configured ≡ s.configured
+    to_me_configured = refl
+
+pub source_join_is_taken : SourceJoinIsTaken
+unfolding done change
+source_join_is_taken s e i m g src was f =
+    subst (λ (t : State). TakesSource s t i.number g src m)
+    (sym (ap (λ a. a.state) (step_taken s e (Accepted.JoinPruneToMe i m) was ∙ taken_is_done s e.draw (Accepted.JoinPruneToMe i m) refl)))
+    (takes_source s e.draw i.number g src m f)
