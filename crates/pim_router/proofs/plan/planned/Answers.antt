@@ -1,4 +1,7 @@
-use Rattle.std.proofs.Common.{refl, subst, ⊎_elim}
+use Rattle.std.proofs.Common.{◌≡◌, List, refl, subst, sym, true, ⊎_elim}
+use Rattle.pim_types.specs.declared.config.Route.{Route}
+use Rattle.pim_types.specs.declared.config.RpRange.{RpRange}
+use Rattle.pim_model.specs.Limits.{are_routes, are_rps}
 use Rattle.pim_model.specs.declared.accepted.Accepted.{Accepted}
 use Rattle.pim_model.specs.Full.{is_full}
 use Rattle.pim_router.specs.Naming.{IsConfigured}
@@ -37,10 +40,13 @@ returns-in-Register-clause-rises c =
 
 pub plan_routes-requires : goal.plan_routes-requires
 plan_routes-requires c =
-    subst (λ (a : Accepted). IsConfigured c.args.world.now a) c.in-Routes.is c.requires.configured
+    subst (λ (routes : List Route). are_routes c.args.world.now.configured routes ≡ true) (sym c.as_slice.ensures)
+    (subst (λ (a : Accepted). IsConfigured c.args.world.now a) c.in-Routes.is c.requires.configured)
 
 pub plan_rps-requires : goal.plan_rps-requires
-plan_rps-requires c = subst (λ (a : Accepted). IsConfigured c.args.world.now a) c.in-Rps.is c.requires.configured
+plan_rps-requires c =
+    subst (λ (ranges : List RpRange). are_rps ranges ≡ true) (sym c.as_slice-in-Rps.ensures)
+    (subst (λ (a : Accepted). IsConfigured c.args.world.now a) c.in-Rps.is c.requires.configured)
 
 pub returns-in-Routes-clause-rises : goal.returns-in-Routes-clause-rises
 returns-in-Routes-clause-rises c =
