@@ -148,6 +148,14 @@ class Spoilt(unittest.TestCase):
                         pass
         self.assertGreater(tried, 200)
 
+    def test_lines_after_the_last_table(self):
+        path = stored.EXAMPLES / "lan_assert.toml"
+        text, lines = path.read_text(), path.with_suffix(".out").read_text().splitlines()
+        self.assertTrue(read(text, lines).lines)
+        for more in ("", "router attic", "router none", "move 24 head done", "frame 99 lan 45"):
+            with self.subTest(more), self.assertRaises(run.Differs):
+                read(text, [*lines, more])
+
     def test_a_last_line_without_its_end(self):
         with repository({"a.toml": ONE_JOIN.read_text(), "a.out": "move 1 r done"}) as room, self.assertRaises(run.Differs):
             run.read_case(room / "a.toml")
