@@ -1,0 +1,54 @@
+-- What a router tells a plane of any source: the row of one with a fact, and of another what it decides of packets until
+-- the router's next event.
+use Rattle.std.specs.Prelude.{Bool, None, Option, Some, false, if◌then◌else◌, option_map, true, ℕ, ◌||◌, ◌≡◌}
+use Rattle.pim_ip.specs.Ipv4.{Packet}
+use Rattle.pim_types.specs.declared.config.IfaceId.{IfaceId}
+use Rattle.pim_types.specs.Keys.{source_key}
+use Rattle.pim_model.specs.Cache.{answers}
+use Rattle.pim_model.specs.Forwarding.{no_interface}
+use Rattle.pim_model.specs.Full.{source_is_full}
+use Rattle.pim_model.specs.State.{State}
+use Rattle.pim_model.specs.Tables.{has_row}
+use Rattle.pim_offload.specs.Offload.{Row, handled, handling, handling_unknown, offload, told, unknown_of}
+use Rattle.pim_offload.specs.Split.{handled_at}
+
+-- a source without a fact has no timer to set, so what shows it alive is the core's
+unfoldable pub unknown_row : Row → Row
+unknown_row row = record {
+  incoming = row.incoming;
+  outgoing = row.outgoing;
+  alive = no_interface;
+  to_core = λ i. row.to_core i || row.alive i;
+}
+
+-- the row of a source with a fact stays until an event names the source, that of another until the next event
+pub record Offered : Type 0 where
+  pub is_known : Bool
+  pub row : Row
+
+-- none of a source that there is no room for
+unfoldable pub offered : State → ℕ → ℕ → Option Offered
+offered s g src =
+    if has_row s.sources (source_key 0 g src) then Some (record { is_known = true; row = offload (answers s g src) })
+    else (if source_is_full s g src then None
+    else Some (record { is_known = false; row = unknown_row (offload (answers s g src)) }))
+
+abbrev pub offered_row : State → ℕ → ℕ → Option Row
+offered_row s g src = option_map (λ (o : Offered). o.row) (offered s g src)
+
+-- ---- laws
+
+-- it says of a packet what is decided of a source without a fact
+abbrev pub UnknownRowDecides : Type 0
+UnknownRowDecides = (row : Row) (i : ℕ) → handling (unknown_row row) i ≡ handling_unknown row i
+
+-- so by what is offered each packet is handled as by the router's rows beside what is decided of unknown sources
+abbrev pub OfferedIsHandled : Type 0
+OfferedIsHandled = (s : State) (i : IfaceId) (p : Packet)
+    → handled (offered_row s p.destination p.source) i.number
+    ≡ handled_at (told s p.destination p.source) (unknown_of s i p) i.number
+
+-- and the row of a source with a fact is the one that is told
+abbrev pub KnownIsTold : Type 0
+KnownIsTold = (s : State) (g src : ℕ) → has_row s.sources (source_key 0 g src) ≡ true
+    → offered_row s g src ≡ told s g src

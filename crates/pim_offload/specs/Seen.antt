@@ -1,0 +1,41 @@
+-- An event that tells of a packet by its source and its group alone.
+use Rattle.std.specs.Prelude.{Bool, List, [], ℕ, ◌++◌, ◌≡◌}
+use Rattle.pim_ip.specs.Ipv4.{Packet, header_text}
+use Rattle.pim_types.specs.declared.config.IfaceId.{IfaceId}
+use Rattle.pim_types.specs.declared.event.Event.{Event}
+use Rattle.pim_types.specs.declared.event.EventKind.{EventKind}
+use Rattle.pim_types.specs.declared.outcome.Emission.{Emission}
+use Rattle.pim_model.specs.Sets.{Set}
+use Rattle.pim_model.specs.State.{State}
+use Rattle.pim_model.specs.Step.{Answered, step}
+use Rattle.pim_model.specs.Writing.{copies_of, tunnel_of}
+use Rattle.pim_offload.specs.OffloadLaws.{IsData}
+
+-- UDP, and a TTL with which no router passes a packet on
+abbrev pub protocol_udp : ℕ
+protocol_udp = 17
+
+abbrev pub last_time_to_live : ℕ
+last_time_to_live = 1
+
+-- a header without a payload
+abbrev pub bare_text : ℕ → ℕ → List ℕ
+bare_text g src = header_text [] last_time_to_live protocol_udp src g 0
+
+abbrev pub seen_event : ℕ → IfaceId → ℕ → ℕ → Event
+seen_event w i g src = record { draw = w; kind = EventKind.Frame i (bare_text g src) }
+
+-- all that a packet does but for its copies on links and the Register round it
+pub record IsAllBut (packet : Packet) (seen whole : Answered) : Type 0 where
+  pub answer : seen.answer ≡ whole.answer
+  pub state_is : seen.state ≡ whole.state
+  pub none : seen.copies ≡ 0
+  pub at : State
+  pub list : Set
+  pub to_tunnel : Bool
+  pub rest : whole.emissions ≡ seen.emissions ++ copies_of at packet list ++ tunnel_of at packet to_tunnel
+
+-- whatever frame brings a packet of the source and the group on the interface
+abbrev pub SeenIsStepped : Type 0
+SeenIsStepped = (s : State) (e : Event) (i : IfaceId) (bytes : List ℕ) (p : Packet) → e.kind ≡ EventKind.Frame i bytes
+    → IsData s i bytes p → IsAllBut p (step s (seen_event e.draw i p.destination p.source)) (step s e)
