@@ -7,11 +7,11 @@
  * Moments are ms from any beginning, at most 2^62. A draw is a random number, another one with each event: random delays come of it.
  * Interfaces are numbered from 0, as they were given.
  *
- * Pointers: none is NULL, not even one to an array of no items; each is aligned to its type, points to as many values as the
- * parameter after it counts, and overlaps no other of its call. What they point to is the program's, is read or written in the call
- * alone, and none is kept.
+ * Pointers: each is aligned to its type, points to as many values as the parameter after it counts, and overlaps no other of its
+ * call. One that has a count of 0 after it may be NULL; no other may. What they point to is the program's, is read or written in
+ * the call alone, and none is kept.
  *
- * A handle belongs to one call at a time, and to the thread that made it. Different handles know nothing of one another. No call
+ * A handle belongs to one call at a time, from whichever thread. Different handles know nothing of one another. No call
  * aborts, blocks or calls back, and none may be made from a signal handler. Memory is taken by malloc and realloc, and given back
  * by free: a block has to be aligned to each power of two up to 16 that divides its size. */
 #ifndef PIM_H
@@ -25,24 +25,88 @@
 extern "C" {
 #endif
 
+/* What a compiler can look for in a call: a pointer that must not be NULL, an answer that nobody reads. */
+#if defined(__GNUC__) || defined(__clang__)
+#define PIM_NOT_NULL(place) __attribute__((nonnull(place)))
+#define PIM_READ_ANSWER __attribute__((warn_unused_result))
+#else
+#define PIM_NOT_NULL(place)
+#define PIM_READ_ANSWER
+#endif
+
+/* The version of this header. */
+#define PIM_VERSION "0.1.0"
+
+/* The version of the library, a blank, and `proved` or `not proved`: how it was built. */
+const char *pim_version(void);
+
 /* A handle: a router, or none. It begins as PIM_NO_HANDLE; its fields are the library's own. It isn't copied: a copy is no second
  * router, and the calls of one spoil the other. Who made a router ends it by pim_end. */
 struct pim_router {
     void *place;
     bool is_there;
 };
+#ifdef __cplusplus
+#define PIM_NO_HANDLE {}
+#else
 #define PIM_NO_HANDLE {NULL, false}
+#endif
 
-/* Answers. 1 to 39 are refusals, which change nothing: docs/USING.md has each ("Refusals"). 101 to 108 are reasons to ignore an
- * event, in the order in which that guide lists them. */
+/* Answers. Refusals are 1 to 39 and change nothing; reasons to ignore an event are 101 to 108. docs/USING.md has each ("Refusals",
+ * "Reasons to ignore"). */
 enum {
     PIM_DONE = 0,
-    PIM_MEMORY = 40,    /* memory was refused: after an event the router has failed */
+
+    /* of a packet */
+    PIM_SHORT = 1,
+    PIM_BAD_VERSION = 2,
+    PIM_BAD_CHECKSUM = 3,
+    PIM_BAD_LENGTH = 4,
+    PIM_BAD_ADDRESS = 5,
+    PIM_NOT_MULTICAST = 6,
+    PIM_OLD_VERSION = 7,
+    PIM_UNKNOWN_TYPE = 8,
+    PIM_FRAGMENT = 9,
+
+    /* of an event */
+    PIM_MOMENT_BACK = 20,
+    PIM_MOMENT_FAR = 21,
+    PIM_BAD_INTERFACE = 22,
+    PIM_INTERFACE_DOWN = 23,
+    PIM_FULL = 24,
+    PIM_BAD_ROUTES = 25,
+    PIM_BAD_RANGES = 26,
+
+    /* of a configuration */
+    PIM_INTERFACE_COUNT = 30,
+    PIM_INTERFACE_ADDRESS = 31,
+    PIM_INTERFACE_LENGTH = 32,
+    PIM_OVERLAP = 33,
+    PIM_BAD_LIMIT = 34,
+    PIM_BAD_QUERIER = 35,
+    PIM_BAD_DELAY = 36,
+    PIM_CONFIGURED_ROUTES = 37,
+    PIM_CONFIGURED_RANGES = 38,
+
+    PIM_MEMORY = 40,    /* memory was refused */
     PIM_FAILED = 41,    /* the router failed before; end it, and make another */
     PIM_NO_ROUTER = 50, /* the handle has none */
     PIM_NO_TABLE = 51,  /* no table has this letter */
-    PIM_IGNORED = 101   /* the first reason to ignore */
+
+    /* reasons to ignore an event */
+    PIM_IGNORED = 101, /* the first of them */
+    PIM_OWN = 101,
+    PIM_NOT_FOR_ME = 102,
+    PIM_OTHER_TYPE = 103,
+    PIM_MASK = 104,
+    PIM_LINK_LOCAL = 105,
+    PIM_NO_NEIGHBOUR = 106,
+    PIM_NOT_RP = 107,
+    PIM_ALREADY = 108
 };
+
+/* What an answer says, in a few words; never NULL. */
+const char *pim_answer_text(uint32_t answer);
 
 /* No timer runs, and a time that isn't there. */
 #define PIM_NEVER UINT64_MAX
@@ -88,30 +152,43 @@ struct pim_settings {
 
 /* Makes a router, at moment 0 and with all interfaces down: 1 to 120 interfaces, at most 100,000 routes and 256 ranges. It answers
  * PIM_DONE, a refusal of 30 to 38, or PIM_MEMORY. Where it is done, a router that the handle had is ended; else the handle is as it was. */
+PIM_READ_ANSWER PIM_NOT_NULL(1) PIM_NOT_NULL(2)
 uint32_t pim_new(struct pim_router *router, const struct pim_settings *settings, const struct pim_interface *interfaces,
                  size_t interface_count, const struct pim_route *routes, size_t route_count, const struct pim_range *ranges,
                  size_t range_count);
 
 /* Ends the router, and gives its memory back. The handle has none then; where it had none, nothing happens. */
+PIM_NOT_NULL(1)
 void pim_end(struct pim_router *router);
 
-/* ---- events: each answers PIM_DONE, a reason to ignore, a refusal of 1 to 26, PIM_MEMORY, PIM_FAILED or PIM_NO_ROUTER */
+/* ---- events: each answers PIM_DONE, a reason to ignore, a refusal of 1 to 26, PIM_MEMORY, PIM_FAILED or PIM_NO_ROUTER
+ *
+ * PIM_MEMORY says that the event didn't happen. A packet, routes and ranges are copied before the router takes them: where memory
+ * is refused for that, nothing changes, and the event may be given again. Where it is refused later the router has failed, and
+ * answers PIM_FAILED from then on; it isn't for an event that is ignored, or refused for its bytes, its moment or its interface. */
 
 /* Time passes up to the moment, which isn't before the present: each timer that ends by then fires. */
+PIM_READ_ANSWER PIM_NOT_NULL(1)
 uint32_t pim_advance(struct pim_router *router, uint32_t draw, uint64_t moment);
 
 /* A packet came on an interface, to a group: PIM, IGMP or data. */
+PIM_READ_ANSWER PIM_NOT_NULL(1)
 uint32_t pim_frame(struct pim_router *router, uint32_t draw, uint32_t iface, const uint8_t *packet, size_t length);
 
 /* A PIM packet came for an address of the router: a Register or a Register-Stop. */
+PIM_READ_ANSWER PIM_NOT_NULL(1)
 uint32_t pim_unicast(struct pim_router *router, uint32_t draw, const uint8_t *packet, size_t length);
 
 /* An interface goes up, or down. */
+PIM_READ_ANSWER PIM_NOT_NULL(1)
 uint32_t pim_up(struct pim_router *router, uint32_t draw, uint32_t iface);
+PIM_READ_ANSWER PIM_NOT_NULL(1)
 uint32_t pim_down(struct pim_router *router, uint32_t draw, uint32_t iface);
 
 /* All unicast routes, or all RP ranges, are replaced. */
+PIM_READ_ANSWER PIM_NOT_NULL(1)
 uint32_t pim_routes(struct pim_router *router, uint32_t draw, const struct pim_route *routes, size_t count);
+PIM_READ_ANSWER PIM_NOT_NULL(1)
 uint32_t pim_ranges(struct pim_router *router, uint32_t draw, const struct pim_range *ranges, size_t count);
 
 /* ---- what is to be sent: by the last event that met no fault, PIM_MEMORY or PIM_FAILED */
@@ -127,16 +204,20 @@ struct pim_packet {
 };
 
 /* How many packets there are; 0 without a router. */
+PIM_READ_ANSWER PIM_NOT_NULL(1)
 size_t pim_packets(struct pim_router *router);
 
 /* One of them, counted from 0 in the order in which they are to leave. Its bytes go into the room, as many as it takes; the rest of
  * the room stays. It answers false, and writes nothing, where there is none of that number. */
+PIM_NOT_NULL(1) PIM_NOT_NULL(3)
 bool pim_packet(struct pim_router *router, size_t index, struct pim_packet *packet, uint8_t *room, size_t room_length);
 
 /* How many copies of a data packet the last event sent on links: they are the last of its packets on links. 0 after a fault. */
+PIM_READ_ANSWER PIM_NOT_NULL(1)
 uint32_t pim_copies(struct pim_router *router);
 
 /* The moment at which the next timer ends, or PIM_NEVER: pim_advance is to be called then. PIM_NEVER after a fault. */
+PIM_READ_ANSWER PIM_NOT_NULL(1)
 uint64_t pim_next_moment(struct pim_router *router);
 
 /* ---- what the router knows */
@@ -157,29 +238,41 @@ struct pim_row {
 
 /* Reads the table of a letter: N, G, S, D, A, U, R or F. It answers PIM_DONE; PIM_MEMORY, which changes nothing; PIM_FAILED,
  * PIM_NO_ROUTER or PIM_NO_TABLE. */
+PIM_READ_ANSWER PIM_NOT_NULL(1)
 uint32_t pim_read(struct pim_router *router, uint8_t letter);
 
 /* How many rows the last table had that was read, and one of them, counted from 0, ascending by their keys. It answers false, and
  * writes nothing, where there is none of that number. They stay as they were read, whatever happens to the router. */
+PIM_READ_ANSWER PIM_NOT_NULL(1)
 size_t pim_rows(struct pim_router *router);
+PIM_NOT_NULL(1) PIM_NOT_NULL(3)
 bool pim_row(struct pim_router *router, size_t index, struct pim_row *row);
 
-/* How data of a source to a group goes, as the forwarding cache has it: of the source, and of one interface below 120. */
+/* A set of interfaces, as bits. */
+struct pim_interfaces {
+    uint64_t low;  /* 0 to 63, the lowest bit first */
+    uint64_t high; /* 64 to 119, the lowest bit first */
+};
+
+/* How data of a source to a group goes, as the forwarding cache has it. */
 struct pim_forwarding {
-    uint32_t rpf;           /* RPF_interface(S), or PIM_NO_INTERFACE */
-    bool has_spt_bit;       /* SPTbit(S,G) */
-    bool has_tunnel;        /* the register tunnel is in the first two lists */
-    bool is_in_immediate;   /* the interface is in immediate_olist(S,G) */
-    bool is_in_inherited;   /* in inherited_olist(S,G) */
-    bool is_in_shared_tree; /* in inherited_olist(S,G,rpt) */
+    uint32_t rpf;                      /* RPF_interface(S), or PIM_NO_INTERFACE */
+    bool has_spt_bit;                  /* SPTbit(S,G) */
+    bool has_tunnel;                   /* the register tunnel is in the first two lists */
+    struct pim_interfaces immediate;   /* immediate_olist(S,G) */
+    struct pim_interfaces inherited;   /* inherited_olist(S,G) */
+    struct pim_interfaces shared_tree; /* inherited_olist(S,G,rpt) */
 };
 
 /* Tells it. It answers false, and writes nothing, where there is no fact of the source, after a fault, and without a router. */
-bool pim_cached(struct pim_router *router, uint32_t source, uint32_t group, uint32_t iface, struct pim_forwarding *forwarding);
+PIM_READ_ANSWER PIM_NOT_NULL(1) PIM_NOT_NULL(4)
+bool pim_cached(struct pim_router *router, uint32_t source, uint32_t group, struct pim_forwarding *forwarding);
 
 /* What the last event cost: the trie nodes that it visited, and the rows of the forwarding cache that it evaluated, put in and took
  * out. 0 after a fault. */
+PIM_READ_ANSWER PIM_NOT_NULL(1)
 uint64_t pim_probes(struct pim_router *router);
+PIM_READ_ANSWER PIM_NOT_NULL(1)
 uint64_t pim_touched(struct pim_router *router);
 
 #ifdef __cplusplus

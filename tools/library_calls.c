@@ -15,6 +15,15 @@ static void is(const char *what, uint64_t got, uint64_t wanted) {
     printf("%s: %llu in place of %llu\n", what, (unsigned long long)got, (unsigned long long)wanted);
 }
 
+/* The Internet checksum of bytes, which takes its place among them. */
+static void set_sum(uint8_t *bytes, size_t length, size_t place) {
+    uint32_t sum = 0;
+    for (size_t at = 0; at < length; at += 2) sum += (uint32_t)bytes[at] << 8 | bytes[at + 1];
+    while (sum >> 16) sum = (sum & 0xffff) + (sum >> 16);
+    bytes[place] = (uint8_t)(~sum >> 8);
+    bytes[place + 1] = (uint8_t)~sum;
+}
+
 static const struct pim_settings usual = PIM_USUAL_SETTINGS;
 static const struct pim_interface three[] = {{0x0a000002, 24, 1, 500, 2500}, {0x0a000101, 24, 1, 500, 2500}, {0x0a000201, 24, 1, 500, 2500}};
 static const struct pim_route two[] = {{0x0a090900, 24, 0x0a000001, 0, 110, 20}, {0x0a000300, 24, 0x0a000001, 0, 110, 20}};
@@ -50,7 +59,7 @@ static void without_a_router(void) {
     is("rows without a router", pim_rows(&none), 0);
     is("row without a router", pim_row(&none, 0, &row), false);
     is("its row", row.table, 7);
-    is("cached without a router", pim_cached(&none, 0x0a000305, 0xe1010101, 0, &forwarding), false);
+    is("cached without a router", pim_cached(&none, 0x0a000305, 0xe1010101, &forwarding), false);
     is("its forwarding", forwarding.rpf, 7);
     is("probes without a router", pim_probes(&none), 0);
     is("touched without a router", pim_touched(&none), 0);
@@ -114,6 +123,10 @@ static void refused_lists(struct pim_router *router) {
     is("a route twice", pim_routes(router, 0, twice, 2), 25);
     is("no routes", pim_routes(router, 0, twice, 0), PIM_DONE);
     is("no ranges", pim_ranges(router, 0, one, 0), PIM_DONE);
+    is("no routes at NULL", pim_routes(router, 0, NULL, 0), PIM_DONE);
+    is("no ranges at NULL", pim_ranges(router, 0, NULL, 0), PIM_DONE);
+    is("no lists at NULL", pim_new(router, &usual, three, 3, NULL, 0, NULL, 0), PIM_DONE);
+    is("no interfaces at NULL", pim_new(router, &usual, NULL, 0, NULL, 0, NULL, 0), PIM_INTERFACE_COUNT);
 }
 
 static void configurations(void) {
@@ -175,6 +188,8 @@ static void moments_and_interfaces(struct pim_router *router) {
     is("no packet of what is ignored", pim_packets(router), 0);
     is("a frame without bytes", pim_frame(router, 0, 0, none, 0), 1);
     is("a unicast without bytes", pim_unicast(router, 0, none, 0), 1);
+    is("a unicast of NULL", pim_unicast(router, 0, NULL, 0), 1);
+    is("a frame of NULL", pim_frame(router, 0, 0, NULL, 0), 1);
     is("up of the second", pim_up(router, 7, 1), PIM_DONE);
     is("up of the third", pim_up(router, 7, 2), PIM_DONE);
 }
@@ -199,6 +214,7 @@ static void packets(struct pim_router *router) {
     is("its length", packet.length, length);
     is("the room", memcmp(small, wanted, 8) == 0 && small[8] == 7, true);
     is("the copy into no room", pim_packet(router, 0, &packet, small, 0), true);
+    is("the copy into no room at NULL", pim_packet(router, 0, &packet, NULL, 0), true);
     memset(room, 7, sizeof room);
     is("the copy into a large room", pim_packet(router, 0, &packet, room, sizeof room), true);
     is("the rest of the room", room[length] == 7 && room[sizeof room - 1] == 7, true);
@@ -236,15 +252,48 @@ static void tables(struct pim_router *router) {
 
 static void cached(struct pim_router *router) {
     struct pim_forwarding told = {.rpf = 7};
-    is("no fact of another source", pim_cached(router, 0x0a000306, 0xe1010101, 1, &told), false);
+    is("no fact of another source", pim_cached(router, 0x0a000306, 0xe1010101, &told), false);
     is("what isn't told", told.rpf, 7);
-    is("the source's row", pim_cached(router, 0x0a000305, 0xe1010101, 1, &told), true);
+    is("the source's row", pim_cached(router, 0x0a000305, 0xe1010101, &told), true);
     is("by the source's tree", told.rpf == 0 && told.has_spt_bit && !told.has_tunnel, true);
-    is("where it is joined", told.is_in_immediate && told.is_in_inherited && !told.is_in_shared_tree, true);
-    is("another interface", pim_cached(router, 0x0a000305, 0xe1010101, 2, &told), true);
-    is("where it isn't joined", told.is_in_immediate || told.is_in_inherited || told.is_in_shared_tree, false);
-    is("an interface that there can't be", pim_cached(router, 0x0a000305, 0xe1010101, UINT32_MAX, &told), true);
-    is("in no list", told.is_in_immediate || told.is_in_inherited || told.is_in_shared_tree, false);
+    is("immediate_olist", told.immediate.low == 1 << 1 && told.immediate.high == 0, true);
+    is("inherited_olist", told.inherited.low == 1 << 1 && told.inherited.high == 0, true);
+    is("inherited_olist on the shared tree", told.shared_tree.low == 0 && told.shared_tree.high == 0, true);
+}
+
+/* A router with 120 interfaces, and hosts on some that want a source of a group: what is told of interface 64 and above. */
+static void many_interfaces(void) {
+    static const uint32_t hosts[] = {1, 63, 64, 119};
+    struct pim_interface many[120];
+    struct pim_router router = PIM_NO_HANDLE;
+    struct pim_forwarding told;
+    uint8_t packet[] = {0x45, 0, 0, 28, 0, 0, 0, 0, 64, 17, 0, 0, 10, 0, 0, 9, 232, 1, 1, 1, 0, 1, 0, 2, 0, 8, 0, 0};
+    for (uint32_t at = 0; at < COUNT(many); at++) many[at] = (struct pim_interface){0x0a000001 + (at << 8), 24, 1, 500, 2500};
+    is("120 interfaces", pim_new(&router, &usual, many, COUNT(many), NULL, 0, one, 1), PIM_DONE);
+    for (uint32_t at = 0; at < COUNT(many); at++) is("up", pim_up(&router, at, at), PIM_DONE);
+    for (size_t at = 0; at < COUNT(hosts); at++) {
+        /* ALLOW of 10.0.0.9 in 232.1.1.1 */
+        uint8_t report[] = {0x46, 0xc0, 0, 44, 0, 0, 0, 0, 1, 2, 0, 0, 10, 0, (uint8_t)hosts[at], 9, 224, 0, 0, 22, 0x94, 4, 0, 0,
+                            0x22, 0, 0, 0, 0, 0, 0, 1, 5, 0, 0, 1, 232, 1, 1, 1, 10, 0, 0, 9};
+        set_sum(report, 24, 10);
+        set_sum(report + 24, 20, 2);
+        is("a report", pim_frame(&router, 0, hosts[at], report, sizeof report), PIM_DONE);
+    }
+    set_sum(packet, 20, 10);
+    is("data of the source", pim_frame(&router, 0, 0, packet, sizeof packet), PIM_DONE);
+    is("its copies", pim_copies(&router), COUNT(hosts));
+    is("its row", pim_cached(&router, 0x0a000009, 0xe8010101, &told), true);
+    is("the low word", told.inherited.low, (uint64_t)1 << 63 | 1 << 1);
+    is("the high word", told.inherited.high, (uint64_t)1 << 55 | 1);
+    pim_end(&router);
+}
+
+static void texts(void) {
+    is("the version", strncmp(pim_version(), PIM_VERSION " ", sizeof PIM_VERSION), 0);
+    is("how it was built", strstr(pim_version(), "proved") != NULL, true);
+    is("done", strcmp(pim_answer_text(PIM_DONE), "done"), 0);
+    is("no answer", strcmp(pim_answer_text(10), "no answer of this library"), 0);
+    is("the last reason", strcmp(pim_answer_text(PIM_ALREADY), pim_answer_text(PIM_ALREADY + 1)) != 0, true);
 }
 
 int main(void) {
@@ -257,6 +306,8 @@ int main(void) {
     packets(&router);
     cached(&router);
     tables(&router);
+    many_interfaces();
+    texts();
     is("the other's moment", pim_next_moment(&other), PIM_NEVER);
     is("the other's packets", pim_packets(&other), 0);
     pim_end(&router);

@@ -1,8 +1,7 @@
-"""The same as `join.c`, in Python: `python3 examples/library/join.py LIBRARY`, the library as a shared one."""
-import sys
+"""The same as `join.c`, in Python, by the package of bindings/python."""
 from itertools import count
 
-from pim import Router
+from pim import Answer, Router
 
 LINKS = "nmo"
 HELLO_ABOVE = "45C0001E000000000167CEAB0A000001E000000D2000DFFC00010002FFFF"
@@ -13,15 +12,15 @@ MORE_DATA = "4500001C0001000040118BC90A000305E10101010001000200030004"
 
 
 def said(answer):
-    if answer == 0:
+    if answer == Answer.DONE:
         return "done"
-    return f"refused {answer}" if answer < 100 else f"ignored {answer}"
+    return f"{'ignored' if answer.is_ignored else 'refused'} {answer.value}"
 
 
 def main():
     interfaces = [("10.0.0.2", 24), ("10.0.1.1", 24), ("10.0.2.1", 24)]
     routes = [("10.9.9.0/24", "10.0.0.1", 0, 110, 20), ("10.0.3.0/24", "10.0.0.1", 0, 110, 20)]
-    router = Router(sys.argv[1], interfaces, [("224.0.0.0/4", "10.9.9.9")], routes)
+    router = Router(interfaces, [("224.0.0.0/4", "10.9.9.9")], routes)
     events = [lambda iface=iface: router.up(iface, draw=7) for iface in range(3)]
     events += [lambda: router.frame(0, bytes.fromhex(HELLO_ABOVE)), lambda: router.frame(1, bytes.fromhex(HELLO_BELOW))]
     events += [lambda: router.frame(1, bytes.fromhex(JOIN))]

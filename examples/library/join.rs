@@ -1,7 +1,6 @@
 //! The same as `join.c`, in Rust.
-mod pim;
-
-use pim::{Interface, Range, Route, Router, Sent, USUAL_SETTINGS};
+use pim::{Error, Interface, Range, Route, Router, Settings, Verdict};
+use std::net::Ipv4Addr;
 
 fn bytes_of(hex: &str) -> Vec<u8> {
     let digit = |at: usize| hex.as_bytes()[at] as char;
@@ -16,53 +15,39 @@ struct Printer {
 }
 
 impl Printer {
-    /// What became of an event, and what leaves: the last packets on links are the copies.
-    fn took(&mut self, router: &mut Router, answer: u32) {
+    /// What became of an event, and what leaves.
+    fn took(&mut self, router: &mut Router, answer: Result<Verdict, Error>) -> Result<(), Error> {
         self.moves += 1;
         match answer {
-            0 => println!("move {} r done", self.moves),
-            1..=99 => println!("move {} r refused {answer}", self.moves),
-            _ => println!("move {} r ignored {answer}", self.moves),
+            Ok(Verdict::Done) => println!("move {} r done", self.moves),
+            Ok(Verdict::Ignored(reason)) => println!("move {} r ignored {reason:?}", self.moves),
+            Err(Error::Refused(refusal)) => println!("move {} r refused {}", self.moves, refusal as u32),
+            Err(fault) => return Err(fault),
         }
-        let sent = router.packets();
-        let first_copy = sent.iter().filter(|it| !it.packet.is_unicast).count() - router.copies();
-        let mut on_links = 0;
-        for Sent { packet, bytes } in sent {
+        for sent in router.packets() {
             self.frames += 1;
-            let hex: String = bytes.iter().map(|byte| format!("{byte:02x}")).collect();
-            if packet.is_unicast {
-                println!("unicast {} {} {hex}", self.frames, std::net::Ipv4Addr::from(packet.destination));
-                continue;
+            let hex: String = sent.bytes.iter().map(|byte| format!("{byte:02x}")).collect();
+            if sent.packet.is_unicast {
+                println!("unicast {} {} {hex}", self.frames, Ipv4Addr::from(sent.packet.destination));
+            } else {
+                let kind = if sent.is_copy { "copy" } else { "frame" };
+                println!("{kind} {} {} {hex}", self.frames, ["n", "m", "o"][sent.packet.iface as usize]);
             }
-            let kind = if on_links < first_copy { "frame" } else { "copy" };
-            on_links += 1;
-            println!("{kind} {} {} {hex}", self.frames, ["n", "m", "o"][packet.iface as usize]);
         }
+        Ok(())
     }
 }
 
-fn main() -> Result<(), u32> {
-    let interfaces = [0x0a00_0002, 0x0a00_0101, 0x0a00_0201].map(|address| Interface {
-        address,
-        length: 24,
-        priority: 1,
-        propagation_delay: 500,
-        override_interval: 2500,
-    });
-    let routes = [0x0a09_0900, 0x0a00_0300].map(|prefix| Route {
-        prefix,
-        length: 24,
-        next_hop: 0x0a00_0001,
-        iface: 0,
-        preference: 110,
-        metric: 20,
-    });
-    let ranges = [Range { prefix: 0xe000_0000, length: 4, rp: 0x0a09_0909 }];
-    let mut router = Router::new(&USUAL_SETTINGS, &interfaces, &routes, &ranges)?;
+fn main() -> Result<(), Error> {
+    let interfaces = [[10, 0, 0, 2], [10, 0, 1, 1], [10, 0, 2, 1]].map(|own: [u8; 4]| Interface::new(own.into(), 24));
+    let next_hop = Ipv4Addr::new(10, 0, 0, 1);
+    let routes = [[10, 9, 9, 0], [10, 0, 3, 0]].map(|prefix: [u8; 4]| Route::new(prefix.into(), 24, next_hop, 0));
+    let ranges = [Range::new(Ipv4Addr::new(224, 0, 0, 0), 4, Ipv4Addr::new(10, 9, 9, 9))];
+    let mut router = Router::new(&Settings::default(), &interfaces, &routes, &ranges)?;
     let mut printer = Printer::default();
     for iface in 0..3 {
         let answer = router.up(7, iface);
-        printer.took(&mut router, answer);
+        printer.took(&mut router, answer)?;
     }
     let packets = [
         (0, 0, "45C0001E000000000167CEAB0A000001E000000D2000DFFC00010002FFFF"),
@@ -74,10 +59,10 @@ fn main() -> Result<(), u32> {
     for (moment, iface, hex) in packets {
         if moment > 0 {
             let answer = router.advance(0, moment);
-            printer.took(&mut router, answer);
+            printer.took(&mut router, answer)?;
         }
         let answer = router.frame(0, iface, &bytes_of(hex));
-        printer.took(&mut router, answer);
+        printer.took(&mut router, answer)?;
     }
     Ok(())
 }

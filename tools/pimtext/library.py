@@ -1,14 +1,24 @@
-"""The static library: built, with what is linked to it."""
+"""The library: one archive of the router, the kit's few lines of C around malloc and the texts, and what is made of it."""
+import hashlib
 import os
+import re
+import shutil
 import subprocess
 import sys
 from pathlib import Path
 
+from pimtext import unproved
+from pimtext.kept import cache, crates_of, sum_of_sources
+
 TOP = Path(__file__).resolve().parent.parent.parent
 CRATE = TOP / "crates" / "pim_c"
 INCLUDE = TOP / "include"
+BINDINGS = TOP / "bindings"
 ROOM = TOP / "out" / "library"
 CC = os.environ.get("CC", "cc")
+VERSION = re.search(r'#define PIM_VERSION "(.*)"', (INCLUDE / "pim.h").read_text())[1]
+# What the shared library is called by the programs that are linked with it.
+SONAME = f"libpim.so.{VERSION.partition('.')[0]}"
 
 
 def ran(words, **how):
@@ -20,36 +30,181 @@ def ran(words, **how):
     return done.stdout
 
 
-def kit():
-    """The kit's few lines of C around malloc, which the archive calls."""
-    return Path(ran(["rt", "doc"]).decode().strip()).parent / "c" / "liblibc_c.a"
+# ---- the router
+
+
+# The archive of the proved crate, and of what sources it is.
+PROVED, PROVED_OF = CRATE / "out" / "libpim_c.a", CRATE / "out" / "libpim_c.sum"
+
+
+def sum_of_proved():
+    """A sum of the archive, and of all that its proof reads."""
+    total = hashlib.sha256(PROVED.read_bytes() + ran(["rt", "version"]))
+    for name, below in crates_of("pim_c").items():
+        total.update(f"{name}: {' '.join(below)}\n".encode())
+        for source in sorted(path for part in ("src", "specs", "proofs") for path in (TOP / "crates" / name / part).rglob("*t")):
+            total.update(f"{source.relative_to(TOP)} {source.stat().st_size}\n".encode() + source.read_bytes())
+    return total.hexdigest()
+
+
+def proved_router():
+    """The archive of the proved crate: as it is there, where the sources are the same, else it is built."""
+    if not (PROVED.exists() and PROVED_OF.exists() and PROVED_OF.read_text() == sum_of_proved()):
+        ran(["rt", "lib"], cwd=CRATE)
+        PROVED_OF.write_text(sum_of_proved())
+    return PROVED
+
+
+def libraries():
+    """Where the kit finds the libraries below the crate: its own, and those that were proved."""
+    kits, crates = unproved.kit() / "rlibs", crates_of("pim_c")
+    built = {name: TOP / "crates" / name / "out" / "rlib" for name in crates if name != "pim_c"}
+    for name in ["std", *crates["pim_c"]]:
+        yield from ("--extern", f"{name}={built.get(name, kits) / name}.rlib")
+    for folder in (kits, *built.values()):
+        yield from ("-L", f"dependency={folder}")
+
+
+def prove_over_gate():
+    """Proves and builds the archive over the libraries that `rt ci` has proved just now. It keeps them for no other command of its own,
+    which would prove them again. Where a clone has older ones they are left to `rt lib`, which knows which are up to date."""
+    if any((TOP / "crates" / name / "out" / "rlib" / "stamp").exists() for name in crates_of("pim_c")):
+        return
+    where = unproved.kit()
+    words = ["--antt-project", where / "rattle" / "logic" / "antt-project.json", "--logic-built", where / "logic_built", "--jobs", "2"]
+    words += ["--links", "pim_c=", "--crate-type", "staticlib", "--toolchain", where / "toolchain", "-o", PROVED]
+    ran([where / "bin" / "rattle", "build", "--crate-name", "pim_c", "src/lib.rt", *libraries(), *words], cwd=CRATE)
+    PROVED_OF.write_text(sum_of_proved())
+
+
+def unproved_router():
+    """An object of the same sources before any proof, built once a machine."""
+    kept = cache() / f"pim_c-{sum_of_sources('pim_c', unproved.CALLS)}.o"
+    try:
+        with unproved.alone("library"):
+            if not kept.exists():
+                unproved.say("library: building once, one to two minutes; the build isn't proved")
+                unproved.say(f"library: built in {unproved.build_library(kept)} s, and kept in {cache()}")
+                unproved.forget_old("pim_c-*.o")
+    except unproved.Failed as failed:
+        sys.exit(f"{failed}\nlibrary: it couldn't be built")
+    return kept
+
+
+# ---- one archive
+
+
+def texts(how):
+    made = ROOM / "texts.o"
+    ran([CC, "-std=c99", "-O2", "-fPIC", f'-DPIM_HOW="{how}"', "-I", INCLUDE, "-c", BINDINGS / "c" / "texts.c", "-o", made])
+    return made
+
+
+def archive(router, how):
+    """The archive, of a router's archive or object, that says how it was built."""
+    made = ROOM / "libpim.a"
+    parts = [router, unproved.kit() / "c" / "liblibc_c.a", texts(how)]
+    adds = [f"add{'lib' if part.suffix == '.a' else 'mod'} {part}" for part in parts]
+    script = "\n".join([f"create {made}", *adds, "save", "end", ""])
+    ran([unproved.kit() / "toolchain" / "bin" / "llvm-ar", "-M"], input=script.encode())
+    return made
 
 
 class Library:
-    """The archive with what it is linked with: the one that is given, or else the proved one, which is built."""
+    """The library in out/library, proved unless another archive of the router is given, or the unproved one is asked for."""
 
-    def __init__(self, archive=None):
+    def __init__(self, given=None, is_proved=True):
         ROOM.mkdir(parents=True, exist_ok=True)
-        if archive is None:
-            ran(["rt", "lib"], cwd=CRATE)
-            archive = CRATE / "out" / "libpim_c.a"
-        self.files = [archive, kit()]
+        if given:
+            self.archive = archive(given.resolve(), "not proved")
+        elif is_proved:
+            self.archive = archive(proved_router(), "proved")
+        else:
+            self.archive = archive(unproved_router(), "not proved")
 
     def shared(self):
         """A shared library of all of it."""
-        made = ROOM / "libpim.so"
-        ran([CC, "-shared", "-o", made, "-Wl,--whole-archive", self.files[0], "-Wl,--no-whole-archive", self.files[1]])
+        made, names = ROOM / "libpim.so", ROOM / "names"
+        names.write_text("{ global: pim_*; local: *; };\n")
+        flags = [f"-Wl,-soname,{SONAME}", f"-Wl,--version-script={names}", "-Wl,--whole-archive", self.archive, "-Wl,--no-whole-archive"]
+        ran([CC, "-shared", "-o", made, *flags])
+        link(made.name, ROOM / SONAME)
         return made
 
     def program(self, source, *flags):
         """A C program with it."""
         made = ROOM / source.stem
-        ran([CC, "-std=c99", "-Wall", "-Wextra", "-Werror", "-O2", "-I", INCLUDE, "-o", made, source, *self.files, *flags])
+        ran([CC, "-std=c99", "-Wall", "-Wextra", "-Werror", "-O2", "-I", INCLUDE, "-o", made, source, self.archive, *flags])
         return made
 
     def rust_program(self, source):
         """A Rust program with it."""
         made = ROOM / f"{source.stem}_rs"
-        linked = [word for file in self.files for word in ("-C", f"link-arg={file}")]
-        ran(["rustc", "--edition", "2024", "-O", "-o", made, source, *linked])
+        ran(["rustc", "--edition", "2024", "-O", "-o", made, source, "-C", f"link-arg={self.archive}"])
         return made
+
+
+# ---- installed
+
+
+def link(target, path):
+    path.unlink(missing_ok=True)
+    path.symlink_to(target)
+
+
+PKG_CONFIG = """prefix={prefix}
+includedir=${{prefix}}/include
+libdir=${{prefix}}/lib
+
+Name: pim
+Description: A multicast router core: PIM Sparse Mode and IGMPv3
+Version: {version}
+Cflags: -I${{includedir}}
+Libs: -L${{libdir}} -lpim
+"""
+
+CMAKE = """get_filename_component(PIM_PREFIX "${CMAKE_CURRENT_LIST_DIR}/../../.." ABSOLUTE)
+foreach(kind STATIC SHARED)
+  string(TOLOWER ${kind} name)
+  if(NOT TARGET pim::${name})
+    add_library(pim::${name} ${kind} IMPORTED)
+    set_target_properties(pim::${name} PROPERTIES INTERFACE_INCLUDE_DIRECTORIES "${PIM_PREFIX}/include")
+  endif()
+endforeach()
+set_target_properties(pim::static PROPERTIES IMPORTED_LOCATION "${PIM_PREFIX}/lib/libpim.a")
+set_target_properties(pim::shared PROPERTIES IMPORTED_LOCATION "${PIM_PREFIX}/lib/libpim.so" IMPORTED_SONAME "@SONAME@")
+"""
+
+# Versions with the same first number take one another's place, the newer one the older one's.
+CMAKE_VERSION = """set(PACKAGE_VERSION "@VERSION@")
+string(REGEX MATCH "^[0-9]+" asked "${PACKAGE_FIND_VERSION}")
+if("@VERSION@" VERSION_LESS "${PACKAGE_FIND_VERSION}" OR (PACKAGE_FIND_VERSION AND NOT asked EQUAL "@MAJOR@"))
+  set(PACKAGE_VERSION_COMPATIBLE FALSE)
+else()
+  set(PACKAGE_VERSION_COMPATIBLE TRUE)
+  if("@VERSION@" VERSION_EQUAL "${PACKAGE_FIND_VERSION}")
+    set(PACKAGE_VERSION_EXACT TRUE)
+  endif()
+endif()
+"""
+
+
+def filled(text):
+    values = {"SONAME": SONAME, "VERSION": VERSION, "MAJOR": VERSION.partition(".")[0]}
+    return re.sub(r"@(\w+)@", lambda found: values[found[1]], text)
+
+
+def install(library, prefix):
+    """The header, the archive, the shared library, and what pkg-config and CMake find them by."""
+    prefix = prefix.resolve()
+    lib, named = prefix / "lib", f"libpim.so.{VERSION}"
+    for folder in ("include", "lib/pkgconfig", "lib/cmake/pim"):
+        (prefix / folder).mkdir(parents=True, exist_ok=True)
+    shutil.copy(INCLUDE / "pim.h", prefix / "include")
+    shutil.copy(library.archive, lib)
+    shutil.copy(library.shared(), lib / named)
+    link(named, lib / SONAME)
+    link(SONAME, lib / "libpim.so")
+    (lib / "pkgconfig" / "pim.pc").write_text(PKG_CONFIG.format(prefix=prefix, version=VERSION))
+    (lib / "cmake" / "pim" / "pim-config.cmake").write_text(filled(CMAKE))
+    (lib / "cmake" / "pim" / "pim-config-version.cmake").write_text(filled(CMAKE_VERSION))

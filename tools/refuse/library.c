@@ -153,17 +153,16 @@ static uint64_t packets_of(struct pim_router *router) {
     return sum;
 }
 
-/* The rows of the forwarding cache: of every source that comes up, each with all interfaces. 0 where there is none. */
+/* The rows of the forwarding cache, of every source that comes up. 0 where there is none. */
 static uint64_t cached_of(struct pim_router *router) {
     uint64_t sum = 0;
-    for (size_t at = 0; at < source_count; at++)
-        for (uint32_t iface = 0; iface < interface_count; iface++) {
-            struct pim_forwarding told;
-            if (!pim_cached(router, sources[at].source, sources[at].group, iface, &told)) continue;
-            uint64_t words[] = {at + 1, iface, told.rpf, told.has_spt_bit, told.has_tunnel, told.is_in_immediate,
-                                told.is_in_inherited, told.is_in_shared_tree};
-            sum = mixed(sum + 1, words, sizeof words);
-        }
+    for (size_t at = 0; at < source_count; at++) {
+        struct pim_forwarding told;
+        if (!pim_cached(router, sources[at].source, sources[at].group, &told)) continue;
+        uint64_t words[] = {at + 1, told.rpf, told.has_spt_bit, told.has_tunnel, told.immediate.low, told.immediate.high,
+                            told.inherited.low, told.inherited.high, told.shared_tree.low, told.shared_tree.high};
+        sum = mixed(sum + 1, words, sizeof words);
+    }
     return sum;
 }
 
@@ -206,7 +205,7 @@ static int read_all(struct pim_router *router, uint64_t *sum, int *was_refused) 
 static struct seen full[MOST_EVENTS];
 static uint64_t full_rows;
 
-/* After memory was refused to an event: the packets are as they were, nothing else is told, and the router answers no more. */
+/* Whether a router has failed: the packets are as they were, nothing else is told, and the router answers no more. */
 static int has_failed(struct pim_router *router, uint64_t packets) {
     uint8_t none[1] = {0};
     uint32_t answers[] = {pim_up(router, 1, 0), pim_down(router, 1, 0), pim_advance(router, 1, UINT64_MAX),
@@ -241,10 +240,21 @@ static void play_for_sources(void) {
     struct pim_router router = PIM_NO_HANDLE;
     if (!began(&router)) return;
     for (size_t at = 0; at < event_count; at++) {
-        play(&router, &events[at]);
+        (void)play(&router, &events[at]);
         find_sources(&router);
     }
     pim_end(&router);
+}
+
+static int is_copied(const struct event *event) { return event->kind != 'a' && event->kind != '+' && event->kind != '-'; }
+
+/* Such an answer takes no memory but that of a copy: the event is ignored, or refused for its bytes, its moment or its interface. */
+static int is_sure(uint32_t answer) { return (answer >= PIM_SHORT && answer <= PIM_INTERFACE_DOWN) || answer >= PIM_IGNORED; }
+
+/* After memory was refused to an event: the router has failed (1), or nothing changed and the event may be given again (0); else 2. */
+static int after_refusal(struct pim_router *router, size_t at, struct seen before) {
+    if (pim_read(router, 'N') == PIM_FAILED) return has_failed(router, before.packets) && !is_sure(full[at].answer) ? 1 : 2;
+    return is_copied(&events[at]) && same(look(router, before.answer), before) ? 0 : 2;
 }
 
 /* A run. 0 where all came as without a refusal, 1 where memory was refused and told, 2 otherwise. */
@@ -257,18 +267,20 @@ static int run(int is_first) {
     if (answer == PIM_MEMORY)
         return !router.is_there && pim_up(&router, 1, 0) == PIM_NO_ROUTER && pim_next_moment(&router) == PIM_NEVER ? 1 : 2;
     if (answer != PIM_DONE) return 2;
-    uint64_t packets = packets_of(&router);
+    struct seen before = look(&router, answer);
     for (size_t at = 0; at < event_count; at++) {
         answer = play(&router, &events[at]);
         if (answer == PIM_MEMORY) {
-            int outcome = has_failed(&router, packets) ? 1 : 2;
-            pim_end(&router);
-            return outcome;
+            int outcome = after_refusal(&router, at, before);
+            if (outcome != 0) pim_end(&router);
+            if (outcome != 0) return outcome;
+            was_refused = 1;
+            answer = play(&router, &events[at]);
         }
         struct seen now = look(&router, answer);
         if (is_first) full[at] = now;
         else if (!same(now, full[at])) return 2;
-        packets = now.packets;
+        before = now;
     }
     if (!read_all(&router, &sum, &was_refused)) return 2;
     if (is_first) full_rows = sum;

@@ -1,12 +1,15 @@
 -- What a call leaves of a handle, and answers, by what stood there: nothing, a router that has failed, or one that hasn't.
-use Rattle.std.specs.Prelude.{[], Bool, Err, List, None, Ok, Option, Result, Some, false, nat_lt, true, unwrap_or, ℕ, ◌&&◌, ◌≡◌, ◌⊎◌}
+use Rattle.std.specs.Prelude.{[], Bool, Err, List, None, Ok, Option, Result, Some, false, true, unwrap_or, ℕ, ◌+◌, ◌≡◌, ◌⊎◌}
 use Rattle.pim_ip.specs.Refusal.{refusal_number}
 use Rattle.pim_ip.specs.declared.refusal.Refusal.{Refusal}
+use Rattle.pim_ifset.specs.Members.{mask_of}
 use Rattle.pim_model.specs.Cache.{Answers, cached}
 use Rattle.pim_model.specs.Limits.{config_test}
 use Rattle.pim_model.specs.Printed.{rows}
+use Rattle.pim_model.specs.Sets.{Set}
 use Rattle.pim_model.specs.State.{opening}
 use Rattle.pim_model.specs.Step.{step}
+use Rattle.pim_model.specs.Sure.{needs_no_memory}
 use Rattle.pim_router.specs.Costs.{IsCheap}
 use Rattle.pim_router.specs.Standing.{Standing, begun, nothing_shown, standing}
 use Rattle.pim_session.specs.Session.{Shown}
@@ -17,6 +20,7 @@ use Rattle.pim_types.specs.declared.table.Row.{Row}
 use Rattle.pim_types.specs.declared.table.Table.{Table}
 use Rattle.pim_c.specs.Told.{answer_number, bytes_in, no_interface, packet_of, row_of, written}
 use Rattle.pim_c.specs.declared.told.Forwarding.{Forwarding}
+use Rattle.pim_c.specs.declared.told.Interfaces.{Interfaces}
 use Rattle.pim_c.specs.declared.told.Packet.{Packet}
 use Rattle.pim_c.specs.declared.told.TableRow.{TableRow}
 
@@ -37,7 +41,8 @@ Taken s r e left = (left.router.standing ≡ Some (standing (step r.state e)))
 abbrev pub SteppedFrom : Shown → Option Standing → Event → ℕ → Shown → Type 0
 SteppedFrom s None e answer left = (answer ≡ 41) × (left ≡ lost s)
 SteppedFrom s (Some r) e answer left =
-    ((answer ≡ answer_number (step r.state e).answer) × Taken s r e left) ⊎ ((answer ≡ 40) × (left ≡ lost s))
+    ((answer ≡ answer_number (step r.state e).answer) × Taken s r e left)
+    ⊎ ((answer ≡ 40) × (left ≡ lost s) × (needs_no_memory (step r.state e).answer ≡ false))
 
 -- the router took the event and the answer is its own, or memory was refused
 abbrev pub Stepped : Option Shown → Event → ℕ → Option Shown → Type 0
@@ -49,10 +54,14 @@ abbrev pub refused_number : Option Standing → ℕ
 refused_number None = 41
 refused_number (Some r) = 40
 
--- memory was refused for an event
+-- memory was refused for an event that is to be copied, and nothing changed
 abbrev pub Refused : Option Shown → ℕ → Option Shown → Type 0
 Refused None answer left = (answer ≡ 50) × (left ≡ None)
-Refused (Some s) answer left = (answer ≡ refused_number s.router.standing) × (left ≡ Some (lost s))
+Refused (Some s) answer left = (answer ≡ refused_number s.router.standing) × (left ≡ Some s)
+
+-- an event was copied, or memory was refused for that; where it was, the router took it, or memory was refused
+abbrev pub Copied : Option Shown → Event → ℕ → Option Shown → Type 0
+Copied old e answer left = Stepped old e answer left ⊎ Refused old answer left
 
 abbrev pub ReadFrom : Shown → Option Standing → Table → ℕ → Shown → Type 0
 ReadFrom s None table answer left = (answer ≡ 41) × (left ≡ s)
@@ -101,25 +110,29 @@ abbrev pub RowTold : Option Row → Bool → TableRow → TableRow → Type 0
 RowTold None is_there row told = (is_there ≡ false) × (told ≡ row)
 RowTold (Some found) is_there row told = (is_there ≡ true) × (told ≡ row_of found)
 
--- the answers of a source, as they are told of one interface
-abbrev pub forwarding_of : Answers → ℕ → Forwarding
-forwarding_of a i = record {
+-- the interfaces that pass a test, as bits
+abbrev pub interfaces_of : Set → Interfaces
+interfaces_of p = record { low = mask_of p 64; high = mask_of (λ q. p (64 + q)) 56 }
+
+-- the answers of a source, as they are told
+abbrev pub forwarding_of : Answers → Forwarding
+forwarding_of a = record {
   rpf = unwrap_or a.rpf no_interface;
   has_spt_bit = a.spt;
   has_tunnel = a.has_tunnel;
-  is_in_immediate = nat_lt i 120 && a.immediate i;
-  is_in_inherited = nat_lt i 120 && a.inherited i;
-  is_in_shared_tree = nat_lt i 120 && a.inherited_rpt i;
+  immediate = interfaces_of a.immediate;
+  inherited = interfaces_of a.inherited;
+  shared_tree = interfaces_of a.inherited_rpt;
 }
 
-abbrev pub AnswersTold : Option Answers → ℕ → Bool → Forwarding → Forwarding → Type 0
-AnswersTold None i is_there row told = (is_there ≡ false) × (told ≡ row)
-AnswersTold (Some a) i is_there row told = (is_there ≡ true) × (told ≡ forwarding_of a i)
+abbrev pub AnswersTold : Option Answers → Bool → Forwarding → Forwarding → Type 0
+AnswersTold None is_there row told = (is_there ≡ false) × (told ≡ row)
+AnswersTold (Some a) is_there row told = (is_there ≡ true) × (told ≡ forwarding_of a)
 
 -- the row of a source with a fact is told
-abbrev pub CachedTold : Option Standing → ℕ → ℕ → ℕ → Bool → Forwarding → Forwarding → Type 0
-CachedTold None source group i is_there row told = (is_there ≡ false) × (told ≡ row)
-CachedTold (Some r) source group i is_there row told = AnswersTold (cached r.state group source) i is_there row told
+abbrev pub CachedTold : Option Standing → ℕ → ℕ → Bool → Forwarding → Forwarding → Type 0
+CachedTold None source group is_there row told = (is_there ≡ false) × (told ≡ row)
+CachedTold (Some r) source group is_there row told = AnswersTold (cached r.state group source) is_there row told
 
 abbrev pub MadeBy : Result (Unit {0}) Refusal → Option Shown → Config → ℕ → Option Shown → Type 0
 MadeBy (Ok _) old config answer left = (answer ≡ 0) × (left ≡ Some (new_shown config))

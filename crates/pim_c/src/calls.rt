@@ -4,7 +4,7 @@ ghost use Rattle.std.specs.List.{slice_get};
 ghost use Rattle.std.specs.Prelude.{◌≡◌, None, length, map, option_and_then, unwrap_or};
 ghost use Rattle.pim_model.specs.Timers.{next_moment};
 ghost use Rattle.pim_types.specs.declared.event.EventKind.{EventKind};
-ghost use Rattle.pim_c.specs.Called.{CachedTold, Made, PacketTold, ReadBy, RowTold, Stepped, packets_in, probes_in, rows_in, standing_in, touched_in};
+ghost use Rattle.pim_c.specs.Called.{CachedTold, Copied, Made, PacketTold, ReadBy, RowTold, Stepped, packets_in, probes_in, rows_in, standing_in, touched_in};
 ghost use Rattle.pim_c.specs.Given.{config_of, event_of, iface_of, range_of, route_of};
 ghost use Rattle.pim_c.specs.Told.{never, table_of};
 
@@ -58,7 +58,7 @@ pub extern "C" fn pim_frame(
     iface: u32,
     packet: &[u8],
 ) -> u32
-    ensures { Stepped router.old.place.inside (event_of draw (EventKind.Frame (iface_of iface) packet.now)) result router.new.place.inside }
+    ensures { Copied router.old.place.inside (event_of draw (EventKind.Frame (iface_of iface) packet.now)) result router.new.place.inside }
 {
     router.step(alloc, given::frame(alloc, draw, iface, packet))
 }
@@ -66,7 +66,7 @@ pub extern "C" fn pim_frame(
 /// A packet was received for an address of the router.
 #[unsafe(no_mangle)]
 pub extern "C" fn pim_unicast(alloc: Global, router: &mut Handle, draw: u32, packet: &[u8]) -> u32
-    ensures { Stepped router.old.place.inside (event_of draw (EventKind.Unicast packet.now)) result router.new.place.inside }
+    ensures { Copied router.old.place.inside (event_of draw (EventKind.Unicast packet.now)) result router.new.place.inside }
 {
     router.step(alloc, given::unicast(alloc, draw, packet))
 }
@@ -101,7 +101,7 @@ pub extern "C" fn pim_routes(
     draw: u32,
     routes: &[GivenRoute],
 ) -> u32
-    ensures { Stepped router.old.place.inside (event_of draw (EventKind.Routes (map route_of routes.now))) result router.new.place.inside }
+    ensures { Copied router.old.place.inside (event_of draw (EventKind.Routes (map route_of routes.now))) result router.new.place.inside }
 {
     router.step(alloc, given::new_routes(alloc, draw, routes))
 }
@@ -114,7 +114,7 @@ pub extern "C" fn pim_ranges(
     draw: u32,
     ranges: &[GivenRange],
 ) -> u32
-    ensures { Stepped router.old.place.inside (event_of draw (EventKind.Rps (map range_of ranges.now))) result router.new.place.inside }
+    ensures { Copied router.old.place.inside (event_of draw (EventKind.Rps (map range_of ranges.now))) result router.new.place.inside }
 {
     router.step(alloc, given::new_ranges(alloc, draw, ranges))
 }
@@ -195,22 +195,21 @@ pub extern "C" fn pim_row(
     router.row(alloc, index, row)
 }
 
-/// How data of a source to a group goes, of one interface, as the forwarding cache has it. False where it has no row.
+/// How data of a source to a group goes, as the forwarding cache has it. False where it has no row.
 #[unsafe(no_mangle)]
 pub extern "C" fn pim_cached(
     alloc: Global,
     router: &mut Handle,
     source: u32,
     group: u32,
-    iface: u32,
     forwarding: &mut Forwarding,
 ) -> bool
-    ensures told { CachedTold (standing_in router.old.place.inside) source group iface result forwarding.old forwarding.new }
+    ensures told { CachedTold (standing_in router.old.place.inside) source group result forwarding.old forwarding.new }
     ensures stays { router.new.place.inside ≡ router.old.place.inside }
 {
     let source = Addr { bits: source };
     let group = Addr { bits: group };
-    router.cached(alloc, source, group, IfaceId { number: iface }, forwarding)
+    router.cached(alloc, source, group, forwarding)
 }
 
 /// The trie nodes that the last event visited.

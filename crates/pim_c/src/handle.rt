@@ -16,7 +16,7 @@ use crate::told::{
 };
 use pim_mfc::CacheRow;
 use pim_session::Session;
-use pim_types::{Addr, Config, Emission, Event, Fault, IfaceId, Refusal, Row, Table};
+use pim_types::{Addr, Config, Emission, Event, Fault, Refusal, Row, Table};
 use std::alloc::{AllocError, Global};
 use std::mem::replace;
 
@@ -157,23 +157,21 @@ impl Handle {
         next
     }
 
-    /// The row of the forwarding cache of a source, as it is told of one interface.
+    /// The row of the forwarding cache of a source.
     pub fn cached(
         &mut self,
         alloc: Global,
         source: Addr,
         group: Addr,
-        iface: IfaceId,
         forwarding: &mut Forwarding,
     ) -> bool
-        ensures told { CachedTold (standing_in self.old.place.inside) source.bits group.bits iface.number result
-            forwarding.old forwarding.new }
+        ensures told { CachedTold (standing_in self.old.place.inside) source.bits group.bits result forwarding.old forwarding.new }
         ensures stays { self.new.place.inside ≡ self.old.place.inside }
     {
         let Some(session) = self.take(alloc) else {
             return false;
         };
-        let is_there = tell_cached(session.cached(source, group), iface, forwarding);
+        let is_there = tell_cached(session.cached(source, group), forwarding);
         self.put(session);
         is_there
     }
@@ -272,38 +270,30 @@ fn tell_row(rows: &[Row], index: usize, row: &mut TableRow) -> bool
 }
 
 // Tells a row of the forwarding cache, where it is there.
-fn tell_cached(row: Option<CacheRow>, iface: IfaceId, forwarding: &mut Forwarding) -> bool
+fn tell_cached(row: Option<CacheRow>, forwarding: &mut Forwarding) -> bool
     ensures told { (answers : Option Answers) → TellsRow row answers
-        → AnswersTold answers iface.number result forwarding.old forwarding.new }
+        → AnswersTold answers result forwarding.old forwarding.new }
     ensures none { row ≡ None → (result ≡ false) × (forwarding.new ≡ forwarding.old) }
 {
     match row {
         Some(row) => {
-            *forwarding = told::row_of_iface(&row, iface);
+            *forwarding = told::cache_row(&row);
             true
         }
         None => false,
     }
 }
 
-// Has a session take an event, for which memory may have been refused.
+// Has a session take an event, for which memory may have been refused: then nothing changes.
 fn step(alloc: Global, session: &mut Session, event: Result<Event, AllocError>) -> u32
     ensures stepped { IfOk event (λ e. SteppedFrom session.old session.old.router.standing e result session.new) }
-    ensures refused { OnErr event ((result ≡ refused_number session.old.router.standing) × (session.new ≡ lost session.old)) }
+    ensures refused { OnErr event ((result ≡ refused_number session.old.router.standing) × (session.new ≡ session.old)) }
 {
     match event {
         Ok(event) => answer_number(session.step(alloc, &event)),
-        Err(_) => lose(session),
+        Err(_) if session.has_failed() => FAILED,
+        Err(_) => MEMORY,
     }
-}
-
-// Has a session fail. It answers that it failed before, or that memory was refused.
-fn lose(session: &mut Session) -> u32
-    ensures { (result ≡ refused_number session.old.router.standing) × (session.new ≡ lost session.old) }
-{
-    let had_failed = session.has_failed();
-    session.lose();
-    if had_failed { FAILED } else { MEMORY }
 }
 
 // Has a session read the rows of a table.

@@ -1,11 +1,15 @@
 //! What a program is told: answers, packets and rows.
-ghost use Rattle.std.specs.Prelude.{◌≡◌, IfErr, IfOk};
+ghost use Rattle.std.specs.Prelude.{◌≡◌, ◌+◌, ◌≤◌, IfErr, IfOk};
 ghost use Rattle.pim_ip.specs.Fault.{fault_number};
+ghost use Rattle.pim_ifset.specs.Members.{has, mask_of};
 ghost use Rattle.pim_mfc.specs.Laws.{IsAfresh};
 ghost use Rattle.pim_model.specs.Cache.{Answers};
-ghost use Rattle.pim_c.specs.Called.{forwarding_of};
+ghost use Rattle.pim_model.specs.Sets.{Set};
+ghost use Rattle.pim_world.specs.Shown.{Shows};
+ghost use Rattle.pim_c.specs.Called.{forwarding_of, interfaces_of};
 ghost use Rattle.pim_c.specs.Told.{answer_number, bytes_in, downstream_number, iface_number, ignored_number, packet_of, register_number, row_of, source_bits, table_of, verdict_number, written};
 
+use pim_ifset::IfSet;
 use pim_mfc::CacheRow;
 use pim_types::fact::AssertRole;
 use pim_types::table::{DownstreamState, RegisterName};
@@ -322,7 +326,15 @@ pub fn row(row: &Row) -> TableRow
     }
 }
 
-/// How data of a source to a group goes, of one interface.
+/// A set of interfaces as the bits of two words: 0 to 63, and 64 to 119.
+#[repr(C)]
+#[derive(Drop)]
+pub struct Interfaces {
+    pub low: u64,
+    pub high: u64,
+}
+
+/// How data of a source to a group goes.
 #[repr(C)]
 #[derive(Drop)]
 pub struct Forwarding {
@@ -333,24 +345,49 @@ pub struct Forwarding {
     /// The register tunnel is in the first two lists.
     pub has_tunnel: bool,
     /// immediate_olist(S,G).
-    pub is_in_immediate: bool,
+    pub immediate: Interfaces,
     /// inherited_olist(S,G).
-    pub is_in_inherited: bool,
+    pub inherited: Interfaces,
     /// inherited_olist(S,G,rpt).
-    pub is_in_shared_tree: bool,
+    pub shared_tree: Interfaces,
 }
 
-/// A row of the forwarding cache as it is told of one interface.
-pub fn row_of_iface(row: &CacheRow, iface: IfaceId) -> Forwarding
-    ensures { (a : Answers) → IsAfresh row.now a → result ≡ forwarding_of a iface.number }
+// So many of a set's interfaces, from one on, as bits: the first is the lowest.
+#[tactic(auto, using(crate::proofs::Bits::next_bit, crate::proofs::Bits::no_bit, pim_ifset::proofs::Sets::mask_of_lt))]
+fn word(set: IfSet, from: u32, count: u32) -> u64
+    requires { (count ≤ 64) × (from ≤ 64) }
+    ensures { result ≡ mask_of (λ q. has set (from + q)) count }
+{
+    let mut word = 0;
+    for at in 0..count {
+        if set.contains(IfaceId { number: from + at }) {
+            word += 1 << at;
+        }
+    }
+    word
+}
+
+#[tactic(auto, using(crate::proofs::Bits::low_shown, crate::proofs::Bits::high_shown))]
+fn words(set: IfSet) -> Interfaces
+    ensures { (p : Set) → Shows set p → result ≡ interfaces_of p }
+{
+    Interfaces {
+        low: word(set, 0, 64),
+        high: word(set, 64, 56),
+    }
+}
+
+/// A row of the forwarding cache as it is told.
+pub fn cache_row(row: &CacheRow) -> Forwarding
+    ensures { (a : Answers) → IsAfresh row.now a → result ≡ forwarding_of a }
 {
     Forwarding {
         rpf: iface_number(row.rpf),
         has_spt_bit: row.spt,
         has_tunnel: row.inherited.has_tunnel(),
-        is_in_immediate: row.immediate.contains(iface),
-        is_in_inherited: row.inherited.contains(iface),
-        is_in_shared_tree: row.inherited_rpt.contains(iface),
+        immediate: words(row.immediate),
+        inherited: words(row.inherited),
+        shared_tree: words(row.inherited_rpt),
     }
 }
 

@@ -1,6 +1,6 @@
 //! A router behind a box, with what the last calls told of it.
 ghost use Rattle.std.specs.Option.{option_map_or};
-ghost use Rattle.std.specs.Prelude.{◌≡◌, ◌↔◌, [], Err, IfErr, IfOk, IfSome, IsOkUnless, IsSome, IsTrue, None, Ok, OnErr, OnOk, Some, option_and_then};
+ghost use Rattle.std.specs.Prelude.{◌≡◌, ◌↔◌, [], Err, IfErr, IfOk, IfSome, IsOk, IsOkUnless, IsSome, IsTrue, None, Ok, OnErr, OnOk, Some, option_and_then};
 ghost use Rattle.pim_ip.specs.declared.fault.Fault.{Fault};
 ghost use Rattle.pim_mfc.specs.Laws.{TellsRow};
 ghost use Rattle.pim_model.specs.Cache.{cached};
@@ -8,6 +8,7 @@ ghost use Rattle.pim_model.specs.Limits.{config_test};
 ghost use Rattle.pim_model.specs.Printed.{rows};
 ghost use Rattle.pim_model.specs.State.{opening};
 ghost use Rattle.pim_model.specs.Step.{step};
+ghost use Rattle.pim_model.specs.Sure.{needs_no_memory};
 ghost use Rattle.pim_model.specs.Timers.{next_moment};
 ghost use Rattle.pim_router.specs.Costs.{IsCheap};
 ghost use Rattle.pim_router.specs.Standing.{begun, nothing_shown, standing};
@@ -21,7 +22,7 @@ use std::marker::Model;
 /// A router, the packets of the last event that it took, and the rows of the table that was asked for last.
 pub struct Session {
     router: Box<Router>,
-    // Memory was refused to it, or for an event that it hasn't seen.
+    // Memory was refused to it.
     is_lost: bool,
     sent: Vec<Emission>,
     rows: Vec<Row>,
@@ -82,7 +83,8 @@ impl Session {
     }
 
     /// Takes one event, as `Router::step` does, and keeps its packets in place of those before. After a fault the packets are as
-    /// they were, and the session answers `Failed` from then on.
+    /// they were, and the session answers `Failed` from then on. There is none in a session that hasn't failed, where the event is
+    /// ignored, or refused for its bytes, its moment or its interface.
     pub fn step(&mut self, alloc: Global, event: &Event) -> Result<Result<Verdict, Refusal>, Fault>
         ensures answer { IfSome self.old.router.standing (λ r. IfOk result (λ answer. answer ≡ (step r.state event.now).answer)) }
         ensures state { IfSome self.old.router.standing (λ r. OnOk result
@@ -94,6 +96,8 @@ impl Session {
         ensures silent { OnErr result (self.new.sent ≡ self.old.sent) }
         ensures failed { (result ≡ Err Fault.Failed) ↔ (self.old.router.standing ≡ None) }
         ensures fault { IfSome self.old.router.standing (λ r. IsOkUnless result Fault.Memory) }
+        ensures sure { IfSome self.old.router.standing (λ r. IsTrue (needs_no_memory (step r.state event.now).answer)
+            → IsOk result) }
         ensures rows { self.new.rows ≡ self.old.rows }
     {
         if self.is_lost {
@@ -117,14 +121,6 @@ impl Session {
         ensures { IsTrue result ↔ (self.now.router.standing ≡ None) }
     {
         self.is_lost
-    }
-
-    /// The router is given up, as after a fault: memory was refused for an event that it should have seen.
-    pub fn lose(&mut self)
-        ensures router { self.new.router ≡ nothing_shown }
-        ensures rest { (self.new.sent ≡ self.old.sent) × (self.new.rows ≡ self.old.rows) }
-    {
-        self.is_lost = true;
     }
 
     /// Reads the rows of a table, as `Router::rows` does, and keeps them in place of those before. After a fault these are as they

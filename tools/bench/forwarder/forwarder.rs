@@ -5,11 +5,12 @@
 //! SETUP has a line for each event before the data: `up IFACE`, or `frame IFACE HEX`. With `time` the packets go through both in turn,
 //! a batch each, and the nanoseconds of both a packet are printed. With `count` all go first through the one and then through the
 //! other, for a count of instructions in `library_batch` and `plain_batch`.
-#[path = "../../../examples/library/pim.rs"]
+#[allow(dead_code)]
+#[path = "../../../bindings/rust/src/lib.rs"]
 mod pim;
 mod plain;
 
-use pim::{Interface, MOST_BYTES, Range, Route, Router, Settings, USUAL_SETTINGS};
+use pim::{Error, Interface, MOST_BYTES, Range, Route, Router, Settings, Verdict};
 use plain::{Plain, sum16};
 use std::hint::black_box;
 use std::time::Instant;
@@ -19,6 +20,7 @@ const FIRST_GROUP: u32 = 0xE101_0000;
 const FIRST_SOURCE: u32 = 0x0A80_0000;
 const SOURCES_A_GROUP: u32 = 100;
 const DRAW: u32 = 7;
+const DONE: Result<Verdict, Error> = Ok(Verdict::Done);
 
 /// Packets of one length, one after the other.
 struct Batch {
@@ -81,7 +83,7 @@ fn library_batch(router: &mut Router, batch: &Batch, room: &mut [u8; MOST_BYTES]
     let mut sent = Sent::default();
     for packet in batch.bytes.chunks_exact(batch.length) {
         let answer = router.frame(DRAW, 0, packet);
-        assert_eq!(answer, 0);
+        assert_eq!(answer, DONE);
         router.each_packet(room, |packet, bytes| sent.take(packet.iface, bytes));
     }
     sent
@@ -116,7 +118,7 @@ struct Both {
 impl Both {
     /// The router after the events of the setup, and a plain forwarder that is told the same interfaces and the rows.
     fn new(setup: &str, copies: u32, rows: u32) -> Both {
-        let settings = Settings { limit: 1_000_000, ..USUAL_SETTINGS };
+        let settings = Settings { limit: 1_000_000, ..Settings::default() };
         let addresses: Vec<u32> = (0..=copies).map(|iface| 0x0A00_0002 | iface << 8).collect();
         let of = |&address: &u32| Interface { address, length: 24, priority: 1, propagation_delay: 500, override_interval: 2500 };
         let interfaces: Vec<Interface> = addresses.iter().map(of).collect();
@@ -139,7 +141,7 @@ impl Both {
                 (next - 1) % self.rows
             });
             let mut packets = batch.bytes.chunks_exact(batch.length);
-            assert!(packets.all(|packet| self.router.frame(DRAW, 0, packet) == 0));
+            assert!(packets.all(|packet| self.router.frame(DRAW, 0, packet) == DONE));
         }
     }
 
@@ -147,8 +149,8 @@ impl Both {
     fn compare(&mut self, batch: &Batch) {
         for packet in batch.bytes.chunks_exact(batch.length) {
             let [source, group] = [12, 16].map(|at| u32::from_be_bytes(packet[at..at + 4].try_into().expect("an address")));
-            assert!(self.router.cached(source, group, 0).is_some_and(|it| it.has_spt_bit));
-            assert_eq!(self.router.frame(DRAW, 0, packet), 0);
+            assert!(self.router.cached(source.into(), group.into()).is_some_and(|it| it.has_spt_bit));
+            assert_eq!(self.router.frame(DRAW, 0, packet), DONE);
             let one: Vec<(u32, Vec<u8>)> = self.router.packets().into_iter().map(|it| (it.packet.iface, it.bytes)).collect();
             let mut other = Vec::new();
             let answer = self.plain.frame(0, packet, &mut self.room, |iface, bytes| other.push((iface, bytes.to_vec())));
@@ -159,7 +161,7 @@ impl Both {
     /// A millisecond passes in both.
     fn tick(&mut self) {
         self.moment += 1;
-        assert_eq!(self.router.advance(DRAW, self.moment), 0);
+        assert_eq!(self.router.advance(DRAW, self.moment), DONE);
         self.plain.present = self.moment;
     }
 
@@ -220,7 +222,7 @@ fn take_line(router: &mut Router, line: &str) {
         "up" => router.up(DRAW, iface),
         _ => router.frame(DRAW, iface, &bytes_of(words[2])),
     };
-    assert_eq!(answer, 0, "{line}");
+    assert_eq!(answer, DONE, "{line}");
 }
 
 fn bytes_of(hex: &str) -> Vec<u8> {

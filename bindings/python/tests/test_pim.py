@@ -1,0 +1,93 @@
+"""Each call of the package once, and what it answers: a Join of 10.0.1.2 comes and a packet of its source, as in examples/library."""
+import unittest
+
+import pim
+from pim import Answer, Refused, Router
+
+HELLO_ABOVE = "45C0001E000000000167CEAB0A000001E000000D2000DFFC00010002FFFF"
+HELLO_BELOW = "45C0001E000000000167CDAA0A000102E000000D2000DFFC00010002FFFF"
+JOIN = "45C00036000000000167CD920A000102E000000D2300DBB301000A0001010001000101000020E101010100010000010004200A000305"
+DATA = "4500001C0000000040118BCA0A000305E10101010001000200030004"
+INTERFACES = [("10.0.0.2", 24), ("10.0.1.1", 24), ("10.0.2.1", 24)]
+ROUTES = [("10.9.9.0/24", "10.0.0.1", 0, 110, 20), ("10.0.3.0/24", "10.0.0.1", 0, 110, 20)]
+RANGES = [("224.0.0.0/4", "10.9.9.9")]
+
+
+class Routers(unittest.TestCase):
+    def router(self):
+        router = Router(INTERFACES, RANGES, ROUTES)
+        self.addCleanup(router.end)
+        return router
+
+    def joined(self):
+        """With all interfaces up, and the Join of 10.0.3.5 to 225.1.1.1 on the second one."""
+        router = self.router()
+        answers = [router.up(iface, draw=7) for iface in range(3)]
+        answers += [router.frame(iface, bytes.fromhex(text)) for iface, text in enumerate((HELLO_ABOVE, HELLO_BELOW))]
+        answers.append(router.frame(1, bytes.fromhex(JOIN)))
+        self.assertEqual(answers, [Answer.DONE] * 6)
+        return router
+
+    def test_configurations_that_are_refused(self):
+        with self.assertRaises(Refused) as caught:
+            Router([])
+        self.assertEqual(caught.exception.answer, Answer.INTERFACE_COUNT)
+        with self.assertRaisesRegex(Refused, r"the limit isn't 1 to 1,000,000 \(34\)"):
+            Router(INTERFACES, limit=0)
+
+    def test_events_that_are_refused_or_ignored(self):
+        router = self.router()
+        self.assertEqual(router.frame(0, b""), Answer.INTERFACE_DOWN)
+        self.assertEqual(router.up(3), Answer.BAD_INTERFACE)
+        self.assertEqual(router.down(0), Answer.ALREADY)
+        self.assertTrue(router.down(0).is_ignored)
+        self.assertEqual(router.unicast(b""), Answer.SHORT)
+        self.assertTrue(router.unicast(b"").is_refused)
+        self.assertEqual(router.advance(5), Answer.DONE)
+        self.assertEqual(router.advance(4), Answer.MOMENT_BACK)
+        self.assertEqual(router.set_routes(ROUTES[:1] * 2), Answer.BAD_ROUTES)
+        self.assertEqual(router.set_ranges([("224.0.0.0/3", "10.9.9.9")]), Answer.BAD_RANGES)
+
+    def test_lists_are_replaced(self):
+        router = self.router()
+        self.assertEqual((router.set_routes([]), router.set_ranges([])), (Answer.DONE, Answer.DONE))
+
+    def test_a_join_a_packet_and_its_copy(self):
+        router = self.joined()
+        self.assertEqual([(one.kind, one.where) for one in router.packets()], [("frame", 0)] * 2)
+        self.assertEqual(router.frame(0, bytes.fromhex(DATA)), Answer.DONE)
+        copy, = router.packets()
+        self.assertEqual((copy.kind, copy.where, copy.packet[8]), ("copy", 1, 63))
+        self.assertGreaterEqual(router.probes(), 1)
+        router.frame(0, bytes.fromhex(DATA))
+        self.assertEqual(router.touched(), 0)
+
+    def test_what_the_router_knows(self):
+        router = self.joined()
+        self.assertEqual([len(router.rows(letter)) for letter in pim.TABLES], [2, 0, 0, 1, 0, 1, 0, 0])
+        self.assertIn("U 225.1.1.1 10.0.3.5", " ".join(router.tables()))
+        self.assertIsNotNone(router.next_moment())
+        with self.assertRaises(Refused):
+            router.rows("X")
+
+    def test_how_data_goes(self):
+        router = self.joined()
+        router.frame(0, bytes.fromhex(DATA))
+        told = router.cached("10.0.3.5", "225.1.1.1")
+        self.assertEqual((told.rpf, told.has_spt_bit, told.has_tunnel), (0, True, False))
+        self.assertEqual((told.immediate, told.inherited, told.shared_tree), ({1}, {1}, set()))
+        self.assertIsNone(router.cached("10.0.3.6", "225.1.1.1"))
+
+    def test_after_its_end(self):
+        with Router(INTERFACES) as router:
+            self.assertIsNone(router.next_moment())
+        self.assertEqual(router.up(0), Answer.NO_ROUTER)
+
+    def test_texts(self):
+        self.assertRegex(pim.version(), r"^0\.1\.0 (not )?proved$")
+        self.assertEqual(pim.answer_text(0), "done")
+        self.assertEqual(len({pim.answer_text(answer) for answer in Answer}), len(Answer))
+
+
+if __name__ == "__main__":
+    unittest.main()

@@ -1,0 +1,136 @@
+//! Each call of the crate once, and what it answers: a Join of 10.0.1.2 comes and a packet of its source, as in `examples/library`.
+use pim::{Error, Interface, Range, Reason, Refusal, Route, Router, Settings, Table, Verdict};
+use std::net::Ipv4Addr;
+
+const HELLO_ABOVE: &str = "45C0001E000000000167CEAB0A000001E000000D2000DFFC00010002FFFF";
+const HELLO_BELOW: &str = "45C0001E000000000167CDAA0A000102E000000D2000DFFC00010002FFFF";
+const JOIN: &str =
+    "45C00036000000000167CD920A000102E000000D2300DBB301000A0001010001000101000020E101010100010000010004200A000305";
+const DATA: &str = "4500001C0000000040118BCA0A000305E10101010001000200030004";
+const DONE: Result<Verdict, Error> = Ok(Verdict::Done);
+
+fn bytes_of(hex: &str) -> Vec<u8> {
+    (0..hex.len()).step_by(2).map(|at| u8::from_str_radix(&hex[at..at + 2], 16).unwrap()).collect()
+}
+
+fn address(last: [u8; 4]) -> Ipv4Addr {
+    Ipv4Addr::from(last)
+}
+
+fn interfaces() -> [Interface; 3] {
+    [0, 1, 2].map(|net| Interface::new(address([10, 0, net, if net == 0 { 2 } else { 1 }]), 24))
+}
+
+fn routes() -> [Route; 2] {
+    [[10, 9, 9, 0], [10, 0, 3, 0]].map(|prefix| Route::new(address(prefix), 24, address([10, 0, 0, 1]), 0))
+}
+
+fn ranges() -> [Range; 1] {
+    [Range::new(address([224, 0, 0, 0]), 4, address([10, 9, 9, 9]))]
+}
+
+fn router() -> Router {
+    Router::new(&Settings::default(), &interfaces(), &routes(), &ranges()).unwrap()
+}
+
+/// With all interfaces up, and the Join of 10.0.3.5 to 225.1.1.1 on the second one.
+fn joined() -> Router {
+    let mut router = router();
+    for iface in 0..3 {
+        assert_eq!(router.up(7, iface), DONE);
+    }
+    assert_eq!(router.frame(0, 0, &bytes_of(HELLO_ABOVE)), DONE);
+    assert_eq!(router.frame(0, 1, &bytes_of(HELLO_BELOW)), DONE);
+    assert_eq!(router.frame(0, 1, &bytes_of(JOIN)), DONE);
+    router
+}
+
+#[test]
+fn configurations_that_are_refused() {
+    let none: [Interface; 0] = [];
+    let made = Router::new(&Settings::default(), &none, &[], &[]);
+    assert_eq!(made.err(), Some(Error::Refused(Refusal::InterfaceCount)));
+    let settings = Settings { limit: 0, ..Settings::default() };
+    let error = Router::new(&settings, &interfaces(), &[], &[]).err().unwrap();
+    assert_eq!(error, Error::Refused(Refusal::BadLimit));
+    assert_eq!(error.to_string(), "the limit isn't 1 to 1,000,000 (34)");
+}
+
+#[test]
+fn events_that_are_refused_or_ignored() {
+    let mut router = router();
+    assert_eq!(router.frame(0, 0, &[]), Err(Error::Refused(Refusal::InterfaceDown)));
+    assert_eq!(router.up(0, 3), Err(Error::Refused(Refusal::BadInterface)));
+    assert_eq!(router.down(0, 0), Ok(Verdict::Ignored(Reason::Already)));
+    assert_eq!(router.unicast(0, &[]), Err(Error::Refused(Refusal::Short)));
+    assert_eq!(router.advance(0, 5), DONE);
+    assert_eq!(router.advance(0, 4), Err(Error::Refused(Refusal::MomentBack)));
+    assert_eq!(router.set_routes(0, &[routes()[0], routes()[0]]), Err(Error::Refused(Refusal::BadRoutes)));
+    assert_eq!(router.set_ranges(0, &[Range { length: 3, ..ranges()[0] }]), Err(Error::Refused(Refusal::BadRanges)));
+}
+
+#[test]
+fn lists_are_replaced() {
+    let mut router = router();
+    assert_eq!(router.set_routes(0, &[]), DONE);
+    assert_eq!(router.set_ranges(0, &[]), DONE);
+}
+
+#[test]
+fn a_join_a_packet_and_its_copy() {
+    let mut router = joined();
+    let sent = router.packets();
+    assert_eq!(sent.len(), 2);
+    assert!(sent.iter().all(|sent| !sent.is_copy && !sent.packet.is_unicast && sent.packet.iface == 0));
+    assert_eq!(router.frame(0, 0, &bytes_of(DATA)), DONE);
+    let [copy] = &router.packets()[..] else { panic!("one packet") };
+    assert!(copy.is_copy && copy.packet.iface == 1 && copy.packet.length == copy.bytes.len());
+    assert_eq!(copy.bytes[8], 63);
+    assert_eq!(router.copies(), 1);
+    assert!(router.packet(1, &mut []).is_none());
+    assert!(router.probes() >= 1);
+    assert_eq!(router.frame(0, 0, &bytes_of(DATA)), DONE);
+    assert_eq!(router.touched(), 0);
+}
+
+#[test]
+fn what_the_router_knows() {
+    let mut router = joined();
+    let counts = Table::ALL.map(|table| router.rows(table).unwrap().len());
+    assert_eq!(counts, [2, 0, 0, 1, 0, 1, 0, 0]);
+    let [join] = &router.rows(Table::Downstream).unwrap()[..] else { panic!("one row") };
+    assert_eq!((join.table, join.iface, join.group, join.state), (u32::from(b'D'), 1, 0xe101_0101, 1));
+    assert!(router.next_moment().is_some());
+}
+
+#[test]
+fn how_data_goes() {
+    let mut router = joined();
+    let (source, group) = (address([10, 0, 3, 5]), address([225, 1, 1, 1]));
+    assert_eq!(router.frame(0, 0, &bytes_of(DATA)), DONE);
+    let told = router.cached(source, group).unwrap();
+    assert_eq!((told.rpf(), told.has_spt_bit, told.has_tunnel), (Some(0), true, false));
+    assert_eq!(told.immediate.iter().collect::<Vec<_>>(), [1]);
+    assert_eq!(told.inherited, told.immediate);
+    assert_eq!(told.shared_tree.iter().count(), 0);
+    assert!(!told.immediate.contains(128));
+    assert_eq!(router.cached(address([10, 0, 3, 6]), group), None);
+}
+
+#[test]
+fn a_router_goes_to_another_thread() {
+    let mut router = joined();
+    let sent = std::thread::spawn(move || {
+        assert_eq!(router.frame(0, 0, &bytes_of(DATA)), DONE);
+        router.packets().len()
+    });
+    assert_eq!(sent.join().unwrap(), 1);
+}
+
+#[test]
+fn texts() {
+    let (number, how) = pim::version().split_once(' ').unwrap();
+    assert_eq!(number, env!("CARGO_PKG_VERSION"));
+    assert!(["proved", "not proved"].contains(&how));
+    assert_eq!(pim::answer_text(0), "done");
+}
