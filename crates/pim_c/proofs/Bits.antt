@@ -1,5 +1,6 @@
 -- Sets of interfaces as the bits of two words.
-use Rattle.std.proofs.Common.{◌≡◌, ℕ, zero, suc, ◌+◌, ◌^◌, ◌<◌, ◌≤◌, Bool, true, false, ◌&&◌, refl, ap, arith, nat_lt, if◌then◌else◌}
+use Rattle.std.proofs.Common.{◌≡◌, ℕ, zero, suc, ◌+◌, ◌^◌, ◌<◌, ◌≤◌, Bool, true, false, ◌&&◌, refl, sym, arith, nat_lt, if◌then◌else◌}
+use Rattle.std.proofs.Math.Nat.{pow-le-pow_right}
 use Rattle.std.proofs.lemmas.Bool.Decides.{nat_tests}
 use Rattle.pim_ifset.proofs.Sets.{mask_of_lt}
 use Rattle.pim_ifset.specs.Members.{Members, has, mask_of}
@@ -7,13 +8,21 @@ use Rattle.pim_model.specs.Sets.{Set}
 use Rattle.pim_world.specs.Shown.{Shows}
 
 -- one bit more
-pub next_bit : (p : ℕ → Bool) (n : ℕ) → mask_of p (suc n) ≡ mask_of p n + (if p n then 2 ^ n else 0)
+pub next_bit : (p : ℕ → Bool) (n : ℕ) → mask_of p (n + 1) ≡ mask_of p n + (if p n then 2 ^ n else 0)
 unfolding mask_of
-next_bit p n = refl
+next_bit p n = let e : n + 1 ≡ suc n = omega arith in rw e
 
 pub no_bit : (p : ℕ → Bool) → mask_of p 0 ≡ 0
 unfolding mask_of
 no_bit p = refl
+
+-- so many bits fit into a word
+pub bits_fit : (p : ℕ → Bool) (n : ℕ) → n < 64 → mask_of p n + (if p n then 2 ^ n else 0) < 2 ^ 64
+bits_fit p n below =
+    let two : zero < 2 = omega arith in
+    let top : n + 1 ≤ 64 = omega (arith, below) in
+    let le : 2 ^ (n + 1) ≤ 2 ^ 64 = pow-le-pow_right two top in
+    rw (sym (next_bit p n)) (omega (arith, mask_of_lt p (n + 1), le))
 
 -- tests that agree below a number have the same bits there
 pub same_bits : (p q : ℕ → Bool) (n : ℕ) → ((i : ℕ) → i < n → p i ≡ q i) → mask_of p n ≡ mask_of q n
@@ -23,7 +32,8 @@ same_bits p q (suc n) same = rw (same n (omega arith), same_bits p q n (λ i bel
 
 -- the words of a set that shows a test are those of the test
 pub low_shown : (s : Members) (p : Set) → Shows s p → mask_of (λ q. has s (0 + q)) 64 ≡ mask_of p 64
-low_shown s p shows = same_bits _ _ 64 (λ i below. let l : nat_lt i 120 ≡ true = grind (arith, nat_tests) in rw (shows i, l))
+low_shown s p shows = same_bits _ _ 64 (λ i below.
+    let z : 0 + i ≡ i = omega arith in let l : nat_lt i 120 ≡ true = grind (arith, nat_tests) in rw (z, shows i, l))
 
 pub high_shown : (s : Members) (p : Set) → Shows s p → mask_of (λ q. has s (64 + q)) 56 ≡ mask_of (λ q. p (64 + q)) 56
 high_shown s p shows = same_bits _ _ 56 (λ i below. let l : nat_lt (64 + i) 120 ≡ true = grind (arith, nat_tests) in rw (shows (64 + i), l))

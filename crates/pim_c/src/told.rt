@@ -1,5 +1,5 @@
 //! What a program is told: answers, packets and rows.
-ghost use Rattle.std.specs.Prelude.{◌≡◌, ◌+◌, ◌≤◌, IfErr, IfOk};
+ghost use Rattle.std.specs.Prelude.{◌≡◌, ◌+◌, ◌<◌, ◌≤◌, ◌^◌, IfErr, IfOk, if◌then◌else◌};
 ghost use Rattle.pim_ip.specs.Fault.{fault_number};
 ghost use Rattle.pim_ifset.specs.Members.{has, mask_of};
 ghost use Rattle.pim_mfc.specs.Laws.{IsAfresh};
@@ -352,22 +352,28 @@ pub struct Forwarding {
     pub shared_tree: Interfaces,
 }
 
+// A bit of a word, which stands for an interface.
+fn bit(set: IfSet, iface: IfaceId, at: u32) -> u64
+    requires { at < 64 }
+    ensures { result ≡ (if has set iface.number then 2 ^ at else 0) }
+{
+    if set.contains(iface) { 1 << at } else { 0 }
+}
+
 // So many of a set's interfaces, from one on, as bits: the first is the lowest.
-#[tactic(auto, using(crate::proofs::Bits::next_bit, crate::proofs::Bits::no_bit, pim_ifset::proofs::Sets::mask_of_lt))]
+#[tactic(auto, using(crate::proofs::Bits::next_bit, crate::proofs::Bits::no_bit, crate::proofs::Bits::bits_fit))]
 fn word(set: IfSet, from: u32, count: u32) -> u64
     requires { (count ≤ 64) × (from ≤ 64) }
     ensures { result ≡ mask_of (λ q. has set (from + q)) count }
 {
     let mut word = 0;
     for at in 0..count {
-        if set.contains(IfaceId { number: from + at }) {
-            word += 1 << at;
-        }
+        word += bit(set, IfaceId { number: from + at }, at);
     }
     word
 }
 
-#[tactic(auto, using(crate::proofs::Bits::low_shown, crate::proofs::Bits::high_shown))]
+// Both words of a set.
 fn words(set: IfSet) -> Interfaces
     ensures { (p : Set) → Shows set p → result ≡ interfaces_of p }
 {
