@@ -63,6 +63,10 @@ class Judged(unittest.TestCase):
     def test_a_line_that_the_kit_cuts(self):
         self.assertIsNone(self.wrong(SMALL.format("4:5", "returns-then-not-is")[:150]))
 
+    def test_one_of_several_clauses(self):
+        told = SMALL.format("4:5", "returns-clause-large")
+        self.assertIsNone(self.wrong(told, "refused: lower small\nrefused: lower large\n"))
+
     def test_refused_by_another_clause(self):
         self.assertIn("and not by lower small", self.wrong(SMALL.format("4:5", "returns-clause-large")))
 
