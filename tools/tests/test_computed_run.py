@@ -144,7 +144,7 @@ class Spoilt(unittest.TestCase):
                 with self.subTest(path.name, wrong=next((pair for pair in zip(wrong, lines) if pair[0] != pair[1]), "the end")):
                     try:
                         self.assertNotEqual((read(text, wrong).lines, read(text, wrong).is_cut), (case.lines, case.is_cut))
-                    except run.Differs:
+                    except (run.Differs, run.SetAside):
                         pass
         self.assertGreater(tried, 200)
 
