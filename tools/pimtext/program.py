@@ -76,7 +76,15 @@ def chosen(words=()):
     return str(PROVED) if wanted == "proved" and is_proved() else unproved_program(BUILDS[wanted], words)
 
 
+def version():
+    """The version of the repository, as `include/pim.h` has it."""
+    return (TOP / "include" / "pim.h").read_text().partition('#define PIM_VERSION "')[2].partition('"')[0]
+
+
 def run(words):
-    """Becomes the program with these words."""
+    """Becomes the program with these words, or says the version."""
+    if words == ["--version"]:
+        print(f"pimlab {version()}, {'proved' if is_proved() else 'not proved'}")
+        return
     path = chosen(words)
     os.execv(path, [path, *words])

@@ -44,6 +44,11 @@ class Called(unittest.TestCase):
     def test_a_file_by_its_name_in_a_folder(self):
         self.assertEqual(called("check", ONE_JOIN.name, cwd=stored.EXAMPLES), (0, b"ok\n", b""))
 
+    def test_version(self):
+        status, said, _ = called("--version")
+        self.assertEqual(status, 0)
+        self.assertRegex(said.decode(), r"\Apimlab \d+\.\d+\.\d+, (not )?proved\n\Z")
+
     def test_standard_input(self):
         self.assertEqual(called("check", "-", input=ONE_JOIN.read_bytes()), (0, b"ok\n", b""))
 
