@@ -128,7 +128,9 @@ class Library:
         names.write_text("{ global: pim_*; local: *; };\n")
         flags = [f"-Wl,-soname,{SONAME}", f"-Wl,--version-script={names}", "-Wl,--whole-archive", self.archive, "-Wl,--no-whole-archive"]
         ran([CC, "-shared", "-o", made, *flags])
-        link(made.name, ROOM / SONAME)
+        # The kit takes no links below the repository, not even in what is built.
+        (ROOM / SONAME).unlink(missing_ok=True)
+        shutil.copy(made, ROOM / SONAME)
         return made
 
     def program(self, source, *flags):
