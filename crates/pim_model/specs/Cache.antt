@@ -1,16 +1,8 @@
 -- The forwarding cache: what is asked of a source of a group when its data comes (RFC 7761, section 4.2), and which
 -- packets these answers alone decide.
-use Rattle.std.specs.Option.{option_map_or}
-use Rattle.std.specs.Prelude.{Bool, None, Option, Some, false, if◌then◌else◌, nat_lt, not, ℕ, ◌&&◌, ◌==◌, ◌||◌}
+use Rattle.std.specs.{Option.option_map_or, Prelude.{Bool, None, Option, Some, false, if◌then◌else◌, nat_lt, not, ℕ, ◌&&◌, ◌==◌, ◌||◌}}
 use Rattle.pim_types.specs.Keys.{source_key, star_key}
-use Rattle.pim_model.specs.AssertMacros.{could_assert, could_assert_star}
-use Rattle.pim_model.specs.Desires.{is_inherited_empty, join_desired}
-use Rattle.pim_model.specs.Forwarding.{has_local_receivers, is_spt_reached, no_interface}
-use Rattle.pim_model.specs.Registers.{has_other_rp, is_dr_of_path, is_spt_wanted}
-use Rattle.pim_model.specs.Sets.{Set, immediate_olist, inherited_olist, inherited_olist_rpt, spt_bit, tunnel}
-use Rattle.pim_model.specs.State.{State}
-use Rattle.pim_model.specs.Tables.{has_row, same_option}
-use Rattle.pim_model.specs.Unicast.{is_connected, route, rpf_interface, rpf_interface_rp}
+use Rattle.pim_model.specs.{AssertMacros.{could_assert, could_assert_star}, Desires.{is_inherited_empty, join_desired}, Forwarding.{has_local_receivers, is_spt_reached, no_interface}, Registers.{has_other_rp, is_dr_of_path, is_spt_wanted}, Sets.{Set, immediate_olist, inherited_olist, inherited_olist_rpt, spt_bit, tunnel}, State.State, Tables.{has_row, same_option}, Unicast.{is_connected, route, rpf_interface, rpf_interface_rp}}
 
 -- ---- what is asked
 

@@ -1,26 +1,12 @@
 -- Nothing flows unasked: what asked for a copy of a packet on a link. A Join/Prune asks for as long as its holdtime
--- says (RFC 7761, section 4.5), a membership report for the Group Membership Interval (RFC 3376, section 6), and
+-- says (RFC 7761, section 4.5), a membership report for the Group Membership Interval (RFC 3376, section 8.4), and
 -- neither beyond a Down of the interface.
-use Rattle.std.specs.List.{All, list_any}
-use Rattle.std.specs.Prelude.{Bool, List, None, Ok, Option, Result, Some, [], drop, false, filter, length, nat_lt, not, true, ℕ, ◌&&◌, ◌*◌, ◌+◌, ◌-◌, ◌==◌, ◌||◌, ◌≡◌, ◌∷◌}
-use Rattle.pim_ip.specs.Ipv4.{Packet, copy_text}
-use Rattle.pim_ip.specs.declared.refusal.Refusal.{Refusal}
-use Rattle.pim_types.specs.Keys.{source_key, star_key}
-use Rattle.pim_types.specs.declared.event.Event.{Event}
-use Rattle.pim_types.specs.declared.outcome.Emission.{Emission}
-use Rattle.pim_types.specs.declared.outcome.Outcome.{Outcome}
-use Rattle.pim_types.specs.declared.outcome.Verdict.{Verdict}
+use Rattle.std.specs.{List.{All, list_any}, Prelude.{Bool, List, None, Ok, Option, Result, Some, [], drop, false, filter, length, nat_lt, not, true, ℕ, ◌&&◌, ◌*◌, ◌+◌, ◌-◌, ◌==◌, ◌||◌, ◌≡◌, ◌∷◌}}
+use Rattle.pim_ip.specs.{Ipv4.{Packet, copy_text}, declared.refusal.Refusal.Refusal}
+use Rattle.pim_types.specs.{Keys.{source_key, star_key}, declared.{event.Event.Event, outcome.{Emission.Emission, Outcome.Outcome, Verdict.Verdict}}}
 use Rattle.pim_wire.specs.Values.{Encapsulated, JoinPrune}
-use Rattle.igmp_wire.specs.Values.{Record}
-use Rattle.igmp_wire.specs.declared.report.RecordType.{RecordType}
-use Rattle.pim_model.specs.declared.accepted.Accepted.{Accepted}
-use Rattle.pim_model.specs.Downstream.{holdtime_forever, is_named, joined_keys}
-use Rattle.pim_model.specs.Judging.{Judged, judged}
-use Rattle.pim_model.specs.Querier.{group_membership_interval, is_excluding, is_skipped}
-use Rattle.pim_model.specs.State.{State}
-use Rattle.pim_model.specs.Step.{step}
-use Rattle.pim_model.specs.Tables.{is_among}
-use Rattle.pim_model.specs.Writing.{on_link}
+use Rattle.igmp_wire.specs.{Values.Record, declared.report.RecordType.RecordType}
+use Rattle.pim_model.specs.{Downstream.{holdtime_forever, is_named, joined_keys}, Judging.{Judged, judged}, Querier.{group_membership_interval, is_excluding, is_skipped}, State.State, Step.step, Tables.is_among, Writing.on_link, declared.accepted.Accepted.Accepted}
 
 -- an event with the state that it found, whose present is the event's moment
 pub record Happened : Type 0 where

@@ -1,29 +1,10 @@
--- A change with what follows from it, and timers that fire in their order.
-use Rattle.std.specs.Option.{option_map_or}
-use Rattle.std.specs.Prelude.{List, None, Some, [], if◌then◌else◌, length, ℕ, ◌++◌, ◌+◌, ◌-◌}
-use Rattle.pim_types.specs.declared.fact.GroupRepeatRow.{GroupRepeatRow}
-use Rattle.pim_types.specs.declared.fact.Key.{Key}
-use Rattle.pim_types.specs.declared.fact.QuerierRole.{QuerierRole}
-use Rattle.pim_types.specs.declared.fact.QuerierRow.{QuerierRow}
-use Rattle.pim_types.specs.declared.fact.RegisterRow.{RegisterRow}
-use Rattle.pim_types.specs.declared.fact.SourceRow.{SourceRow}
-use Rattle.pim_types.specs.declared.outcome.Emission.{Emission}
-use Rattle.pim_types.specs.declared.timer.TimerKind.{TimerKind}
-use Rattle.pim_model.specs.Asserts.{assert_due}
-use Rattle.pim_model.specs.Clearing.{clear}
-use Rattle.pim_model.specs.Downstream.{downstream_expired, prune_pending_due}
-use Rattle.pim_model.specs.Hellos.{hello_due, neighbour_due}
-use Rattle.pim_model.specs.Messages.{Message}
-use Rattle.pim_model.specs.Querier.{general_query_due, group_record_due, group_repeat_due, other_querier_gone, source_record_due, source_repeat_due}
-use Rattle.pim_model.specs.Registers.{register_due}
-use Rattle.pim_model.specs.Repeat.{until_none}
-use Rattle.pim_model.specs.State.{State}
-use Rattle.pim_model.specs.Tables.{Table, change_row, row_at}
-use Rattle.pim_types.specs.Keys.{group_in, iface_in, source_in}
-use Rattle.pim_model.specs.Timers.{Ending, next_due, timers}
-use Rattle.pim_model.specs.Upstream.{join_timer_due, override_timer_due, upstream}
-use Rattle.pim_model.specs.Writing.{write_all}
+-- A change with what follows from it, and timers that fire in their order (RFC 7761, section 4.10; RFC 3376, section
+-- 8).
+use Rattle.std.specs.{Option.option_map_or, Prelude.{List, None, Some, [], if◌then◌else◌, length, ℕ, ◌++◌, ◌+◌, ◌-◌}}
+use Rattle.pim_types.specs.{Keys.{group_in, iface_in, source_in}, declared.{fact.{GroupRepeatRow.GroupRepeatRow, Key.Key, QuerierRole.QuerierRole, QuerierRow.QuerierRow, RegisterRow.RegisterRow, SourceRow.SourceRow}, outcome.Emission.Emission, timer.TimerKind.TimerKind}}
+use Rattle.pim_model.specs.{Asserts.assert_due, Clearing.clear, Downstream.{downstream_expired, prune_pending_due}, Hellos.{hello_due, neighbour_due}, Messages.Message, Querier.{general_query_due, group_record_due, group_repeat_due, other_querier_gone, source_record_due, source_repeat_due}, Registers.register_due, Repeat.until_none, State.State, Tables.{Table, change_row, row_at}, Timers.{Ending, next_due, timers}, Upstream.{join_timer_due, override_timer_due, upstream}, Writing.write_all}
 
+-- a change without messages
 abbrev pub silent : State → State × List Message
 silent s = (s, [])
 
@@ -32,16 +13,18 @@ module _ {R : Type 0} (rows : State → Table R) (fire : State → Key → R →
   unfoldable pub fire_row : State → Key → State × List Message
   fire_row s k = option_map_or (fire s k) (row_at (rows s) k) (s, [])
 
+-- how many startup queries are still to leave
 abbrev pub startup_left : QuerierRole → ℕ
 startup_left (QuerierRole.Querier next left) = left
 startup_left (QuerierRole.NonQuerier end) = 0
 
--- a source's keepalive timer ends; its fact stays while SPTbit is set
+-- KeepaliveTimer(S,G) expires; the source fact stays while SPTbit(S,G) is set
 unfoldable pub keepalive_due : State → Key → SourceRow → State
 keepalive_due s k r =
     record s { sources = change_row (λ (old : SourceRow). if r.spt then Some (record r { keepalive = None }) else None) k s.sources }
 
--- the change of a timer's end, with its messages
+-- the change of a timer's end, with its messages: NLT, PPT, ET, IGMP's group and source timers, AT, KAT, RST, OT, JT,
+-- the Other-Querier-Present timer, repeats of queries, general queries, HT
 unfoldable pub fired : State → TimerKind → Key → State × List Message
 fired s TimerKind.Neighbour k = silent (neighbour_due s k)
 fired s TimerKind.PrunePending k = fire_row (λ t. t.downstream) prune_pending_due s k
@@ -55,7 +38,8 @@ fired s TimerKind.Override k = override_timer_due s k
 fired s TimerKind.Join k = join_timer_due s k
 fired s TimerKind.OtherQuerier k = other_querier_gone s (iface_in k)
 fired s TimerKind.GroupRepeat k =
-    fire_row (λ t. t.group_repeats) (λ t q (r : GroupRepeatRow). group_repeat_due t (iface_in q) (group_in q) r.left) s k
+    fire_row (λ t. t.group_repeats)
+    (λ t q (r : GroupRepeatRow). group_repeat_due t (iface_in q) (group_in q) r.left) s k
 fired s TimerKind.SourceRepeat k = source_repeat_due s (iface_in k) (group_in k)
 fired s TimerKind.GeneralQuery k =
     fire_row (λ t. t.queriers) (λ t q (r : QuerierRow). general_query_due t (iface_in q) (startup_left r.role)) s k
@@ -63,6 +47,7 @@ fired s TimerKind.Hello k = fire_row (λ t. t.interfaces) hello_due s k
 
 -- ---- a change, what must go after it, what is told upstream; then all becomes packets
 
+-- a change, what must go after it, what is told upstream; then all becomes packets. o is the state before the change
 unfoldable pub settled : State → State × List Message → ℕ → State × List Emission
 settled o change w =
     let after_clearing : State × List Message = clear o change.0 in

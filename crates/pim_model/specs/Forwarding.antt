@@ -1,16 +1,8 @@
--- Data packets (RFC 7761, section 4.2), and Registers at the RP (section 4.4.2).
+-- Data packets (4.2), and Registers at the RP (4.4.2). Sections are those of RFC 7761.
 use Rattle.std.specs.Prelude.{Bool, List, [], false, if◌then◌else◌, is_some, not, true, ℕ, ◌&&◌, ◌==◌, ◌||◌, ◌∷◌}
 use Rattle.pim_ip.specs.Ipv4.{Packet}
-use Rattle.pim_types.specs.declared.fact.Key.{Key}
-use Rattle.pim_model.specs.Asserts.{data_seen, with_spt_bit}
-use Rattle.pim_model.specs.Desires.{is_inherited_empty, join_desired, rpf_source, rpf_star}
-use Rattle.pim_model.specs.Messages.{Message}
-use Rattle.pim_model.specs.Registers.{is_spt_wanted, settle_register, with_keepalive}
-use Rattle.pim_model.specs.Sets.{Set, assert_source, inherited_olist, inherited_olist_rpt, is_empty, is_loser, pim_exclude, pim_include, pim_include_star, spt_bit, tunnel, ◌∖◌, ◌∪◌}
-use Rattle.pim_model.specs.State.{State}
-use Rattle.pim_model.specs.Tables.{same_hop, same_option}
-use Rattle.pim_types.specs.Keys.{source_key, star_key}
-use Rattle.pim_model.specs.Unicast.{is_connected, is_rp, is_rpf_interface, is_rpf_interface_rp, rpf_interface, rpf_interface_rp}
+use Rattle.pim_types.specs.{Keys.{source_key, star_key}, declared.fact.Key.Key}
+use Rattle.pim_model.specs.{Asserts.{data_seen, with_spt_bit}, Desires.{is_inherited_empty, join_desired, rpf_source, rpf_star}, Messages.Message, Registers.{is_spt_wanted, settle_register, with_keepalive}, Sets.{Set, assert_source, inherited_olist, inherited_olist_rpt, is_empty, is_loser, pim_exclude, pim_include, pim_include_star, spt_bit, tunnel, ◌∖◌, ◌∪◌}, State.State, Tables.{same_hop, same_option}, Unicast.{is_connected, is_rp, is_rpf_interface, is_rpf_interface_rp, rpf_interface, rpf_interface_rp}}
 
 -- the list of outgoing interfaces of a packet, with the tunnel, and the messages on the way
 pub record Forwarded : Type 0 where
@@ -19,26 +11,32 @@ pub record Forwarded : Type 0 where
   pub list : Set
   pub to_tunnel : Bool
 
+-- NULL
 abbrev pub no_interface : Set
 no_interface i = false
 
+-- a change that is made on a condition
 abbrev pub when : Bool → (State → State) → State → State
 when true change s = change s
 when false change s = s
 
--- the source is connected here: its keepalive timer starts, and it is registered at once
+-- if DirectlyConnected(S) AND iif == RPF_interface(S): set KeepaliveTimer(S,G) to Keepalive_Period (4.2), and the
+-- register machine moves at once
 unfoldable pub source_here : State → ℕ → ℕ → ℕ → State
 source_here s g src iif =
     if is_connected s src && is_rpf_interface s src iif
     then settle_register (with_keepalive s g src) (source_key 0 g src) else s
 
--- joined, and forwarded from here
+-- if iif == RPF_interface(S) AND UpstreamJPState(S,G) == Joined AND inherited_olist(S,G) != NULL:
+-- set KeepaliveTimer(S,G) to Keepalive_Period (4.2)
 unfoldable pub source_joined : State → ℕ → ℕ → ℕ → State
 source_joined s g src iif =
     when (is_rpf_interface s src iif && join_desired s g src && not (is_inherited_empty s g src))
     (λ t. with_keepalive t g src) s
 
--- Update_SPTbit(S,G,iif) (RFC 7761, section 4.2.2)
+-- the test of Update_SPTbit(S,G,iif) (4.2.2): iif == RPF_interface(S) AND JoinDesired(S,G) AND (DirectlyConnected(S)
+-- OR RPF_interface(S) != RPF_interface(RP(G)) OR inherited_olist(S,G,rpt) == NULL
+-- OR (RPF'(S,G) == RPF'(*,G) AND RPF'(S,G) != NULL) OR I_Am_Assert_Loser(S,G,iif))
 unfoldable pub is_spt_reached : State → ℕ → ℕ → ℕ → Bool
 is_spt_reached s g src iif =
     is_rpf_interface s src iif && join_desired s g src
@@ -48,19 +46,22 @@ is_spt_reached s g src iif =
     || (is_some (rpf_source s g src) && same_hop (rpf_source s g src) (rpf_star s g))
     || is_loser (assert_source s g src iif))
 
+-- Update_SPTbit(S,G,iif) (4.2.2)
 unfoldable pub spt_updated : State → ℕ → ℕ → ℕ → State
 spt_updated s g src iif = when (is_spt_reached s g src iif) (λ t. with_spt_bit t g src) s
 
--- receivers on the router's own links want the source
+-- pim_include(*,G) (-) pim_exclude(S,G) (+) pim_include(S,G) != NULL (4.2.1)
 unfoldable pub has_local_receivers : State → ℕ → ℕ → Bool
 has_local_receivers s g src =
     not (is_empty s ((pim_include_star s g ∖ pim_exclude s g src) ∪ pim_include s g src))
 
--- off the shortest path tree the source is watched, so that the router can move to it
+-- CheckSwitchToSpt(S,G) (4.2.1): if the source has such receivers AND SwitchToSptDesired(S,G),
+-- set KeepaliveTimer(S,G) to Keepalive_Period
 unfoldable pub watched : State → ℕ → ℕ → State
 watched s g src = when (has_local_receivers s g src && is_spt_wanted s) (λ t. with_keepalive t g src) s
 
--- a packet that came on another interface than its tree's is an event of an assert
+-- RPF check failed (4.2): data for the assert of (S,G) if SPTbit(S,G) AND iif in inherited_olist(S,G), for that of
+-- (*,G) if NOT SPTbit(S,G) AND iif in inherited_olist(S,G,rpt)
 unfoldable pub stray : State → ℕ → ℕ → ℕ → Forwarded
 stray s g src iif =
     let k : Key = (if spt_bit s g src then source_key iif g src else star_key iif g) in
@@ -68,7 +69,8 @@ stray s g src iif =
     let asserted : State × List Message = (if list iif then data_seen s k else (s, [])) in
     record { state = asserted.0; messages = asserted.1; list = no_interface; to_tunnel = false }
 
--- on the shortest path tree, on the shared tree, or on neither
+-- oiflist (4.2): inherited_olist(S,G) if iif == RPF_interface(S) AND SPTbit(S,G); inherited_olist(S,G,rpt), and
+-- CheckSwitchToSpt(S,G), if iif == RPF_interface(RP(G)) AND NOT SPTbit(S,G); else NULL, and the RPF check failed
 unfoldable pub list_chosen : State → ℕ → ℕ → ℕ → Forwarded
 list_chosen s g src iif =
     if is_rpf_interface s src iif && spt_bit s g src
@@ -77,7 +79,7 @@ list_chosen s g src iif =
     then record { state = watched s g src; messages = []; list = inherited_olist_rpt s g src; to_tunnel = false }
     else stray s g src iif)
 
--- a data packet: never back to where it came from
+-- On receipt of data from S to G on interface iif (4.2): the steps in their order, and at last oiflist (-) iif
 unfoldable pub forwarded : State → ℕ → ℕ → ℕ → Forwarded
 forwarded s g src iif =
     let here : State = source_here s g src iif in
@@ -87,11 +89,14 @@ forwarded s g src iif =
 
 -- ---- a Register at one of the router's own addresses
 
--- the Register-Stop goes back from the address that the Register came to
+-- send Register-Stop(S,G) to outer.src, here from the address that the Register came to
 abbrev pub register_stop_to : Packet → ℕ → ℕ → List Message
 register_stop_to p g src = Message.RegisterStop p.destination p.source g src ∷ []
 
--- at the RP: packet_arrives_on_rp_tunnel
+-- packet_arrives_on_rp_tunnel (4.4.2) where outer.dst == RP(G):
+-- send Register-Stop(S,G) if SPTbit(S,G) OR (SwitchToSptDesired(S,G) AND inherited_olist(S,G) == NULL);
+-- set KeepaliveTimer(S,G) if SPTbit(S,G) OR SwitchToSptDesired(S,G);
+-- forward the inner packet to inherited_olist(S,G,rpt) if NOT SPTbit(S,G) AND NOT pkt.NullRegisterBit
 unfoldable pub register_at_rp : State → Packet → ℕ → ℕ → Bool → Forwarded
 register_at_rp s p g src is_null =
     let on_tree : Bool = spt_bit s g src in
@@ -103,6 +108,7 @@ register_at_rp s p g src is_null =
       to_tunnel = false;
     }
 
+-- packet_arrives_on_rp_tunnel (4.4.2): where outer.dst isn't RP(G), send Register-Stop(S,G)
 unfoldable pub register_received : State → Packet → ℕ → ℕ → Bool → Forwarded
 register_received s p g src is_null =
     if is_rp s g p.destination then register_at_rp s p g src is_null

@@ -1,21 +1,9 @@
 -- The limit on counted facts: an event that needs more new facts than there is room for is refused whole.
 use Rattle.std.specs.Prelude.{Bool, List, [], false, filter, flat_map, fold, if◌then◌else◌, length, map, nat_le, nat_lt, not, ℕ, ◌&&◌, ◌++◌, ◌+◌, ◌==◌, ◌||◌, ◌∷◌}
-use Rattle.pim_types.specs.Keys.{source_key, star_key}
-use Rattle.pim_types.specs.declared.fact.Key.{Key}
-use Rattle.pim_wire.specs.Values.{JoinPrune}
-use Rattle.pim_wire.specs.declared.assert.Assert.{Assert as AssertMessage}
+use Rattle.pim_types.specs.{Keys.{source_key, star_key}, declared.fact.Key.Key}
+use Rattle.pim_wire.specs.{Values.JoinPrune, declared.assert.Assert.Assert as AssertMessage}
 use Rattle.igmp_wire.specs.Values.{Record}
-use Rattle.pim_model.specs.declared.accepted.Accepted.{Accepted}
-use Rattle.pim_model.specs.AssertMacros.{is_infinite}
-use Rattle.pim_model.specs.Asserts.{theirs_of}
-use Rattle.pim_model.specs.Downstream.{is_named, joined_keys, pruned_keys}
-use Rattle.pim_model.specs.Hellos.{hello_holdtime_of}
-use Rattle.pim_model.specs.Neighbours.{is_neighbour, neighbour_count}
-use Rattle.pim_model.specs.Querier.{is_skipped}
-use Rattle.pim_model.specs.Registers.{registered_group, registered_source}
-use Rattle.pim_model.specs.State.{State}
-use Rattle.pim_model.specs.Tables.{Table, has_row}
-use Rattle.pim_model.specs.Unicast.{is_rp}
+use Rattle.pim_model.specs.{AssertMacros.is_infinite, Asserts.theirs_of, Downstream.{is_named, joined_keys, pruned_keys}, Hellos.hello_holdtime_of, Neighbours.{is_neighbour, neighbour_count}, Querier.is_skipped, Registers.{registered_group, registered_source}, State.State, Tables.{Table, has_row}, Unicast.is_rp, declared.accepted.Accepted.Accepted}
 
 -- the facts that count
 unfoldable pub counted : State → ℕ
@@ -27,6 +15,7 @@ counted s =
 unfoldable pub once_more : List Key → Key → List Key
 once_more found k = if is_named found k then found else found ++ k ∷ []
 
+-- a list of keys, each once
 unfoldable pub distinct : List Key → List Key
 distinct ks = fold once_more [] ks
 
@@ -42,6 +31,7 @@ passes_limit s more = not (more == 0) && nat_lt s.settings.limit (counted s + mo
 abbrev pub most_neighbours : ℕ
 most_neighbours = 64
 
+-- a Hello of a new neighbour
 unfoldable pub hello_is_full : State → ℕ → ℕ → ℕ → Bool
 hello_is_full s i address holdtime =
     not (holdtime == 0) && not (is_neighbour s i address)
@@ -51,24 +41,29 @@ hello_is_full s i address holdtime =
 unfoldable pub makeable_keys : List Key → List Key → List Key
 makeable_keys joined pruned = filter (λ k. not k.rpt) joined ++ filter (λ k. k.rpt) pruned
 
+-- a Join/Prune to the router with these keys; one with holdtime 0 makes no row
 unfoldable pub keys_are_full : State → ℕ → List Key → List Key → Bool
 keys_are_full s holdtime joined pruned =
     not (holdtime == 0) && passes_limit s (needed s.downstream (makeable_keys joined pruned))
 
+-- the same by the message
 unfoldable pub join_prune_is_full : State → ℕ → JoinPrune → Bool
 join_prune_is_full s i m = keys_are_full s m.holdtime (joined_keys s i m) (pruned_keys i m)
 
--- the groups, and the sources, that a report names
+-- the groups that a report names
 unfoldable pub reported_groups : ℕ → List Record → List Key
 reported_groups i records = map (λ (r : Record). star_key i r.group) (filter (λ r. not (is_skipped r)) records)
 
+-- the sources that a report names
 unfoldable pub reported_sources : ℕ → List Record → List Key
 reported_sources i records =
     flat_map (λ (r : Record). map (source_key i r.group) r.sources) (filter (λ r. not (is_skipped r)) records)
 
+-- a report, by all that it names
 unfoldable pub report_is_full : State → ℕ → List Record → Bool
 report_is_full s i records =
-    passes_limit s (needed s.group_records (reported_groups i records) + needed s.source_records (reported_sources i records))
+    passes_limit s
+    (needed s.group_records (reported_groups i records) + needed s.source_records (reported_sources i records))
 
 -- the keys of the asserts that an Assert names
 unfoldable pub asserted_keys : ℕ → AssertMessage → List Key
@@ -76,9 +71,11 @@ asserted_keys i a =
     (if a.source.bits == 0 then [] else source_key i a.group.bits a.source.bits ∷ [])
     ++ (if a.rpt then star_key i a.group.bits ∷ [] else [])
 
+-- an Assert that isn't infinite
 unfoldable pub assert_is_full : State → ℕ → AssertMessage → Bool
 assert_is_full s i a = not (is_infinite (theirs_of a 0)) && passes_limit s (needed s.asserts (asserted_keys i a))
 
+-- a packet of a source, or a Register of one
 unfoldable pub source_is_full : State → ℕ → ℕ → Bool
 source_is_full s g src = passes_limit s (needed s.sources (source_key 0 g src ∷ []))
 

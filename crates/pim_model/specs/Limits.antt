@@ -1,27 +1,21 @@
 -- The configurations, routes and RP ranges that are accepted.
-use Rattle.std.specs.List.{list_all, list_any}
-use Rattle.std.specs.Prelude.{Bool, List, Result, [], length, map, nat_le, nat_lt, not, true, ℕ, ◌&&◌, ◌*◌, ◌==◌, ◌||◌, ◌∷◌}
-use Rattle.pim_ip.specs.declared.addr.Prefix.{Prefix}
-use Rattle.pim_ip.specs.declared.refusal.Refusal.{Refusal}
-use Rattle.pim_ip.specs.Ipv4.{is_multicast, is_unicast}
-use Rattle.pim_ip.specs.Prefixes.{contains, is_host_clear}
-use Rattle.pim_ip.specs.Tests.{expect, ◌>>◌}
-use Rattle.pim_types.specs.declared.config.Config.{Config}
-use Rattle.pim_types.specs.declared.config.InterfaceConfig.{InterfaceConfig}
-use Rattle.pim_types.specs.declared.config.Route.{Route}
-use Rattle.pim_types.specs.declared.config.RpRange.{RpRange}
-use Rattle.pim_model.specs.State.{is_own_among}
-use Rattle.pim_model.specs.Unicast.{subnet}
+use Rattle.std.specs.{List.{list_all, list_any}, Prelude.{Bool, List, Result, [], length, map, nat_le, nat_lt, not, true, ℕ, ◌&&◌, ◌*◌, ◌==◌, ◌||◌, ◌∷◌}}
+use Rattle.pim_ip.specs.{Ipv4.{is_multicast, is_unicast}, Prefixes.{contains, is_host_clear}, Tests.{expect, ◌>>◌}, declared.{addr.Prefix.Prefix, refusal.Refusal.Refusal}}
+use Rattle.pim_types.specs.declared.config.{Config.Config, InterfaceConfig.InterfaceConfig, Route.Route, RpRange.RpRange}
+use Rattle.pim_model.specs.{State.is_own_among, Unicast.subnet}
 
 -- ---- routes and RP ranges
 
+-- equal prefixes
 abbrev pub same_prefix : Prefix → Prefix → Bool
 same_prefix p q = (p.address.bits == q.address.bits) && (p.length == q.length)
 
+-- no prefix stands twice
 unfoldable pub are_distinct : List Prefix → Bool
 are_distinct [] = true
 are_distinct (p ∷ ps) = not (list_any (same_prefix p) ps) && are_distinct ps
 
+-- a prefix of at most 32 bits, with no other bit set
 abbrev pub is_prefix : Prefix → Bool
 is_prefix p = nat_le p.length 32 && is_host_clear p
 
@@ -34,21 +28,26 @@ is_route configured r =
     && not (is_own_among configured r.next_hop.bits)
     && nat_le r.preference 0x7FFF_FFFE
 
+-- the most routes
 abbrev pub most_routes : ℕ
 most_routes = 100000
 
+-- a list of routes is accepted
 unfoldable pub are_routes : List InterfaceConfig → List Route → Bool
 are_routes configured routes =
     nat_le (length routes) most_routes && list_all (is_route configured) routes
     && are_distinct (map (λ (r : Route). r.prefix) routes)
 
+-- a range inside 224.0.0.0/4, with a unicast address as RP
 unfoldable pub is_rp_range : RpRange → Bool
 is_rp_range r =
     is_prefix r.prefix && is_multicast r.prefix.address.bits && nat_le 4 r.prefix.length && is_unicast r.rp.bits
 
+-- the most RP ranges
 abbrev pub most_rps : ℕ
 most_rps = 256
 
+-- a list of RP ranges is accepted
 unfoldable pub are_rps : List RpRange → Bool
 are_rps rps =
     nat_le (length rps) most_rps && list_all is_rp_range rps
@@ -56,6 +55,7 @@ are_rps rps =
 
 -- ---- configurations
 
+-- the most interfaces
 abbrev pub most_ifaces : ℕ
 most_ifaces = 120
 
@@ -63,14 +63,17 @@ most_ifaces = 120
 abbrev pub overlaps : InterfaceConfig → InterfaceConfig → Bool
 overlaps a b = contains (subnet a) b.address.bits || contains (subnet b) a.address.bits
 
+-- no two subnets overlap
 unfoldable pub are_apart : List InterfaceConfig → Bool
 are_apart [] = true
 are_apart (c ∷ cs) = not (list_any (overlaps c) cs) && are_apart cs
 
+-- a number in [low, high]
 abbrev pub is_between : ℕ → ℕ → ℕ → Bool
 is_between low high n = nat_le low n && nat_le n high
 
--- RV, QI in seconds, QRI in tenths of a second and below QI, LMQI in tenths
+-- [Robustness Variable], [Query Interval] in seconds, [Query Response Interval] in tenths of a second and below it, and
+-- [Last Member Query Interval] in tenths (RFC 3376, section 8)
 unfoldable pub is_querier_config : Config → Bool
 is_querier_config c =
     is_between 2 7 c.robustness && is_between 1 31744 c.query_interval
@@ -78,9 +81,11 @@ is_querier_config c =
     && nat_lt c.query_response_interval (10 * c.query_interval)
     && is_between 1 255 c.last_member_query_interval
 
+-- both fit into the fields of LAN Prune Delay (RFC 7761, section 4.9.2), in ms
 abbrev pub is_delay_config : InterfaceConfig → Bool
 is_delay_config c = nat_le c.propagation_delay 32767 && nat_le c.override_interval 65535
 
+-- a configuration, test after test
 unfoldable pub config_test : Config → Result (Unit {0}) Refusal
 config_test c =
     expect (is_between 1 most_ifaces (length c.interfaces)) Refusal.InterfaceCount

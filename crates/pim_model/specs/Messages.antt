@@ -1,11 +1,11 @@
--- What the machines send, as data. It becomes packets in one last pass.
+-- What the machines send, as data (RFC 7761, section 4.9; RFC 3376, section 4.1). It becomes packets in one last pass.
 use Rattle.std.specs.Prelude.{List, ℕ}
-use Rattle.pim_types.specs.declared.fact.AssertMetric.{AssertMetric}
 use Rattle.pim_ip.specs.Addr.{addr}
-use Rattle.pim_wire.specs.declared.join_prune.Entry.{Entry}
-use Rattle.pim_wire.specs.declared.join_prune.EntryKind.{EntryKind}
+use Rattle.pim_types.specs.declared.fact.AssertMetric.{AssertMetric}
+use Rattle.pim_wire.specs.declared.join_prune.{Entry.Entry, EntryKind.EntryKind}
 use Rattle.igmp_wire.specs.Values.{Query as QueryValue}
 
+-- a message, before it is written
 pub data Message : Type 0 where
   -- a Hello on an interface
   Hello : ℕ → Message
@@ -20,5 +20,6 @@ pub data Message : Type 0 where
   -- a Null-Register: from, to, source, group
   NullRegister : ℕ → ℕ → ℕ → ℕ → Message
 
+-- an entry of a Join/Prune: (*,G) with its RP, or (S,G) or (S,G,rpt) with its source
 abbrev pub entry : EntryKind → ℕ → Entry
 entry kind address = record { kind = kind; address = addr address }

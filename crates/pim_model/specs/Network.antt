@@ -1,19 +1,9 @@
 -- Several routers, and the frames that they ever sent: nothing is taken out, so loss, repeats and any order
 -- of delivery are lists of moves.
-use Rattle.std.specs.List.{list_all}
-use Rattle.std.specs.Option.{option_map_or}
-use Rattle.std.specs.Prelude.{Bool, Err, List, None, Ok, Option, Result, Some, [], if◌then◌else◌, is_some, length, map, nat_le, option_and_then, option_map, set, slice_get, suc, zero, ℕ, ◌&&◌, ◌++◌, ◌==◌, ◌∷◌}
-use Rattle.pim_ip.specs.declared.refusal.Refusal.{Refusal}
-use Rattle.pim_ip.specs.Tests.{expect, ◌>>◌}
-use Rattle.pim_types.specs.declared.config.Config.{Config}
-use Rattle.pim_types.specs.declared.event.Event.{Event}
-use Rattle.pim_types.specs.declared.event.EventKind.{EventKind}
-use Rattle.pim_types.specs.declared.outcome.Emission.{Emission}
-use Rattle.pim_types.specs.declared.outcome.Outcome.{Outcome}
-use Rattle.pim_model.specs.Limits.{config_test}
-use Rattle.pim_model.specs.State.{State, opening}
-use Rattle.pim_model.specs.Step.{Answered, outcome_of, step}
-use Rattle.pim_model.specs.Tables.{same_option}
+use Rattle.std.specs.{List.list_all, Option.option_map_or, Prelude.{Bool, Err, List, None, Ok, Option, Result, Some, [], if◌then◌else◌, is_some, length, map, nat_le, option_and_then, option_map, set, slice_get, suc, zero, ℕ, ◌&&◌, ◌++◌, ◌==◌, ◌∷◌}}
+use Rattle.pim_ip.specs.{Tests.{expect, ◌>>◌}, declared.refusal.Refusal.Refusal}
+use Rattle.pim_types.specs.declared.{config.Config.Config, event.{Event.Event, EventKind.EventKind}, outcome.{Emission.Emission, Outcome.Outcome}}
+use Rattle.pim_model.specs.{Limits.config_test, State.{State, opening}, Step.{Answered, outcome_of, step}, Tables.same_option}
 
 -- a frame with its link, none for a unicast
 pub record Sent : Type 0 where
@@ -25,10 +15,12 @@ pub record Station : Type 0 where
   pub links : List ℕ
   pub state : State
 
+-- the routers, and all frames in the order in which they were sent
 pub record Network : Type 0 where
   pub stations : List Station
   pub frames : List Sent
 
+-- a new router with its links
 abbrev pub station_of : Config × List ℕ → Station
 station_of n = record { links = n.1; state = opening n.0 }
 
@@ -39,6 +31,7 @@ configs_test (c ∷ cs) =
     let later : Result (Unit {0}) Refusal = configs_test cs in
     config_test c >> later
 
+-- the most routers
 abbrev pub most_routers : ℕ
 most_routers = 64
 
@@ -56,6 +49,7 @@ nodes_test nodes =
 unfoldable pub network : List (Config × List ℕ) → Network
 network nodes = record { stations = map station_of nodes; frames = [] }
 
+-- what can happen in a network
 pub data Move : Type 0 where
   -- an event at a router
   At : ℕ → Event → Move
@@ -64,6 +58,7 @@ pub data Move : Type 0 where
   -- a frame of any kind as a unicast to a router
   DeliverUnicast : ℕ → ℕ → ℕ → Move
 
+-- a router, counted from 0
 unfoldable pub station_at : Network → ℕ → Option Station
 station_at n r = slice_get n.stations r
 
@@ -76,9 +71,11 @@ frame_at n (suc k) = slice_get n.frames k
 abbrev pub is_on_frame_link : Station → ℕ → Sent → Bool
 is_on_frame_link st i f = is_some f.link && same_option (slice_get st.links i) f.link
 
+-- a frame that comes on an interface
 abbrev pub frame_event : ℕ → ℕ → Sent → Event
 frame_event i draw f = record { draw = draw; kind = EventKind.Frame (record { number = i }) f.bytes }
 
+-- a frame that comes to one of the router's addresses
 abbrev pub unicast_event : ℕ → Sent → Event
 unicast_event draw f = record { draw = draw; kind = EventKind.Unicast f.bytes }
 
@@ -96,6 +93,7 @@ abbrev pub sent_by : List ℕ → Emission → Sent
 sent_by links (Emission.Link i bytes) = record { link = slice_get links i.number; bytes = bytes }
 sent_by links (Emission.Unicast destination bytes) = record { link = None; bytes = bytes }
 
+-- an event at a router, and what it sends
 unfoldable pub stepped : Network → ℕ → Event → Station → Outcome × Network
 stepped n r e st =
     let a : Answered = step st.state e in (
@@ -106,12 +104,15 @@ stepped n r e st =
       },
     )
 
+-- a move that names no such router, frame or interface
 abbrev pub bad_move : Outcome
 bad_move = record { answer = Err Refusal.BadMove; emissions = []; copies = 0 }
 
+-- an event at a router, counted from 0
 unfoldable pub moved_at : Network → ℕ × Event → Outcome × Network
 moved_at n e = option_map_or (stepped n e.0 e.1) (station_at n e.0) (bad_move, n)
 
+-- a move: what is answered, and the network after it
 unfoldable pub moved : Network → Move → Outcome × Network
 moved n m = option_map_or (moved_at n) (event_of n m) (bad_move, n)
 

@@ -1,22 +1,10 @@
 -- A plain data event, by what it does: a data packet of a source with a fact, after which nothing but the end of that
 -- fact's keepalive timer differs, and which leaves as copies on links alone. A timer that didn't run and then does
 -- counts as an end that differs.
-use Rattle.std.specs.List.{All}
-use Rattle.std.specs.Prelude.{Ok, Option, Some, ℕ, ◌≡◌}
+use Rattle.std.specs.{List.All, Prelude.{Ok, Option, Some, ℕ, ◌≡◌}}
 use Rattle.pim_ip.specs.Ipv4.{Packet, copy_text}
-use Rattle.pim_types.specs.Keys.{source_key}
-use Rattle.pim_types.specs.declared.config.IfaceId.{IfaceId}
-use Rattle.pim_types.specs.declared.event.Event.{Event}
-use Rattle.pim_types.specs.declared.fact.Key.{Key}
-use Rattle.pim_types.specs.declared.fact.SourceRow.{SourceRow}
-use Rattle.pim_types.specs.declared.outcome.Emission.{Emission}
-use Rattle.pim_types.specs.declared.outcome.Verdict.{Verdict}
-use Rattle.pim_model.specs.declared.accepted.Accepted.{Accepted}
-use Rattle.pim_model.specs.Judging.{judged}
-use Rattle.pim_model.specs.State.{State}
-use Rattle.pim_model.specs.Step.{step}
-use Rattle.pim_model.specs.Tables.{put, row_at}
-use Rattle.pim_model.specs.Writing.{on_link}
+use Rattle.pim_types.specs.{Keys.source_key, declared.{config.IfaceId.IfaceId, event.Event.Event, fact.{Key.Key, SourceRow.SourceRow}, outcome.{Emission.Emission, Verdict.Verdict}}}
+use Rattle.pim_model.specs.{Judging.judged, State.State, Step.step, Tables.{put, row_at}, Writing.on_link, declared.accepted.Accepted.Accepted}
 
 -- the fact of a packet's source
 abbrev pub fact_key : Packet → Key

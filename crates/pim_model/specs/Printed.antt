@@ -1,27 +1,10 @@
 -- The rows of the printed tables.
 use Rattle.std.specs.Prelude.{List, [], false, flat_map, if◌then◌else◌, is_some, map, option_map, true, ℕ, ◌++◌, ◌∷◌}
-use Rattle.pim_types.specs.declared.config.IfaceId.{IfaceId}
-use Rattle.pim_types.specs.declared.fact.AssertRow.{AssertRow}
-use Rattle.pim_types.specs.declared.fact.DownstreamRow.{DownstreamRow}
-use Rattle.pim_types.specs.declared.fact.GroupRecordRow.{GroupRecordRow}
-use Rattle.pim_types.specs.declared.fact.JoinTimerRow.{JoinTimerRow}
-use Rattle.pim_types.specs.declared.fact.Key.{Key}
-use Rattle.pim_types.specs.declared.fact.NeighbourRow.{NeighbourRow}
-use Rattle.pim_types.specs.declared.fact.RegisterState.{RegisterState}
-use Rattle.pim_types.specs.declared.fact.SourceRecordRow.{SourceRecordRow}
-use Rattle.pim_types.specs.declared.fact.SourceRow.{SourceRow}
-use Rattle.pim_types.specs.declared.table.DownstreamState.{DownstreamState}
-use Rattle.pim_types.specs.declared.table.RegisterName.{RegisterName}
-use Rattle.pim_types.specs.declared.table.Row.{Row}
-use Rattle.pim_types.specs.declared.table.Table.{Table as PrintedTable}
 use Rattle.pim_ip.specs.Addr.{addr}
-use Rattle.pim_model.specs.Desires.{tree_state}
-use Rattle.pim_types.specs.declared.upstream.TreeState.{TreeState}
-use Rattle.pim_model.specs.Sets.{register_state}
-use Rattle.pim_model.specs.State.{State}
-use Rattle.pim_types.specs.Keys.{group_in, source_in}
-use Rattle.pim_model.specs.Upstream.{fact_keys, groups_of, sources_of}
+use Rattle.pim_types.specs.{Keys.{group_in, source_in}, declared.{config.IfaceId.IfaceId, fact.{AssertRow.AssertRow, DownstreamRow.DownstreamRow, GroupRecordRow.GroupRecordRow, JoinTimerRow.JoinTimerRow, Key.Key, NeighbourRow.NeighbourRow, RegisterState.RegisterState, SourceRecordRow.SourceRecordRow, SourceRow.SourceRow}, table.{DownstreamState.DownstreamState, RegisterName.RegisterName, Row.Row, Table.Table as PrintedTable}, upstream.TreeState.TreeState}}
+use Rattle.pim_model.specs.{Desires.tree_state, Sets.register_state, State.State, Upstream.{fact_keys, groups_of, sources_of}}
 
+-- an interface by its number
 abbrev pub number : ℕ → IfaceId
 number i = record { number = i }
 
@@ -83,5 +66,6 @@ rows s PrintedTable.Active = map (active_line s) s.sources
 -- all rows, table by table
 unfoldable pub all_rows : State → List Row
 all_rows s =
-    rows s PrintedTable.Neighbours ++ rows s PrintedTable.Groups ++ rows s PrintedTable.Sources ++ rows s PrintedTable.Downstream
-    ++ rows s PrintedTable.Asserts ++ rows s PrintedTable.Upstream ++ rows s PrintedTable.Trees ++ rows s PrintedTable.Active
+    rows s PrintedTable.Neighbours ++ rows s PrintedTable.Groups ++ rows s PrintedTable.Sources
+    ++ rows s PrintedTable.Downstream ++ rows s PrintedTable.Asserts ++ rows s PrintedTable.Upstream
+    ++ rows s PrintedTable.Trees ++ rows s PrintedTable.Active

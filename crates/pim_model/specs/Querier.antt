@@ -1,68 +1,60 @@
--- The querier of an interface (RFC 3376, sections 6.6, 7.1 and 8). Ends and intervals in ms.
-use Rattle.std.specs.List.{list_any}
-use Rattle.std.specs.Option.{option_map_or}
-use Rattle.std.specs.Prelude.{Bool, List, None, Option, Some, [], drop, false, filter, filter_map, fold, if◌then◌else◌, length, map, min, nat_lt, not, option_and_then, suc, take, true, zero, ℕ, ◌&&◌, ◌*◌, ◌++◌, ◌+◌, ◌-◌, ◌/◌, ◌==◌, ◌||◌, ◌∷◌}
-use Rattle.pim_types.specs.declared.fact.GroupRecordRow.{GroupRecordRow}
-use Rattle.pim_types.specs.declared.fact.GroupRepeatRow.{GroupRepeatRow}
-use Rattle.pim_types.specs.declared.fact.Key.{Key}
-use Rattle.pim_types.specs.declared.fact.QuerierRole.{QuerierRole}
-use Rattle.pim_types.specs.declared.fact.QuerierRow.{QuerierRow}
-use Rattle.pim_types.specs.declared.fact.SendingRow.{SendingRow}
-use Rattle.pim_types.specs.declared.fact.SourceRecordRow.{SourceRecordRow}
-use Rattle.pim_types.specs.declared.fact.SourceRepeatRow.{SourceRepeatRow}
-use Rattle.igmp_wire.specs.Codes.{code_value, value_code}
-use Rattle.igmp_wire.specs.Values.{Query as QueryValue, Record}
-use Rattle.igmp_wire.specs.declared.report.RecordType.{RecordType}
-use Rattle.pim_model.specs.Messages.{Message}
-use Rattle.pim_model.specs.Records.{AskGroup, AskSources, Asked, GroupRecord, apply_record, group_expired, is_at_group, record_of, source_expired, with_members, with_record}
-use Rattle.pim_model.specs.State.{State, my_address}
-use Rattle.pim_model.specs.Tables.{Table, change_row, drop_where, is_among, is_empty_list, put, row_at, set_row}
-use Rattle.pim_types.specs.Keys.{iface_key, is_on, same_key, source_in, source_key, star_key}
+-- The querier of an interface. Sections are those of RFC 3376: queries (6.1), the reception of reports (6.4) and
+-- queries (6.6), and the values of timers (8), which the RFC writes in brackets. Ends and intervals in ms.
+use Rattle.std.specs.{List.list_any, Option.option_map_or, Prelude.{Bool, List, None, Option, Some, [], drop, false, filter, filter_map, fold, if◌then◌else◌, length, map, min, nat_lt, not, option_and_then, suc, take, true, zero, ℕ, ◌&&◌, ◌*◌, ◌++◌, ◌+◌, ◌-◌, ◌/◌, ◌==◌, ◌||◌, ◌∷◌}}
 use Rattle.pim_ip.specs.Ipv4.{is_source_specific}
+use Rattle.pim_types.specs.{Keys.{iface_key, is_on, same_key, source_in, source_key, star_key}, declared.fact.{GroupRecordRow.GroupRecordRow, GroupRepeatRow.GroupRepeatRow, Key.Key, QuerierRole.QuerierRole, QuerierRow.QuerierRow, SendingRow.SendingRow, SourceRecordRow.SourceRecordRow, SourceRepeatRow.SourceRepeatRow}}
+use Rattle.igmp_wire.specs.{Codes.{code_value, value_code}, Values.{Query as QueryValue, Record}, declared.report.RecordType.RecordType}
+use Rattle.pim_model.specs.{Messages.Message, Records.{AskGroup, AskSources, Asked, GroupRecord, apply_record, group_expired, is_at_group, record_of, source_expired, with_members, with_record}, State.{State, my_address}, Tables.{Table, change_row, drop_where, is_among, is_empty_list, put, row_at, set_row}}
 
+-- the querier's state on an interface that is up
 abbrev pub querier_on : State → ℕ → Option QuerierRow
 querier_on s i = row_at s.queriers (iface_key i)
 
--- [Robustness Variable] and [Query Interval] in force: adopted from the querier where another one is
+-- [Robustness Variable] in force (8.1): adopted from the querier's QRV where another one is (4.1.6)
 unfoldable pub robustness : State → ℕ → ℕ
 robustness s i = option_map_or (λ (q : QuerierRow). q.robustness) (querier_on s i) s.settings.robustness
 
+-- [Query Interval] in force (8.2): adopted from the querier's QQIC where another one is (4.1.7)
 unfoldable pub query_interval : State → ℕ → ℕ
 query_interval s i =
     1000 * option_map_or (λ (q : QuerierRow). q.query_interval) (querier_on s i) s.settings.query_interval
 
--- [Query Response Interval] and [Last Member Query Interval], always the configured ones
+-- [Query Response Interval] (8.3), always the configured one
 abbrev pub query_response_interval : State → ℕ
 query_response_interval s = 100 * s.settings.query_response_interval
 
+-- [Last Member Query Interval] (8.8), always the configured one
 abbrev pub last_member_query_interval : State → ℕ
 last_member_query_interval s = 100 * s.settings.last_member_query_interval
 
--- [Group Membership Interval]
+-- [Group Membership Interval] = [Robustness Variable] * [Query Interval] + [Query Response Interval] (8.4)
 unfoldable pub group_membership_interval : State → ℕ → ℕ
 group_membership_interval s i = robustness s i * query_interval s i + query_response_interval s
 
--- [Other Querier Present Interval]
+-- [Other Querier Present Interval] = [Robustness Variable] * [Query Interval] + [Query Response Interval] / 2 (8.5)
 unfoldable pub other_querier_interval : State → ℕ → ℕ
 other_querier_interval s i = robustness s i * query_interval s i + query_response_interval s / 2
 
--- [Startup Query Interval]
+-- [Startup Query Interval] = [Query Interval] / 4 (8.6)
 unfoldable pub startup_query_interval : State → ℕ → ℕ
 startup_query_interval s i = query_interval s i / 4
 
--- Last Member Query Time: [Last Member Query Interval] times [Last Member Query Count]
+-- LMQT = [Last Member Query Interval] * [Last Member Query Count] (8.10), the count being [Robustness Variable] (8.9)
 unfoldable pub last_member_query_time : State → ℕ → ℕ
 last_member_query_time s i = last_member_query_interval s * robustness s i
 
+-- the role is Querier, not Non-Querier
 abbrev pub is_querier_role : QuerierRole → Bool
 is_querier_role (QuerierRole.Querier next left) = true
 is_querier_role (QuerierRole.NonQuerier end) = false
 
+-- the router is the querier of the link
 unfoldable pub is_querier : State → ℕ → Bool
 is_querier s i = option_map_or (λ (q : QuerierRow). is_querier_role q.role) (querier_on s i) false
 
 -- ---- queries as they are sent
 
+-- a query (4.1), with the values in force
 unfoldable pub query_sent : State → ℕ → ℕ → ℕ → Bool → List ℕ → Message
 query_sent s i response_tenths group suppress sources = Message.Query i (record {
   max_response_code = value_code response_tenths;
@@ -73,9 +65,11 @@ query_sent s i response_tenths group suppress sources = Message.Query i (record 
   sources = sources;
 })
 
+-- a general query (4.1.11), which asks for responses within [Query Response Interval]
 abbrev pub general_query : State → ℕ → Message
 general_query s i = query_sent s i s.settings.query_response_interval 0 false []
 
+-- a group-specific, or a group-and-source-specific query (4.1.11), for responses within [Last Member Query Interval]
 abbrev pub specific_query : State → ℕ → ℕ → Bool → List ℕ → Message
 specific_query s i g suppress sources = query_sent s i s.settings.last_member_query_interval g suppress sources
 
@@ -89,6 +83,7 @@ querier_row s next left = record {
   query_interval = s.settings.query_interval;
 }
 
+-- the interface has such a querier
 unfoldable pub querying : State → ℕ → ℕ → ℕ → State
 querying s i next left = record s { queriers = put s.queriers (iface_key i) (querier_row s next left) }
 
@@ -97,32 +92,33 @@ unfoldable pub querying_on : State → ℕ → ℕ → ℕ → State
 querying_on s i next left =
     record s { queriers = change_row (λ (old : QuerierRow). Some (querier_row s next left)) (iface_key i) s.queriers }
 
--- at Up: a general query at once, [Startup Query Count] of them at the startup interval
+-- at Up: a general query at once, [Startup Query Count] (8.7) of them at [Startup Query Interval]
 unfoldable pub querier_up : State → ℕ → State × List Message
 querier_up s i =
     let started : State = querying s i 0 0 in
     let after : State = querying s i (s.present + startup_query_interval started i) (s.settings.robustness - 1) in
     (after, general_query after i ∷ [])
 
--- the general query timer's end
+-- the general query timer ends (6.1): at [Startup Query Interval] while startup queries are left, then [Query Interval]
 unfoldable pub general_query_due : State → ℕ → ℕ → State × List Message
 general_query_due s i left =
     let interval : ℕ = (if nat_lt 1 left then startup_query_interval s i else query_interval s i) in
     (querying_on s i (s.present + interval) (left - 1), general_query s i ∷ [])
 
--- the other querier was silent
+-- the Other-Querier-Present timer ends (6.6.2): the router queries at once, here with the configured values again, and
+-- next after [Query Interval]
 unfoldable pub other_querier_gone : State → ℕ → State × List Message
 other_querier_gone s i =
     let started : State = querying_on s i 0 0 in
     let after : State = querying_on s i (s.present + query_interval started i) 0 in
     (after, general_query after i ∷ [])
 
--- the given value, or the configured one where it is 0
+-- QRV, or QQI: where it is 0 the configured value stands (4.1.6, 4.1.7)
 abbrev pub given_or : ℕ → ℕ → ℕ
 given_or zero configured = configured
 given_or (suc n) configured = suc n
 
--- another router queries: its values are adopted, and what was to be repeated isn't
+-- another router queries (6.6.2): its QRV and QQI are adopted, and what was to be repeated isn't
 unfoldable pub querier_elected : State → ℕ → ℕ → ℕ → State
 querier_elected s i qrv qqi =
     let row : ℕ → QuerierRow = λ end. record {
@@ -140,22 +136,24 @@ querier_elected s i qrv qqi =
 
 -- ---- lowering
 
--- lowered to an end, where it runs
+-- an end that is lowered to another, where the timer runs
 abbrev pub lowered : ℕ → Option ℕ → Option ℕ
 lowered end None = None
 lowered end (Some e) = Some (min e end)
 
--- the end exceeds another
+-- the timer runs, and beyond an end
 abbrev pub exceeds : ℕ → Option ℕ → Bool
 exceeds end None = false
 exceeds end (Some e) = nat_lt end e
 
+-- the group timer is lowered to an end
 unfoldable pub lower_group : State → ℕ → ℕ → ℕ → State
 lower_group s i g end = record s {
   group_records = map (λ (e : Key × GroupRecordRow).
       if same_key (star_key i g) e.0 then (e.0, record { end = lowered end (e.1).end }) else e) s.group_records;
 }
 
+-- the source timers of these sources are lowered to an end
 unfoldable pub lower_sources : State → ℕ → ℕ → List ℕ → ℕ → State
 lower_sources s i g sources end = record s {
   source_records = map (λ (e : Key × SourceRecordRow).
@@ -163,26 +161,30 @@ lower_sources s i g sources end = record s {
       then (e.0, record { end = lowered end (e.1).end }) else e) s.source_records;
 }
 
--- the moment to which a query lowers timers
+-- LMQT from now: to it a query lowers timers (6.6.1)
 abbrev pub query_end : State → ℕ → ℕ
 query_end s i = s.present + last_member_query_time s i
 
 -- ---- Q(G) and Q(G,X), by the querier alone
 
+-- the end of the group timer, where it runs
 abbrev pub group_end : State → ℕ → ℕ → Option ℕ
 group_end s i g = option_and_then (λ (r : GroupRecordRow). r.end) (row_at s.group_records (star_key i g))
 
+-- the end of a source timer, where it runs
 abbrev pub source_end : State → ℕ → ℕ → ℕ → Option ℕ
 source_end s i g src = option_and_then (λ (r : SourceRecordRow). r.end) (row_at s.source_records (source_key i g src))
 
--- Q(G): the query leaves at once and again [Last Member Query Count] - 1 times
+-- Send Q(G) (6.6.3.1): the group timer is lowered to LMQT, the query leaves at once, and again LMQC - 1 times
 unfoldable pub query_group : State → ℕ → ℕ → State × List Message
 query_group s i g =
-    let repeat : GroupRepeatRow = record { next = s.present + last_member_query_interval s; left = robustness s i - 1 } in
-    let after : State = record (lower_group s i g (query_end s i)) { group_repeats = put s.group_repeats (star_key i g) repeat } in
+    let repeat : GroupRepeatRow =
+    record { next = s.present + last_member_query_interval s; left = robustness s i - 1 } in
+    let after : State =
+    record (lower_group s i g (query_end s i)) { group_repeats = put s.group_repeats (star_key i g) repeat } in
     (after, specific_query s i g false [] ∷ [])
 
--- the repeat of Q(G), with S set where the group timer runs beyond what a query would lower it to
+-- a repeat of Q(G), with S set where the group timer is larger than LMQT (6.6.3.1)
 unfoldable pub group_repeat_due : State → ℕ → ℕ → ℕ → State × List Message
 group_repeat_due s i g left =
     let repeat : GroupRepeatRow = record { next = s.present + last_member_query_interval s; left = left - 1 } in
@@ -191,7 +193,7 @@ group_repeat_due s i g left =
       specific_query s i g (exceeds (query_end s i) (group_end s i g)) [] ∷ [],
     )
 
--- the most sources that one query names: what an Ethernet frame holds
+-- the most sources that one query names: what a frame of 1500 bytes holds (4.1.8)
 abbrev pub most_sources : ℕ
 most_sources = 366
 
@@ -202,10 +204,12 @@ queries_of message (suc most) sources =
     let later : List Message = queries_of message most (drop most_sources sources) in
     elim (is_empty_list sources) [ true ↦ [] | false ↦ message (take most_sources sources) ∷ later ]
 
+-- the group-and-source-specific queries of these sources, with S set or clear
 abbrev pub specific_queries : State → ℕ → ℕ → Bool → List ℕ → List Message
 specific_queries s i g suppress sources =
     queries_of (specific_query s i g suppress) (length sources) sources
 
+-- a source of the group with sendings left
 abbrev pub is_sending : ℕ → ℕ → Key × SendingRow → Bool
 is_sending i g e = is_at_group i g e.0
 
@@ -219,7 +223,8 @@ one_sent i g e =
     if not (is_sending i g e) then Some e
     else (if nat_lt 1 (e.1).left then Some (e.0, record { left = (e.1).left - 1 }) else None)
 
--- a sending: those whose timer exceeds what a query lowers to with S set, then the rest
+-- a group-and-source-specific query (6.6.3.2): with S set the sources whose timers are larger than LMQT, then with S
+-- clear the rest; each has one sending less
 unfoldable pub sources_sent : State → ℕ → ℕ → State × List Message
 sources_sent s i g =
     let sources : List ℕ = sources_to_send s i g in
@@ -229,22 +234,26 @@ sources_sent s i g =
           ++ specific_queries s i g false (filter (λ src. not (runs_on src)) sources),
     )
 
--- the next sending, while any is left
+-- the next sending [Last Member Query Interval] from now, while any source has one left
 unfoldable pub next_sending : State → ℕ → ℕ → Option SourceRepeatRow
 next_sending s i g =
-    if list_any (is_sending i g) s.sendings then Some (record { next = s.present + last_member_query_interval s }) else None
+    if list_any (is_sending i g) s.sendings
+    then Some (record { next = s.present + last_member_query_interval s }) else None
 
+-- a sending at once, and the next one after it
 unfoldable pub send_sources : State → ℕ → ℕ → State × List Message
 send_sources s i g =
     let sent : State × List Message = sources_sent s i g in
     (record (sent.0) { source_repeats = set_row s.source_repeats (star_key i g) (next_sending sent.0 i g) }, sent.1)
 
+-- a sending whose time has come
 unfoldable pub source_repeat_due : State → ℕ → ℕ → State × List Message
 source_repeat_due s i g =
     let sent : State × List Message = sources_sent s i g in
     (record (sent.0) { source_repeats = change_row (λ (old : SourceRepeatRow). next_sending sent.0 i g) (star_key i g) s.source_repeats }, sent.1)
 
--- Q(G,X): of X those whose timers exceed what they are lowered to are sent, with all that are left
+-- Send Q(G,X) (6.6.3.2): of X the sources whose timers are larger than LMQT are lowered to it, and get LMQC sendings
+-- here: each source has its own count, and a sending names all sources of the group that have sendings left
 unfoldable pub query_sources : State → ℕ → ℕ → List ℕ → State × List Message
 query_sources s i g asked =
     let sources : List ℕ = filter (λ src. exceeds (query_end s i) (source_end s i g src)) asked in
@@ -253,6 +262,7 @@ query_sources s i g asked =
     let lower : State = record (lower_sources s i g sources (query_end s i)) { sendings = counted } in
     elim (is_empty_list sources) [ true ↦ (s, []) | false ↦ send_sources lower i g ]
 
+-- Send Q(G) or Send Q(G,A)
 unfoldable pub query_asked : ℕ → ℕ → State → Asked → State × List Message
 query_asked i g s AskGroup = query_group s i g
 query_asked i g s (AskSources sources) = query_sources s i g sources
@@ -268,15 +278,17 @@ module _ {S A M : Type 0} (change : S → A → S × List M) where
 
 -- ---- what comes in
 
--- a record of a report; the records of SSM groups that would exclude are skipped (RFC 4604, section 2.2)
+-- IS_EX and TO_EX
 abbrev pub is_excluding : RecordType → Bool
 is_excluding RecordType.IsExclude = true
 is_excluding RecordType.ToExclude = true
 is_excluding _ = false
 
+-- a group record that a router doesn't take: one of an SSM group that excludes (RFC 4604, section 3.1)
 abbrev pub is_skipped : Record → Bool
 is_skipped r = is_source_specific r.group && is_excluding r.type
 
+-- a group record of a report (6.4); the queries that it asks for are the querier's alone
 unfoldable pub record_seen : ℕ → State → Record → State × List Message
 record_seen i s r =
     let full : ℕ = s.present + group_membership_interval s i in
@@ -284,33 +296,37 @@ record_seen i s r =
     let written : State = with_record s i r.group applied.0 in
     if is_querier s i then each_in_turn (query_asked i r.group) written applied.1 else (written, [])
 
+-- a report, record by record
 unfoldable pub report_seen : State → ℕ → List Record → State × List Message
 report_seen s i records = each_in_turn (record_seen i) s (filter (λ r. not (is_skipped r)) records)
 
--- a query is from a lower address than the router's own
+-- a query with a lower address than the router's (6.6.2), which isn't 0.0.0.0
 abbrev pub is_lower_querier : State → ℕ → ℕ → Bool
 is_lower_querier s i from = nat_lt 0 from && nat_lt from (my_address s i)
 
--- the timers that a query with S clear lowers: none by a general query
+-- a query with S clear lowers timers to LMQT (6.6.1), whoever sent it: Q(G) the group timer, Q(G,A) those of A
 unfoldable pub lower_queried : State → ℕ → QueryValue → State
 lower_queried s i q =
     if q.suppress || (q.group == 0) then s
     else (if is_empty_list q.sources then lower_group s i q.group (query_end s i)
     else lower_sources s i q.group q.sources (query_end s i))
 
+-- a query; here: one from a higher address elects nobody, and its QRV and QQIC aren't adopted
 unfoldable pub query_seen : State → ℕ → ℕ → QueryValue → State
 query_seen s i from q =
     let elected : State =
     (if is_lower_querier s i from then querier_elected s i q.robustness (code_value q.interval_code) else s) in
     lower_queried elected i q
 
--- a source timer and a group timer end
+-- the group timer ends (6.5)
 unfoldable pub group_record_due : State → ℕ → ℕ → State
 group_record_due s i g =
     let timed : State = record s {
-      group_records = change_row (λ (old : GroupRecordRow). Some (record { end = None })) (star_key i g) s.group_records;
+      group_records =
+          change_row (λ (old : GroupRecordRow). Some (record { end = None })) (star_key i g) s.group_records;
     } in
     with_members timed i g (group_expired s.present (record_of s i g))
 
+-- a source timer ends (6.2.3)
 unfoldable pub source_record_due : State → ℕ → ℕ → ℕ → State
 source_record_due s i g src = with_members s i g (source_expired src (record_of s i g))

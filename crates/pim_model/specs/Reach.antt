@@ -1,23 +1,8 @@
 -- The reach of an event: the sources with a fact of which a row, or a route, differs between two of the states that
 -- the event passes through. Of an Advance it is the reaches of its firings.
-use Rattle.std.specs.List.{list_any}
-use Rattle.std.specs.Prelude.{Bool, Err, List, Ok, [], false, filter, if◌then◌else◌, length, not, ℕ, ◌&&◌, ◌++◌, ◌+◌, ◌-◌, ◌||◌, ◌∷◌}
-use Rattle.pim_types.specs.declared.event.Event.{Event}
-use Rattle.pim_types.specs.declared.fact.Key.{Key}
-use Rattle.pim_types.specs.Keys.{group_in, is_of_group, is_star, names_source, source_in}
-use Rattle.pim_model.specs.Clearing.{Cleared, clear, clearable_count, cleared, to_clear}
-use Rattle.pim_model.specs.declared.accepted.Accepted.{Accepted}
-use Rattle.pim_model.specs.Firing.{fire_once, fired}
-use Rattle.pim_model.specs.Full.{is_full}
-use Rattle.pim_model.specs.Judging.{Judged, judged}
-use Rattle.pim_model.specs.Registers.{settle_registers}
-use Rattle.pim_model.specs.Repeat.{until_none}
-use Rattle.pim_model.specs.Rows.{same_assert, same_both, same_downstream, same_group_record, same_interface, same_neighbour, same_path, same_register, same_rows, same_source, same_source_record}
-use Rattle.pim_model.specs.State.{State}
-use Rattle.pim_model.specs.Step.{change}
-use Rattle.pim_model.specs.Tables.{Table, has_row, keys_in, rows_where, same_option}
-use Rattle.pim_model.specs.Timers.{Ending, next_due, timers}
-use Rattle.pim_model.specs.Unicast.{route, rp_of, rp_route}
+use Rattle.std.specs.{List.list_any, Prelude.{Bool, Err, List, Ok, [], false, filter, if◌then◌else◌, length, not, ℕ, ◌&&◌, ◌++◌, ◌+◌, ◌-◌, ◌||◌, ◌∷◌}}
+use Rattle.pim_types.specs.{Keys.{group_in, is_of_group, is_star, names_source, source_in}, declared.{event.Event.Event, fact.Key.Key}}
+use Rattle.pim_model.specs.{Clearing.{Cleared, clear, clearable_count, cleared, to_clear}, Firing.{fire_once, fired}, Full.is_full, Judging.{Judged, judged}, Registers.settle_registers, Repeat.until_none, Rows.{same_assert, same_both, same_downstream, same_group_record, same_interface, same_neighbour, same_path, same_register, same_rows, same_source, same_source_record}, State.State, Step.change, Tables.{Table, has_row, keys_in, rows_where, same_option}, Timers.{Ending, next_due, timers}, Unicast.{route, rp_of, rp_route}, declared.accepted.Accepted.Accepted}
 
 -- ---- two states
 
@@ -51,6 +36,7 @@ keeps_neighbours s t =
 
 -- ---- the states that a change passes through
 
+-- a fact that goes, and the state after it
 abbrev pub to_next : State → Cleared → State × List State
 to_next s c = let next : State = (cleared s c).0 in (next, next ∷ [])
 
@@ -106,5 +92,6 @@ abbrev pub where_accepted : {X : Type 0} → State → (Accepted → List X) →
 where_accepted s told (Err stop) = []
 where_accepted s told (Ok a) = if is_full s a then [] else told a
 
+-- the reach of an event
 unfoldable pub event_reach : State → Event → List Key
 event_reach s e = where_accepted s (reach_of s e.draw) (judged s e.kind)

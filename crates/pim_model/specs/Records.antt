@@ -1,35 +1,28 @@
--- One IGMPv3 group record (RFC 3376, section 6): tables of source-list and filter-mode changes as
--- equations between sets, for each source by itself.
-use Rattle.std.specs.List.{list_any}
-use Rattle.std.specs.Option.{option_map_or}
-use Rattle.std.specs.Prelude.{Bool, List, None, Option, Some, [], false, filter, filter_map, find, fold, if◌then◌else◌, is_none, is_some, map, nat_lt, not, option_and_then, true, ℕ, ◌&&◌, ◌++◌, ◌==◌, ◌∷◌}
-use Rattle.pim_types.specs.declared.fact.GroupRecordRow.{GroupRecordRow}
-use Rattle.pim_types.specs.declared.fact.Key.{Key}
-use Rattle.pim_types.specs.declared.fact.SendingRow.{SendingRow}
-use Rattle.pim_types.specs.declared.fact.SourceRecordRow.{SourceRecordRow}
+-- One IGMPv3 group record. Sections are those of RFC 3376: its tables of current-state records (6.4.1), of changes
+-- (6.4.2), and of timers that end (6.2.2, 6.2.3, 6.5), as equations between sets, for each source by itself.
+use Rattle.std.specs.{List.list_any, Option.option_map_or, Prelude.{Bool, List, None, Option, Some, [], false, filter, filter_map, find, fold, if◌then◌else◌, is_none, is_some, map, nat_lt, not, option_and_then, true, ℕ, ◌&&◌, ◌++◌, ◌==◌, ◌∷◌}}
+use Rattle.pim_types.specs.{Keys.{is_of_group, is_on, source_in, source_key, star_key}, declared.fact.{GroupRecordRow.GroupRecordRow, Key.Key, SendingRow.SendingRow, SourceRecordRow.SourceRecordRow}}
+use Rattle.pim_model.specs.{Sets.Set, State.State, Tables.{Table, ascending, drop_at, drop_where, has_row, is_among, is_empty_list, put, row_at}}
 pub use Rattle.igmp_wire.specs.declared.report.RecordType.{RecordType}
-use Rattle.pim_model.specs.Sets.{Set}
-use Rattle.pim_model.specs.State.{State}
-use Rattle.pim_model.specs.Tables.{Table, ascending, drop_at, drop_where, has_row, is_among, is_empty_list, put, row_at}
-use Rattle.pim_types.specs.Keys.{is_of_group, is_on, source_in, source_key, star_key}
 
--- a source of a record: with an end its timer runs, without one it is excluded
+-- a source record (6.2): with an end its source timer runs, without one it is 0 and the source excluded
 abbrev pub Member : Type 0
 Member = ℕ × Option ℕ
 
--- INCLUDE without a timer, EXCLUDE with the group timer's end; the sources ascending
+-- (group timer, filter-mode, source records) (6.2): INCLUDE without a timer, EXCLUDE with its end; sources ascending
 pub record GroupRecord : Type 0 where
   pub timer : Option ℕ
   pub members : List Member
 
+-- INCLUDE of no source, which is no record (6.3)
 abbrev pub no_record : GroupRecord
 no_record = record { timer = None; members = [] }
 
--- INCLUDE of no source is no record
+-- the record goes with its last source
 abbrev pub is_no_record : GroupRecord → Bool
 is_no_record r = is_none r.timer && is_empty_list r.members
 
--- the queries that a record asks for: of the group, of sources of the group
+-- Send Q(G), and Send Q(G,A) (6.4.2)
 pub data Asked : Type 0 where
   AskGroup : Asked
   AskSources : List ℕ → Asked
@@ -41,9 +34,11 @@ pub data Fate : Type 0 where
   Excluded : Fate
   Until : ℕ → Fate
 
+-- how a source stands in a record
 unfoldable pub fate_in : GroupRecord → ℕ → Fate
 fate_in r src = option_map_or (λ (m : Member). option_map_or Until m.1 Excluded) (find (λ m. m.0 == src) r.members) Gone
 
+-- the source record of one that isn't gone
 abbrev pub member_of : ℕ → Fate → Option Member
 member_of src Gone = None
 member_of src Excluded = Some (src, None)
@@ -58,59 +53,63 @@ unfoldable pub record_with : Option ℕ → (ℕ → Fate) → List ℕ → Grou
 record_with timer fate sources =
     record { timer = timer; members = filter_map (λ src. member_of src (fate src)) sources }
 
+-- the source is in A of INCLUDE (A), or in X of EXCLUDE (X,Y)
 abbrev pub is_running : Fate → Bool
 is_running (Until end) = true
 is_running _ = false
 
+-- the source is in Y of EXCLUDE (X,Y)
 abbrev pub is_excluded : Fate → Bool
 is_excluded Excluded = true
 is_excluded _ = false
 
--- with the sources that pass, of an ascending list
+-- Send Q(G,A), where A has the sources that pass, of an ascending list
 abbrev pub asks : (ℕ → Bool) → List ℕ → List Asked
 asks test sources = AskSources (filter test sources) ∷ []
 
 -- ---- INCLUDE (A) and a record with the sources B; a timer that is set ends at `full`
 
--- IS_IN (B), ALLOW (B): INCLUDE (A + B), (B) = GMI. TO_IN (B): the same.
+-- IS_IN (B), ALLOW (B), TO_IN (B): INCLUDE (A+B), (B)=GMI
 abbrev pub include_more : ℕ → GroupRecord → Set → ℕ → Fate
 include_more full r named src = if named src then Until full else fate_in r src
 
--- IS_EX (B), TO_EX (B): EXCLUDE (A * B, B - A), (B - A) = 0, delete (A - B)
+-- IS_EX (B), TO_EX (B): EXCLUDE (A*B,B-A), (B-A)=0, Delete (A-B)
 abbrev pub include_to_exclude : GroupRecord → Set → ℕ → Fate
 include_to_exclude r named src =
     if named src then (if is_running (fate_in r src) then fate_in r src else Excluded) else Gone
 
 -- ---- EXCLUDE (X, Y) and a record with the sources A
 
--- IS_IN (A), ALLOW (A), TO_IN (A): EXCLUDE (X + A, Y - A), (A) = GMI
+-- IS_IN (A), ALLOW (A), TO_IN (A): EXCLUDE (X+A,Y-A), (A)=GMI
 abbrev pub exclude_less : ℕ → GroupRecord → Set → ℕ → Fate
 exclude_less full r named src = if named src then Until full else fate_in r src
 
--- (A - X - Y) = end, with the timers of X and the exclusion of Y kept
+-- (A-X-Y)=end, with the timers of X and the exclusion of Y kept
 abbrev pub kept_or_until : ℕ → Fate → Fate
 kept_or_until end Gone = Until end
 kept_or_until end fate = fate
 
--- IS_EX (A), TO_EX (A): EXCLUDE (A - Y, Y * A), delete (X - A), delete (Y - A)
+-- IS_EX (A): EXCLUDE (A-Y,Y*A), (A-X-Y)=GMI, Delete (X-A), Delete (Y-A). TO_EX (A): likewise, (A-X-Y)=Group Timer
 abbrev pub exclude_again : ℕ → GroupRecord → Set → ℕ → Fate
 exclude_again end r named src = if named src then kept_or_until end (fate_in r src) else Gone
 
--- BLOCK (A): EXCLUDE (X + (A - Y), Y), (A - X - Y) = group timer
+-- BLOCK (A): EXCLUDE (X+(A-Y),Y), (A-X-Y)=Group Timer
 abbrev pub exclude_more : ℕ → GroupRecord → Set → ℕ → Fate
 exclude_more end r named src = if named src then kept_or_until end (fate_in r src) else fate_in r src
 
--- A * B, A - B, A - Y, X - A
+-- A*B
 abbrev pub in_both : GroupRecord → Set → Set
 in_both r named src = is_running (fate_in r src) && named src
 
+-- A-B of INCLUDE (A), X-A of EXCLUDE (X,Y)
 abbrev pub running_unnamed : GroupRecord → Set → Set
 running_unnamed r named src = is_running (fate_in r src) && not (named src)
 
+-- A-Y
 abbrev pub named_not_excluded : GroupRecord → Set → Set
 named_not_excluded r named src = named src && not (is_excluded (fate_in r src))
 
--- the record after a message and the queries asked, from INCLUDE; `full` is GMI from now
+-- the lines of both tables that begin with INCLUDE (A); `full` is GMI from now
 unfoldable pub from_include : ℕ → GroupRecord → RecordType → Set → List ℕ → GroupRecord × List Asked
 from_include full r RecordType.IsInclude named all = (record_with None (include_more full r named) all, [])
 from_include full r RecordType.Allow named all = (record_with None (include_more full r named) all, [])
@@ -121,7 +120,7 @@ from_include full r RecordType.ToExclude named all =
 from_include full r RecordType.ToInclude named all =
     (record_with None (include_more full r named) all, asks (running_unnamed r named) all)
 
--- the same from EXCLUDE, whose group timer ends at `end`
+-- the lines that begin with EXCLUDE (X,Y), whose group timer ends at `end`; Group Timer=GMI is `Some full`
 unfoldable pub from_exclude : ℕ → ℕ → GroupRecord → RecordType → Set → List ℕ → GroupRecord × List Asked
 from_exclude full end r RecordType.IsInclude named all = (record_with (Some end) (exclude_less full r named) all, [])
 from_exclude full end r RecordType.Allow named all = (record_with (Some end) (exclude_less full r named) all, [])
@@ -134,7 +133,7 @@ from_exclude full end r RecordType.ToExclude named all =
 from_exclude full end r RecordType.ToInclude named all =
     (record_with (Some end) (exclude_less full r named) all, asks (running_unnamed r named) all ++ AskGroup ∷ [])
 
--- a record and a message's record of one type with its sources, in either mode
+-- a group record of a report, of one type with its sources, in either mode
 unfoldable pub apply_record : ℕ → GroupRecord → RecordType → List ℕ → GroupRecord × List Asked
 apply_record full r type sources =
     let all : List ℕ = sources_of_both r sources in
@@ -144,14 +143,14 @@ apply_record full r type sources =
       | Some end ↦ from_exclude full end r type named all
     ]
 
--- the group timer's end in EXCLUDE: the sources whose end is later become the included ones
+-- the group timer ends (6.5): EXCLUDE (X,Y) becomes INCLUDE (X), where X has the sources whose timers run on
 unfoldable pub group_expired : ℕ → GroupRecord → GroupRecord
 group_expired now r = record {
   timer = None;
   members = filter (λ (m : Member). option_map_or (nat_lt now) m.1 false) r.members;
 }
 
--- a source timer's end: included no more in INCLUDE, excluded from now on in EXCLUDE
+-- a source timer ends (6.3): in INCLUDE the source record goes, in EXCLUDE the source is excluded from now on
 unfoldable pub source_expired : ℕ → GroupRecord → GroupRecord
 source_expired src r =
     if is_some r.timer
@@ -160,25 +159,30 @@ source_expired src r =
 
 -- ---- the record as rows of the state
 
+-- the source records of rows
 unfoldable pub members_of : Table SourceRecordRow → List Member
 members_of rows = map (λ (e : Key × SourceRecordRow). (source_in e.0, (e.1).end)) rows
 
+-- a key of the group, or of a source of it, on the interface
 abbrev pub is_at_group : ℕ → ℕ → Key → Bool
 is_at_group i g k = is_on i k && is_of_group g k
 
+-- the record of a group on an interface
 unfoldable pub record_of : State → ℕ → ℕ → GroupRecord
 record_of s i g = record {
   timer = option_and_then (λ (r : GroupRecordRow). r.end) (row_at s.group_records (star_key i g));
   members = members_of (filter (λ e. is_at_group i g e.0) s.source_records);
 }
 
+-- with a source record
 abbrev pub put_member : ℕ → ℕ → Table SourceRecordRow → Member → Table SourceRecordRow
 put_member i g t m = put t (source_key i g m.0) (record { end = m.1 })
 
 -- without the queries of sources and records that are gone
 unfoldable pub with_repeats_of_rows : State → ℕ → ℕ → State
 with_repeats_of_rows s i g =
-    let sendings : Table SendingRow = drop_where (λ k. is_at_group i g k && not (has_row s.source_records k)) s.sendings in
+    let sendings : Table SendingRow =
+    drop_where (λ k. is_at_group i g k && not (has_row s.source_records k)) s.sendings in
     let has_sendings : Bool = list_any (λ (e : Key × SendingRow). is_at_group i g e.0) sendings in
     let has_record : Bool = has_row s.group_records (star_key i g) in
     record s {

@@ -1,42 +1,33 @@
--- Registering with the RP (RFC 7761, sections 4.4.1 and 4.4.2).
-use Rattle.std.specs.Option.{option_map_or}
-use Rattle.std.specs.Prelude.{Bool, List, Some, [], false, fold, if◌then◌else◌, map, not, true, unwrap_or, ℕ, ◌&&◌, ◌++◌, ◌+◌, ◌==◌, ◌||◌, ◌∷◌}
-use Rattle.pim_types.specs.declared.config.SptSwitch.{SptSwitch}
-use Rattle.pim_types.specs.declared.fact.Key.{Key}
-use Rattle.pim_types.specs.declared.fact.RegisterRow.{RegisterRow}
-use Rattle.pim_types.specs.declared.fact.RegisterState.{RegisterState}
-use Rattle.pim_types.specs.declared.path.Path.{Path}
+-- Registering with the RP. Sections are those of RFC 7761. No row is NoInfo.
+use Rattle.std.specs.{Option.option_map_or, Prelude.{Bool, List, Some, [], false, fold, if◌then◌else◌, map, not, true, unwrap_or, ℕ, ◌&&◌, ◌++◌, ◌+◌, ◌==◌, ◌||◌, ◌∷◌}}
+use Rattle.pim_types.specs.{Keys.{group_in, source_in, source_key}, declared.{config.SptSwitch.SptSwitch, fact.{Key.Key, RegisterRow.RegisterRow, RegisterState.RegisterState}, path.Path.Path}}
 use Rattle.pim_wire.specs.Values.{Encapsulated, Null, Register}
-use Rattle.pim_model.specs.Messages.{Message}
-use Rattle.pim_model.specs.Neighbours.{is_dr}
-use Rattle.pim_model.specs.Sets.{is_kept_alive, spt_bit}
-use Rattle.pim_model.specs.State.{State, is_own, my_address}
-use Rattle.pim_model.specs.Tables.{Table, change_row, delay_in, drop_at, has_row, keys_in, put, same_option}
-use Rattle.pim_types.specs.Keys.{group_in, source_in, source_key}
-use Rattle.pim_model.specs.Unicast.{route, rp_of, rpf_interface}
+use Rattle.pim_model.specs.{Messages.Message, Neighbours.is_dr, Sets.{is_kept_alive, spt_bit}, State.{State, is_own, my_address}, Tables.{Table, change_row, delay_in, drop_at, has_row, keys_in, put, same_option}, Unicast.{route, rp_of, rpf_interface}}
 
--- what a Register names
+-- the group that a Register names
 abbrev pub registered_group : Register → ℕ
 registered_group (Encapsulated inner) = inner.destination
 registered_group (Null source group) = group
 
+-- the source that a Register names
 abbrev pub registered_source : Register → ℕ
 registered_source (Encapsulated inner) = inner.source
 registered_source (Null source group) = source
 
+-- pkt.NullRegisterBit (4.4.2)
 abbrev pub is_null : Register → Bool
 is_null (Encapsulated inner) = false
 is_null (Null source group) = true
 
--- Keepalive_Period, which also serves at the RP: max(210 s, 185 s), in ms
+-- Keepalive_Period, and at the RP max(Keepalive_Period, RP_Keepalive_Period) = max(210 s, 185 s) (4.11), in ms
 abbrev pub keepalive_period : ℕ
 keepalive_period = 210000
 
--- Register_Probe_Time, in ms
+-- Register_Probe_Time (4.11), in ms
 abbrev pub register_probe_time : ℕ
 register_probe_time = 5000
 
--- with KAT(S,G) set
+-- set KeepaliveTimer(S,G) to Keepalive_Period
 unfoldable pub with_keepalive : State → ℕ → ℕ → State
 with_keepalive s g src =
     record s {
@@ -48,38 +39,43 @@ with_keepalive s g src =
 unfoldable pub has_other_rp : State → ℕ → Bool
 has_other_rp s g = option_map_or (λ rp. not (is_own s rp)) (rp_of s g) false
 
+-- I_am_DR(RPF_interface(S)) AND DirectlyConnected(S)
 abbrev pub is_dr_of_path : State → Path → Bool
 is_dr_of_path s p = p.is_connected && is_dr s p.iface.number
 
--- CouldRegister(S,G): the source's DR, while the source sends
+-- CouldRegister(S,G) = I_am_DR(RPF_interface(S)) AND KeepaliveTimer(S,G) is running AND DirectlyConnected(S) (4.4.1)
+-- here: AND RP(G) is known, and another router
 -- reads: the route to S, I_am_DR of its interface, the source row of (S,G), the RP ranges, the own addresses
 unfoldable pub could_register : State → ℕ → ℕ → Bool
 could_register s g src =
     option_map_or (is_dr_of_path s) (route s src) false && is_kept_alive s g src && has_other_rp s g
 
--- NoInfo becomes Join where CouldRegister holds, any state NoInfo where it ceases
+-- CouldRegister ->True: NI -> J; CouldRegister ->False: any state -> NI (4.4.1)
 unfoldable pub settled_register : State → Key → Table RegisterRow → Table RegisterRow
 settled_register s k t =
     if could_register s (group_in k) (source_in k)
     then (if has_row t k then t else put t k (record { state = RegisterState.Join }))
     else drop_at t k
 
+-- the same of a state
 unfoldable pub settle_register : State → Key → State
 settle_register s k = record s { registers = settled_register s k s.registers }
 
--- all of them, at the end of a change
+-- the same of all sources, at the end of a change
 unfoldable pub settle_registers : State → State
 settle_registers s =
     record s { registers = fold (λ t k. settled_register s k t) s.registers (keys_in s.sources ++ keys_in s.registers) }
 
--- whom a Register-Stop means, in Join or Join-Pending; source 0.0.0.0 means all sources of the group
+-- whom a Register-Stop means; one with source 0.0.0.0 means all sources of the group (4.4.1)
 abbrev pub is_meant : ℕ → ℕ → Key × RegisterRow → Bool
 is_meant g src e = (group_in e.0 == g) && ((src == 0) || (source_in e.0 == src))
 
+-- Register-Stop received (4.4.1): J, JP -> P; P stays
 abbrev pub state_after_stop : ℕ → RegisterState → RegisterState
 state_after_stop end (RegisterState.Prune old) = RegisterState.Prune old
 state_after_stop end _ = RegisterState.Prune end
 
+-- Register-Stop Timer = rand(0.5, 1.5) * Register_Suppression_Time - Register_Probe_Time (4.4.1)
 unfoldable pub register_stop_seen : State → ℕ → ℕ → ℕ → State
 register_stop_seen s w g src =
     let end : ℕ = s.present + delay_in 25000 85000 w in
@@ -88,29 +84,31 @@ register_stop_seen s w g src =
           if is_meant g src e then (e.0, record { state = state_after_stop end (e.1).state }) else e) s.registers;
     }
 
--- the source of a Register is the address of RPF_interface(S)
+-- the address from which the router registers; here: its own on RPF_interface(S)
 abbrev pub registering_address : State → ℕ → ℕ
 registering_address s src = option_map_or (my_address s) (rpf_interface s src) 0
 
+-- with another register state of (S,G)
 abbrev pub with_register_state : State → Key → RegisterState → State
 with_register_state s k state =
     record s { registers = change_row (λ (old : RegisterRow). Some (record { state = state })) k s.registers }
 
--- the register timer's end: the RP is probed, then the tunnel opens again
+-- Register-Stop Timer expires (4.4.1): P -> JP with a Null-Register, timer to Register_Probe_Time; JP -> J
 unfoldable pub register_due : State → Key → RegisterState → State × List Message
 register_due s k (RegisterState.Prune end) = (
   with_register_state s k (RegisterState.JoinPending (s.present + register_probe_time)),
-  Message.NullRegister (registering_address s (source_in k)) (unwrap_or (rp_of s (group_in k)) 0) (source_in k) (group_in k) ∷ [],
+  Message.NullRegister (registering_address s (source_in k)) (unwrap_or (rp_of s (group_in k)) 0)
+      (source_in k) (group_in k) ∷ [],
 )
 register_due s k _ = (with_register_state s k RegisterState.Join, [])
 
--- with the registers of the groups whose RP changed in Join
+-- RP changed (4.4.1): J, JP, P -> J
 unfoldable pub registers_after_rps : State → State → Table RegisterRow
 registers_after_rps before after =
     map (λ (e : Key × RegisterRow).
     if same_option (rp_of before (group_in e.0)) (rp_of after (group_in e.0)) then e
     else (e.0, record { state = RegisterState.Join })) after.registers
 
--- SwitchToSptDesired(S,G)
+-- SwitchToSptDesired(S,G) (4.2.1); here: as configured, always or never
 abbrev pub is_spt_wanted : State → Bool
 is_spt_wanted s = elim (s.settings.spt) [ SptSwitch.Always ↦ true | SptSwitch.Never ↦ false ]

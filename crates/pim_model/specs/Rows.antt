@@ -2,20 +2,8 @@
 -- neither the owed Hello nor an end that is there in both.
 use Rattle.std.specs.Prelude.{Bool, None, Option, Some, [], false, is_some, true, ℕ, ◌&&◌, ◌==◌, ◌∷◌}
 use Rattle.pim_ip.specs.declared.lan.LanDelay.{LanDelay}
-use Rattle.pim_types.specs.Keys.{same_key}
-use Rattle.pim_types.specs.declared.fact.AssertMetric.{AssertMetric}
-use Rattle.pim_types.specs.declared.fact.AssertRow.{AssertRow}
-use Rattle.pim_types.specs.declared.fact.DownstreamRow.{DownstreamRow}
-use Rattle.pim_types.specs.declared.fact.GroupRecordRow.{GroupRecordRow}
-use Rattle.pim_types.specs.declared.fact.InterfaceRow.{InterfaceRow}
-use Rattle.pim_types.specs.declared.fact.NeighbourRow.{NeighbourRow}
-use Rattle.pim_types.specs.declared.fact.RegisterRow.{RegisterRow}
-use Rattle.pim_types.specs.declared.fact.RegisterState.{RegisterState}
-use Rattle.pim_types.specs.declared.fact.SourceRecordRow.{SourceRecordRow}
-use Rattle.pim_types.specs.declared.fact.SourceRow.{SourceRow}
-use Rattle.pim_types.specs.declared.path.Path.{Path}
-use Rattle.pim_model.specs.Sets.{is_winner}
-use Rattle.pim_model.specs.Tables.{Table, same_bool, same_option}
+use Rattle.pim_types.specs.{Keys.same_key, declared.{fact.{AssertMetric.AssertMetric, AssertRow.AssertRow, DownstreamRow.DownstreamRow, GroupRecordRow.GroupRecordRow, InterfaceRow.InterfaceRow, NeighbourRow.NeighbourRow, RegisterRow.RegisterRow, RegisterState.RegisterState, SourceRecordRow.SourceRecordRow, SourceRow.SourceRow}, path.Path.Path}}
+use Rattle.pim_model.specs.{Sets.is_winner, Tables.{Table, same_bool, same_option}}
 
 -- both are there and alike, or neither is there
 abbrev pub same_both : {X : Type 0} → (X → X → Bool) → Option X → Option X → Bool

@@ -1,28 +1,8 @@
--- The state of the written machine: plain facts.
-use Rattle.std.specs.List.{list_any}
-use Rattle.std.specs.Option.{option_map_or}
-use Rattle.std.specs.Prelude.{Bool, List, Option, [], length, slice_get, ℕ, ◌==◌}
-use Rattle.pim_types.specs.declared.config.Config.{Config}
-use Rattle.pim_types.specs.declared.config.InterfaceConfig.{InterfaceConfig}
-use Rattle.pim_types.specs.declared.config.Route.{Route}
-use Rattle.pim_types.specs.declared.config.RpRange.{RpRange}
-use Rattle.pim_types.specs.declared.config.Settings.{Settings}
-use Rattle.pim_types.specs.declared.fact.AssertRow.{AssertRow}
-use Rattle.pim_types.specs.declared.fact.DownstreamRow.{DownstreamRow}
-use Rattle.pim_types.specs.declared.fact.GroupRecordRow.{GroupRecordRow}
-use Rattle.pim_types.specs.declared.fact.GroupRepeatRow.{GroupRepeatRow}
-use Rattle.pim_types.specs.declared.fact.InterfaceRow.{InterfaceRow}
-use Rattle.pim_types.specs.declared.fact.JoinTimerRow.{JoinTimerRow}
-use Rattle.pim_types.specs.declared.fact.NeighbourRow.{NeighbourRow}
-use Rattle.pim_types.specs.declared.fact.OverrideTimerRow.{OverrideTimerRow}
-use Rattle.pim_types.specs.declared.fact.QuerierRow.{QuerierRow}
-use Rattle.pim_types.specs.declared.fact.RegisterRow.{RegisterRow}
-use Rattle.pim_types.specs.declared.fact.SendingRow.{SendingRow}
-use Rattle.pim_types.specs.declared.fact.SourceRecordRow.{SourceRecordRow}
-use Rattle.pim_types.specs.declared.fact.SourceRepeatRow.{SourceRepeatRow}
-use Rattle.pim_types.specs.declared.fact.SourceRow.{SourceRow}
+-- The state of the written machine: plain facts (RFC 7761, sections 4.1.1 to 4.1.4; RFC 3376, section 6.2). No upstream
+-- state and no RPF neighbour is among them: they follow.
+use Rattle.std.specs.{List.list_any, Option.option_map_or, Prelude.{Bool, List, Option, [], length, slice_get, ℕ, ◌==◌}}
+use Rattle.pim_types.specs.{Keys.iface_key, declared.{config.{Config.Config, InterfaceConfig.InterfaceConfig, Route.Route, RpRange.RpRange, Settings.Settings}, fact.{AssertRow.AssertRow, DownstreamRow.DownstreamRow, GroupRecordRow.GroupRecordRow, GroupRepeatRow.GroupRepeatRow, InterfaceRow.InterfaceRow, JoinTimerRow.JoinTimerRow, NeighbourRow.NeighbourRow, OverrideTimerRow.OverrideTimerRow, QuerierRow.QuerierRow, RegisterRow.RegisterRow, SendingRow.SendingRow, SourceRecordRow.SourceRecordRow, SourceRepeatRow.SourceRepeatRow, SourceRow.SourceRow}}}
 use Rattle.pim_model.specs.Tables.{Table, below, has_row}
-use Rattle.pim_types.specs.Keys.{iface_key}
 
 pub record State : Type 0 where
   pub settings : Settings
@@ -31,20 +11,24 @@ pub record State : Type 0 where
   pub present : ℕ
   pub routes : List Route
   pub ranges : List RpRange
-  -- by interface
+  -- by interface: those that are up, with GenID and Hello Timer; PIM neighbours (RFC 7761, sections 4.1.1 and 4.3);
+  -- the querier's state (RFC 3376, section 6.6.2)
   pub interfaces : Table InterfaceRow
   pub neighbours : Table NeighbourRow
   pub queriers : Table QuerierRow
-  -- IGMP membership, by interface, group and source
+  -- IGMP membership, by interface, group and source: records with their timers (RFC 3376, section 6.2), and queries
+  -- that are still to leave (6.6.3)
   pub group_records : Table GroupRecordRow
   pub source_records : Table SourceRecordRow
   pub group_repeats : Table GroupRepeatRow
   pub source_repeats : Table SourceRepeatRow
   pub sendings : Table SendingRow
-  -- PIM, by interface, group and source
+  -- PIM, by interface, group and source: DownstreamJPState with ET and PPT (RFC 7761, sections 4.5.1 to 4.5.3),
+  -- asserts with AT (4.6.1, 4.6.2)
   pub downstream : Table DownstreamRow
   pub asserts : Table AssertRow
-  -- of the whole router, by group and source
+  -- of the whole router, by group and source: JT(*,G) and JT(S,G), OT(S,G,rpt), KAT(S,G) with SPTbit(S,G), the register
+  -- state with RST(S,G) (4.1.2 to 4.1.4)
   pub join_timers : Table JoinTimerRow
   pub override_timers : Table OverrideTimerRow
   pub sources : Table SourceRow
@@ -85,13 +69,15 @@ opening c = record {
   registers = [];
 }
 
--- the numbers of the configured interfaces, ascending
+-- how many interfaces are configured
 abbrev pub iface_count : State → ℕ
 iface_count s = length s.configured
 
+-- their numbers, ascending
 abbrev pub ifaces : State → List ℕ
 ifaces s = below (iface_count s)
 
+-- what is configured of an interface
 unfoldable pub iface_config : State → ℕ → Option InterfaceConfig
 iface_config s i = slice_get s.configured i
 
@@ -99,18 +85,23 @@ iface_config s i = slice_get s.configured i
 abbrev pub value_among : (InterfaceConfig → ℕ) → List InterfaceConfig → ℕ → ℕ
 value_among field configured i = option_map_or field (slice_get configured i) 0
 
+-- its address
 abbrev pub address_among : List InterfaceConfig → ℕ → ℕ
 address_among configured i = value_among (λ c. c.address.bits) configured i
 
+-- my_ip_address(I)
 abbrev pub my_address : State → ℕ → ℕ
 my_address s i = address_among s.configured i
 
+-- the DR Priority that the router announces (RFC 7761, section 4.3.1)
 abbrev pub my_priority : State → ℕ → ℕ
 my_priority s i = value_among (λ c. c.priority) s.configured i
 
+-- Propagation_Delay(I) that the router announces, in ms
 abbrev pub my_propagation_delay : State → ℕ → ℕ
 my_propagation_delay s i = value_among (λ c. c.propagation_delay) s.configured i
 
+-- Override_Interval(I) that the router announces, in ms
 abbrev pub my_override_interval : State → ℕ → ℕ
 my_override_interval s i = value_among (λ c. c.override_interval) s.configured i
 
@@ -119,9 +110,11 @@ pub record InterfaceTable : Type 0 where
   pub configured : List InterfaceConfig
   pub rows : Table InterfaceRow
 
+-- the same of a state
 abbrev pub interfaces_of : State → InterfaceTable
 interfaces_of s = record { configured = s.configured; rows = s.interfaces }
 
+-- the interface is up
 abbrev pub is_up : State → ℕ → Bool
 is_up s i = has_row s.interfaces (iface_key i)
 
@@ -129,5 +122,6 @@ is_up s i = has_row s.interfaces (iface_key i)
 unfoldable pub is_own_among : List InterfaceConfig → ℕ → Bool
 is_own_among configured address = list_any (λ c. c.address.bits == address) configured
 
+-- the same of a state
 abbrev pub is_own : State → ℕ → Bool
 is_own s address = is_own_among s.configured address

@@ -1,31 +1,10 @@
--- One step of the written machine: the judgement of an event, its own change, what follows from it.
+-- One step of the written machine: the judgement of an event, its own change, what follows from it. Sections are those
+-- of RFC 7761.
 use Rattle.std.specs.Prelude.{Err, List, Ok, Result, [], false, length, true, ℕ, ◌++◌, ◌+◌, ◌∷◌}
-use Rattle.pim_ip.specs.declared.refusal.Refusal.{Refusal}
-use Rattle.pim_ip.specs.Ipv4.{Packet}
-use Rattle.pim_types.specs.Keys.{iface_key, is_on}
-use Rattle.pim_types.specs.declared.config.RpRange.{RpRange}
-use Rattle.pim_types.specs.declared.event.Event.{Event}
-use Rattle.pim_types.specs.declared.fact.InterfaceRow.{InterfaceRow}
-use Rattle.pim_types.specs.declared.outcome.Emission.{Emission}
-use Rattle.pim_types.specs.declared.outcome.Outcome.{Outcome}
-use Rattle.pim_types.specs.declared.outcome.Stop.{Stop}
-use Rattle.pim_types.specs.declared.outcome.Verdict.{Verdict}
+use Rattle.pim_ip.specs.{Ipv4.Packet, declared.refusal.Refusal.Refusal}
+use Rattle.pim_types.specs.{Keys.{iface_key, is_on}, declared.{config.RpRange.RpRange, event.Event.Event, fact.InterfaceRow.InterfaceRow, outcome.{Emission.Emission, Outcome.Outcome, Stop.Stop, Verdict.Verdict}}}
 use Rattle.pim_wire.specs.Values.{Encapsulated, Null, Register}
-use Rattle.pim_model.specs.declared.accepted.Accepted.{Accepted}
-use Rattle.pim_model.specs.Asserts.{assert_received}
-use Rattle.pim_model.specs.Downstream.{to_me}
-use Rattle.pim_model.specs.Firing.{fire_all, settled}
-use Rattle.pim_model.specs.Forwarding.{Forwarded, forwarded, register_received}
-use Rattle.pim_model.specs.Full.{is_full}
-use Rattle.pim_model.specs.Hellos.{hello_received, triggered_hello_delay}
-use Rattle.pim_model.specs.Judging.{Judged, judged}
-use Rattle.pim_model.specs.Messages.{Message}
-use Rattle.pim_model.specs.Querier.{querier_up, query_seen, report_seen}
-use Rattle.pim_model.specs.Registers.{is_null, register_stop_seen, registered_group, registered_source, registers_after_rps}
-use Rattle.pim_model.specs.Seen.{seen}
-use Rattle.pim_model.specs.State.{State}
-use Rattle.pim_model.specs.Tables.{delay_in, drop_where, put}
-use Rattle.pim_model.specs.Writing.{copies_of, tunnel_of}
+use Rattle.pim_model.specs.{Asserts.assert_received, Downstream.to_me, Firing.{fire_all, settled}, Forwarding.{Forwarded, forwarded, register_received}, Full.is_full, Hellos.{hello_received, triggered_hello_delay}, Judging.{Judged, judged}, Messages.Message, Querier.{querier_up, query_seen, report_seen}, Registers.{is_null, register_stop_seen, registered_group, registered_source, registers_after_rps}, Seen.seen, State.State, Tables.{delay_in, drop_where, put}, Writing.{copies_of, tunnel_of}, declared.accepted.Accepted.Accepted}
 
 -- ---- changes
 
@@ -36,12 +15,15 @@ pub record Change : Type 0 where
   pub copies : List Emission
   pub registered : List Emission
 
+-- a change of the state alone
 abbrev pub changed : State → Change
 changed s = record { state = s; messages = []; copies = []; registered = [] }
 
+-- a change with messages
 abbrev pub with_messages : State × List Message → Change
 with_messages c = record { state = c.0; messages = c.1; copies = []; registered = [] }
 
+-- a packet that leaves by a list (4.2)
 abbrev pub packet_forwarded : Packet → Forwarded → Change
 packet_forwarded p f = record {
   state = f.state;
@@ -50,11 +32,13 @@ packet_forwarded p f = record {
   registered = tunnel_of f.state p f.to_tunnel;
 }
 
--- what leaves of a Register: its packet, none of a Null-Register
+-- what leaves of a Register (4.4.2): its packet, none of a Null-Register
 abbrev pub decapsulated : Register → Forwarded → Change
 decapsulated (Encapsulated inner) f = packet_forwarded inner f
 decapsulated (Null source group) f = with_messages (f.state, f.messages)
 
+-- PIM is enabled on the interface (4.3.1): a generation ID, the Hello Timer at rand(0, Triggered_Hello_Delay), here at
+-- least 1 ms, a Hello owed; and IGMP's querier starts
 unfoldable pub iface_up : State → ℕ → ℕ → State × List Message
 iface_up s w i =
     let row : InterfaceRow = record {
@@ -64,7 +48,7 @@ iface_up s w i =
     } in
     querier_up (record s { interfaces = put s.interfaces (iface_key i) row }) i
 
--- all facts of the interface go
+-- all facts of the interface go; here: without a Hello with holdtime 0, nor anything else that leaves on it
 unfoldable pub iface_down : State → ℕ → State
 iface_down s i = record s {
   interfaces = drop_where (is_on i) s.interfaces;
@@ -79,6 +63,7 @@ iface_down s i = record s {
   asserts = drop_where (is_on i) s.asserts;
 }
 
+-- other RP ranges: RP changed (4.4.1)
 unfoldable pub rps_replaced : State → List RpRange → State
 rps_replaced s rps =
     let after : State = record s { ranges = rps } in
@@ -104,12 +89,14 @@ change s w (Accepted.RegisterStop from r) = changed (register_stop_seen s w r.gr
 
 -- ---- the step
 
+-- what an event is answered, what leaves, how many of it are copies of a packet, and the state after it
 pub record Answered : Type 0 where
   pub answer : Result Verdict Refusal
   pub emissions : List Emission
   pub copies : ℕ
   pub state : State
 
+-- an event that was refused or ignored
 abbrev pub stopped : State → Stop → Answered
 stopped s (Stop.Refuse refusal) = record { answer = Err refusal; emissions = []; copies = 0; state = s }
 stopped s (Stop.Ignore reason) = record { answer = Ok (Verdict.Ignored reason); emissions = []; copies = 0; state = s }
@@ -131,10 +118,12 @@ advanced s w moment =
     let fires : State × List Emission = fire_all w moment s in
     record { answer = Ok Verdict.Done; emissions = fires.1; copies = 0; state = record (fires.0) { present = moment } }
 
+-- what was accepted, and for what there is room
 unfoldable pub taken : State → ℕ → Accepted → Answered
 taken s w (Accepted.Advance moment) = advanced s w moment
 taken s w a = done s w (change s w a)
 
+-- here: an event that needs more facts than there is room for is refused whole
 unfoldable pub taken_unless_full : State → ℕ → Accepted → Answered
 taken_unless_full s w a = elim (is_full s a) [ true ↦ stopped s (Stop.Refuse Refusal.Full) | false ↦ taken s w a ]
 
@@ -143,9 +132,11 @@ abbrev pub concluded : State → (Accepted → Answered) → Judged → Answered
 concluded s next (Err stop) = stopped s stop
 concluded s next (Ok a) = next a
 
+-- one event: judged, asked for room, taken
 unfoldable pub step : State → Event → Answered
 step s e = concluded s (taken_unless_full s e.draw) (judged s e.kind)
 
+-- what a user sees of a step
 abbrev pub outcome_of : Answered → Outcome
 outcome_of a = record { answer = a.answer; emissions = a.emissions; copies = a.copies }
 
@@ -157,8 +148,10 @@ ran s (e ∷ es) =
     let later : List Outcome × State = ran first.state es in
     (outcome_of first ∷ later.0, later.1)
 
+-- the outcomes of a list of events
 unfoldable pub run : State → List Event → List Outcome
 run s events = (ran s events).0
 
+-- the state after a list of events
 unfoldable pub state_after : State → List Event → State
 state_after s events = (ran s events).1

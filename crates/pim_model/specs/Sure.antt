@@ -1,7 +1,6 @@
 -- Which answers come without memory: a call that gives one of them can't fail for want of it.
 use Rattle.std.specs.Prelude.{Bool, Err, Ok, Result, false, nat_le, true, ℕ, ◌&&◌, ◌||◌}
-use Rattle.pim_ip.specs.Refusal.{refusal_number}
-use Rattle.pim_ip.specs.declared.refusal.Refusal.{Refusal}
+use Rattle.pim_ip.specs.{Refusal.refusal_number, declared.refusal.Refusal.Refusal}
 use Rattle.pim_types.specs.declared.outcome.Verdict.{Verdict}
 
 abbrev pub is_from_to : ℕ → ℕ → ℕ → Bool

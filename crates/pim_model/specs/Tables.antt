@@ -1,16 +1,10 @@
 -- Facts as rows of tables, each under its key, in the order of the keys. One key serves every fact and
 -- every timer.
-use Rattle.std.specs.BTreeMap.{insert_entry, is_at}
-use Rattle.std.specs.List.{list_any, range_with_len}
-use Rattle.std.specs.Map.{lookup}
-use Rattle.std.specs.Prelude.{Bool, List, None, Option, Some, [], false, filter, filter_map, fold, if◌then◌else◌, is_some, map, max, nat_lt, not, option_map, true, ℕ, ◌%◌, ◌&&◌, ◌+◌, ◌-◌, ◌==◌, ◌∷◌}
-use Rattle.pim_ip.specs.declared.addr.Addr.{Addr}
-use Rattle.pim_types.specs.declared.config.IfaceId.{IfaceId}
-use Rattle.pim_types.specs.declared.fact.Key.{Key}
-use Rattle.pim_types.specs.Keys.{is_on, key_cmp, same_key}
-use Rattle.pim_types.specs.declared.path.Hop.{Hop}
-use Rattle.pim_ip.specs.Addr.{addr}
+use Rattle.std.specs.{BTreeMap.{insert_entry, is_at}, List.{list_any, range_with_len}, Map.lookup, Prelude.{Bool, List, None, Option, Some, [], false, filter, filter_map, fold, if◌then◌else◌, is_some, map, max, nat_lt, not, option_map, true, ℕ, ◌%◌, ◌&&◌, ◌+◌, ◌-◌, ◌==◌, ◌∷◌}}
+use Rattle.pim_ip.specs.{Addr.addr, declared.addr.Addr.Addr}
+use Rattle.pim_types.specs.{Keys.{is_on, key_cmp, same_key}, declared.{config.IfaceId.IfaceId, fact.Key.Key, path.Hop.Hop}}
 
+-- a list of rows, each under its key, ascending
 abbrev pub Table : Type 0 → Type 0
 Table R = List (Key × R)
 
@@ -19,6 +13,7 @@ module _ {R : Type 0} where
   unfoldable pub row_at : Table R → Key → Option R
   row_at t k = lookup (is_at (key_cmp k)) t
 
+  -- there is a row at a key
   unfoldable pub has_row : Table R → Key → Bool
   has_row t k = is_some (row_at t k)
 
@@ -30,6 +25,7 @@ module _ {R : Type 0} where
   unfoldable pub drop_where : (Key → Bool) → Table R → Table R
   drop_where test t = filter (λ e. not (test e.0)) t
 
+  -- without the row at a key
   unfoldable pub drop_at : Table R → Key → Table R
   drop_at t k = drop_where (same_key k) t
 
@@ -37,6 +33,7 @@ module _ {R : Type 0} where
   unfoldable pub changed_entry : (R → Option R) → Key → Key × R → Option (Key × R)
   changed_entry change k e = if same_key k e.0 then option_map (λ row. (e.0, row)) (change e.1) else Some e
 
+  -- the row at a key as the change leaves it, in its place
   unfoldable pub change_row : (R → Option R) → Key → Table R → Table R
   change_row change k t = filter_map (changed_entry change k) t
 
@@ -53,6 +50,7 @@ module _ {R : Type 0} where
   unfoldable pub rows_on : ℕ → Table R → Table R
   rows_on i t = filter (λ e. is_on i e.0) t
 
+  -- the keys of a table
   unfoldable pub keys_in : Table R → List Key
   keys_in t = map (λ e. e.0) t
 
@@ -71,13 +69,16 @@ insert_number n (m ∷ ms) =
 unfoldable pub ascending : List ℕ → List ℕ
 ascending ns = fold (λ sorted n. insert_number n sorted) [] ns
 
+-- a number is in a list
 unfoldable pub is_among : ℕ → List ℕ → Bool
 is_among n ns = list_any (λ m. m == n) ns
 
+-- both are true, or neither is
 abbrev pub same_bool : Bool → Bool → Bool
 same_bool true b = b
 same_bool false b = not b
 
+-- a list has no item
 abbrev pub is_empty_list : {X : Type 0} → List X → Bool
 is_empty_list [] = true
 is_empty_list (x ∷ xs) = false
@@ -93,15 +94,18 @@ same_option (Some m) (Some n) = m == n
 abbrev pub hop_at : ℕ → ℕ → Hop
 hop_at i address = record { iface = record { number = i }; address = addr address }
 
+-- equal neighbours, or none
 abbrev pub same_hop : Option Hop → Option Hop → Bool
 same_hop None None = true
 same_hop None (Some h) = false
 same_hop (Some h) None = false
 same_hop (Some h) (Some k) = (h.iface.number == k.iface.number) && (h.address.bits == k.address.bits)
 
+-- equal addresses, or none
 abbrev pub same_address : Option Addr → Option Addr → Bool
 same_address a b = same_option (option_map (λ (x : Addr). x.bits) a) (option_map (λ (x : Addr). x.bits) b)
 
+-- equal interfaces, or none
 abbrev pub same_iface : Option IfaceId → Option IfaceId → Bool
 same_iface a b = same_option (option_map (λ (x : IfaceId). x.number) a) (option_map (λ (x : IfaceId). x.number) b)
 
@@ -110,6 +114,6 @@ abbrev pub later_end : Option ℕ → Option ℕ → Option ℕ
 later_end (Some a) (Some b) = Some (max a b)
 later_end _ _ = None
 
--- a delay in [low, high], drawn from w
+-- rand(low, high); here: the number w, which an event carries, says which
 unfoldable pub delay_in : ℕ → ℕ → ℕ → ℕ
 delay_in low high w = low + w % (high - low + 1)

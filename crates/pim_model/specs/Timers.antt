@@ -1,34 +1,14 @@
--- What ends, and when: each end of a row is a timer, under the row's key.
-use Rattle.std.specs.Ordering.{is_lt, nat_cmp, ordering_then}
-use Rattle.std.specs.Prelude.{Bool, List, None, Option, Some, filter, filter_map, nat_le, option_map, ℕ, ◌++◌}
-use Rattle.std.specs.declared.cmp.Ordering.{Ordering}
-use Rattle.pim_types.specs.declared.fact.AssertRow.{AssertRow}
-use Rattle.pim_types.specs.declared.fact.DownstreamRow.{DownstreamRow}
-use Rattle.pim_types.specs.declared.fact.GroupRecordRow.{GroupRecordRow}
-use Rattle.pim_types.specs.declared.fact.GroupRepeatRow.{GroupRepeatRow}
-use Rattle.pim_types.specs.declared.fact.InterfaceRow.{InterfaceRow}
-use Rattle.pim_types.specs.declared.fact.JoinTimerRow.{JoinTimerRow}
-use Rattle.pim_types.specs.declared.fact.Key.{Key}
-use Rattle.pim_types.specs.declared.fact.NeighbourRow.{NeighbourRow}
-use Rattle.pim_types.specs.declared.fact.OverrideTimerRow.{OverrideTimerRow}
-use Rattle.pim_types.specs.declared.fact.QuerierRole.{QuerierRole}
-use Rattle.pim_types.specs.declared.fact.QuerierRow.{QuerierRow}
-use Rattle.pim_types.specs.declared.fact.RegisterRow.{RegisterRow}
-use Rattle.pim_types.specs.declared.fact.RegisterState.{RegisterState}
-use Rattle.pim_types.specs.declared.fact.SourceRecordRow.{SourceRecordRow}
-use Rattle.pim_types.specs.declared.fact.SourceRepeatRow.{SourceRepeatRow}
-use Rattle.pim_types.specs.declared.fact.SourceRow.{SourceRow}
-use Rattle.pim_types.specs.declared.timer.Timer.{Timer}
-use Rattle.pim_types.specs.declared.timer.TimerKind.{TimerKind}
-use Rattle.pim_model.specs.Clearing.{first_by}
-use Rattle.pim_model.specs.State.{State}
-use Rattle.pim_model.specs.Tables.{Table}
-use Rattle.pim_types.specs.Timers.{timer_cmp}
+-- What ends, and when: each end of a row is a timer (RFC 7761, section 4.10), under the row's key.
+use Rattle.std.specs.{Ordering.{is_lt, nat_cmp, ordering_then}, Prelude.{Bool, List, None, Option, Some, filter, filter_map, nat_le, option_map, ℕ, ◌++◌}, declared.cmp.Ordering.Ordering}
+use Rattle.pim_types.specs.{Timers.timer_cmp, declared.{fact.{AssertRow.AssertRow, DownstreamRow.DownstreamRow, GroupRecordRow.GroupRecordRow, GroupRepeatRow.GroupRepeatRow, InterfaceRow.InterfaceRow, JoinTimerRow.JoinTimerRow, Key.Key, NeighbourRow.NeighbourRow, OverrideTimerRow.OverrideTimerRow, QuerierRole.QuerierRole, QuerierRow.QuerierRow, RegisterRow.RegisterRow, RegisterState.RegisterState, SourceRecordRow.SourceRecordRow, SourceRepeatRow.SourceRepeatRow, SourceRow.SourceRow}, timer.{Timer.Timer, TimerKind.TimerKind}}}
+use Rattle.pim_model.specs.{Clearing.first_by, State.State, Tables.Table}
 
+-- a moment, and the timer that ends then
 pub record Ending : Type 0 where
   pub end : ℕ
   pub timer : Timer
 
+-- the end of a timer, by its kind and key
 abbrev pub ending : TimerKind → Key → ℕ → Ending
 ending kind k end = record { end = end; timer = record { kind = kind; key = k } }
 
@@ -37,19 +17,24 @@ module _ {R : Type 0} (kind : TimerKind) (end_of : R → Option ℕ) where
   unfoldable pub endings : Table R → List Ending
   endings rows = filter_map (λ (e : Key × R). option_map (ending kind e.0) (end_of e.1)) rows
 
+-- RST(S,G) doesn't run in Join
 abbrev pub register_end : RegisterState → Option ℕ
 register_end RegisterState.Join = None
 register_end (RegisterState.JoinPending end) = Some end
 register_end (RegisterState.Prune end) = Some end
 
+-- the next general query
 abbrev pub next_query : QuerierRole → Option ℕ
 next_query (QuerierRole.Querier next left) = Some next
 next_query (QuerierRole.NonQuerier end) = None
 
+-- the Other-Querier-Present timer
 abbrev pub other_querier_end : QuerierRole → Option ℕ
 other_querier_end (QuerierRole.Querier next left) = None
 other_querier_end (QuerierRole.NonQuerier end) = Some end
 
+-- all that run: NLT(N,I), PPT, ET, the group and source timers of IGMP, AT, KAT(S,G), RST(S,G), OT(S,G,rpt), JT,
+-- Other-Querier-Present, repeats of queries, general queries, HT(I)
 unfoldable pub timers : State → List Ending
 timers s =
     endings TimerKind.Neighbour (λ (r : NeighbourRow). r.end) s.neighbours
@@ -73,10 +58,11 @@ unfoldable pub ending_cmp : Ending → Ending → Ordering
 ending_cmp a b =
     ordering_then (nat_cmp a.end b.end) (timer_cmp a.timer b.timer)
 
+-- a timer ends before another
 abbrev pub is_ending_first : Ending → Ending → Bool
 is_ending_first a b = is_lt (ending_cmp a b)
 
--- the least timer, and the least that is due at a moment
+-- the least timer
 unfoldable pub next_ending : State → Option Ending
 next_ending s = first_by is_ending_first (timers s)
 
@@ -84,5 +70,6 @@ next_ending s = first_by is_ending_first (timers s)
 unfoldable pub next_moment : State → Option ℕ
 next_moment s = option_map (λ (e : Ending). e.end) (next_ending s)
 
+-- the least timer that is due at a moment
 unfoldable pub next_due : ℕ → State → Option Ending
 next_due moment s = first_by is_ending_first (filter (λ (e : Ending). nat_le e.end moment) (timers s))

@@ -1,19 +1,11 @@
--- Unicast routes and static RPs.
-use Rattle.std.specs.Option.{option_map_or}
-use Rattle.std.specs.Prelude.{Bool, None, Option, Some, false, find, if◌then◌else◌, option_and_then, option_map, true, ℕ, ◌&&◌, List, length, slice_get}
-use Rattle.pim_ip.specs.declared.addr.Prefix.{Prefix}
-use Rattle.pim_ip.specs.Ipv4.{is_source_specific}
-use Rattle.pim_ip.specs.Prefixes.{contains, longest_match}
-use Rattle.pim_types.specs.declared.config.InterfaceConfig.{InterfaceConfig}
-use Rattle.pim_types.specs.declared.config.Route.{Route}
-use Rattle.pim_types.specs.declared.config.RpRange.{RpRange}
-use Rattle.pim_types.specs.declared.fact.InterfaceRow.{InterfaceRow}
-use Rattle.pim_types.specs.declared.path.Path.{Path}
-use Rattle.pim_ip.specs.Addr.{addr}
-use Rattle.pim_model.specs.State.{State, is_own_among}
-use Rattle.pim_model.specs.Tables.{same_option, Table, has_row, below}
-use Rattle.pim_types.specs.Keys.{iface_key}
+-- Unicast routes, which the RFC calls the MRIB, and static RPs. Sections are those of RFC 7761. A line `here:` says
+-- where this profile decides what the RFC leaves open, or does otherwise.
+use Rattle.std.specs.{Option.option_map_or, Prelude.{Bool, None, Option, Some, false, find, if◌then◌else◌, option_and_then, option_map, true, ℕ, ◌&&◌, List, length, slice_get}}
+use Rattle.pim_ip.specs.{Addr.addr, Ipv4.is_source_specific, Prefixes.{contains, longest_match}, declared.addr.Prefix.Prefix}
+use Rattle.pim_types.specs.{Keys.iface_key, declared.{config.{InterfaceConfig.InterfaceConfig, Route.Route, RpRange.RpRange}, fact.InterfaceRow.InterfaceRow, path.Path.Path}}
+use Rattle.pim_model.specs.{State.{State, is_own_among}, Tables.{same_option, Table, has_row, below}}
 
+-- the prefix of an interface's link
 abbrev pub subnet : InterfaceConfig → Prefix
 subnet c = record { address = c.address; length = c.length }
 
@@ -29,6 +21,7 @@ is_on_link_among configured up address i =
 unfoldable pub link_among : List InterfaceConfig → Table InterfaceRow → ℕ → Option ℕ
 link_among configured up address = find (is_on_link_among configured up address) (below (length configured))
 
+-- DirectlyConnected(A) (4.2): the route over the link itself, with preference and metric 0
 abbrev pub link_path : ℕ → ℕ → Path
 link_path address i = record {
   iface = record { number = i };
@@ -38,6 +31,7 @@ link_path address i = record {
   is_connected = true;
 }
 
+-- the route as it was configured
 abbrev pub route_path : Route → Path
 route_path r = record {
   iface = r.iface;
@@ -47,7 +41,7 @@ route_path r = record {
   is_connected = false;
 }
 
--- none where the interface is down
+-- here: none where the interface is down
 abbrev pub path_if_up : Table InterfaceRow → Path → Option Path
 path_if_up up p = if has_row up (iface_key p.iface.number) then Some p else None
 
@@ -56,7 +50,8 @@ unfoldable pub routed_among : Table InterfaceRow → List Route → ℕ → Opti
 routed_among up routes address =
     option_and_then (λ r. path_if_up up (route_path r)) (longest_match (λ (r : Route). r.prefix) routes address)
 
--- the route to an address: none to an own address, else over a link, else the longest route
+-- the route to A: RPF_interface(A) (4.2), MRIB.next_hop(A) (4.1.5), MRIB.pref(A) and MRIB.metric(A) (4.6.3)
+-- here: none to an own address; else over a link where A is on one; else the longest route
 unfoldable pub route_among : List InterfaceConfig → Table InterfaceRow → List Route → ℕ → Option Path
 route_among configured up routes address =
     let over_link : Option ℕ = link_among configured up address in
@@ -68,7 +63,8 @@ route_among configured up routes address =
 unfoldable pub route : State → ℕ → Option Path
 route s address = route_among s.configured s.interfaces s.routes address
 
--- RP(G) (RFC 7761, section 4.7), from static ranges; an SSM group has none
+-- RP(G) (4.7.1): of the longest range that contains G; an SSM group has none (4.8.1)
+-- here: ranges are configured, each stands once, so neither a priority nor the hash function is asked
 unfoldable pub rp_among : List RpRange → ℕ → Option ℕ
 rp_among ranges g =
     if is_source_specific g then None
@@ -78,30 +74,35 @@ rp_among ranges g =
 unfoldable pub rp_of : State → ℕ → Option ℕ
 rp_of s g = rp_among s.ranges g
 
+-- A == RP(G)
 abbrev pub is_rp : State → ℕ → ℕ → Bool
 is_rp s g address = same_option (rp_of s g) (Some address)
 
--- the route to the RP of a group
+-- the route to the RP of a group: none at the RP itself
 -- reads: the RP ranges, and the route to RP(G)
 unfoldable pub rp_route : State → ℕ → Option Path
 rp_route s g = option_and_then (route s) (rp_of s g)
 
--- RPF_interface(S) and RPF_interface(RP(G)) (RFC 7761, section 4.1.5)
+-- RPF_interface(S) (4.2)
 -- reads: the route to the address
 unfoldable pub rpf_interface : State → ℕ → Option ℕ
 rpf_interface s address = option_map (λ (p : Path). p.iface.number) (route s address)
 
+-- RPF_interface(RP(G)) (4.2)
+-- here: none at the RP, where the RFC has the interface on which Registers are decapsulated
 -- reads: the RP ranges, and the route to RP(G)
 unfoldable pub rpf_interface_rp : State → ℕ → Option ℕ
 rpf_interface_rp s g = option_map (λ (p : Path). p.iface.number) (rp_route s g)
 
+-- RPF_interface(S) == I
 abbrev pub is_rpf_interface : State → ℕ → ℕ → Bool
 is_rpf_interface s address i = same_option (rpf_interface s address) (Some i)
 
+-- RPF_interface(RP(G)) == I
 abbrev pub is_rpf_interface_rp : State → ℕ → ℕ → Bool
 is_rpf_interface_rp s g i = same_option (rpf_interface_rp s g) (Some i)
 
--- the source is on a link of the router
+-- DirectlyConnected(S) (4.2): the source is on a link of the router
 -- reads: the route to the source
 unfoldable pub is_connected : State → ℕ → Bool
 is_connected s src = option_map_or (λ (p : Path). p.is_connected) (route s src) false

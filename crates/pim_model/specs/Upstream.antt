@@ -1,46 +1,28 @@
--- The upstream machines (RFC 7761, sections 4.5.4 to 4.5.7). What is told upstream follows from the desires
--- and the upstream neighbours at the opening of an event, compared with those after it. The macros read
--- the state after the event as it is before these timers move.
-use Rattle.std.specs.Option.{option_map_or}
-use Rattle.std.specs.Prelude.{Bool, List, None, Option, Some, [], filter, if◌then◌else◌, is_none, is_some, map, min, not, option_map, take, ℕ, ◌&&◌, ◌++◌, ◌+◌, ◌||◌, ◌∷◌}
-use Rattle.pim_types.specs.declared.fact.JoinTimerRow.{JoinTimerRow}
-use Rattle.pim_types.specs.declared.fact.Key.{Key}
-use Rattle.pim_types.specs.declared.fact.OverrideTimerRow.{OverrideTimerRow}
-use Rattle.pim_types.specs.declared.config.IfaceId.{IfaceId}
-use Rattle.pim_types.specs.declared.path.Hop.{Hop}
-use Rattle.pim_types.specs.declared.path.Path.{Path}
-use Rattle.pim_types.specs.declared.upstream.SourceView.{SourceView}
-use Rattle.pim_types.specs.declared.upstream.StarView.{StarView}
-use Rattle.pim_ip.specs.Addr.{addr}
-use Rattle.pim_ip.specs.declared.addr.Addr.{Addr}
-use Rattle.pim_wire.specs.declared.join_prune.Entry.{Entry}
-use Rattle.pim_wire.specs.declared.join_prune.EntryKind.{EntryKind}
-use Rattle.pim_model.specs.Desires.{join_desired, join_desired_star, rpf_rpt, rpf_source, rpf_star, tree_state}
-use Rattle.pim_types.specs.declared.upstream.TreeState.{TreeState}
-use Rattle.pim_model.specs.Messages.{Message, entry}
-use Rattle.pim_model.specs.Neighbours.{is_neighbour, nbr, t_override}
-use Rattle.pim_model.specs.Querier.{each_in_turn}
-use Rattle.pim_model.specs.Sets.{inherited_olist_rpt, is_empty, joins, prunes, spt_bit}
-use Rattle.pim_model.specs.State.{State}
-use Rattle.pim_model.specs.Tables.{ascending, change_row, drop_at, keys_in, row_at, same_address, same_hop, same_iface, set_row}
-use Rattle.pim_types.specs.Keys.{group_in, is_of_group, is_star, rpt_key, source_in, source_key, star_key}
-use Rattle.pim_model.specs.Unicast.{route, rp_of, rp_route}
+-- The upstream machines of (*,G) (4.5.4), (S,G) (4.5.5) and (S,G,rpt) (4.5.6, 4.5.7). Sections are those of RFC 7761.
+-- What is told follows from the desires and the upstream neighbours at the opening of an event, compared with those
+-- after it. The macros read the state after the event as it is before these timers move.
+use Rattle.std.specs.{Option.option_map_or, Prelude.{Bool, List, None, Option, Some, [], filter, if◌then◌else◌, is_none, is_some, map, min, not, option_map, take, ℕ, ◌&&◌, ◌++◌, ◌+◌, ◌||◌, ◌∷◌}}
+use Rattle.pim_ip.specs.{Addr.addr, declared.addr.Addr.Addr}
+use Rattle.pim_types.specs.{Keys.{group_in, is_of_group, is_star, rpt_key, source_in, source_key, star_key}, declared.{config.IfaceId.IfaceId, fact.{JoinTimerRow.JoinTimerRow, Key.Key, OverrideTimerRow.OverrideTimerRow}, path.{Hop.Hop, Path.Path}, upstream.{SourceView.SourceView, StarView.StarView, TreeState.TreeState}}}
+use Rattle.pim_wire.specs.declared.join_prune.{Entry.Entry, EntryKind.EntryKind}
+use Rattle.pim_model.specs.{Desires.{join_desired, join_desired_star, rpf_rpt, rpf_source, rpf_star, tree_state}, Messages.{Message, entry}, Neighbours.{is_neighbour, nbr, t_override}, Querier.each_in_turn, Sets.{inherited_olist_rpt, is_empty, joins, prunes, spt_bit}, State.State, Tables.{ascending, change_row, drop_at, keys_in, row_at, same_address, same_hop, same_iface, set_row}, Unicast.{route, rp_of, rp_route}}
 
--- t_periodic, in ms
+-- t_periodic (4.11), in ms
 abbrev pub join_period : ℕ
 join_period = 60000
 
+-- t_periodic from now
 abbrev pub periodic_end : State → ℕ
 periodic_end s = s.present + join_period
 
 -- ---- messages
 
--- a Join/Prune to a neighbour, none to null
+-- a Join/Prune to a neighbour, none to NULL
 unfoldable pub join_prune_to : Option Hop → ℕ → List Entry → List Entry → List Message
 join_prune_to None g joins prunes = []
 join_prune_to (Some hop) g joins prunes = Message.JoinPrune hop.iface.number hop.address.bits g joins prunes ∷ []
 
--- the hop, where it is still a neighbour
+-- here: a Prune to an old upstream neighbour leaves only where it still is one
 unfoldable pub if_neighbour : State → Option Hop → Option Hop
 if_neighbour s None = None
 if_neighbour s (Some hop) = if is_neighbour s hop.iface.number hop.address.bits then Some hop else None
@@ -52,64 +34,75 @@ fact_keys s =
     ++ keys_in s.sendings ++ keys_in s.downstream ++ keys_in s.asserts ++ keys_in s.join_timers
     ++ keys_in s.override_timers ++ keys_in s.sources ++ keys_in s.registers
 
--- the groups, and the sources of a group, that have any fact
+-- the groups that have any fact
 unfoldable pub groups_of : List Key → List ℕ
 groups_of keys = ascending (map group_in keys)
 
+-- the sources of a group that have any fact
 unfoldable pub sources_of : ℕ → List Key → List ℕ
 sources_of g keys = ascending (map source_in (filter (λ k. is_of_group g k && is_some k.source) keys))
 
--- a Join(*,G) prunes a source off the shared tree (RFC 7761, section 4.5.6)
+-- a Join(*,G) carries Prune(S,G,rpt) (4.5.6): if SPTbit(S,G), where RPF'(*,G) != RPF'(S,G);
+-- else where inherited_olist(S,G,rpt) == NULL OR RPF'(*,G) != RPF'(S,G,rpt)
 unfoldable pub is_pruned_with_star : State → ℕ → ℕ → Bool
 is_pruned_with_star s g src =
     if spt_bit s g src then not (same_hop (rpf_star s g) (rpf_source s g src))
     else (is_empty s (inherited_olist_rpt s g src) || not (same_hop (rpf_star s g) (rpf_rpt s g src)))
 
--- the most sources that a compound Join prunes
+-- here: the most sources that a Join(*,G) prunes, of which the RFC takes the lowest too (4.9.5.2)
 abbrev pub most_pruned : ℕ
 most_pruned = 160
 
+-- the prunes in a Join(*,G), by all sources of the group with a fact
 unfoldable pub pruned_with_star : State → ℕ → List Entry
 pruned_with_star s g =
     map (entry EntryKind.SourceRpt) (take most_pruned (filter (is_pruned_with_star s g) (sources_of g (fact_keys s))))
 
--- Join(*,G) with its prunes, and Prune(*,G), each with an RP
+-- Send Join(*,G), with its prunes; here: none without an RP
 unfoldable pub join_star_to : State → Option Addr → Option Hop → ℕ → List Message
 join_star_to s rp hop g =
     option_map_or (λ (a : Addr). join_prune_to hop g (entry EntryKind.Star a.bits ∷ []) (pruned_with_star s g)) rp []
 
+-- Send Prune(*,G); here: none without an RP
 unfoldable pub prune_star_to : State → Option Addr → Option Hop → ℕ → List Message
 prune_star_to s rp hop g =
     option_map_or (λ (a : Addr). join_prune_to (if_neighbour s hop) g [] (entry EntryKind.Star a.bits ∷ [])) rp []
 
+-- Send Join(S,G)
 abbrev pub join_source_to : Option Hop → ℕ → ℕ → List Message
 join_source_to hop g src = join_prune_to hop g (entry EntryKind.Source src ∷ []) []
 
+-- Send Prune(S,G)
 abbrev pub prune_source_to : State → Option Hop → ℕ → ℕ → List Message
 prune_source_to s hop g src = join_prune_to (if_neighbour s hop) g [] (entry EntryKind.Source src ∷ [])
 
+-- Send Join(S,G,rpt)
 abbrev pub join_rpt_to : Option Hop → ℕ → ℕ → List Message
 join_rpt_to hop g src = join_prune_to hop g (entry EntryKind.SourceRpt src ∷ []) []
 
+-- Send Prune(S,G,rpt)
 abbrev pub prune_rpt_to : Option Hop → ℕ → ℕ → List Message
 prune_rpt_to hop g src = join_prune_to hop g [] (entry EntryKind.SourceRpt src ∷ [])
 
 -- ---- what an upstream state does
 
+-- what becomes of a Join Timer or an Override Timer
 pub data TimerChange : Type 0 where
   Keep : TimerChange
   Cancel : TimerChange
   SetTo : ℕ → TimerChange
   LowerTo : ℕ → TimerChange
 
+-- what an upstream machine does
 pub record Told : Type 0 where
   pub timer : TimerChange
   pub messages : List Message
 
+-- no transition
 abbrev pub nothing_told : Told
 nothing_told = record { timer = Keep; messages = [] }
 
--- what the machines compare before and after a change
+-- what the machine of (*,G) compares before and after a change
 unfoldable pub star_view : State → ℕ → StarView
 star_view s g = record {
   is_desired = join_desired_star s g;
@@ -119,6 +112,7 @@ star_view s g = record {
   upstream = rpf_star s g;
 }
 
+-- what the machines of (S,G) and (S,G,rpt) compare
 unfoldable pub source_view : State → ℕ → ℕ → SourceView
 source_view s g src = record {
   is_desired = join_desired s g src;
@@ -130,15 +124,16 @@ source_view s g src = record {
   tree = tree_state s g src;
 }
 
--- the change of an upstream neighbour is due to an assert: the route and its next hop are as before
+-- RPF' changes due to an Assert: the RPF interface and its next hop are as before
 abbrev pub is_due_to_assert : Option IfaceId → Option IfaceId → Option Hop → Option Hop → Bool
 is_due_to_assert old_iface new_iface old_hop new_hop = same_iface old_iface new_iface && same_hop old_hop new_hop
 
--- t_override on the interface of the new upstream neighbour, or else of the route
+-- t_override on the interface of the route, from now
 abbrev pub override_on : State → ℕ → Option IfaceId → ℕ
 override_on s w iface = s.present + option_map_or (λ (i : IfaceId). t_override s i.number w) iface 1
 
--- (*,G), joined before and after; a is the state after the change
+-- In Joined State (4.5.4): RPF'(*,G) changes due to an Assert, or not; a is the state after the change
+-- here: another RP with the same RPF'(*,G) sends a Join(*,G)
 unfoldable pub star_stays : State → ℕ → ℕ → StarView → StarView → Told
 star_stays a w g old new =
     let joins : List Message = join_star_to a new.rp new.upstream g in
@@ -149,7 +144,8 @@ star_stays a w g old new =
     else (if same_address old.rp new.rp then nothing_told
     else record { timer = SetTo (periodic_end a); messages = joins })
 
--- (*,G) (RFC 7761, section 4.5.4). Without an RP after the change no message is written.
+-- JoinDesired(*,G) (4.5.4) ->True: Send Join(*,G), set JT to t_periodic; ->False: Send Prune(*,G), cancel JT
+-- here: no message of (*,G) is written without an RP after the change
 unfoldable pub star_told : State → ℕ → ℕ → StarView → StarView → Told
 star_told a w g old new =
     if new.is_desired
@@ -159,6 +155,7 @@ star_told a w g old new =
     then record { timer = Cancel; messages = (if is_none new.rp then [] else prune_star_to a old.rp old.upstream g) }
     else nothing_told)
 
+-- In Joined State (4.5.5): RPF'(S,G) changes due to an Assert, or not
 unfoldable pub source_stays : State → ℕ → ℕ → ℕ → SourceView → SourceView → Told
 source_stays a w g src old new =
     if same_hop old.upstream new.upstream then nothing_told
@@ -169,7 +166,7 @@ source_stays a w g src old new =
       messages = join_source_to new.upstream g src ++ prune_source_to a old.upstream g src;
     })
 
--- (S,G) (RFC 7761, section 4.5.5)
+-- JoinDesired(S,G) (4.5.5) ->True: Send Join(S,G), set JT to t_periodic; ->False: Send Prune(S,G), cancel JT
 unfoldable pub source_told : State → ℕ → ℕ → ℕ → SourceView → SourceView → Told
 source_told a w g src old new =
     if new.is_desired
@@ -178,13 +175,14 @@ source_told a w g src old new =
     else (if old.is_desired then record { timer = Cancel; messages = prune_source_to a old.upstream g src }
     else nothing_told)
 
--- RPF'(S,G,rpt) becomes RPF'(*,G)
+-- RPF'(S,G,rpt) -> RPF'(*,G); here: not where it is NULL
 unfoldable pub becomes_star : SourceView → SourceView → Bool
 becomes_star old new =
     is_some new.tree_upstream && same_hop new.tree_upstream new.star_upstream
     && not (same_hop old.tree_upstream old.star_upstream)
 
--- the state and the new one of (S,G,rpt) (RFC 7761, section 4.5.7)
+-- from one state of (S,G,rpt) to another (4.5.7): NP -> P sends Prune(S,G,rpt) and cancels OT, P -> NP sends
+-- Join(S,G,rpt), NP -> NJ cancels OT; in NP RPF'(S,G,rpt) -> RPF'(*,G) lowers OT to t_override
 unfoldable pub rpt_told_from : State → ℕ → ℕ → ℕ → SourceView → SourceView → TreeState → TreeState → Told
 rpt_told_from a w g src old new TreeState.NotPruned TreeState.Pruned =
     record { timer = Cancel; messages = prune_rpt_to new.tree_upstream g src }
@@ -197,6 +195,7 @@ rpt_told_from a w g src old new TreeState.NotPruned TreeState.NotPruned =
 rpt_told_from a w g src old new TreeState.NotPruned TreeState.NotJoined = record { timer = Cancel; messages = [] }
 rpt_told_from a w g src old new _ _ = nothing_told
 
+-- the same by the views
 unfoldable pub rpt_told : State → ℕ → ℕ → ℕ → SourceView → SourceView → Told
 rpt_told a w g src old new = rpt_told_from a w g src old new old.tree new.tree
 
@@ -210,29 +209,34 @@ changed_end (SetTo e) end = Some e
 changed_end (LowerTo e) None = Some e
 changed_end (LowerTo e) (Some old) = Some (min old e)
 
+-- with the Join Timer of a key changed
 unfoldable pub moved_join_timer : State → Key → TimerChange → State
 moved_join_timer s k change =
     let end : Option ℕ = changed_end change (option_map (λ (r : JoinTimerRow). r.end) (row_at s.join_timers k)) in
     record s { join_timers = set_row s.join_timers k (option_map (λ e. record { end = e }) end) }
 
+-- the same, by what is told
 unfoldable pub with_join_timer : State → Key → TimerChange → State
 with_join_timer s k Keep = s
 with_join_timer s k Cancel = moved_join_timer s k Cancel
 with_join_timer s k (SetTo e) = moved_join_timer s k (SetTo e)
 with_join_timer s k (LowerTo e) = moved_join_timer s k (LowerTo e)
 
+-- with the Override Timer of a key changed
 unfoldable pub moved_override_timer : State → Key → TimerChange → State
 moved_override_timer s k change =
-    let end : Option ℕ = changed_end change (option_map (λ (r : OverrideTimerRow). r.end) (row_at s.override_timers k)) in
+    let end : Option ℕ =
+    changed_end change (option_map (λ (r : OverrideTimerRow). r.end) (row_at s.override_timers k)) in
     record s { override_timers = set_row s.override_timers k (option_map (λ e. record { end = e }) end) }
 
+-- the same, by what is told
 unfoldable pub with_override_timer : State → Key → TimerChange → State
 with_override_timer s k Keep = s
 with_override_timer s k Cancel = moved_override_timer s k Cancel
 with_override_timer s k (SetTo e) = moved_override_timer s k (SetTo e)
 with_override_timer s k (LowerTo e) = moved_override_timer s k (LowerTo e)
 
--- o is the opening and a the state after the change; the timers move in s
+-- (S,G), then (S,G,rpt); o is the opening and a the state after the change; the timers move in s
 unfoldable pub source_upstream : State → State → ℕ → ℕ → State → ℕ → State × List Message
 source_upstream o a w g s src =
     let old : SourceView = source_view o g src in
@@ -243,6 +247,7 @@ source_upstream o a w g s src =
       joins.messages ++ prunes.messages,
     )
 
+-- (*,G), then its sources
 unfoldable pub group_upstream : State → State → ℕ → List Key → State → ℕ → State × List Message
 group_upstream o a w keys s g =
     let star : Told = star_told a w g (star_view o g) (star_view a g) in
@@ -250,7 +255,7 @@ group_upstream o a w keys s g =
     let later : State × List Message = each_in_turn (source_upstream o a w g) first (sources_of g keys) in
     (later.0, star.messages ++ later.1)
 
--- for each group (*,G), then for each of its sources (S,G) and (S,G,rpt), ascending
+-- here: for each group (*,G), then for each of its sources (S,G) and (S,G,rpt), ascending
 unfoldable pub upstream : State → State → ℕ → State × List Message
 upstream o a w =
     let keys : List Key = fact_keys o ++ fact_keys a in
@@ -258,14 +263,18 @@ upstream o a w =
 
 -- ---- the timers' ends
 
+-- Timer Expires: Send Join(*,G), or Join(S,G), to RPF'; Join Timer to t_periodic (4.5.4, 4.5.5)
 unfoldable pub join_timer_due : State → Key → State × List Message
 join_timer_due s k =
     let g : ℕ = group_in k in
     let src : ℕ = source_in k in
     let messages : List Message =
-    (if is_star k then join_star_to s (option_map addr (rp_of s g)) (rpf_star s g) g else join_source_to (rpf_source s g src) g src) in
+    (if is_star k then join_star_to s (option_map addr (rp_of s g)) (rpf_star s g) g
+    else join_source_to (rpf_source s g src) g src) in
     (record s { join_timers = change_row (λ (old : JoinTimerRow). Some (record { end = periodic_end s })) k s.join_timers }, messages)
 
+-- Override Timer expires: Send Join(S,G,rpt) to RPF'(S,G,rpt), leave OT unset (4.5.7)
+-- here: also where this isn't RPF'(*,G), and the RFC sends none
 unfoldable pub override_timer_due : State → Key → State × List Message
 override_timer_due s k = (
   record s { override_timers = drop_at s.override_timers k },
