@@ -14,7 +14,7 @@ ghost use Rattle.pim_model.specs.Writing.{hellos_paid};
 
 use crate::configured::Configured;
 use crate::limits::MOST_INTERFACES;
-use pim_tables::{Ring, Timed};
+use pim_tables::Timed;
 use pim_types::fact::InterfaceRow;
 use pim_types::{Addr, IfaceId, InterfaceConfig, Key, Timer};
 use std::alloc::{AllocError, Global};
@@ -23,7 +23,7 @@ use std::marker::Model;
 /// The configured interfaces, and the rows of those that are up.
 pub struct Interfaces {
     configured: Configured,
-    rows: Timed<InterfaceRow, Ring>,
+    rows: Timed<InterfaceRow>,
 }
 
 // Written out, so that it is proved once (docs/PROOF_NOTES.md, Drops).
@@ -55,7 +55,7 @@ impl Interfaces {
     {
         Ok(Interfaces {
             configured: Configured::new(configured),
-            rows: Timed::new(alloc, Ring::new(alloc)?),
+            rows: Timed::new(alloc),
         })
     }
 

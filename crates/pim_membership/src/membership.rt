@@ -26,7 +26,7 @@ use crate::sendings::Sendings;
 use pim_ifset::IfSet;
 use pim_ip::Addr;
 use pim_source_trie::Meter;
-use pim_tables::{Ring, RowsOf, Timed, earlier};
+use pim_tables::{RowsOf, Timed, earlier};
 use pim_types::fact::{
     GroupRecordRow, GroupRepeatRow, QuerierRow, SendingRow, SourceRecordRow, SourceRepeatRow,
 };
@@ -41,7 +41,7 @@ use std::marker::Model;
 /// meter by the nodes that lead to what is listed of a group or a source, wherever a record comes or goes there, or its
 /// timer begins or ends to run.
 pub struct Membership {
-    queriers: Timed<QuerierRow, Ring>,
+    queriers: Timed<QuerierRow>,
     group_records: Records<GroupRecordRow>,
     source_records: Records<SourceRecordRow>,
     group_repeats: Repeats<GroupRepeatRow>,
@@ -88,7 +88,7 @@ impl Membership {
         ensures { IfOk result (λ membership. membership ≡ no_membership) }
     {
         Ok(Membership {
-            queriers: Timed::new(alloc, Ring::new(alloc)?),
+            queriers: Timed::new(alloc),
             group_records: Records::new(alloc)?,
             source_records: Records::new(alloc)?,
             group_repeats: Repeats::new(alloc)?,

@@ -20,7 +20,7 @@ use crate::index::Index;
 use crate::listed::Listed;
 use pim_ip::Addr;
 use pim_source_trie::Meter;
-use pim_tables::{Ends, Ring, RowsOf, Timed};
+use pim_tables::{Ends, RowsOf, Timed};
 use pim_types::fact::{GroupRecordRow, SourceRecordRow};
 use pim_types::{IfaceId, Key, Timer};
 use std::alloc::{AllocError, Global};
@@ -63,7 +63,7 @@ impl Record for SourceRecordRow {
 
 // The records of one kind.
 pub(crate) struct Records<R: Record> {
-    rows: Timed<R, Ring>,
+    rows: Timed<R>,
     index: Index,
 }
 
@@ -93,7 +93,7 @@ impl<R: Record> Records<R> {
         ensures { IfOk result (λ records. records ≡ []) }
     {
         Ok(Records {
-            rows: Timed::new(alloc, Ring::new(alloc)?),
+            rows: Timed::new(alloc),
             index: Index::new(alloc),
         })
     }
@@ -388,7 +388,7 @@ fn is_listed_anew<R: Record>(before: Option<R>, row: R) -> bool
 // Lists the interface as the row under the key has it, unless the one that is there has it so. An error is want of
 // memory, and then nothing has changed.
 fn relist<R: Record>(
-    rows: &Timed<R, Ring>,
+    rows: &Timed<R>,
     index: &mut Index,
     key: Key,
     row: R,

@@ -8,7 +8,7 @@ ghost use Rattle.pim_types.specs.Keys.{is_on, star_key};
 ghost use Rattle.pim_membership.specs.Sources.{NameNone};
 
 use pim_ip::Addr;
-use pim_tables::{Ends, Ring, Timed};
+use pim_tables::{Ends, Timed};
 use pim_types::{IfaceId, Key, Timer};
 use std::alloc::{AllocError, Global};
 use std::collections::btree_map::Iter;
@@ -16,7 +16,7 @@ use std::marker::Model;
 
 // The repeats of one kind; each is of a group on an interface, and of no source.
 pub(crate) struct Repeats<R: Ends> {
-    rows: Timed<R, Ring>,
+    rows: Timed<R>,
 }
 
 // Written out, so that it is proved once (docs/PROOF_NOTES.md, Drops).
@@ -43,7 +43,7 @@ impl<R: Ends> Repeats<R> {
         ensures { IfOk result (λ repeats. repeats ≡ []) }
     {
         Ok(Repeats {
-            rows: Timed::new(alloc, Ring::new(alloc)?),
+            rows: Timed::new(alloc),
         })
     }
 

@@ -13,7 +13,7 @@ ghost use Rattle.pim_types.specs.declared.timer.TimerKind.{TimerKind as Kind};
 ghost use Rattle.pim_types.specs.Keys.{is_on, key_cmp, neighbour_key};
 
 use crate::delays::{Delays, delay_in};
-use pim_tables::{Ring, RowsOf, Timed};
+use pim_tables::{RowsOf, Timed};
 use pim_types::fact::NeighbourRow;
 use pim_types::{Addr, Hop, IfaceId, InterfaceConfig, Key, Path, Timer};
 use pim_wire::{DEFAULT_HOLDTIME, HOLDTIME_FOREVER, Hello};
@@ -41,7 +41,7 @@ fn is_same_priority(first: Option<u32>, second: Option<u32>) -> bool
 /// The PIM neighbours on all interfaces, each as its last Hello said.
 #[derive(Drop)]
 pub struct Neighbours {
-    rows: Timed<NeighbourRow, Ring>,
+    rows: Timed<NeighbourRow>,
 }
 
 impl Model for Neighbours {
@@ -90,7 +90,7 @@ impl Neighbours {
         ensures { IfOk result (λ made. made ≡ []) }
     {
         Ok(Neighbours {
-            rows: Timed::new(alloc, Ring::new(alloc)?),
+            rows: Timed::new(alloc),
         })
     }
 
@@ -256,7 +256,7 @@ impl Neighbours {
         self.delays(iface, own).override_interval
     }
 
-    /// `J/P_Override_Interval` of the interface (RFC 7761, section 4.3.3), in ms: the sum of its
+    /// `J/P_Override_Interval` of the interface (RFC 7761, section 4.11), in ms: the sum of its
     /// two delays.
     pub fn join_prune_override_interval(&self, iface: IfaceId, own: &InterfaceConfig) -> u64
         ensures value { let rows = rows_on iface.number self.now in

@@ -8,7 +8,7 @@ ghost use Rattle.pim_store.specs.declared.marks.Mark.{Mark as MarkValue};
 use crate::index::Index;
 use crate::telling::TellsMarks;
 use pim_source_trie::Meter;
-use pim_tables::{Change, Keeping, Ring, Timed, To};
+use pim_tables::{Change, Keeping, Timed, To};
 use pim_types::{IfaceId, Key};
 use std::alloc::AllocError;
 
@@ -33,7 +33,7 @@ fn says_alike<R: TellsMarks>(key: Key, before: R, row: R) -> bool
 // all where the hint is its place; whatever the hint is, the same is done. An error is want of memory. The meter rises by the
 // nodes that lead to the marks, where the row says something else than the one before.
 pub(crate) fn update_row<R: TellsMarks, K: Keeping<R>, C: Change<R>>(
-    rows: &mut Timed<R, Ring, K>,
+    rows: &mut Timed<R, K>,
     index: &mut Index,
     hint: Option<usize>,
     key: Key,
@@ -77,7 +77,7 @@ pub(crate) fn update_row<R: TellsMarks, K: Keeping<R>, C: Change<R>>(
 
 // Puts the row under the key, in place of one that is there. An error is want of memory.
 pub(crate) fn put_row<R: TellsMarks, K: Keeping<R>>(
-    rows: &mut Timed<R, Ring, K>,
+    rows: &mut Timed<R, K>,
     index: &mut Index,
     key: Key,
     row: R,
@@ -103,7 +103,7 @@ pub(crate) fn put_row<R: TellsMarks, K: Keeping<R>>(
 
 // Puts a row under a key that has none. An error is want of memory.
 fn add_row<R: TellsMarks, K: Keeping<R>>(
-    rows: &mut Timed<R, Ring, K>,
+    rows: &mut Timed<R, K>,
     index: &mut Index,
     key: Key,
     row: R,
@@ -127,7 +127,7 @@ fn add_row<R: TellsMarks, K: Keeping<R>>(
 
 // Takes the row under the key away, and what it says, if anything is marked of it.
 fn drop_marked<R: TellsMarks, K: Keeping<R>>(
-    rows: &mut Timed<R, Ring, K>,
+    rows: &mut Timed<R, K>,
     index: &mut Index,
     key: Key,
     meter: &mut Meter,
@@ -144,7 +144,7 @@ fn drop_marked<R: TellsMarks, K: Keeping<R>>(
 
 // Takes the row under the key away.
 pub(crate) fn remove_row<R: TellsMarks, K: Keeping<R>>(
-    rows: &mut Timed<R, Ring, K>,
+    rows: &mut Timed<R, K>,
     index: &mut Index,
     key: Key,
     meter: &mut Meter,
@@ -163,7 +163,7 @@ pub(crate) fn remove_row<R: TellsMarks, K: Keeping<R>>(
 // Puts the row under the key, or takes away the one that is there. An error is want of memory.
 #[tactic(auto, unfolding(pim_model::specs::Tables::set_row))]
 pub(crate) fn set_row<R: TellsMarks, K: Keeping<R>>(
-    rows: &mut Timed<R, Ring, K>,
+    rows: &mut Timed<R, K>,
     index: &mut Index,
     key: Key,
     row: Option<R>,
@@ -191,7 +191,7 @@ pub(crate) fn set_row<R: TellsMarks, K: Keeping<R>>(
 
 // Where there is a row under the key, puts this one in its place, or takes it away. An error is want of memory.
 pub(crate) fn change_row<R: TellsMarks, K: Keeping<R>>(
-    rows: &mut Timed<R, Ring, K>,
+    rows: &mut Timed<R, K>,
     index: &mut Index,
     key: Key,
     row: Option<R>,
@@ -217,7 +217,7 @@ pub(crate) fn change_row<R: TellsMarks, K: Keeping<R>>(
 
 // Takes the row under the key away, if there is one.
 pub(crate) fn drop_row<R: TellsMarks, K: Keeping<R>>(
-    rows: &mut Timed<R, Ring, K>,
+    rows: &mut Timed<R, K>,
     index: &mut Index,
     key: Key,
     meter: &mut Meter,
@@ -236,12 +236,7 @@ pub(crate) fn drop_row<R: TellsMarks, K: Keeping<R>>(
 }
 
 // Takes the marks away that the interface's rows made.
-fn unmark_on<R: TellsMarks>(
-    rows: &Timed<R, Ring>,
-    index: &mut Index,
-    iface: IfaceId,
-    meter: &mut Meter,
-)
+fn unmark_on<R: TellsMarks>(rows: &Timed<R>, index: &mut Index, iface: IfaceId, meter: &mut Meter)
     requires { IsTold R.tells R.says R.fits index.old rows.now }
     ensures told { IsTold R.tells R.says R.fits index.new (drop_where (is_on iface.number) rows.now) }
     ensures others { KeepsOtherMarks R.tells index.old index.new }
@@ -256,7 +251,7 @@ fn unmark_on<R: TellsMarks>(
 
 // Takes the interface's rows away.
 pub(crate) fn drop_rows_on<R: TellsMarks>(
-    rows: &mut Timed<R, Ring>,
+    rows: &mut Timed<R>,
     index: &mut Index,
     iface: IfaceId,
     meter: &mut Meter,

@@ -22,7 +22,7 @@ use crate::rows::{change_row, drop_row, drop_rows_on, put_row, remove_row, set_r
 use crate::walks::Sources;
 use pim_ip::Addr;
 use pim_source_trie::{Groups, Meter};
-use pim_tables::{GroupRows, Placed, PlacedRows, Ring, RptKeys, Timed, earlier};
+use pim_tables::{GroupRows, Placed, PlacedRows, RptKeys, Timed, earlier};
 use pim_types::fact::{
     AssertRow, DownstreamRow, JoinTimerRow, OverrideTimerRow, RegisterRow, SourceRow,
 };
@@ -36,12 +36,12 @@ use std::marker::Model;
 /// are, but that all that is told of them is true. What changes them raises the meter by the nodes that lead to the marks of
 /// a group or a source, wherever a row comes or goes there, or says something else than the one before.
 pub struct Store {
-    downstream: Timed<DownstreamRow, Ring>,
-    asserts: Timed<AssertRow, Ring>,
-    join_timers: Timed<JoinTimerRow, Ring>,
-    override_timers: Timed<OverrideTimerRow, Ring>,
-    sources: Timed<SourceRow, Ring, Placed<SourceRow>>,
-    registers: Timed<RegisterRow, Ring>,
+    downstream: Timed<DownstreamRow>,
+    asserts: Timed<AssertRow>,
+    join_timers: Timed<JoinTimerRow>,
+    override_timers: Timed<OverrideTimerRow>,
+    sources: Timed<SourceRow, Placed<SourceRow>>,
+    registers: Timed<RegisterRow>,
     index: Index,
 }
 
@@ -78,12 +78,12 @@ impl Store {
         ensures { IfOk result (λ store. store ≡ no_facts) }
     {
         Ok(Store {
-            downstream: Timed::new(alloc, Ring::new(alloc)?),
-            asserts: Timed::new(alloc, Ring::new(alloc)?),
-            join_timers: Timed::new(alloc, Ring::new(alloc)?),
-            override_timers: Timed::new(alloc, Ring::new(alloc)?),
-            sources: Timed::new(alloc, Ring::new(alloc)?),
-            registers: Timed::new(alloc, Ring::new(alloc)?),
+            downstream: Timed::new(alloc),
+            asserts: Timed::new(alloc),
+            join_timers: Timed::new(alloc),
+            override_timers: Timed::new(alloc),
+            sources: Timed::new(alloc),
+            registers: Timed::new(alloc),
             index: Index::new(alloc),
         })
     }

@@ -13,11 +13,12 @@ use Rattle.pim_types.specs.declared.timer.Timer.{Timer}
 use Rattle.pim_types.specs.declared.timer.TimerKind.{TimerKind}
 use Rattle.pim_types.specs.Keys.{key_cmp, same_key}
 use Rattle.pim_types.proofs.Keys.{equal_keys, key_cmp_total, same_key_same}
+use Rattle.pim_timers.specs.Armed.{Entries, holds}
 use Rattle.pim_timers.specs.Dues.{Due, IsFirst}
 use Rattle.pim_timers.specs.Next.{IsNext}
 use Rattle.pim_timers.specs.Order.{due_cmp}
 use Rattle.pim_timers.proofs.Least.{next_is_one}
-use Rattle.pim_timers.proofs.Together.{first_is_next}
+use Rattle.pim_timers.proofs.Armed.{first_is_next}
 use Rattle.pim_timers.proofs.Total.{due_cmp_total}
 use Rattle.pim_model.specs.Clearing.{first_by, first_of_both}
 use Rattle.pim_model.specs.Tables.{Table, keys_in, row_at}
@@ -233,9 +234,9 @@ module _ {R : Type 0} (kinds : Kinds) (ends : R → Option ℕ × Option ℕ) (r
     unfolding row_endings
     all_set = both_set kinds.1 refl
 
-    -- where the queue and the rows are in step, its first is the first of the rows' ends
-    pub next_is_first : (holds : Due → Bool) (next : Option Due) → InStep kinds ends holds rows → IsFirst holds next
+    -- where the queue is settled, its first is the first of the rows' ends
+    pub next_is_first : (queue : Entries) (next : Option Due) → InStep kinds ends queue rows → IsFirst (holds queue) next
         → next ≡ option_map due_of (first_by is_ending_first (row_endings kinds ends rows))
-    next_is_first holds next step is =
-        next_is_one end_at next _ (first_is_next end_at holds next step is)
+    next_is_first queue next step is =
+        next_is_one end_at next _ (first_is_next end_at (holds queue) next step.armed step.real is)
         (next_of _ (first_of IsSet (row_endings kinds ends rows) all_set))

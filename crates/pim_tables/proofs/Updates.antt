@@ -1,14 +1,15 @@
 -- A row that is changed in its place, and its table beside the queue.
-use Rattle.std.proofs.Common.{◌≡◌, ◌&&◌, ℕ, Bool, true, false, cond, not, [], ◌∷◌, Option, Some, None, is_some, refl, sym, ap, subst, ◌∙◌}
+use Rattle.std.proofs.Common.{◌≡◌, ℕ, Bool, true, false, cond, [], ◌∷◌, Option, Some, None, is_some, refl, sym, ap, ◌∙◌}
 use Rattle.std.specs.List.Sorted.{IsStrictlySortedBy}
 use Rattle.pim_types.specs.declared.fact.Key.{Key}
 use Rattle.pim_types.specs.declared.timer.TimerKind.{TimerKind}
 use Rattle.pim_types.specs.Keys.{key_cmp, same_key}
 use Rattle.pim_timers.specs.Dues.{Due}
-use Rattle.pim_timers.specs.Ends.{ends_at}
+use Rattle.pim_types.proofs.Keys.{equal_keys}
 use Rattle.pim_model.specs.Tables.{Table, change_row, drop_at, drop_where, has_row, keys_in, put, row_at}
-use Rattle.pim_tables.specs.Ends.{InStep, Kinds, is_end, is_of_row, left_at}
-use Rattle.pim_tables.proofs.Lookups.{put_is_changed, row_at-put}
+use Rattle.pim_tables.specs.Ends.{IsRowArmed, Kinds, back_at, left_at}
+use Rattle.pim_tables.proofs.Lookups.{put_is_changed, row_at-drop_at, row_at-put}
+use Rattle.pim_tables.proofs.Steps.{no_row_armed}
 use Rattle.pim_tables.proofs.Rows.{absent_is_unchanged, changed_back, changed_to, change_first}
 
 module _ {R : Type 0} (k : Key) (after : R → R) (t : Table R) where
@@ -63,35 +64,35 @@ module _ {R : Type 0} (k : Key) (after : R → R) where
 
 -- ---- what is left of a row that was refused, by whether rows have a second end
 
-pub no_second : (kinds ks : Kinds) (b : Bool) → ks ≡ kinds → is_some ks.1 ≡ not b → b ≡ true → kinds.1 ≡ None
-no_second kinds ks b kinds_are by is = ap (λ (q : Kinds). q.1) (sym kinds_are) ∙ go ks.1 (by ∙ ap not is)
-  where
-    go : (o : Option TimerKind) → is_some o ≡ false → o ≡ None
-    go None e = refl
-    go (Some kind) e = cc
+-- the row that is left
+abbrev pub left_row : {R : Type 0} → Option TimerKind → Option R → Option R
+left_row None before = before
+left_row (Some kind) before = None
 
-pub second_left : {R : Type 0} (kinds ks : Kinds) (b : Bool) (t : Table R) (k : Key) → ks ≡ kinds
-    → is_some ks.1 ≡ not b → b ≡ false → drop_at t k ≡ left_at kinds.1 t k
-second_left kinds ks b t k kinds_are by is =
-    go kinds.1 (ap (λ (q : Kinds). is_some q.1) (sym kinds_are) ∙ by ∙ ap not is)
-  where
-    go : (o : Option TimerKind) → is_some o ≡ true → drop_at t k ≡ left_at o t k
-    go None e = cc
-    go (Some kind) e = refl
+module _ {R : Type 0} (k : Key) (after : R → R) (t : Table R) (before : R) (there : row_at t k ≡ Some before) where
+  pub back_is_left : (second : Option TimerKind) → IsStrictlySortedBy key_cmp (keys_in t)
+      → back_at second (updated k after t) k before ≡ left_at second t k
+  back_is_left None sorted = updated_back k after t before there sorted
+  back_is_left (Some kind) sorted = updated_goes k after t
 
--- ---- in step
+  pub put_back_left : (second : Option TimerKind) → IsStrictlySortedBy key_cmp (keys_in t) → (mid last : Table R)
+      → mid ≡ updated k after t → last ≡ back_at second mid k before → last ≡ left_at second t k
+  put_back_left second sorted mid last is back =
+      back ∙ ap (λ (u : Table R). back_at second u k before) is ∙ back_is_left second sorted
 
-module _ {R : Type 0} (kinds : Kinds) (ends : R → Option ℕ × Option ℕ) where
-  pub step_kept : (h0 h1 : Due → Bool) (rows after : Table R) → InStep kinds ends h0 rows → ((d : Due) → h1 d ≡ h0 d)
-      → after ≡ rows → InStep kinds ends h1 after
-  step_kept h0 h1 rows after step kept same m t =
-      kept (m, t) ∙ subst (λ (u : Table R). InStep kinds ends h0 u) (sym same) step m t
-
-  -- of no row no end is taken out
-  pub none_taken : (h : Due → Bool) (k : Key) (d : Due) → h d ≡ (not (is_end kinds ends k None d) && h d)
-  unfolding ends_at
-  none_taken h k d = go (is_of_row kinds k d.1)
+  as_it_was : (q : Key) → row_at t q ≡ cond (same_key q k) (Some before) (row_at t q)
+  as_it_was q = go (same_key q k) refl
     where
-      go : (b : Bool) → h d ≡ (not (b && false) && h d)
-      go true = refl
-      go false = refl
+      go : (b : Bool) → same_key q k ≡ b → row_at t q ≡ cond b (Some before) (row_at t q)
+      go true same = ap (λ (x : Key). row_at t x) (equal_keys q k same) ∙ there
+      go false other = refl
+
+  pub found_left : (second : Option TimerKind) (q : Key)
+      → row_at (left_at second t k) q ≡ cond (same_key q k) (left_row second (Some before)) (row_at t q)
+  found_left None q = as_it_was q
+  found_left (Some kind) q = row_at-drop_at k q t
+
+pub left_armed : {R : Type 0} (kinds : Kinds) (ends : R → Option ℕ × Option ℕ) (h : Due → Bool) (k : Key) (before : Option R)
+    (second : Option TimerKind) → IsRowArmed kinds ends h k before → IsRowArmed kinds ends h k (left_row second before)
+left_armed kinds ends h k before None armed = armed
+left_armed kinds ends h k before (Some kind) armed = no_row_armed kinds ends h k

@@ -1,13 +1,12 @@
 -- When the rows of a table end. A row has two ends at most, each of a kind of its own.
-use Rattle.std.specs.Prelude.{◌≡◌, ℕ, ◌++◌, ◌==◌, ◌&&◌, ◌||◌, Bool, false, true, cond, if◌then◌else◌, List, Option, Some, None}
+use Rattle.std.specs.Prelude.{ℕ, ◌+◌, ◌++◌, ◌==◌, Bool, false, if◌then◌else◌, List, Option, Some, None, length}
 use Rattle.pim_types.specs.declared.fact.Key.{Key}
 use Rattle.pim_types.specs.declared.timer.Timer.{Timer}
 use Rattle.pim_types.specs.declared.timer.TimerKind.{TimerKind}
-use Rattle.pim_types.specs.Keys.{same_key}
 use Rattle.pim_types.specs.Timers.{rank}
-use Rattle.pim_timers.specs.Dues.{AreTogether, Due}
-use Rattle.pim_timers.specs.Ends.{ends_at}
-use Rattle.pim_model.specs.Tables.{Table, drop_at, row_at}
+use Rattle.pim_timers.specs.Armed.{Entries, IsArmed, IsSettled}
+use Rattle.pim_timers.specs.Dues.{Due}
+use Rattle.pim_model.specs.Tables.{Table, change_row, drop_at, row_at}
 use Rattle.pim_model.specs.Timers.{Ending, endings}
 
 -- the kind of the first end, and that of the second where there is one
@@ -21,17 +20,13 @@ abbrev pub is_second : Option TimerKind → TimerKind → Bool
 is_second None kind = false
 is_second (Some second) kind = same_kind kind second
 
--- the kind is one of the two
-abbrev pub is_either : Kinds → TimerKind → Bool
-is_either kinds kind = same_kind kind kinds.0 || is_second kinds.1 kind
+abbrev pub timer_of : TimerKind → Key → Timer
+timer_of kind k = record { kind = kind; key = k }
 
--- the timer is one of a row under the key
-abbrev pub is_of_row : Kinds → Key → Timer → Bool
-is_of_row kinds k t = is_either kinds t.kind && same_key t.key k
-
--- of the dues that are held none changed but those of the row under the key
-abbrev pub KeepsOthers : Kinds → (before after : Due → Bool) → Key → Type 0
-KeepsOthers kinds before after k = (d : Due) → is_of_row kinds k d.1 ≡ false → after d ≡ before d
+-- so many ends at most have so many rows
+abbrev pub most_ends : Option TimerKind → ℕ → ℕ
+most_ends None n = n
+most_ends (Some kind) n = n + n
 
 -- an ending as it is told
 abbrev pub due_of : Ending → ℕ × Timer
@@ -42,6 +37,11 @@ module _ {R : Type 0} where
   abbrev pub left_at : Option TimerKind → Table R → Key → Table R
   left_at None rows k = rows
   left_at (Some kind) rows k = drop_at rows k
+
+  -- the row that was there first is put back so
+  abbrev pub back_at : Option TimerKind → Table R → Key → R → Table R
+  back_at None rows k before = change_row (λ _. Some before) k rows
+  back_at (Some kind) rows k before = drop_at rows k
 
   abbrev pub second_endings : Option TimerKind → (R → Option ℕ) → Table R → List Ending → List Ending
   second_endings None end_of rows first = first
@@ -64,24 +64,14 @@ module _ {R : Type 0} where
     end_of (Some r) kind =
         if same_kind kind kinds.0 then (ends r).0 else (if is_second kinds.1 kind then (ends r).1 else None)
 
-    -- the timer of a due is one of a row under the key, and the row, if there is one, ends so
-    abbrev pub is_end : Key → Option R → Due → Bool
-    is_end k row d = is_of_row kinds k d.1 && ends_at (end_of row d.1.kind) d.0
+    -- when each timer ends
+    abbrev pub ends_in : Table R → Timer → Option ℕ
+    ends_in rows t = end_of (row_at rows t.key) t.kind
 
-    -- of the row under a key, if there is one, the ends are held and no others
-    abbrev pub KnowsRow : (Due → Bool) → Key → Option R → Type 0
-    KnowsRow holds k row = (d : Due) → is_of_row kinds k d.1 ≡ true → holds d ≡ ends_at (end_of row d.1.kind) d.0
+    -- each end of the row under the key, if there is one, has an entry at or below it
+    abbrev pub IsRowArmed : (Due → Bool) → Key → Option R → Type 0
+    IsRowArmed held k row = (kind : TimerKind) → IsArmed held (timer_of kind k) (end_of row kind)
 
-    -- under a key no due is held that is an end of neither of two rows
-    abbrev pub HasEither : (Due → Bool) → Key → Option R → Option R → Type 0
-    HasEither holds k one other =
-        (d : Due) → is_end k one d ≡ false → is_end k other d ≡ false → is_of_row kinds k d.1 ≡ true → holds d ≡ false
-
-    -- under a key the ends of the row are held now, and no other due changed
-    abbrev pub SetsRow : (before after : Due → Bool) → Key → Option R → Type 0
-    SetsRow before after k row =
-        (d : Due) → after d ≡ cond (is_of_row kinds k d.1) (ends_at (end_of row d.1.kind) d.0) (before d)
-
-    -- the dues that are held are the ends of the rows
-    abbrev pub InStep : (Due → Bool) → Table R → Type 0
-    InStep holds rows = AreTogether (λ t. end_of (row_at rows t.key) t.kind) holds
+    -- the queue is settled for the ends of the rows
+    abbrev pub InStep : Entries → Table R → Type 0
+    InStep queue rows = IsSettled (ends_in rows) (most_ends kinds.1 (length rows)) queue

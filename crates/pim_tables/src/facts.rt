@@ -8,10 +8,13 @@ ghost use Rattle.pim_model.specs.Records.{is_at_group};
 ghost use Rattle.pim_tables.specs.RowsOf.{first_key};
 
 use crate::change::Change;
+use crate::ended::arm_row;
+use crate::ends::Ends;
 use crate::group_rows::{GroupRows, RptKeys, push_keys};
 use crate::keeping::Keeping;
 use crate::rows_of::RowsOf;
 use pim_ip::Addr;
+use pim_timers::Queue;
 use pim_types::{IfaceId, Key};
 use std::alloc::{AllocError, Global};
 use std::collections::btree_map::Iter;
@@ -238,7 +241,7 @@ impl<R: Copy> Facts<R> {
     }
 }
 
-impl<R: Copy> Keeping<R> for Facts<R> {
+impl<R: Ends> Keeping<R> for Facts<R> {
     ghost table = { λ f. f };
 
     fn none(alloc: Global) -> Self {
@@ -271,5 +274,11 @@ impl<R: Copy> Keeping<R> for Facts<R> {
 
     fn take(&mut self, key: Key) -> Option<R> {
         self.pull(key)
+    }
+
+    fn arm_all(&self, queue: &mut Queue) {
+        for (key, row) in self.rows.iter() {
+            arm_row(queue, *key, *row);
+        }
     }
 }

@@ -1,15 +1,19 @@
 //! What a table of rows offers, however it keeps them.
-ghost use Rattle.std.specs.Prelude.{◌≡◌, [], length, Option, Some, None, OnOk, OnErr};
+ghost use Rattle.std.specs.Prelude.{◌≡◌, ◌+◌, ◌≤◌, [], length, Option, Some, None, OnOk, OnErr};
 ghost use Rattle.std.specs.List.Sorted.{IsStrictlySortedBy};
 ghost use Rattle.pim_model.specs.Tables.{Table, keys_in, row_at, has_row, put, drop_at, change_row};
+ghost use Rattle.pim_timers.specs.Armed.{AreArmed, holds};
 ghost use Rattle.pim_types.specs.Keys.{key_cmp};
+ghost use Rattle.pim_tables.specs.Ends.{ends_in, most_ends};
 
 use crate::change::Change;
+use crate::ends::Ends;
+use pim_timers::Queue;
 use pim_types::Key;
 use std::alloc::{AllocError, Global};
 
 /// Rows, each under its key.
-pub trait Keeping<R> {
+pub trait Keeping<R: Ends> {
     /// The rows, by rising key.
     ghost table: { Self → Table R };
 
@@ -48,4 +52,11 @@ pub trait Keeping<R> {
     fn take(&mut self, key: Key) -> Option<R>
         ensures taken { result ≡ row_at (table self.old) key }
         ensures left { table self.new ≡ drop_at (table self.old) key };
+
+    /// Puts the ends of all rows into a queue that has room for them.
+    fn arm_all(&self, queue: &mut Queue)
+        requires { most_ends R.kinds.1 (length (table self.now)) ≤ queue.old.room }
+        ensures armed { AreArmed (ends_in R.kinds R.ends (table self.now)) (holds queue.new) }
+        ensures few { length queue.new.dues
+            ≤ most_ends R.kinds.1 (length (table self.now)) + length queue.old.dues };
 }

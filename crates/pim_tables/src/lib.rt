@@ -3,6 +3,7 @@
 #![tactic(auto, unfolding(pim_types::specs::Keys::key_cmp, pim_types::specs::Keys::addr_cmp, pim_model::specs::Tables::row_at, pim_model::specs::Tables::has_row, pim_model::specs::Tables::put, pim_model::specs::Tables::drop_at, pim_model::specs::Tables::drop_where, pim_model::specs::Tables::set_row, pim_model::specs::Tables::change_row, pim_model::specs::Tables::changed_entry, pim_model::specs::Tables::rows_on, pim_model::specs::Tables::keys_in))]
 
 pub mod change;
+mod ended;
 pub mod ends;
 pub mod facts;
 pub mod first;
@@ -22,7 +23,6 @@ pub use first::earlier;
 pub use group_rows::{GroupRows, RptKeys};
 pub use keeping::Keeping;
 pub use named::is_named;
-pub use pim_timers::Ring;
 pub use placed::{Placed, PlacedRows};
 pub use rows_of::RowsOf;
 pub use timed::Timed;

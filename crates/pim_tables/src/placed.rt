@@ -8,8 +8,11 @@ ghost use Rattle.pim_tables.specs.RowsOf.{row_seen};
 ghost use Rattle.pim_types.specs.declared.fact.Key.{Key as KeyValue};
 
 use crate::change::{Change, To};
+use crate::ended::arm_row;
+use crate::ends::Ends;
 use crate::facts::Facts;
 use crate::keeping::Keeping;
+use pim_timers::Queue;
 use pim_types::Key;
 use slab::Slab;
 use std::alloc::{AllocError, Global};
@@ -163,7 +166,7 @@ impl<R> Placed<R> {
     }
 }
 
-impl<R: Copy> Keeping<R> for Placed<R> {
+impl<R: Ends> Keeping<R> for Placed<R> {
     ghost table = { λ p. p };
 
     fn none(alloc: Global) -> Self {
@@ -205,6 +208,12 @@ impl<R: Copy> Keeping<R> for Placed<R> {
 
     fn take(&mut self, key: Key) -> Option<R> {
         take_placed(&mut self.places, &mut self.rows, key)
+    }
+
+    fn arm_all(&self, queue: &mut Queue) {
+        for (key, row) in self.rows() {
+            arm_row(queue, *key, *row);
+        }
     }
 }
 

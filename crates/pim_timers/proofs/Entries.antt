@@ -20,7 +20,7 @@ use Rattle.pim_timers.proofs.Lookups.{same_symm, get_removed, get_inserted}
 abbrev pub tied : Timer → Timer → Bool
 tied t u = is_eq ((timer_ord.ghosts).cmp t u)
 
-tied_is : (t u : Timer) → tied t u ≡ same_timer t u
+pub tied_is : (t u : Timer) → tied t u ≡ same_timer t u
 unfolding same_timer
 tied_is t u = ap is_eq (timer_order t u)
 

@@ -53,7 +53,7 @@ not_less_after Equal e = cc
 not_less_after Greater e = cc
 
 -- what doesn't come before one that doesn't come before another doesn't come before that
-never_less : (d e f : Due) → is_lt (due_cmp d e) ≡ false → is_lt (due_cmp e f) ≡ false → is_lt (due_cmp d f) ≡ false
+pub never_less : (d e f : Due) → is_lt (due_cmp d e) ≡ false → is_lt (due_cmp e f) ≡ false → is_lt (due_cmp d f) ≡ false
 never_less d e f first second = go (is_lt (due_cmp d f)) refl
   where
     by : (o : Ordering) → due_cmp e f ≡ o → is_lt o ≡ false → due_cmp d f ≡ Less → due_cmp d e ≡ Less

@@ -25,7 +25,7 @@ least_moment f d t m least is = elim (cases_order m d.0) [
 ]
 
 -- there is one least
-neither_less : (o : Ordering) (a b : ℕ × Timer) → due_cmp a b ≡ o → is_lt (due_cmp a b) ≡ false
+pub neither_less : (o : Ordering) (a b : ℕ × Timer) → due_cmp a b ≡ o → is_lt (due_cmp a b) ≡ false
     → is_lt (due_cmp b a) ≡ false → a ≡ b
 neither_less Less a b is first second = absurd (true≢false (ap is_lt (sym is) ∙ first))
 neither_less Equal a b is first second = due_exact a b is

@@ -57,7 +57,7 @@ is_eq_then Less b = refl
 is_eq_then Equal b = refl
 is_eq_then Greater b = refl
 
-nat_ties : (x y : ℕ) → (x == y) ≡ is_eq (nat_cmp x y)
+pub nat_ties : (x y : ℕ) → (x == y) ≡ is_eq (nat_cmp x y)
 nat_ties x y = grind (arith, nat_tests)
 
 bool_ties : (a b : Bool) → beq a b ≡ is_eq (bool_cmp a b)
@@ -66,7 +66,7 @@ bool_ties true false = refl
 bool_ties false true = refl
 bool_ties false false = refl
 
-kind_ties : (a b : TimerKind) → (kind_eq.ghosts).eq a b ≡ is_eq (nat_cmp (rank a) (rank b))
+pub kind_ties : (a b : TimerKind) → (kind_eq.ghosts).eq a b ≡ is_eq (nat_cmp (rank a) (rank b))
 unfolding rank
 kind_ties Neighbour = elim [ Neighbour ↦ refl | _ ↦ refl ]
 kind_ties PrunePending = elim [ Neighbour ↦ refl | _ ↦ refl ]
@@ -91,7 +91,7 @@ source_ties None (Some b) = refl
 source_ties (Some a) None = refl
 source_ties (Some a) (Some b) = nat_ties a.bits b.bits
 
-key_ties : (a b : Key) → (a.iface.number == b.iface.number &&
+pub key_ties : (a b : Key) → (a.iface.number == b.iface.number &&
     (a.group.bits == b.group.bits && (option_eq (addr_eq.ghosts).eq a.source b.source && beq a.rpt b.rpt))) ≡ is_eq
     (key_cmp a b)
 unfolding key_cmp addr_cmp

@@ -38,7 +38,7 @@ own m n t = same_due_by m n t t ∙ ap (λ b. (m == n) && b) (same_itself t) ∙
     ends true = refl
     ends false = refl
 
-other : (m n : ℕ) (t u : Timer) → same_timer t u ≡ false → same_due (m, t) (n, u) ≡ false
+pub other : (m n : ℕ) (t u : Timer) → same_timer t u ≡ false → same_due (m, t) (n, u) ≡ false
 other m n t u apart = same_due_by m n t u ∙ ap (λ b. (m == n) && b) apart ∙ never (m == n)
   where
     never : (b : Bool) → (b && false) ≡ false
@@ -54,17 +54,17 @@ by_timer c h x one others m t = go (same_timer t x) refl
     go true same = subst (λ (u : Timer). h (m, u) ≡ ends_at (map.get c u) m) (sym (same_is t x same)) (one m)
     go false apart = others m t apart
 
-own_inserted : (c : Contents) (x : Timer) (n : ℕ) → map.get (map.insert c x n) x ≡ Some n
+pub own_inserted : (c : Contents) (x : Timer) (n : ℕ) → map.get (map.insert c x n) x ≡ Some n
 own_inserted c x n = get_inserted c x n x ∙ ap (λ b. cond b (Some n) (map.get c x)) (same_itself x)
 
-other_inserted : (c : Contents) (x t : Timer) (n : ℕ) → same_timer t x ≡ false
+pub other_inserted : (c : Contents) (x t : Timer) (n : ℕ) → same_timer t x ≡ false
     → map.get (map.insert c x n) t ≡ map.get c t
 other_inserted c x t n apart = get_inserted c x n t ∙ ap (λ b. cond b (Some n) (map.get c t)) apart
 
-own_removed : (c : Contents) (x : Timer) → map.get (map.remove c x) x ≡ None
+pub own_removed : (c : Contents) (x : Timer) → map.get (map.remove c x) x ≡ None
 own_removed c x = get_removed c x x ∙ ap (λ b. cond b None (map.get c x)) (same_itself x)
 
-other_removed : (c : Contents) (x t : Timer) → same_timer t x ≡ false → map.get (map.remove c x) t ≡ map.get c t
+pub other_removed : (c : Contents) (x t : Timer) → same_timer t x ≡ false → map.get (map.remove c x) t ≡ map.get c t
 other_removed c x t apart = get_removed c x t ∙ ap (λ b. cond b None (map.get c t)) apart
 
 moved_bits : (a b : Bool) → (a ≡ true → b ≡ false) → (not b && (a || b)) ≡ a

@@ -1,14 +1,13 @@
-//! A queue as one ordered set.
-ghost use Rattle.std.specs.Prelude.{◌≡◌, []};
-ghost use Rattle.pim_timers.specs.Dues.{is_among};
+//! Ends as one ordered set.
+ghost use Rattle.std.specs.Prelude.{◌≡◌, ◌&&◌, ◌||◌, [], not, OnOk, OnErr};
+ghost use Rattle.pim_timers.specs.Dues.{Due, IsFirst, is_among, same_due};
 
-use crate::queue::Queue;
 use pim_types::Timer;
 use std::alloc::{AllocError, Global};
 use std::collections::BTreeSet;
 use std::marker::Model;
 
-/// A queue as one ordered set.
+/// Moments (ms), each with a timer that ends then, in one ordered set.
 #[derive(Drop)]
 pub struct Dues {
     set: BTreeSet<(u64, Timer)>,
@@ -24,7 +23,7 @@ impl Model for Dues {
 }
 
 impl Dues {
-    /// An empty queue; it takes no memory.
+    /// None; it takes no memory.
     pub fn new(alloc: Global) -> Self
         ensures { result ≡ [] }
     {
@@ -32,21 +31,27 @@ impl Dues {
             set: BTreeSet::new(alloc),
         }
     }
-}
 
-impl Queue for Dues {
-    ghost holds = { is_among };
-
-    fn insert(&mut self, due: (u64, Timer)) -> Result<(), AllocError> {
+    /// Puts one in. An error is want of memory, and then they are as they were.
+    pub fn insert(&mut self, due: (u64, Timer)) -> Result<(), AllocError>
+        ensures ok { OnOk result ((d : Due) → is_among self.new d ≡ (same_due d due || is_among self.old d)) }
+        ensures err { OnErr result ((d : Due) → is_among self.new d ≡ is_among self.old d) }
+    {
         self.set.insert(due)?;
         Ok(())
     }
 
-    fn remove(&mut self, due: (u64, Timer)) {
+    /// Takes one out, where it is there.
+    pub fn remove(&mut self, due: (u64, Timer))
+        ensures { (d : Due) → is_among self.new d ≡ (not (same_due d due) && is_among self.old d) }
+    {
         self.set.remove(&due);
     }
 
-    fn first(&self) -> Option<(u64, Timer)> {
+    /// The first of them: the least by its moment, and of one moment by the kind and the key of its timer.
+    pub fn first(&self) -> Option<(u64, Timer)>
+        ensures { IsFirst (is_among self.now) result }
+    {
         self.set.first().copied()
     }
 }

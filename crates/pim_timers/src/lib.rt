@@ -1,20 +1,19 @@
 //! Timers: when each of them ends, and which of them is next. Timers of one moment end in the order
 //! of their kinds, and those of one kind in the order of their keys. A queue holds moments with their
-//! timers alone, for those who know when their timers end; `Timers` knows it by itself.
+//! timers alone, for those who know when their timers end (`Schedule`); `Timers` knows it by itself.
 #![tactic(auto)]
 
-pub mod dues;
-pub mod index;
+mod dues;
 pub mod law;
 mod moments;
-mod order;
 pub mod queue;
-pub mod ring;
-mod slots;
+pub mod schedule;
+pub mod sorted;
 pub mod timers;
+pub mod wheel;
 
-pub use dues::Dues;
-pub use index::{SortedTimers, Wheel};
 pub use queue::Queue;
-pub use ring::Ring;
+pub use schedule::Schedule;
+pub use sorted::SortedTimers;
 pub use timers::Timers;
+pub use wheel::Wheel;

@@ -1,7 +1,11 @@
 //! A map of timers to their moments.
-ghost use Rattle.std.specs.Prelude.{◌≡◌, None, IfOk, OnOk, OnErr};
+ghost use Rattle.std.specs.Prelude.{◌≡◌, None, IfOk, OnOk, OnErr, cond, is_some, true};
 ghost use Rattle.std.specs.FinMap as map;
+ghost use Rattle.pim_timers.specs.Ends.{same_timer};
+ghost use Rattle.pim_types.specs.declared.timer.Timer.{Timer as TimerValue};
 
+use crate::queue::Queue;
+use crate::schedule::Schedule;
 use pim_types::Timer;
 use std::alloc::{AllocError, Global};
 use std::collections::BTreeMap;
@@ -59,11 +63,48 @@ impl Moments {
         Ok(self.moments.insert(timer, moment)?)
     }
 
+    /// Puts the moment back that a timer had before the one that it has.
+    pub fn put_back(&mut self, timer: Timer, before: Option<u64>)
+        requires { is_some (map.get self.old timer) ≡ true }
+        ensures { (q : TimerValue) → map.get self.new q ≡ cond (same_timer q timer) before (map.get self.old q) }
+    {
+        match before {
+            Some(moment) => {
+                let _ = self.moments.insert(timer, moment);
+            }
+            None => {
+                self.moments.remove(&timer);
+            }
+        }
+    }
+
     /// Forgets the timer, and gives the moment that it had.
     pub fn remove(&mut self, timer: Timer) -> Option<u64>
         ensures before { result ≡ map.get self.old timer }
         ensures contents { self.new ≡ map.remove self.old timer }
     {
         self.moments.remove(&timer)
+    }
+}
+
+impl Schedule for Moments {
+    ghost end_of = { λ s. map.get s };
+
+    ghost most = { λ s. map.len s };
+
+    fn end_of(&self, timer: Timer) -> Option<u64> {
+        self.get(timer)
+    }
+
+    fn excess(&self, entries: usize) -> usize {
+        entries.saturating_sub(self.len())
+    }
+
+    fn arm_all(&self, queue: &mut Queue) {
+        // It tells that each timer stands once.
+        let _ = self.moments.len();
+        for (timer, moment) in self.moments.iter() {
+            queue.push_in_room((*moment, *timer));
+        }
     }
 }

@@ -1,26 +1,189 @@
-//! What a queue of timers offers.
-ghost use Rattle.std.specs.Prelude.{◌≡◌, ◌&&◌, ◌||◌, Bool, not, OnOk, OnErr};
+//! A queue of ends, which an end that moves later leaves as it is.
+ghost use Rattle.std.specs.Prelude.{◌≡◌, ◌+◌, ◌<◌, ◌≤◌, ◌&&◌, ◌||◌, ℕ, Bool, false, true, [], length, Option, Some, None, OnErr, OnOk};
+ghost use Rattle.std.specs.List.{count_by};
+ghost use Rattle.pim_timers.specs.Armed.{AreArmed, Grows, IsArmed, IsReal, IsSettled, holds};
 ghost use Rattle.pim_timers.specs.Dues.{Due, IsFirst, same_due};
+ghost use Rattle.pim_timers.specs.Ends.{same_timer};
 
+use crate::schedule::Schedule;
 use pim_types::Timer;
-use std::alloc::AllocError;
+use std::alloc::{AllocError, Global};
+use std::cmp::Reverse;
+use std::collections::BinaryHeap;
+use std::marker::Model;
 
-/// Moments (ms), each with a timer that ends then. The first is the least by its moment, and of one
-/// moment by the kind and the key of its timer.
-pub trait Queue {
-    /// Which of them there are.
-    ghost holds: { Self → Due → Bool };
+/// So many entries may be left over however few timers end.
+const SPARE: usize = 32;
 
-    /// Puts one in, where it isn't there. An error is want of memory, and then they are as they were.
-    fn insert(&mut self, due: (u64, Timer)) -> Result<(), AllocError>
+/// Moments (ms), each with a timer that ends then, or later, or not at all any more. The first is the least by its moment,
+/// and of one moment by the kind and the key of its timer. An end that moves later stays where it is; it is put right once it
+/// comes first. So the first is an end, wherever the queue is settled, while others may be none.
+#[derive(Drop)]
+pub struct Queue {
+    heap: BinaryHeap<Reverse<(u64, Timer)>>,
+}
+
+impl Model for Queue {
+    ghost use Rattle.std.specs.Prelude.{◌-◌};
+    ghost use Rattle.std.specs.BinaryHeap.{IsHeap, heap_capacity, heap_items, heap_len};
+    ghost use Rattle.pim_timers.specs.Armed.{Entries};
+    ghost use Rattle.pim_timers.specs.Heap.{entry_cmp};
+
+    ghost Value = { Entries };
+
+    ghost view = { λ a. record { dues = heap_items a.heap; room = heap_capacity a.heap - heap_len a.heap } };
+
+    ghost invariant = { λ a. IsHeap entry_cmp (heap_items a.heap) };
+}
+
+// Whether there is an end (ms), and it is no later than another.
+fn is_within(end: Option<u64>, other: u64) -> bool
+    ensures { result ≡ true → (e : ℕ) × (end ≡ Some e) × (e ≤ other) }
+{
+    match end {
+        Some(end) => end <= other,
+        None => false,
+    }
+}
+
+impl Queue {
+    /// An empty queue; it takes no memory.
+    pub fn new(alloc: Global) -> Self
+        ensures { result.dues ≡ [] }
+    {
+        Queue {
+            heap: BinaryHeap::new(alloc),
+        }
+    }
+
+    /// The first entry.
+    pub fn first(&self) -> Option<(u64, Timer)>
+        ensures { IsFirst (holds self.now) result }
+    {
+        match self.heap.peek() {
+            Some(Reverse(due)) => Some(*due),
+            None => None,
+        }
+    }
+
+    // Puts an entry in. An error is want of memory, and changes nothing.
+    fn push(&mut self, due: (u64, Timer)) -> Result<(), AllocError>
         ensures ok { OnOk result ((d : Due) → holds self.new d ≡ (same_due d due || holds self.old d)) }
-        ensures err { OnErr result ((d : Due) → holds self.new d ≡ holds self.old d) };
+        ensures err { OnErr result (self.new.dues ≡ self.old.dues) }
+    {
+        self.heap.push(Reverse(due))?;
+        Ok(())
+    }
 
-    /// Takes one out, where it is there.
-    fn remove(&mut self, due: (u64, Timer))
-        ensures { (d : Due) → holds self.new d ≡ (not (same_due d due) && holds self.old d) };
+    /// Puts an end (ms) in where there is room.
+    pub fn push_in_room(&mut self, due: (u64, Timer))
+        requires { 0 < self.old.room }
+        ensures held { (d : Due) → holds self.new d ≡ (same_due d due || holds self.old d) }
+        ensures room { self.old.room ≤ self.new.room + 1 }
+        ensures len { length self.new.dues ≡ length self.old.dues + 1 }
+        ensures aside { (p : Due → Bool) → p due ≡ false
+            → count_by (λ e. p e.0) self.new.dues ≡ count_by (λ e. p e.0) self.old.dues }
+    {
+        let _ = self.heap.push(Reverse(due));
+    }
 
-    /// The first of them.
-    fn first(&self) -> Option<(u64, Timer)>
-        ensures { IsFirst (holds self.now) result };
+    /// Moves the end of a timer (ms) from the one that is known to another. Where the timer ends no earlier than it did
+    /// nothing is written. An error is want of memory, and changes nothing.
+    pub fn arm(
+        &mut self,
+        timer: Timer,
+        from: Option<u64>,
+        to: Option<u64>,
+    ) -> Result<(), AllocError>
+        requires { IsArmed (holds self.old) timer from }
+        ensures ok { OnOk result (IsArmed (holds self.new) timer to) }
+        ensures grows { Grows (holds self.old) (holds self.new) }
+        ensures others { (d : Due) → same_timer d.1 timer ≡ false → holds self.new d ≡ holds self.old d }
+        ensures err { OnErr result (self.new.dues ≡ self.old.dues) }
+    {
+        match to {
+            Some(after) if !is_within(from, after) => self.push((after, timer)),
+            _ => Ok(()),
+        }
+    }
+
+    // Takes the first out.
+    fn take_first(&mut self, first: (u64, Timer))
+        requires { IsFirst (holds self.old) (Some first) }
+        ensures held { (d : Due) → holds self.old d ≡ (same_due d first || holds self.new d) }
+        ensures fewer { (p : Due → Bool) → p first ≡ true
+            → count_by (λ e. p e.0) self.new.dues < count_by (λ e. p e.0) self.old.dues }
+        ensures len { length self.new.dues + 1 ≡ length self.old.dues }
+        ensures room { 0 < self.new.room }
+    {
+        let _ = self.heap.pop();
+    }
+
+    // Takes the first out. Where its timer ends later that end is put in, unless the same entry stands there again.
+    fn move_first(&mut self, first: (u64, Timer), to: Option<u64>)
+        requires { IsFirst (holds self.old) (Some first) }
+        ensures others { (d : Due) → same_due d first ≡ false → holds self.old d ≡ true → holds self.new d ≡ true }
+        ensures moved { (m : ℕ) → to ≡ Some m → first.0 ≤ m → (e : ℕ) × (e ≤ m) × (holds self.new (e, first.1) ≡ true) }
+        ensures fewer { (p : Due → Bool) → p first ≡ true → ((m : ℕ) → to ≡ Some m → p (m, first.1) ≡ false)
+            → count_by (λ e. p e.0) self.new.dues < count_by (λ e. p e.0) self.old.dues }
+        ensures few { length self.new.dues ≤ length self.old.dues }
+    {
+        self.take_first(first);
+        if self.first() == Some(first) {
+            return;
+        }
+        if let Some(moment) = to {
+            self.push_in_room((moment, first.1));
+        }
+    }
+
+    // Puts the first right: those that aren't ends go, or move to where their timers end.
+    fn put_right<S: Schedule>(&mut self, schedule: &S)
+        requires { AreArmed (S.end_of schedule.now) (holds self.old) }
+        ensures armed { AreArmed (S.end_of schedule.now) (holds self.new) }
+        ensures real { IsReal (S.end_of schedule.now) (holds self.new) }
+        ensures few { length self.new.dues ≤ length self.old.dues }
+    {
+        while let Some(first) = self.first() {
+            let end = schedule.end_of(first.1);
+            if end == Some(first.0) {
+                return;
+            }
+            self.move_first(first, end);
+        }
+    }
+
+    // Takes all out. The room stays.
+    fn clear(&mut self)
+        ensures empty { self.new.dues ≡ [] }
+        ensures room { length self.old.dues + self.old.room ≤ self.new.room }
+    {
+        self.heap.clear();
+    }
+
+    // Puts the ends in anew, and nothing else.
+    fn rebuild<S: Schedule>(&mut self, schedule: &S)
+        requires { S.most schedule.now ≤ length self.old.dues }
+        ensures armed { AreArmed (S.end_of schedule.now) (holds self.new) }
+        ensures few { length self.new.dues ≤ S.most schedule.now }
+    {
+        self.clear();
+        schedule.arm_all(self);
+    }
+
+    /// Makes the first an end, after ends were moved and those that moved were armed; that it is one already may be known. Where
+    /// there are far more entries than ends, they are put in anew, which takes no memory.
+    pub fn settle<S: Schedule>(&mut self, schedule: &S, is_right: bool)
+        requires armed { AreArmed (S.end_of schedule.now) (holds self.old) }
+        requires right { is_right ≡ true → IsReal (S.end_of schedule.now) (holds self.old) }
+        ensures { IsSettled (S.end_of schedule.now) (S.most schedule.now) self.new }
+    {
+        let entries = self.heap.len();
+        if schedule.excess(entries) > entries / 2 + SPARE {
+            self.rebuild(schedule);
+            self.put_right(schedule);
+        } else if !is_right {
+            self.put_right(schedule);
+        }
+    }
 }

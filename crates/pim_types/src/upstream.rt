@@ -18,7 +18,7 @@ pub struct StarView {
     pub upstream: Option<Hop>,
 }
 
-/// The upstream states of (S,G,rpt) (RFC 7761, section 4.5.6).
+/// The upstream states of (S,G,rpt) (RFC 7761, section 4.5.7).
 #[derive(Clone, Copy)]
 pub enum TreeState {
     NotJoined,
@@ -26,7 +26,7 @@ pub enum TreeState {
     NotPruned,
 }
 
-/// What the upstream machines of (S,G) and (S,G,rpt) compare (RFC 7761, sections 4.5.5 and 4.5.6).
+/// What the upstream machines of (S,G) and (S,G,rpt) compare (RFC 7761, sections 4.5.5 and 4.5.7).
 #[derive(Clone, Copy)]
 pub struct SourceView {
     /// JoinDesired(S,G).

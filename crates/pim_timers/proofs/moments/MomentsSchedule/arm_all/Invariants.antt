@@ -1,0 +1,14 @@
+use Rattle.std.proofs.Common.{◌≤◌, ◌+◌, length}
+use Rattle.std.specs.FinMap as map
+use Rattle.std.specs.Map.{lookup}
+use Rattle.pim_timers.specs.Armed.{holds}
+use Rattle.pim_timers.proofs.Armed.{Owes}
+use Rattle.pim_timers.proofs.Entries.{tied}
+use Rattle.pim_timers.proofs.moments.MomentsSchedule.arm_all.Given as goal
+
+abbrev pub invariant-loop-timer : goal.invariant-loop-timer
+invariant-loop-timer l = record {
+  owes : Owes (map.get l.self) (λ t. lookup (tied t) l.timer-iterator) (holds l.queue);
+  room : length l.timer-iterator ≤ l.queue.room;
+  few : length l.queue.dues + length l.timer-iterator ≤ map.len l.self + length l.fn.queue.dues;
+}
