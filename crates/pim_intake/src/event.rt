@@ -7,10 +7,11 @@ ghost use Rattle.pim_model.specs.Judging.{advance_judged, down_judged, judged, r
 ghost use Rattle.pim_trie.specs.Meter.{raised};
 
 use crate::frame::judge_frame;
+use crate::lent::{LentEvent, LentKind};
 use crate::unicast::judge_unicast;
 use pim_model::Accepted;
 use pim_trie::Meter;
-use pim_types::{Event, EventKind, Fault, IfaceId, Ignored, Lent, Refusal, Route, RpRange, Stop};
+use pim_types::{Fault, IfaceId, Ignored, Lent, Refusal, Route, RpRange, Stop};
 use pim_world::{World, test_rps};
 use std::alloc::Global;
 
@@ -94,11 +95,11 @@ fn judge_rps<'a>(alloc: Global, ranges: &'a [RpRange]) -> Result<Result<Accepted
 /// Judges an event: what the router is to act on, or the first test that fails. Only routes and RP ranges are
 /// tested in memory. The meter rises by the nodes that lead to the RP of the group of a Register-Stop to the router; for a
 /// packet that came on a link nothing is looked up.
-#[tactic(auto, using(pim_world::proofs::Visits::raised_by_none), unfolding(pim_model::specs::Judging::judged))]
+#[tactic(auto, using(pim_world::proofs::Visits::raised_by_none), unfolding(pim_model::specs::Judging::judged, crate::specs::Lent::kind_of))]
 pub fn judge<'a>(
     alloc: Global,
     world: &World,
-    event: &'a Event,
+    event: &LentEvent<'a>,
     meter: &mut Meter,
 ) -> Result<Result<Accepted<'a>, Stop>, Fault>
     ensures value { IfOk result (λ judgement. judgement ≡ judged world.now event.now.kind) }
@@ -108,12 +109,12 @@ pub fn judge<'a>(
     ensures visited { meter.new ≡ raised meter.old (judged_nodes world.now event.now.kind) }
 {
     match &event.kind {
-        EventKind::Advance { moment } => Ok(judge_advance(world, *moment)),
-        EventKind::Frame { iface, bytes } => Ok(judge_frame(world, *iface, bytes.as_slice())),
-        EventKind::Unicast { bytes } => Ok(judge_unicast(world, bytes.as_slice(), meter)),
-        EventKind::Up { iface } => Ok(judge_up(world, *iface)),
-        EventKind::Down { iface } => Ok(judge_down(world, *iface)),
-        EventKind::Routes { routes } => judge_routes(alloc, world, routes.as_slice()),
-        EventKind::Rps { rps } => judge_rps(alloc, rps.as_slice()),
+        LentKind::Advance { moment } => Ok(judge_advance(world, *moment)),
+        LentKind::Frame { iface, bytes } => Ok(judge_frame(world, *iface, bytes.as_slice())),
+        LentKind::Unicast { bytes } => Ok(judge_unicast(world, bytes.as_slice(), meter)),
+        LentKind::Up { iface } => Ok(judge_up(world, *iface)),
+        LentKind::Down { iface } => Ok(judge_down(world, *iface)),
+        LentKind::Routes { routes } => judge_routes(alloc, world, routes.as_slice()),
+        LentKind::Rps { rps } => judge_rps(alloc, rps.as_slice()),
     }
 }

@@ -5,7 +5,9 @@
 pub mod event;
 mod frame;
 mod igmp;
+pub mod lent;
 mod message;
 mod unicast;
 
 pub use event::judge;
+pub use lent::LentEvent;

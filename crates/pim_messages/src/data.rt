@@ -5,20 +5,21 @@ ghost use Rattle.pim_model.specs.Writing.{on_link, pim_to};
 ghost use Rattle.pim_wire.specs.Registers.{register_text};
 
 use crate::packet::pim_to;
+use crate::room::Room;
 use pim_ip::{Ipv4View, write_copy};
 use pim_types::{Addr, Emission, IfaceId, Series};
 use pim_wire::write_register;
-use std::alloc::{AllocError, Global};
+use std::alloc::AllocError;
 
 /// A copy of a packet as it leaves on a link, its TTL one lower.
 pub fn copy_on_link(
-    alloc: Global,
+    room: &mut Room,
     iface: IfaceId,
     packet: &Ipv4View<'_>,
 ) -> Result<Emission, AllocError>
     ensures { IfOk result (λ e. e ≡ on_link iface.number (copy_text packet.now)) }
 {
-    let mut copy = Vec::with_capacity(alloc, packet.total_length())?;
+    let mut copy = room.buffer_for(packet.total_length())?;
     write_copy(packet, &mut copy)?;
     let bytes = Series::from_vec(copy);
     Ok(Emission::Link { iface, bytes })
@@ -28,7 +29,7 @@ pub fn copy_on_link(
 /// has a TTL one lower.
 #[tactic(auto, using(crate::proofs::Lengths::length_register_of_copy))]
 pub fn register_of_copy(
-    alloc: Global,
+    room: &mut Room,
     from: Addr,
     to: Addr,
     packet: &Ipv4View<'_>,
@@ -37,9 +38,12 @@ pub fn register_of_copy(
 {
     // It tells that the packet is short.
     let _ = packet.total_length();
-    let mut copy = Vec::new(alloc);
+    let mut copy = room.buffer();
     write_copy(packet, &mut copy)?;
-    let mut register = Vec::new(alloc);
+    let mut register = room.buffer();
     write_register(&copy, &mut register)?;
-    pim_to(alloc, from, to, &register)
+    let packet = pim_to(room, from, to, &register)?;
+    room.give(copy);
+    room.give(register);
+    Ok(packet)
 }

@@ -6,6 +6,8 @@ pub mod data;
 mod message;
 pub mod outbox;
 mod packet;
+pub mod room;
 
 pub use data::{copy_on_link, register_of_copy};
 pub use outbox::{MOST_ENTRIES, MOST_SOURCES, Outbox};
+pub use room::Room;

@@ -8,6 +8,7 @@ ghost use Rattle.pim_messages.specs.Sendable.{message_of, messages_of, IsSendabl
 
 use crate::message::{Assert, JoinPrune, Message, Query, RegisterMessage};
 use crate::packet::{hello_packet, packet_of};
+use crate::room::Room;
 use igmp_wire::QueryHeader;
 use pim_ifaces::Interfaces;
 use pim_types::fact::AssertMetric;
@@ -194,6 +195,7 @@ impl Outbox {
     /// configured stays.
     pub fn write(
         &self,
+        room: &mut Room,
         interfaces: &mut Interfaces,
         emissions: &mut Vec<Emission>,
     ) -> Result<(), Fault>
@@ -202,14 +204,14 @@ impl Outbox {
         ensures configured { interfaces.new.configured ≡ interfaces.old.configured }
         ensures fault { IsOkUnless result Fault.Memory }
     {
-        write_each(self.alloc, &self.messages, interfaces, emissions)?;
+        write_each(room, &self.messages, interfaces, emissions)?;
         Ok(())
     }
 }
 
 /// Puts the packets of messages at the end.
 fn write_each(
-    alloc: Global,
+    room: &mut Room,
     messages: &[Message],
     interfaces: &mut Interfaces,
     emissions: &mut Vec<Emission>,
@@ -221,7 +223,7 @@ fn write_each(
     ensures configured { interfaces.new.configured ≡ interfaces.old.configured }
 {
     for message in messages {
-        write_message(alloc, message, interfaces, emissions)?;
+        write_message(room, message, interfaces, emissions)?;
     }
     Ok(())
 }
@@ -229,7 +231,7 @@ fn write_each(
 /// Puts the packet of a message at the end, with the Hello that is owed before it.
 #[tactic(auto, unfolding(pim_model::specs::Writing::written, pim_model::specs::Writing::with_owed_hello, pim_model::specs::Writing::hello_paid, pim_model::specs::Writing::emission_of))]
 fn write_message(
-    alloc: Global,
+    room: &mut Room,
     message: &Message,
     interfaces: &mut Interfaces,
     emissions: &mut Vec<Emission>,
@@ -240,11 +242,11 @@ fn write_message(
     ensures paid { OnOk result (interfaces.new ≡ (written interfaces.old (message_of message.now)).0) }
     ensures configured { interfaces.new.configured ≡ interfaces.old.configured }
 {
-    let packet = packet_of(alloc, interfaces, message)?;
+    let packet = packet_of(room, interfaces, message)?;
     if let Some(iface) = message.announced_on()
         && is_hello_owed(interfaces, iface)
     {
-        emissions.push(hello_packet(alloc, interfaces, iface)?)?;
+        emissions.push(hello_packet(room, interfaces, iface)?)?;
         interfaces.pay_hello(iface)?;
     }
     emissions.push(packet)?;

@@ -6,6 +6,7 @@ ghost use Rattle.pim_model.specs.Writing.{emission_of, hello_emission, pim_on_li
 ghost use Rattle.pim_wire.specs.Registers.{null_register_text, register_stop_text};
 
 use crate::message::{Assert, JoinPrune, Message, Query, RegisterMessage};
+use crate::room::Room;
 use igmp_wire::write_query;
 use pim_ifaces::Interfaces;
 use pim_ip::{write_igmp_packet, write_pim_packet};
@@ -14,7 +15,7 @@ use pim_types::{Addr, Emission, IfaceId, InterfaceConfig, Series};
 use pim_wire::{
     write_assert, write_hello, write_join_prune, write_null_register, write_register_stop,
 };
-use std::alloc::{AllocError, Global};
+use std::alloc::AllocError;
 
 /// The time to live of a PIM message that stays on its link.
 const LINK_TIME_TO_LIVE: u8 = 1;
@@ -39,7 +40,7 @@ fn config_of(interfaces: &Interfaces, iface: IfaceId) -> InterfaceConfig
 /// A PIM message to all routers of the link.
 #[tactic(auto, unfolding(pim_model::specs::Writing::pim_on_link))]
 fn pim_on_link(
-    alloc: Global,
+    room: &mut Room,
     interfaces: &Interfaces,
     iface: IfaceId,
     text: &[u8],
@@ -48,7 +49,7 @@ fn pim_on_link(
     ensures { IfOk result (λ e. e ≡ pim_on_link interfaces.now iface.number text.now) }
 {
     let source = config_of(interfaces, iface).address;
-    let mut packet = Vec::new(alloc);
+    let mut packet = room.buffer();
     write_pim_packet(
         LINK_TIME_TO_LIVE,
         source,
@@ -63,7 +64,7 @@ fn pim_on_link(
 /// A PIM message to an address.
 #[tactic(auto, unfolding(pim_model::specs::Writing::pim_to))]
 pub(crate) fn pim_to(
-    alloc: Global,
+    room: &mut Room,
     from: Addr,
     to: Addr,
     text: &[u8],
@@ -71,7 +72,7 @@ pub(crate) fn pim_to(
     requires { 20 + length text.now < 2 ^ 16 }
     ensures { IfOk result (λ e. e ≡ pim_to from.bits to.bits text.now) }
 {
-    let mut packet = Vec::new(alloc);
+    let mut packet = room.buffer();
     write_pim_packet(UNICAST_TIME_TO_LIVE, from, to, text, &mut packet)?;
     let bytes = Series::from_vec(packet);
     Ok(Emission::Unicast {
@@ -90,7 +91,7 @@ fn announced_delay(delay: u32) -> u16
 /// The Hello of the interface.
 #[tactic(auto, using(crate::proofs::Lengths::text_lengths, crate::proofs::Delays::hello_text_low_bits), unfolding(pim_model::specs::Writing::hello_emission))]
 pub(crate) fn hello_packet(
-    alloc: Global,
+    room: &mut Room,
     interfaces: &Interfaces,
     iface: IfaceId,
 ) -> Result<Emission, AllocError>
@@ -100,7 +101,7 @@ pub(crate) fn hello_packet(
     let generation = interfaces.row(iface).map_or(0, |row| row.generation);
     let propagation_delay = announced_delay(config.propagation_delay);
     let override_interval = announced_delay(config.override_interval);
-    let mut text = Vec::new(alloc);
+    let mut text = room.buffer();
     write_hello(
         propagation_delay,
         override_interval,
@@ -108,12 +109,14 @@ pub(crate) fn hello_packet(
         generation,
         &mut text,
     )?;
-    pim_on_link(alloc, interfaces, iface, &text)
+    let packet = pim_on_link(room, interfaces, iface, &text)?;
+    room.give(text);
+    Ok(packet)
 }
 
 #[tactic(auto, using(crate::proofs::Lengths::text_lengths), unfolding(pim_model::specs::Writing::emission_of))]
 fn join_prune_packet(
-    alloc: Global,
+    room: &mut Room,
     interfaces: &Interfaces,
     message: &JoinPrune,
 ) -> Result<Emission, AllocError>
@@ -123,7 +126,7 @@ fn join_prune_packet(
 {
     let joins = message.joins.as_slice();
     let prunes = message.prunes.as_slice();
-    let mut text = Vec::new(alloc);
+    let mut text = room.buffer();
     write_join_prune(
         message.upstream.address,
         message.group,
@@ -131,12 +134,14 @@ fn join_prune_packet(
         prunes,
         &mut text,
     )?;
-    pim_on_link(alloc, interfaces, message.upstream.iface, &text)
+    let packet = pim_on_link(room, interfaces, message.upstream.iface, &text)?;
+    room.give(text);
+    Ok(packet)
 }
 
 #[tactic(auto, using(crate::proofs::Lengths::text_lengths), unfolding(pim_model::specs::Writing::emission_of))]
 fn assert_packet(
-    alloc: Global,
+    room: &mut Room,
     interfaces: &Interfaces,
     message: &Assert,
 ) -> Result<Emission, AllocError>
@@ -151,9 +156,11 @@ fn assert_packet(
         ..
     } = message.metric;
     let source = message.source.unwrap_or(Addr::NONE);
-    let mut text = Vec::new(alloc);
+    let mut text = room.buffer();
     write_assert(message.group, source, rpt, preference, metric, &mut text)?;
-    pim_on_link(alloc, interfaces, message.iface, &text)
+    let packet = pim_on_link(room, interfaces, message.iface, &text)?;
+    room.give(text);
+    Ok(packet)
 }
 
 /// Where a query for the group goes: one for all groups, 0.0.0.0, to all systems, any other to its group.
@@ -169,7 +176,7 @@ fn query_destination(group: Addr) -> Addr
 
 #[tactic(auto, using(crate::proofs::Lengths::text_lengths), unfolding(pim_model::specs::Writing::emission_of))]
 fn query_packet(
-    alloc: Global,
+    room: &mut Room,
     interfaces: &Interfaces,
     message: &Query,
 ) -> Result<Emission, AllocError>
@@ -177,12 +184,13 @@ fn query_packet(
     ensures { IfOk result
         (λ e. e ≡ emission_of interfaces.now (message_of (Message.Query message.now))) }
 {
-    let mut text = Vec::new(alloc);
+    let mut text = room.buffer();
     write_query(&mut text, &message.header, message.sources.as_slice())?;
     let source = config_of(interfaces, message.iface).address;
     let destination = query_destination(message.header.group);
-    let mut packet = Vec::new(alloc);
+    let mut packet = room.buffer();
     write_igmp_packet(source, destination, &text, &mut packet)?;
+    room.give(text);
     Ok(Emission::Link {
         iface: message.iface,
         bytes: Series::from_vec(packet),
@@ -190,29 +198,33 @@ fn query_packet(
 }
 
 #[tactic(auto, using(crate::proofs::Lengths::text_lengths))]
-fn register_stop_packet(alloc: Global, message: &RegisterMessage) -> Result<Emission, AllocError>
+fn register_stop_packet(room: &mut Room, message: &RegisterMessage) -> Result<Emission, AllocError>
     ensures { IfOk result (λ e. e ≡ pim_to message.now.from.bits message.now.to.bits
         (register_stop_text message.now.group.bits message.now.source.bits)) }
 {
-    let mut text = Vec::new(alloc);
+    let mut text = room.buffer();
     write_register_stop(message.group, message.source, &mut text)?;
-    pim_to(alloc, message.from, message.to, &text)
+    let packet = pim_to(room, message.from, message.to, &text)?;
+    room.give(text);
+    Ok(packet)
 }
 
 #[tactic(auto, using(crate::proofs::Lengths::text_lengths))]
-fn null_register_packet(alloc: Global, message: &RegisterMessage) -> Result<Emission, AllocError>
+fn null_register_packet(room: &mut Room, message: &RegisterMessage) -> Result<Emission, AllocError>
     ensures { IfOk result (λ e. e ≡ pim_to message.now.from.bits message.now.to.bits
         (null_register_text message.now.source.bits message.now.group.bits)) }
 {
-    let mut text = Vec::new(alloc);
+    let mut text = room.buffer();
     write_null_register(message.source, message.group, &mut text)?;
-    pim_to(alloc, message.from, message.to, &text)
+    let packet = pim_to(room, message.from, message.to, &text)?;
+    room.give(text);
+    Ok(packet)
 }
 
 /// The message as a packet.
 #[tactic(auto, unfolding(pim_model::specs::Writing::emission_of))]
 pub(crate) fn packet_of(
-    alloc: Global,
+    room: &mut Room,
     interfaces: &Interfaces,
     message: &Message,
 ) -> Result<Emission, AllocError>
@@ -220,11 +232,11 @@ pub(crate) fn packet_of(
     ensures { IfOk result (λ e. e ≡ emission_of interfaces.now (message_of message.now)) }
 {
     match message {
-        Message::Hello(iface) => hello_packet(alloc, interfaces, *iface),
-        Message::JoinPrune(message) => join_prune_packet(alloc, interfaces, message),
-        Message::Assert(message) => assert_packet(alloc, interfaces, message),
-        Message::Query(message) => query_packet(alloc, interfaces, message),
-        Message::RegisterStop(message) => register_stop_packet(alloc, message),
-        Message::NullRegister(message) => null_register_packet(alloc, message),
+        Message::Hello(iface) => hello_packet(room, interfaces, *iface),
+        Message::JoinPrune(message) => join_prune_packet(room, interfaces, message),
+        Message::Assert(message) => assert_packet(room, interfaces, message),
+        Message::Query(message) => query_packet(room, interfaces, message),
+        Message::RegisterStop(message) => register_stop_packet(room, message),
+        Message::NullRegister(message) => null_register_packet(room, message),
     }
 }

@@ -4,18 +4,23 @@ ghost use Rattle.pim_ip.specs.declared.fault.Fault.{Fault};
 ghost use Rattle.pim_model.specs.Writing.{write_all};
 
 use crate::world::World;
-use pim_messages::Outbox;
+use pim_messages::{Outbox, Room};
 use pim_types::{Emission, Fault};
 
 impl World {
     /// Puts the packets of all messages, in their order, at the end of the emissions; a Hello that is
-    /// owed goes directly before the next Join/Prune or Assert on its interface.
+    /// owed goes directly before the next Join/Prune or Assert on its interface. They are written into the room.
     #[tactic(auto, unfolding(pim_model::specs::Writing::write_all))]
-    pub fn write(&mut self, out: &Outbox, emissions: &mut Vec<Emission>) -> Result<(), Fault>
+    pub fn write(
+        &mut self,
+        room: &mut Room,
+        out: &Outbox,
+        emissions: &mut Vec<Emission>,
+    ) -> Result<(), Fault>
         ensures state { OnOk result (self.new ≡ (write_all self.old out.now).0) }
         ensures sent { OnOk result (emissions.new.items ≡ emissions.old.items ++ (write_all self.old out.now).1) }
         ensures fault { IsOkUnless result Fault.Memory }
     {
-        out.write(&mut self.interfaces, emissions)
+        out.write(room, &mut self.interfaces, emissions)
     }
 }

@@ -1,16 +1,17 @@
 //! What is passed from hand to hand while an event is taken in.
 ghost use Rattle.std.specs.Prelude.{◌≡◌, []};
 
-use pim_messages::Outbox;
+use pim_messages::{Outbox, Room};
 use std::alloc::Global;
 use std::marker::Model;
 
-/// An event's turn: its draw, and what it sends, so far.
+/// An event's turn: its draw, and what it sends, so far, beside the room into which packets are written.
 #[derive(Drop)]
 pub struct Turn {
     pub alloc: Global,
     pub draw: u32,
     pub out: Outbox,
+    pub room: Room,
 }
 
 impl Model for Turn {
@@ -23,13 +24,15 @@ impl Model for Turn {
 
 impl Turn {
     /// A turn that has sent nothing yet.
-    pub fn new(alloc: Global, draw: u32) -> Turn
+    pub fn new(room: Room, draw: u32) -> Turn
         ensures { result ≡ record { draw = draw; messages = [] } }
     {
+        let alloc = room.alloc;
         Turn {
             alloc,
             draw,
             out: Outbox::new(alloc),
+            room,
         }
     }
 }

@@ -1,0 +1,96 @@
+//! Events whose packets, routes and ranges are lent.
+ghost use Rattle.std.specs.Prelude.{◌≡◌};
+ghost use Rattle.pim_types.specs.declared.event.EventKind.{EventKind as EventValue};
+
+use pim_types::{Event, EventKind, IfaceId, Lent, Route, RpRange};
+use std::marker::Model;
+
+/// What happens to a router in one step, and what it brings.
+#[derive(Drop)]
+pub enum LentKind<'a> {
+    Advance { moment: u64 },
+    Frame { iface: IfaceId, bytes: Lent<'a, u8> },
+    Unicast { bytes: Lent<'a, u8> },
+    Up { iface: IfaceId },
+    Down { iface: IfaceId },
+    Routes { routes: Lent<'a, Route> },
+    Rps { rps: Lent<'a, RpRange> },
+}
+
+/// An event that owns nothing: a clause sees the event that it stands for.
+#[derive(Drop)]
+pub struct LentEvent<'a> {
+    draw: u32,
+    pub(crate) kind: LentKind<'a>,
+}
+
+impl<'a> Model for LentEvent<'a> {
+    ghost use Rattle.pim_intake.specs.Lent.{kind_of};
+    ghost use Rattle.pim_types.specs.declared.event.Event.{Event};
+
+    ghost Value = { Event };
+
+    ghost view = { λ e. record { draw = e.draw; kind = kind_of e.kind } };
+}
+
+impl<'a> LentEvent<'a> {
+    /// The event itself.
+    #[tactic(auto, unfolding(crate::specs::Lent::kind_of))]
+    pub fn of(event: &'a Event) -> LentEvent<'a>
+        ensures { result ≡ event.now }
+    {
+        let kind = match &event.kind {
+            EventKind::Advance { moment } => LentKind::Advance { moment: *moment },
+            EventKind::Frame { iface, bytes } => LentKind::Frame {
+                iface: *iface,
+                bytes: Lent::of(bytes.as_slice()),
+            },
+            EventKind::Unicast { bytes } => LentKind::Unicast {
+                bytes: Lent::of(bytes.as_slice()),
+            },
+            EventKind::Up { iface } => LentKind::Up { iface: *iface },
+            EventKind::Down { iface } => LentKind::Down { iface: *iface },
+            EventKind::Routes { routes } => LentKind::Routes {
+                routes: Lent::of(routes.as_slice()),
+            },
+            EventKind::Rps { rps } => LentKind::Rps {
+                rps: Lent::of(rps.as_slice()),
+            },
+        };
+        LentEvent {
+            draw: event.draw,
+            kind,
+        }
+    }
+
+    /// A packet that came on an interface.
+    #[tactic(auto, unfolding(crate::specs::Lent::kind_of))]
+    pub fn frame(draw: u32, iface: IfaceId, packet: &'a [u8]) -> LentEvent<'a>
+        ensures { result ≡ record { draw = draw; kind = EventValue.Frame iface packet.now } }
+    {
+        let bytes = Lent::of(packet);
+        LentEvent {
+            draw,
+            kind: LentKind::Frame { iface, bytes },
+        }
+    }
+
+    /// A packet that came for an address of the router.
+    #[tactic(auto, unfolding(crate::specs::Lent::kind_of))]
+    pub fn unicast(draw: u32, packet: &'a [u8]) -> LentEvent<'a>
+        ensures { result ≡ record { draw = draw; kind = EventValue.Unicast packet.now } }
+    {
+        let bytes = Lent::of(packet);
+        LentEvent {
+            draw,
+            kind: LentKind::Unicast { bytes },
+        }
+    }
+
+    /// The number from which its random delays are drawn.
+    pub fn draw(&self) -> u32
+        ensures { result ≡ self.now.draw }
+    {
+        self.draw
+    }
+}
