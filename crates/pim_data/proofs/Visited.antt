@@ -1,5 +1,5 @@
 -- What a packet looks up raises a meter by the nodes of all.
-use Rattle.std.proofs.Common.{◌≡◌, ◌≤◌, ◌+◌, ◌&&◌, ◌∙◌, Bool, Err, None, Ok, OnOk, Option, Result, Some, ap, false, is_some, not, refl, subst, sym, true, ℕ}
+use Rattle.std.proofs.Common.{◌≡◌, ◌≤◌, ◌&&◌, ◌∙◌, Bool, Err, None, Ok, OnOk, Option, Result, Some, ap, false, is_some, not, refl, subst, sym, true, ℕ}
 use Rattle.std.specs.Prelude.{if◌then◌else◌, option_map}
 use Rattle.pim_ip.specs.Addr.{addr}
 use Rattle.pim_ip.specs.Ipv4.{Packet}

@@ -14,7 +14,7 @@ ghost use Rattle.pim_types.specs.declared.config.IfaceId.{IfaceId as IfaceValue}
 use pim_ifset::{IfSet, Iter};
 use pim_ip::Ipv4View;
 use pim_macros::interfaces::members;
-use pim_messages::{copy_on_link, register_of_copy};
+use pim_messages::{Room, copy_on_link, register_of_copy};
 use pim_register::registering_address;
 use pim_types::{Addr, Emission};
 use pim_world::{Meter, Turn, World};
@@ -51,17 +51,17 @@ fn leaves(packet: &Ipv4View<'_>) -> bool
 
 // A copy of the packet on each of these interfaces. Room for so many is taken at once.
 fn copies_on(
-    alloc: Global,
-    room: usize,
+    room: &mut Room,
+    count: usize,
     ifaces: Iter,
     packet: &Ipv4View<'_>,
 ) -> Result<Vec<Emission>, AllocError>
     ensures { IfOk result (λ copies. copies.items
         ≡ map (λ (iface : IfaceValue). on_link iface.number (copy_text packet.now)) ifaces) }
 {
-    let mut copies = Vec::with_capacity(alloc, room)?;
+    let mut copies = room.list_for(count)?;
     for iface in ifaces {
-        copies.push(copy_on_link(alloc, iface, packet)?)?;
+        copies.push(copy_on_link(room, iface, packet)?)?;
     }
     Ok(copies)
 }
@@ -71,7 +71,7 @@ fn copies_on(
 #[tactic(auto, unfolding(pim_model::specs::Writing::copies_of))]
 pub fn copies(
     world: &World,
-    alloc: Global,
+    room: &mut Room,
     packet: &Ipv4View<'_>,
     list: IfSet,
 ) -> Result<Vec<Emission>, AllocError>
@@ -80,12 +80,12 @@ pub fn copies(
     ensures limit { IfOk result (λ copies. length copies.items ≤ 120) }
 {
     if !leaves(packet) {
-        return Ok(Vec::new(alloc));
+        return Ok(room.list());
     }
     let count = world.interfaces().count();
     // It tells how many there are.
     let list = list.without_tunnel();
-    copies_on(alloc, list.len(), members(list, count), packet)
+    copies_on(room, list.len(), members(list, count), packet)
 }
 
 // The Register round the packet, from the router's address on RPF_interface(S) to the RP, where there is one.
@@ -101,10 +101,10 @@ fn registered(
     ensures silent { turn.new ≡ turn.old }
     ensures at_least { OnOk result (raised meter.old (registered_nodes world.now packet.now) ≤ meter.new) }
 {
-    let mut sent = Vec::new(turn.alloc);
+    let mut sent = turn.room.list();
     if let Some(rp) = world.rp(packet.destination(), meter) {
         let from = registering_address(world, meter, packet.source());
-        sent.push(register_of_copy(turn.alloc, from, rp, packet)?)?;
+        sent.push(register_of_copy(&mut turn.room, from, rp, packet)?)?;
     }
     Ok(sent)
 }
@@ -128,7 +128,7 @@ pub fn leave(
     ensures silent { turn.new ≡ turn.old }
     ensures at_least { OnOk result (raised meter.old (leave_nodes world.now packet.now list.tunnel) ≤ meter.new) }
 {
-    let copies = copies(world, turn.alloc, packet, list)?;
+    let copies = copies(world, &mut turn.room, packet, list)?;
     if !(list.has_tunnel() && leaves(packet)) {
         return Ok(Leaving {
             copies,

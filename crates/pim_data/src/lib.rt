@@ -8,3 +8,4 @@ mod source;
 
 pub use arrival::arrived;
 pub use leaving::{Leaving, copies, leave};
+pub use list::is_on_list;

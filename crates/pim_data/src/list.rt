@@ -29,9 +29,9 @@ fn watch(world: &mut World, meter: &mut Meter, sight: &SourceSight) -> Result<()
     world.keep_alive(sight.star.group, sight.source, None, meter)
 }
 
-// Whether the interface is on the list of the tree that the source comes by: the shortest path tree once it is reached,
-// the shared tree before.
-fn is_on_list(sight: &SourceSight, iface: IfaceId) -> bool
+/// Whether the interface is on the list of the tree that the source comes by: the shortest path tree once it is reached,
+/// the shared tree before.
+pub fn is_on_list(sight: &SourceSight, iface: IfaceId) -> bool
     requires { iface.number < 120 }
     ensures { InSource sight.now (λ s g src. result
         ≡ (if spt_bit s g src then inherited_olist s g src else inherited_olist_rpt s g src) iface.number) }

@@ -1,5 +1,6 @@
 mod GroupKeys
 mod Loops
+pub mod NamedSets
 pub mod OnInterface
 mod Rows
 mod RptGroups

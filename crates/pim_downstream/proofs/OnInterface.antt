@@ -13,7 +13,7 @@ use Rattle.pim_model.specs.Downstream.{Named, joined_keys, key_by, is_named, nam
 use Rattle.pim_model.specs.State.{State}
 use Rattle.pim_model.specs.Tables.{keys_in}
 use Rattle.pim_downstream.specs.Naming.{are_on, is_rpt_joined}
-use Rattle.pim_downstream.specs.declared.message.Change.{Change}
+use Rattle.pim_downstream.specs.declared.effect.Change.{Change}
 
 module _ (i : ℕ) where
   by_on : (g address : ℕ) (kind : EntryKind) → is_on i (key_by i g address kind) ≡ true
@@ -57,8 +57,8 @@ module _ (i : ℕ) where
       both_on (joined ++ pruned) _ (both_on joined pruned all_joined all_pruned)
       (kept_on joined (keys_in s.downstream))
 
-  pub changes_on : (row : Key → Option DownstreamRow) (keys touched : List Key) (changes : List Change)
-      → keys ≡ touched → are_on i touched ≡ true → changes ≡ map (λ k. record { key = k; row = row k }) keys
+  pub changes_on : (row : Key → Option DownstreamRow) (touched : List Key) (changes : List Change)
+      → are_on i touched ≡ true → changes ≡ map (λ k. record { key = k; row = row k }) touched
       → list_all (λ (c : Change). is_on i c.key) changes ≡ true
-  changes_on row keys touched changes is all made =
-      rw (made, is) (list_all-map (λ (c : Change). is_on i c.key) (λ k. record { key = k; row = row k }) touched ∙ all)
+  changes_on row touched changes all made =
+      rw made (list_all-map (λ (c : Change). is_on i c.key) (λ k. record { key = k; row = row k }) touched ∙ all)

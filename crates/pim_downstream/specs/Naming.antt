@@ -1,13 +1,14 @@
 -- The keys that the entries of one group name, and rows that are set one after the other.
 use Rattle.std.specs.List.{list_all}
-use Rattle.std.specs.Prelude.{Bool, List, filter, fold, map, ℕ, ◌&&◌}
+use Rattle.std.specs.Prelude.{Bool, List, filter, fold, map, ℕ, ◌&&◌, ◌≡◌}
 use Rattle.pim_types.specs.Keys.{group_in, is_on, star_key}
 use Rattle.pim_types.specs.declared.fact.Key.{Key}
 use Rattle.pim_wire.specs.declared.join_prune.Entry.{Entry}
-use Rattle.pim_model.specs.Downstream.{Named, is_accepted, is_named, is_used, named_key}
+use Rattle.pim_model.specs.Downstream.{Named, is_accepted, is_named, is_used, named_key, row_after, touched_keys}
 use Rattle.pim_model.specs.State.{State}
 use Rattle.pim_model.specs.Tables.{set_row}
-use Rattle.pim_downstream.specs.declared.message.Change.{Change}
+use Rattle.pim_downstream.specs.declared.named.Named.{Named as NamedKeys}
+use Rattle.pim_downstream.specs.declared.effect.Change.{Change}
 
 -- a join counts where it is used and accepted
 abbrev pub is_counted : State → Named → Bool
@@ -31,3 +32,16 @@ row_set s c = record s { downstream = set_row s.downstream c.key c.row }
 
 unfoldable pub rows_set : State → List Change → State
 rows_set s changes = fold row_set s changes
+
+-- the row of a key after a message with these keys
+abbrev pub change_after : State → ℕ → ℕ → List Key → List Key → Key → Change
+change_after s i holdtime joined pruned k = record { key = k; row = row_after s i holdtime joined pruned k }
+
+-- those of all that it can change
+abbrev pub changes_after : State → ℕ → ℕ → List Key → List Key → List Change
+changes_after s i holdtime joined pruned = map (change_after s i holdtime joined pruned) (touched_keys s i joined pruned)
+
+-- in these sets stand the keys that a message joins, and those that it prunes
+pub record AreSets (named : NamedKeys) (joined pruned : List Key) : Type 0 where
+  pub joins : (q : Key) → is_named joined q ≡ is_named named.joined.items q
+  pub prunes : (q : Key) → is_named pruned q ≡ is_named named.pruned.items q

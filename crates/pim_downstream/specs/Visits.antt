@@ -1,18 +1,18 @@
 -- How many nodes of tries are visited, at least, where a Join/Prune is taken in, and where a timer of a downstream state
 -- ends.
-use Rattle.std.specs.Prelude.{List, if◌then◌else◌, is_none, map, not, sum_by, ℕ, ◌&&◌, ◌+◌, ◌||◌}
+use Rattle.std.specs.Prelude.{List, if◌then◌else◌, is_none, not, sum_by, ℕ, ◌&&◌, ◌+◌, ◌||◌}
 use Rattle.pim_types.specs.Keys.{group_in, is_star}
 use Rattle.pim_types.specs.declared.fact.Key.{Key}
 use Rattle.pim_types.specs.declared.timer.TimerKind.{TimerKind}
 use Rattle.pim_wire.specs.Values.{Group, JoinPrune}
 use Rattle.pim_wire.specs.declared.join_prune.EntryKind.{EntryKind}
-use Rattle.pim_model.specs.Downstream.{Named, is_kind, is_used, row_after, touched_keys}
+use Rattle.pim_model.specs.Downstream.{Named, is_kind, is_used}
 use Rattle.pim_model.specs.State.{State}
 use Rattle.pim_model.specs.Tables.{has_row}
 use Rattle.pim_mrib.specs.Routes.{rp_nodes}
 use Rattle.pim_world.specs.Visits.{mark_nodes, nodes_in_turn}
-use Rattle.pim_downstream.specs.Naming.{row_set}
-use Rattle.pim_downstream.specs.declared.message.Change.{Change}
+use Rattle.pim_downstream.specs.Naming.{changes_after, row_set}
+use Rattle.pim_downstream.specs.declared.effect.Change.{Change}
 
 -- ---- the keys that a message names
 
@@ -44,15 +44,10 @@ row_set_nodes s c =
 unfoldable pub rows_set_nodes : State → List Change → ℕ
 rows_set_nodes s changes = nodes_in_turn row_set row_set_nodes s changes
 
--- the row of a key after a message with these keys
-abbrev pub change_after : State → ℕ → ℕ → List Key → List Key → Key → Change
-change_after s i holdtime joined pruned k = record { key = k; row = row_after s i holdtime joined pruned k }
-
 -- a message with these keys: the rows of those that it can change are set. The asserts that its joins end aren't counted
 -- here.
 unfoldable pub to_me_nodes : State → ℕ → ℕ → List Key → List Key → ℕ
-to_me_nodes s i holdtime joined pruned =
-    rows_set_nodes s (map (change_after s i holdtime joined pruned) (touched_keys s i joined pruned))
+to_me_nodes s i holdtime joined pruned = rows_set_nodes s (changes_after s i holdtime joined pruned)
 
 -- ---- the ends of a row
 

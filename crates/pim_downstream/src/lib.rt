@@ -4,15 +4,18 @@
 #![tactic(auto)]
 
 pub mod downstream_timers;
+pub mod effect;
 pub mod entry;
 pub mod full;
+mod indexed;
 pub mod message;
 pub mod named;
 pub mod row;
 mod rpt;
 
 pub use downstream_timers::fired;
+pub use effect::{Change, Effect};
 pub use entry::{is_accepted, is_used};
 pub use full::is_full;
-pub use message::to_me;
+pub use message::{take_changes, to_me};
 pub use named::Named;

@@ -6,7 +6,7 @@ ghost use Rattle.pim_model.specs.Downstream.{is_used, joined_keys, key_by, prune
 ghost use Rattle.pim_trie.specs.Meter.{raised};
 
 use crate::entry::{is_counted, is_used};
-use pim_types::{Addr, IfaceId, Key, Series};
+use pim_types::{Addr, IfaceId, Key};
 use pim_wire::{Entry, EntryKind, GroupView, JoinPruneView};
 use pim_world::{Meter, Turn, World};
 use std::alloc::{AllocError, Global};
@@ -86,15 +86,5 @@ impl Named {
             push_pruned(iface, &group, &mut pruned)?;
         }
         Ok(Named { joined, pruned })
-    }
-
-    /// All the keys: those that the message joins, and then those that it prunes.
-    pub fn keys(&self, alloc: Global) -> Result<Series<Key>, AllocError>
-        ensures { IfOk result (λ keys. keys ≡ self.now.joined.items ++ self.now.pruned.items) }
-    {
-        let mut keys = Vec::new(alloc);
-        keys.extend_from_slice(&self.joined)?;
-        keys.extend_from_slice(&self.pruned)?;
-        Ok(Series::from_vec(keys))
     }
 }

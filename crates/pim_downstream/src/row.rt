@@ -3,9 +3,8 @@ ghost use Rattle.std.specs.Prelude.{◌≡◌};
 ghost use Rattle.pim_model.specs.Downstream.{joined_row, prune_pending_end, pruned_row, pruned_rpt_row, row_after};
 ghost use Rattle.pim_model.specs.Tables.{later_end};
 
-use crate::named::Named;
+use crate::indexed::Indexed;
 use pim_neighbours::holdtime_end;
-use pim_tables::is_named;
 use pim_types::fact::DownstreamRow;
 use pim_types::{IfaceId, Key};
 use pim_world::World;
@@ -80,11 +79,11 @@ pub fn pruned_rpt_row(
 
 /// The row of a key after a message with these keys and a holdtime, in seconds.
 #[tactic(auto, unfolding(pim_model::specs::Downstream::row_after))]
-pub fn row_after(
+pub(crate) fn row_after(
     world: &World,
     iface: IfaceId,
     holdtime: u16,
-    named: &Named,
+    named: &Indexed<'_>,
     key: Key,
 ) -> Option<DownstreamRow>
     ensures { result ≡ row_after world.now iface.number holdtime named.now.joined.items named.now.pruned.items key }
@@ -92,14 +91,14 @@ pub fn row_after(
     let row = world.store().downstream(key);
     let end = holdtime_end(world.present(), holdtime);
     let pending = world.prune_pending_end(iface);
-    let is_joined = is_named(&named.joined, key);
-    let is_pruned = is_named(&named.pruned, key);
+    let is_joined = named.joins(key);
+    let is_pruned = named.prunes(key);
     if key.rpt {
         let left = if is_joined { None } else { row };
         if is_pruned {
             return pruned_rpt_row(end, holdtime, pending, left);
         }
-        if is_named(&named.joined, Key::star(iface, key.group)) {
+        if named.joins(Key::star(iface, key.group)) {
             return None;
         }
         return left;

@@ -10,3 +10,4 @@ mod restarted;
 pub use full::is_full;
 pub use hello::{received, triggered_end};
 pub use hello_timers::fired;
+pub use restarted::asserts_lost_to;

@@ -46,12 +46,8 @@ fn is_lost_to(neighbour: Hop, key: Key, row: AssertRow) -> bool
         && row.winner.address == neighbour.address
 }
 
-/// The keys of the asserts that were lost to it.
-pub(crate) fn asserts_lost_to(
-    world: &World,
-    turn: &Turn,
-    neighbour: Hop,
-) -> Result<Vec<Key>, AllocError>
+/// The keys of the asserts that were lost to the neighbour.
+pub fn asserts_lost_to(world: &World, turn: &Turn, neighbour: Hop) -> Result<Vec<Key>, AllocError>
     ensures { IfOk result (λ keys. keys.items
         ≡ keys_in (filter (is_lost_to neighbour.iface.number neighbour.address.bits) world.now.asserts)) }
 {

@@ -1,4 +1,4 @@
--- What the records of a report name, record by record.
+-- What the records of a report name, and which sources they move, record by record.
 use Rattle.std.proofs.Common.{◌≡◌, ℕ, Bool, true, false, cond, List, [], ◌∷◌, ◌++◌, flat_map, map, not, refl, sym, ap, ◌∙◌, append-nil, append_assoc}
 use Rattle.std.specs.List.{filter}
 use Rattle.igmp_wire.specs.Values.{Record}
@@ -6,6 +6,8 @@ use Rattle.pim_types.specs.declared.fact.Key.{Key}
 use Rattle.pim_types.specs.Keys.{source_key, star_key}
 use Rattle.pim_model.specs.Full.{reported_groups, reported_sources}
 use Rattle.pim_model.specs.Querier.{is_skipped}
+use Rattle.pim_model.specs.State.{State}
+use Rattle.pim_querier.specs.Reports.{moved_by, moved_sources}
 
 module _ (i : ℕ) where
   groups_by : (b : Bool) (r : Record) (rs : List Record)
@@ -23,18 +25,17 @@ module _ (i : ℕ) where
   abbrev sources_of : Record → List Key
   sources_of r = map (source_key i r.group) r.sources
 
-  sources_by : (b : Bool) (r : Record) (rs : List Record)
-      → flat_map sources_of (cond b (r ∷ filter (λ r. not (is_skipped r)) rs) (filter (λ r. not (is_skipped r)) rs))
-      ≡ flat_map sources_of (cond b (r ∷ []) []) ++ flat_map sources_of (filter (λ r. not (is_skipped r)) rs)
-  sources_by true r rs =
-      ap (λ (ks : List Key). ks ++ flat_map sources_of (filter (λ r. not (is_skipped r)) rs))
-      (sym (append-nil (sources_of r)))
-  sources_by false r rs = refl
+  keys_by : (f : Record → List Key) (b : Bool) (r : Record) (rs : List Record)
+      → flat_map f (cond b (r ∷ filter (λ r. not (is_skipped r)) rs) (filter (λ r. not (is_skipped r)) rs))
+      ≡ flat_map f (cond b (r ∷ []) []) ++ flat_map f (filter (λ r. not (is_skipped r)) rs)
+  keys_by f true r rs =
+      ap (λ (ks : List Key). ks ++ flat_map f (filter (λ r. not (is_skipped r)) rs)) (sym (append-nil (f r)))
+  keys_by f false r rs = refl
 
   sources_next : (r : Record) (rs : List Record)
       → reported_sources i (r ∷ rs) ≡ reported_sources i (r ∷ []) ++ reported_sources i rs
   unfolding reported_sources
-  sources_next r rs = sources_by (not (is_skipped r)) r rs
+  sources_next r rs = keys_by sources_of (not (is_skipped r)) r rs
 
   -- of all that is named, what isn't listed yet
   pub record Names (all : List Record) (groups sources : List Key) (left : List Record) : Type 0 where
@@ -65,3 +66,26 @@ module _ (i : ℕ) where
     unfolding reported_groups reported_sources
     all_named [] none names = (sym (append-nil groups) ∙ names.groups_left, sym (append-nil sources) ∙ names.sources_left)
     all_named (r ∷ rs) none names = cc
+
+-- ---- the sources that they move
+
+module _ (s : State) (i : ℕ) where
+  moved_next : (r : Record) (rs : List Record)
+      → moved_sources s i (r ∷ rs) ≡ moved_sources s i (r ∷ []) ++ moved_sources s i rs
+  unfolding moved_sources
+  moved_next r rs = keys_by i (moved_by s.source_records i) (not (is_skipped r)) r rs
+
+  module _ (all : List Record) (keys : List Key) where
+    pub one_moved : (keys' : List Key) (left rest : List Record) (r : Record) → left ≡ r ∷ rest
+        → keys' ≡ keys ++ moved_sources s i (r ∷ [])
+        → keys ++ moved_sources s i left ≡ moved_sources s i all → keys' ++ moved_sources s i rest ≡ moved_sources s i all
+    one_moved keys' left rest r is first moved =
+        ap (λ (ks : List Key). ks ++ moved_sources s i rest) first
+        ∙ append_assoc keys (moved_sources s i (r ∷ [])) (moved_sources s i rest)
+        ∙ ap (λ (ks : List Key). keys ++ ks) (sym (ap (moved_sources s i) is ∙ moved_next r rest)) ∙ moved
+
+    pub all_moved : (left : List Record) → left ≡ [] → keys ++ moved_sources s i left ≡ moved_sources s i all
+        → keys ≡ moved_sources s i all
+    unfolding moved_sources
+    all_moved [] none moved = sym (append-nil keys) ∙ moved
+    all_moved (r ∷ rs) none moved = cc

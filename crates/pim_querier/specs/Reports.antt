@@ -1,16 +1,17 @@
--- The records of a report: those that leave what they don't name, and what is known of the sources that they name.
-use Rattle.std.specs.List.{filter_map, list_all, list_any}
+-- The records of a report: those that leave what they don't name, what is known of the sources that they name, and which
+-- sources they move.
+use Rattle.std.specs.List.{filter_map, flat_map, list_all, list_any}
 use Rattle.std.specs.Option.{option_map_or}
-use Rattle.std.specs.Prelude.{Bool, List, Option, false, filter, is_some, not, option_and_then, option_map, true, ℕ, ◌&&◌, ◌||◌}
+use Rattle.std.specs.Prelude.{Bool, List, Option, [], false, filter, if◌then◌else◌, is_some, map, not, option_map, true, ℕ, ◌&&◌, ◌++◌, ◌||◌}
 use Rattle.igmp_wire.specs.Values.{Record}
 use Rattle.igmp_wire.specs.declared.report.RecordType.{RecordType}
-use Rattle.pim_types.specs.declared.fact.GroupRecordRow.{GroupRecordRow}
+use Rattle.pim_types.specs.declared.fact.Key.{Key}
 use Rattle.pim_types.specs.declared.fact.SourceRecordRow.{SourceRecordRow}
 use Rattle.pim_types.specs.Keys.{source_key, star_key}
 use Rattle.pim_model.specs.Querier.{group_end, is_skipped}
 use Rattle.pim_model.specs.Records.{GroupRecord, Member, is_at_group}
 use Rattle.pim_model.specs.State.{State}
-use Rattle.pim_model.specs.Tables.{Table, ascending, has_row, is_empty_list, row_at}
+use Rattle.pim_model.specs.Tables.{Table, ascending, has_row, row_at}
 
 -- a source that isn't named stays as it is
 abbrev pub keeps_others : RecordType → Bool
@@ -38,7 +39,7 @@ unfoldable pub record_named : State → ℕ → ℕ → List ℕ → GroupRecord
 record_named s i g sources =
     record { timer = group_end s i g; members = members_named i g s.source_records (ascending sources) }
 
--- ---- a record that moves ends alone
+-- ---- the sources that a report moves
 
 -- the named sources are included afterwards
 abbrev pub is_including : RecordType → Bool
@@ -51,21 +52,31 @@ is_including _ = false
 abbrev pub stays : RecordType → Option SourceRecordRow → Bool
 stays type o = option_map_or (λ (r : SourceRecordRow). not (is_including type) || is_some r.end) o false
 
--- a group with this timer stays in its mode
-abbrev pub keeps_mode : Option ℕ → RecordType → List ℕ → Bool
-keeps_mode timer type sources = is_some timer || (keeps_others type && not (is_empty_list sources))
+-- The group has a record, which stays in its mode: in EXCLUDE it does, and in INCLUDE where the sources stay that are there
+-- and there is one.
+unfoldable pub keeps_mode : State → ℕ → Record → Bool
+keeps_mode s i r =
+    has_row s.group_records (star_key i r.group)
+    && (is_some (group_end s i r.group)
+    || (keeps_others r.type && list_any (λ e. is_at_group i r.group e.0) s.source_records))
 
--- the group has a record, which stays in its mode; the named sources stay on their sides, and none is there to be deleted
-abbrev pub moves_by : Table GroupRecordRow → Table SourceRecordRow → ℕ → Record → Bool
-moves_by groups sources i r =
-    has_row groups (star_key i r.group)
-    && keeps_mode (option_and_then (λ (g : GroupRecordRow). g.end) (row_at groups (star_key i r.group))) r.type r.sources
-    && list_all (λ src. stays r.type (row_at sources (source_key i r.group src))) r.sources
-    && (keeps_others r.type || not (list_any (λ e. is_at_group i r.group e.0) sources))
+-- so do those of a report but those that are skipped
+unfoldable pub all_keep_modes : State → ℕ → List Record → Bool
+all_keep_modes s i records = list_all (keeps_mode s i) (filter (λ r. not (is_skipped r)) records)
 
-unfoldable pub moves_ends : State → ℕ → Record → Bool
-moves_ends s i r = moves_by s.group_records s.source_records i r
+-- The keys of the sources that a record may move: of those that it names, those that come or change sides; where it deletes
+-- what it doesn't name, all that are there.
+abbrev pub moved_named : Table SourceRecordRow → ℕ → Record → List Key
+moved_named t i r =
+    map (source_key i r.group) (filter (λ src. not (stays r.type (row_at t (source_key i r.group src)))) r.sources)
 
--- so do all of a report but those that are skipped
-unfoldable pub all_move_ends : State → ℕ → List Record → Bool
-all_move_ends s i records = list_all (moves_ends s i) (filter (λ r. not (is_skipped r)) records)
+abbrev pub moved_others : Table SourceRecordRow → ℕ → Record → List Key
+moved_others t i r =
+    if keeps_others r.type then [] else map (λ e. e.0) (filter (λ e. is_at_group i r.group e.0) t)
+
+abbrev pub moved_by : Table SourceRecordRow → ℕ → Record → List Key
+moved_by t i r = moved_named t i r ++ moved_others t i r
+
+-- those of a report
+unfoldable pub moved_sources : State → ℕ → List Record → List Key
+moved_sources s i records = flat_map (moved_by s.source_records i) (filter (λ r. not (is_skipped r)) records)

@@ -18,7 +18,7 @@ pub mod sendings;
 pub mod startup;
 
 pub use firing::fired;
-pub use moving::all_move_ends;
+pub use moving::{all_keep_modes, moved_sources};
 pub use named::{is_full, named_keys};
 pub use overheard::query_seen;
 pub use report::{is_skipped, report_seen};

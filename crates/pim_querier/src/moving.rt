@@ -1,18 +1,17 @@
-//! Reports that move the ends of timers alone (RFC 3376, section 6.4): no source comes, goes or changes sides, and no group
-//! changes its mode.
-ghost use Rattle.std.specs.List.{list_all};
-ghost use Rattle.std.specs.Prelude.{◌≡◌};
-ghost use Rattle.pim_model.specs.Tables.{row_at};
-ghost use Rattle.pim_types.specs.Keys.{source_key};
-ghost use Rattle.pim_querier.specs.Reports.{all_move_ends, is_including, keeps_mode, moves_ends, stays};
+//! Which sources a report moves (RFC 3376, section 6.4): those that come, go or change sides, where no group changes its
+//! mode. Of the others at most the ends of timers move.
+ghost use Rattle.std.specs.Prelude.{◌≡◌, ◌++◌, [], ◌∷◌, IfOk, OnOk, filter, map};
+ghost use Rattle.pim_model.specs.Records.{is_at_group};
+ghost use Rattle.pim_querier.specs.Reports.{all_keep_modes, is_including, keeps_mode, moved_named, moved_others, moved_sources, stays};
 
 use crate::applying::keeps_others;
 use crate::records::has_sources;
 use crate::report::is_skipped;
 use igmp_wire::{RecordType, RecordView, ReportView};
-use pim_types::IfaceId;
 use pim_types::fact::SourceRecordRow;
+use pim_types::{Addr, IfaceId, Key, Series};
 use pim_world::World;
+use std::alloc::{AllocError, Global};
 
 // Whether the sources that a record of this type names are included afterwards.
 fn is_including(record_type: RecordType) -> bool
@@ -34,52 +33,114 @@ fn stays(record_type: RecordType, row: Option<SourceRecordRow>) -> bool
     }
 }
 
-// Whether all sources do that the record names.
-fn all_stay(world: &World, iface: IfaceId, group_record: &RecordView<'_>) -> bool
-    ensures { result ≡ list_all (λ src. stays group_record.now.type
-        (row_at world.now.source_records (source_key iface.number group_record.now.group src)))
-        group_record.now.sources }
+// Whether the record's group has a record, which stays in its mode.
+#[tactic(auto, unfolding(crate::specs::Reports::keeps_mode))]
+fn keeps_mode(world: &World, iface: IfaceId, group_record: &RecordView<'_>) -> bool
+    ensures { result ≡ keeps_mode world.now iface.number group_record.now }
+{
+    let group = group_record.group();
+    world.has_group_record(iface, group)
+        && (world.group_end(iface, group).is_some()
+            || (keeps_others(group_record.record_type()) && has_sources(world, iface, group)))
+}
+
+/// Whether the groups of all records of the report have records, which stay in their modes, but for the records that are
+/// skipped.
+#[tactic(auto, unfolding(crate::specs::Reports::all_keep_modes))]
+pub fn all_keep_modes(world: &World, iface: IfaceId, report: &ReportView<'_>) -> bool
+    ensures { result ≡ all_keep_modes world.now iface.number report.now }
+{
+    for group_record in report.records() {
+        if !is_skipped(&group_record) && !keeps_mode(world, iface, &group_record) {
+            return false;
+        }
+    }
+    true
+}
+
+// Puts the keys of the named sources that come or change sides behind the others.
+fn push_named(
+    world: &World,
+    iface: IfaceId,
+    group_record: &RecordView<'_>,
+    keys: &mut Vec<Key>,
+) -> Result<(), AllocError>
+    ensures { OnOk result (keys.new.items
+        ≡ keys.old.items ++ moved_named world.now.source_records iface.number group_record.now) }
 {
     let (group, record_type) = (group_record.group(), group_record.record_type());
     for source in group_record.sources() {
         let row = world.membership().source_record(iface, group, source);
         if !stays(record_type, row) {
-            return false;
+            keys.push(Key::source(iface, group, source))?;
         }
     }
-    true
+    Ok(())
 }
 
-// Whether the group with this timer stays in its mode, and keeps its record.
-fn keeps_mode(timer: Option<u64>, group_record: &RecordView<'_>) -> bool
-    ensures { result ≡ keeps_mode timer group_record.now.type group_record.now.sources }
+// Puts the keys of all sources of the group that have records behind the others.
+fn push_sources_at(
+    world: &World,
+    iface: IfaceId,
+    group: Addr,
+    keys: &mut Vec<Key>,
+) -> Result<(), AllocError>
+    ensures { OnOk result (keys.new.items ≡ keys.old.items
+        ++ map (λ e. e.0) (filter (λ e. is_at_group iface.number group.bits e.0) world.now.source_records)) }
 {
-    timer.is_some()
-        || (keeps_others(group_record.record_type()) && group_record.sources().next().is_some())
+    for (key, _) in world.membership().source_records_at(iface, group) {
+        keys.push(*key)?;
+    }
+    Ok(())
 }
 
-// Whether a record moves ends alone.
-#[tactic(auto, unfolding(crate::specs::Reports::moves_ends))]
-fn moves_ends(world: &World, iface: IfaceId, group_record: &RecordView<'_>) -> bool
-    ensures { result ≡ moves_ends world.now iface.number group_record.now }
+// Puts those of the record's group behind the others, where it deletes what it doesn't name.
+fn push_others(
+    world: &World,
+    iface: IfaceId,
+    group_record: &RecordView<'_>,
+    keys: &mut Vec<Key>,
+) -> Result<(), AllocError>
+    ensures { OnOk result (keys.new.items
+        ≡ keys.old.items ++ moved_others world.now.source_records iface.number group_record.now) }
 {
-    let group = group_record.group();
-    world.has_group_record(iface, group)
-        && keeps_mode(world.group_end(iface, group), group_record)
-        && all_stay(world, iface, group_record)
-        && (keeps_others(group_record.record_type()) || !has_sources(world, iface, group))
+    if keeps_others(group_record.record_type()) {
+        return Ok(());
+    }
+    push_sources_at(world, iface, group_record.group(), keys)
 }
 
-/// Whether all records of the report move ends alone, but for those that are skipped: each group has a record and stays in
-/// its mode, each named source stays on its side, and none is there that would be deleted.
-#[tactic(auto, unfolding(crate::specs::Reports::all_move_ends))]
-pub fn all_move_ends(world: &World, iface: IfaceId, report: &ReportView<'_>) -> bool
-    ensures { result ≡ all_move_ends world.now iface.number report.now }
+// Puts the keys of the sources that the record moves behind the others, unless it is skipped.
+#[tactic(auto, unfolding(crate::specs::Reports::moved_sources))]
+fn push_moved(
+    world: &World,
+    iface: IfaceId,
+    group_record: &RecordView<'_>,
+    keys: &mut Vec<Key>,
+) -> Result<(), AllocError>
+    ensures { OnOk result (keys.new.items
+        ≡ keys.old.items ++ moved_sources world.now iface.number (group_record.now ∷ [])) }
 {
+    if is_skipped(group_record) {
+        return Ok(());
+    }
+    push_named(world, iface, group_record, keys)?;
+    push_others(world, iface, group_record, keys)
+}
+
+/// The keys of the sources that a report moves: of those that its records name the ones that come or change sides, and
+/// of a group of which a record deletes what it doesn't name all that are there.
+pub fn moved_sources(
+    world: &World,
+    alloc: Global,
+    iface: IfaceId,
+    report: &ReportView<'_>,
+) -> Result<Series<Key>, AllocError>
+    ensures { IfOk result (λ keys. keys ≡ moved_sources world.now iface.number report.now) }
+{
+    let mut keys = Vec::new(alloc);
     for group_record in report.records() {
-        if !is_skipped(&group_record) && !moves_ends(world, iface, &group_record) {
-            return false;
-        }
+        push_moved(world, iface, &group_record, &mut keys)?;
     }
-    true
+    Ok(Series::from_vec(keys))
 }

@@ -26,7 +26,7 @@ fn header(world: &World, iface: IfaceId, response: u32, group: Addr, suppress: b
     }
 }
 
-/// The query of all groups (RFC 3376, section 4.1.9).
+/// The query of all groups (RFC 3376, section 4.1.11).
 pub fn general_query(world: &World, iface: IfaceId) -> QueryHeader
     ensures header { result ≡ general_header world.now iface.number }
     ensures robust { result.robustness < 8 }
@@ -35,7 +35,7 @@ pub fn general_query(world: &World, iface: IfaceId) -> QueryHeader
     header(world, iface, response, Addr::NONE, false)
 }
 
-/// The query of a group, or of sources of it, before its sources (RFC 3376, section 4.1.9). With S set routers that
+/// The query of a group, or of sources of it, before its sources (RFC 3376, section 4.1.11). With S set routers that
 /// hear it leave their timers as they are.
 pub fn specific_query(world: &World, iface: IfaceId, group: Addr, suppress: bool) -> QueryHeader
     ensures header { result ≡ specific_header world.now iface.number group.bits suppress }

@@ -58,25 +58,6 @@ module _ (s : State) (group : Addr) (before whole old : ℕ) where
   all_looked_at ns room least none =
       none_further before whole old _ least (ap (λ (ms : List ℕ). looked_at_nodes s group ms room) none)
 
--- a key that is put into a set of keys was named with those before it
-or_last : (b c : Bool) → cond b true c ≡ (c || b)
-or_last true true = refl
-or_last true false = refl
-or_last false true = refl
-or_last false false = refl
-
-pub next_named : (keys set more : List Key) (n : ℕ) (d k : Key) → n < length keys → k ≡ get_or keys n d
-    → ((q : Key) → is_named more q ≡ cond (same_key k q) true (is_named set q))
-    → ((q : Key) → is_named set q ≡ is_named (take n keys) q)
-    → (q : Key) → is_named more q ≡ is_named (take (n + 1) keys) q
-unfolding is_named
-next_named keys set more n d k inside is has same q =
-    has q
-    ∙ ap (λ (b : Bool). cond (same_key k q) true b) (same q)
-    ∙ or_last (same_key k q) (is_named (take n keys) q)
-    ∙ ap (λ (b : Bool). is_named (take n keys) q || b) (same_key_swap k q ∙ ap (same_key q) is)
-    ∙ sym (list_any_more (same_key q) keys n d inside)
-
 -- of a key that is put into the set all is looked up, of one that stands there nothing
 module _ (old new nodes : ℕ) (added : Bool) where
   pub asked_first : (there named : Bool) → added ≡ not there → there ≡ named → added ≡ true → raised old nodes ≤ new

@@ -7,7 +7,7 @@ use Rattle.pim_world.specs.Lending.{with_store}
 use Rattle.pim_world.proofs.Visits.{all_in_turn, next_in_turn}
 use Rattle.pim_downstream.specs.Naming.{row_set}
 use Rattle.pim_downstream.specs.Visits.{row_set_nodes, rows_set_nodes}
-use Rattle.pim_downstream.specs.declared.message.Change.{Change}
+use Rattle.pim_downstream.specs.declared.effect.Change.{Change}
 use Rattle.pim_downstream.proofs.Visited.{visited_where_set}
 use Rattle.pim_downstream.proofs.message.set_rows.Goals as goal
 

@@ -1,4 +1,4 @@
-use Rattle.std.proofs.Common.{◌≡◌, ◌≤◌, filter}
+use Rattle.std.proofs.Common.{◌≤◌, filter}
 use Rattle.std.specs.List.{sum_by}
 use Rattle.pim_world.specs.Visits.{raised}
 use Rattle.pim_model.specs.Tables.{keys_in}

@@ -8,7 +8,8 @@ use Rattle.pim_upstream.specs.Hearing.{heard_in_prunes}
 use Rattle.pim_upstream.specs.Timers.{after_moves}
 use Rattle.pim_upstream.proofs.Absorbed.{HeardOnce, heard_again, heard_first, none_heard}
 use Rattle.pim_world.specs.Visits.{raised}
-use Rattle.pim_upstream.proofs.Visited.{all_pruned, asked_again, asked_first, next_named, next_pruned}
+use Rattle.pim_upstream.proofs.Visited.{all_pruned, asked_again, asked_first, next_pruned}
+use Rattle.pim_downstream.proofs.NamedSets.{next_named}
 use Rattle.pim_upstream.proofs.overheard.hear_prunes.Goals as goal
 use Rattle.pim_upstream.proofs.overheard.hear_prunes.Goals.{then-branch+in_ok-hear_prune, else-branch}
 

@@ -1,4 +1,4 @@
-use Rattle.std.proofs.Common.{◌≤◌, List, Some, ap, filter, map, not, subst, ◌&&◌, ◌∙◌}
+use Rattle.std.proofs.Common.{◌≤◌, List, Some, ap, filter, not, subst, ◌&&◌, ◌∙◌}
 use Rattle.pim_types.specs.declared.fact.Key.{Key}
 use Rattle.pim_model.specs.Downstream.{asserts_after_joins, is_named, row_after}
 use Rattle.pim_model.specs.Sets.{is_loser}
@@ -7,11 +7,11 @@ use Rattle.pim_store.specs.PimTables.{PimTables}
 use Rattle.pim_trie.specs.Meter.{raised}
 use Rattle.pim_world.proofs.Lent.{stored}
 use Rattle.pim_world.proofs.Visits.{then_rises}
-use Rattle.pim_downstream.specs.Visits.{change_after, rows_set_nodes, to_me_nodes}
-use Rattle.pim_downstream.specs.declared.message.Change.{Change}
+use Rattle.pim_downstream.specs.Visits.{rows_set_nodes, to_me_nodes}
+use Rattle.pim_downstream.specs.declared.effect.Change.{Change}
 use Rattle.pim_downstream.proofs.OnInterface.{changes_on, touched_on}
 use Rattle.pim_downstream.proofs.Rows.{taken}
-use Rattle.pim_downstream.proofs.message.to_me.Goals as goal
+use Rattle.pim_downstream.proofs.message.take_changes.Goals as goal
 
 pub returns-clause-state : goal.returns-clause-state
 unfolding asserts_after_joins
@@ -20,34 +20,26 @@ returns-clause-state c =
     let later = c.set_rows.new.world in
     let losses_ended : List Key → State = λ ks. record later { asserts = asserts_after_joins later ks } in
     taken c.args.world.now c.args.iface.number c.args.holdtime named.joined.items named.pruned.items
-    c.deref.result.now c.deref-2.result.now later _
-    (c.deref.ensures.value ∙ c.in_ok-keys.ensures) (c.deref-2.ensures.value ∙ c.in_ok-changes.ensures)
-    c.in_ok-set_rows.ensures.set
+    c.args.changes.now later _ c.requires.changes c.in_ok-set_rows.ensures.set
     (stored later _ _ (λ (f : PimTables). record f {
-      asserts = filter (λ e. not (is_loser (Some e.1) && is_named c.deref-3.result.now e.0)) f.asserts;
+      asserts = filter (λ e. not (is_loser (Some e.1) && is_named c.deref.result.now e.0)) f.asserts;
     }) c.store_mut.ensures.value c.end_losses.ensures.ended
-    ∙ ap losses_ended c.deref-3.ensures.value)
+    ∙ ap losses_ended c.deref.ensures.value)
 
 pub returns-clause-at_least : goal.returns-clause-at_least
 unfolding to_me_nodes
 returns-clause-at_least c =
-    let s = c.args.world.now in
-    let named = c.args.named.now in
-    let changed : List Key → List Change = map (change_after s c.args.iface.number c.args.holdtime named.joined.items
-    named.pruned.items) in
     then_rises _ _ _ _
-    (subst (λ (changes : List Change). raised c.args.meter.now (rows_set_nodes s changes) ≤ c.set_rows.new.meter)
-    (c.deref-2.ensures.value ∙ c.in_ok-changes.ensures ∙ ap changed (c.deref.ensures.value ∙ c.in_ok-keys.ensures))
-    c.in_ok-set_rows.ensures.at_least)
+    (subst (λ (changes : List Change). raised c.args.meter.now (rows_set_nodes c.args.world.now changes) ≤ c.set_rows.new.meter)
+    c.requires.changes c.in_ok-set_rows.ensures.at_least)
     c.end_losses.ensures.rises
 
 pub set_rows-requires-clause-on : goal.set_rows-requires-clause-on
 set_rows-requires-clause-on c =
     let named = c.args.named.now in
-    rw c.deref-2.ensures.value
-    (changes_on c.args.iface.number
+    changes_on c.args.iface.number
     (row_after c.args.world.now c.args.iface.number c.args.holdtime named.joined.items named.pruned.items)
-    c.deref.result.now _ c.in_ok-changes.changes.items (c.deref.ensures.value ∙ c.in_ok-keys.ensures)
+    _ c.args.changes.now
     (touched_on c.args.iface.number c.args.world.now named.joined.items named.pruned.items c.requires.joined
     c.requires.pruned)
-    c.in_ok-changes.ensures)
+    c.requires.changes
