@@ -1,7 +1,7 @@
 /* The multicast router in programs of other languages: PIM Sparse Mode (RFC 7761) and IGMPv3 (RFC 3376).
  *
  * A program tells the router what happens, by one call an event, and after each sends the packets that it names. The router starts
- * no thread, opens no socket and reads no clock. docs/USING.md shows a whole program, and has what the router expects.
+ * no thread, opens no socket and reads no clock. examples/library has whole programs, docs/USING.md what the router expects.
  *
  * Numbers are in the machine's order, an address too: 10.0.0.1 is 0x0a000001. Packets are whole IPv4 packets, as on the wire.
  * Moments are ms from any beginning, at most 2^62. A draw is a random number, another one with each event: random delays come of it.
@@ -92,6 +92,7 @@ enum {
     PIM_FAILED = 41,    /* the router failed before; end it, and make another */
     PIM_NO_ROUTER = 50, /* the handle has none */
     PIM_NO_TABLE = 51,  /* no table has this letter */
+    PIM_NO_TIMER = 52,  /* no keepalive timer of the source runs, and none was started */
 
     /* reasons to ignore an event */
     PIM_IGNORED = 101, /* the first of them */
@@ -163,9 +164,10 @@ void pim_end(struct pim_router *router);
 
 /* ---- events: each answers PIM_DONE, a reason to ignore, a refusal of 1 to 26, PIM_MEMORY, PIM_FAILED or PIM_NO_ROUTER
  *
- * PIM_MEMORY says that the event didn't happen. A packet, routes and ranges are copied before the router takes them: where memory
- * is refused for that, nothing changes, and the event may be given again. Where it is refused later the router has failed, and
- * answers PIM_FAILED from then on; it isn't for an event that is ignored, or refused for its bytes, its moment or its interface. */
+ * PIM_MEMORY says that the event didn't happen. Routes and ranges are copied before the router takes them: where memory is refused
+ * for that, nothing changes, and the event may be given again. Where it is refused later, or for a packet, which is never copied,
+ * the router has failed, and answers PIM_FAILED from then on. It isn't refused for an event that is ignored, or refused for its
+ * bytes, its moment or its interface: those take none. */
 
 /* Time passes up to the moment, which isn't before the present: each timer that ends by then fires. */
 PIM_READ_ANSWER PIM_NOT_NULL(1)
@@ -267,6 +269,83 @@ struct pim_forwarding {
 /* Tells it. It answers false, and writes nothing, where there is no fact of the source, after a fault, and without a router. */
 PIM_READ_ANSWER PIM_NOT_NULL(1) PIM_NOT_NULL(4)
 bool pim_cached(struct pim_router *router, uint32_t source, uint32_t group, struct pim_forwarding *forwarding);
+
+/* ---- a data plane: a kernel or a chip that forwards by rows that the router tells
+ *
+ * A packet that a row decides is forwarded or dropped by the plane, and the router hears of it later. What no row decides is the
+ * router's: it comes whole by pim_frame. What plane and router send together is then what the router alone would send, event by
+ * event. For this the plane owes:
+ *
+ * One order. Packets, what the plane tells and events come one after the other, and each packet goes by the rows of its moment: none
+ * goes by a row that an event before it has changed, nor past the router's next moment before pim_advance.
+ *
+ * A look at each packet before it asks a row. It is a row's where all of this holds, else the router's:
+ * - its interface is configured and up;
+ * - it has at most 1500 bytes, of which 20 and more are its header, of version 4, with a right checksum; its total length covers the
+ *   header and isn't more than there is; it is no fragment (DF may be set);
+ * - its source is above 0, below 224.0.0.0, and no address of the router, also of none of its interfaces that are down;
+ * - its destination is in 224.0.0.0/4, and not in 224.0.0.0/24;
+ * - its protocol isn't 2, IGMP's.
+ *
+ * To forward as the router does. On an interface of to_core the packet is the router's. Else, on the incoming one, a copy leaves on each
+ * outgoing interface but for the one on which it came, with the TTL lower by one, the checksum made anew, and no bytes past the
+ * total length; none leaves where the TTL was 0 or 1. On any other interface nothing leaves. In both cases, where the interface is in
+ * alive, the plane notes the source, the interface and the moment in place of what it has noted of this source and group.
+ *
+ * To ask anew. After each event, pim_seen and pim_advance too, it asks pim_offload again for each source that pim_changed tells, and lets
+ * go of the row where that answers false. It lets go of the row of a source without a fact (is_known is false) where pim_may_differ
+ * answers true, or of all of these, and asks for one as a packet comes.
+ *
+ * To catch up. Before each event of the router's own, pim_frame of a packet of data too, it tells of all that it has noted, and lets it go;
+ * then it has the router advance to the present. It does so when the router's next moment has come, before pim_advance, and at the
+ * latest 210 s after the last packet that is noted of any source. Each note is told by pim_keep with its moment. Where that answers
+ * PIM_NO_TIMER the note is told by pim_advance to its moment and pim_seen; those that are told so go by their moments.
+ *
+ * To end with it. After an answer of PIM_MEMORY or PIM_FAILED it lets go of all rows and notes. */
+
+/* What a data plane may do of the packets of a source to a group. */
+struct pim_plane_row {
+    bool is_known;                  /* the source has a fact: the row stays until pim_changed tells the source */
+    uint32_t incoming;              /* where packets are accepted, or PIM_NO_INTERFACE */
+    struct pim_interfaces outgoing; /* where copies of these leave, but for the interface on which they came */
+    struct pim_interfaces alive;    /* where a packet shows that the source is alive, accepted or not */
+    struct pim_interfaces to_core;  /* where a packet is the router's, whatever else the row says */
+};
+
+/* Tells it. It answers false, and writes nothing, where all packets are the router's: there is no fact of the source and no room for
+ * one; after a fault; without a router. */
+PIM_READ_ANSWER PIM_NOT_NULL(1) PIM_NOT_NULL(4)
+bool pim_offload(struct pim_router *router, uint32_t source, uint32_t group, struct pim_plane_row *row);
+
+struct pim_source_group {
+    uint32_t source;
+    uint32_t group;
+};
+
+/* How many sources the last event changed the rows of, and one of them, counted from 0; one may stand there more than once. It
+ * answers false, and writes nothing, where there is none of that number. There is none where pim_touched is 0, and none after a fault. */
+PIM_READ_ANSWER PIM_NOT_NULL(1)
+size_t pim_changed(struct pim_router *router);
+PIM_NOT_NULL(1) PIM_NOT_NULL(3)
+bool pim_changed_source(struct pim_router *router, size_t index, struct pim_source_group *name);
+
+/* Whether what pim_offload tells of a source, with a fact or without one, may have changed at the last event: where it answers false, each
+ * packet is decided as before. True after a fault, and without a router. */
+PIM_READ_ANSWER PIM_NOT_NULL(1)
+bool pim_may_differ(struct pim_router *router, uint32_t source, uint32_t group);
+
+/* An event: the plane saw a packet of a source to a group on an interface. It does what pim_frame does of such a packet with a TTL of
+ * 1, so its copies and its Register don't leave, and what else is to be sent does. Of PIM_MEMORY the router fails. */
+PIM_READ_ANSWER PIM_NOT_NULL(1)
+uint32_t pim_seen(struct pim_router *router, uint32_t draw, uint32_t iface, uint32_t source, uint32_t group);
+
+/* The plane forwarded a packet of a source to a group at a moment, at most 2^62: the keepalive timer of the source, where it runs, ends
+ * 210 s after that, or when it would end later. It is no event: what is to be sent, the costs and what changed stay, and so does the
+ * present. It answers PIM_DONE, PIM_NO_TIMER, PIM_MEMORY, after which the router has failed, PIM_FAILED or PIM_NO_ROUTER. */
+PIM_READ_ANSWER PIM_NOT_NULL(1)
+uint32_t pim_keep(struct pim_router *router, uint32_t source, uint32_t group, uint64_t moment);
+
+/* ---- costs */
 
 /* What the last event cost: the trie nodes that it visited, and the rows of the forwarding cache that it evaluated, put in and took
  * out. 0 after a fault. */

@@ -39,6 +39,7 @@ const char *pim_answer_text(uint32_t answer) {
     case PIM_FAILED: return "the router failed before";
     case PIM_NO_ROUTER: return "the handle has no router";
     case PIM_NO_TABLE: return "no table has this letter";
+    case PIM_NO_TIMER: return "no keepalive timer of the source runs";
     case PIM_OWN: return "ignored: the router's own packet";
     case PIM_NOT_FOR_ME: return "ignored: not for this router";
     case PIM_OTHER_TYPE: return "ignored: a PIM message of another type";

@@ -78,10 +78,39 @@ class Routers(unittest.TestCase):
         self.assertEqual((told.immediate, told.inherited, told.shared_tree), ({1}, {1}, set()))
         self.assertIsNone(router.cached("10.0.3.6", "225.1.1.1"))
 
+    def test_what_a_data_plane_is_told(self):
+        router, name = self.joined(), ("10.0.3.5", "225.1.1.1")
+        unknown = router.offload(*name)
+        self.assertFalse(unknown.is_known)
+        self.assertIn(0, unknown.to_core)
+        self.assertEqual(router.keep(*name, 0), Answer.NO_TIMER)
+        self.assertEqual(router.seen(0, *name), Answer.DONE)
+        self.assertEqual((router.packets(), router.changed()), ([], [name]))
+        self.assertEqual((router.may_differ(*name), router.may_differ("10.0.3.6", "225.1.1.2")), (True, False))
+        self.assertEqual(router.offload(*name), (True, 0, {1}, {0}, {1}))
+
+    def test_what_a_data_plane_tells(self):
+        router, name = self.joined(), ("10.0.3.5", "225.1.1.1")
+        router.frame(0, bytes.fromhex(DATA))
+        self.assertEqual(router.keep(*name, 1000), Answer.DONE)
+        self.assertEqual([row.end for row in router.rows("F")], [211000])
+        self.assertEqual((router.seen(0, *name), router.changed()), (Answer.DONE, []))
+        self.assertEqual(router.seen(3, *name), Answer.BAD_INTERFACE)
+
+    def test_a_router_without_room_offers_nothing(self):
+        router = Router(INTERFACES, RANGES, ROUTES, limit=1)
+        self.addCleanup(router.end)
+        router.up(2)
+        self.assertIsNotNone(router.offload("10.0.3.6", "225.1.1.1"))
+        self.assertEqual(router.seen(2, "10.0.2.7", "225.1.1.1"), Answer.DONE)
+        self.assertIsNone(router.offload("10.0.3.6", "225.1.1.1"))
+        self.assertIsNotNone(router.offload("10.0.2.7", "225.1.1.1"))
+
     def test_after_its_end(self):
         with Router(INTERFACES) as router:
             self.assertIsNone(router.next_moment())
         self.assertEqual(router.up(0), Answer.NO_ROUTER)
+        self.assertEqual(router.seen(0, "10.0.3.5", "225.1.1.1"), Answer.NO_ROUTER)
 
     def test_texts(self):
         self.assertRegex(pim.version(), r"^0\.1\.0 (not )?proved$")

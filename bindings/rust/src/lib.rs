@@ -3,9 +3,10 @@
 //! A program tells a [`Router`] what happens, by one call an event, and after each sends the packets that it names. The router
 //! starts no thread, opens no socket and reads no clock. Moments are milliseconds from any beginning. A draw is a random number,
 //! another one with each event.
-use std::ffi::{c_char, c_void, CStr};
+use std::ffi::CStr;
 use std::fmt;
 use std::net::Ipv4Addr;
+use std::os::raw::{c_char, c_void};
 
 /// The most bytes that a packet has.
 pub const MOST_BYTES: usize = 1528;
@@ -13,6 +14,7 @@ pub const MOST_BYTES: usize = 1528;
 const DONE: u32 = 0;
 const MEMORY: u32 = 40;
 const FAILED: u32 = 41;
+const NO_TIMER: u32 = 52;
 const NEVER: u64 = u64::MAX;
 const NO_INTERFACE: u32 = u32::MAX;
 
@@ -342,6 +344,46 @@ impl Forwarding {
     }
 }
 
+/// What a data plane may do of the packets of a source to a group.
+#[repr(C)]
+#[derive(Clone, Copy, Debug, Default, PartialEq, Eq)]
+pub struct PlaneRow {
+    /// The source has a fact: the row stays until `Router::changed` has the source, else until `Router::may_differ` is true of it.
+    pub is_known: bool,
+    incoming: u32,
+    /// Where copies of accepted packets leave, but for the interface on which they came.
+    pub outgoing: Interfaces,
+    /// Where a packet shows that the source is alive, accepted or not.
+    pub alive: Interfaces,
+    /// Where a packet is the router's, whatever else the row says.
+    pub to_core: Interfaces,
+}
+
+impl PlaneRow {
+    /// Where packets are accepted.
+    pub fn incoming(&self) -> Option<u32> {
+        (self.incoming != NO_INTERFACE).then_some(self.incoming)
+    }
+}
+
+/// A source of a group.
+#[repr(C)]
+#[derive(Clone, Copy, Debug, Default, PartialEq, Eq, Hash)]
+pub struct SourceGroup {
+    source: u32,
+    group: u32,
+}
+
+impl SourceGroup {
+    pub fn source(&self) -> Ipv4Addr {
+        self.source.into()
+    }
+
+    pub fn group(&self) -> Ipv4Addr {
+        self.group.into()
+    }
+}
+
 // ---- the calls
 
 #[repr(C)]
@@ -350,7 +392,7 @@ struct Handle {
     is_there: bool,
 }
 
-unsafe extern "C" {
+extern "C" {
     fn pim_version() -> *const c_char;
     fn pim_answer_text(answer: u32) -> *const c_char;
     fn pim_new(
@@ -379,6 +421,12 @@ unsafe extern "C" {
     fn pim_rows(router: &mut Handle) -> usize;
     fn pim_row(router: &mut Handle, index: usize, row: &mut Row) -> bool;
     fn pim_cached(router: &mut Handle, source: u32, group: u32, forwarding: &mut Forwarding) -> bool;
+    fn pim_offload(router: &mut Handle, source: u32, group: u32, row: &mut PlaneRow) -> bool;
+    fn pim_changed(router: &mut Handle) -> usize;
+    fn pim_changed_source(router: &mut Handle, index: usize, name: &mut SourceGroup) -> bool;
+    fn pim_may_differ(router: &mut Handle, source: u32, group: u32) -> bool;
+    fn pim_seen(router: &mut Handle, draw: u32, iface: u32, source: u32, group: u32) -> u32;
+    fn pim_keep(router: &mut Handle, source: u32, group: u32, moment: u64) -> u32;
     fn pim_probes(router: &mut Handle) -> u64;
     fn pim_touched(router: &mut Handle) -> u64;
 }
@@ -513,6 +561,43 @@ impl Router {
     pub fn cached(&mut self, source: Ipv4Addr, group: Ipv4Addr) -> Option<Forwarding> {
         let mut told = Forwarding::default();
         unsafe { pim_cached(&mut self.0, source.into(), group.into(), &mut told) }.then_some(told)
+    }
+
+    /// What a data plane may do of the packets of a source to a group; `None` where all are the router's. `include/pim.h` says what
+    /// a plane owes.
+    pub fn offload(&mut self, source: Ipv4Addr, group: Ipv4Addr) -> Option<PlaneRow> {
+        let mut row = PlaneRow::default();
+        unsafe { pim_offload(&mut self.0, source.into(), group.into(), &mut row) }.then_some(row)
+    }
+
+    /// The sources whose rows the last event changed; one may stand there more than once.
+    pub fn changed(&mut self) -> Vec<SourceGroup> {
+        (0..unsafe { pim_changed(&mut self.0) }).filter_map(|index| self.changed_source(index)).collect()
+    }
+
+    fn changed_source(&mut self, index: usize) -> Option<SourceGroup> {
+        let mut name = SourceGroup::default();
+        unsafe { pim_changed_source(&mut self.0, index, &mut name) }.then_some(name)
+    }
+
+    /// Whether what `offload` tells of a source, with a fact or without one, may have changed at the last event.
+    pub fn may_differ(&mut self, source: Ipv4Addr, group: Ipv4Addr) -> bool {
+        unsafe { pim_may_differ(&mut self.0, source.into(), group.into()) }
+    }
+
+    /// An event: a data plane saw a packet of a source to a group on an interface. Its copies and its Register don't leave.
+    pub fn seen(&mut self, draw: u32, iface: u32, source: Ipv4Addr, group: Ipv4Addr) -> Result<Verdict, Error> {
+        verdict(unsafe { pim_seen(&mut self.0, draw, iface, source.into(), group.into()) })
+    }
+
+    /// A data plane forwarded a packet of a source to a group at a moment: the source's keepalive timer, where it runs, ends 210 s
+    /// after that, or when it would end later. It tells whether the timer runs; it is started by `seen` alone.
+    pub fn keep(&mut self, source: Ipv4Addr, group: Ipv4Addr, moment: u64) -> Result<bool, Error> {
+        match unsafe { pim_keep(&mut self.0, source.into(), group.into(), moment) } {
+            DONE => Ok(true),
+            NO_TIMER => Ok(false),
+            answer => Err(Error::of(answer)),
+        }
     }
 
     /// The trie nodes that the last event visited.

@@ -118,6 +118,48 @@ fn how_data_goes() {
 }
 
 #[test]
+fn what_a_data_plane_is_told() {
+    let mut router = joined();
+    let (source, group) = (address([10, 0, 3, 5]), address([225, 1, 1, 1]));
+    let unknown = router.offload(source, group).unwrap();
+    assert!(!unknown.is_known && unknown.to_core.contains(0));
+    assert_eq!(router.keep(source, group, 0), Ok(false));
+    assert_eq!(router.seen(0, 0, source, group), DONE);
+    assert_eq!(router.packet_count(), 0);
+    assert_eq!(router.changed().iter().map(|name| (name.source(), name.group())).collect::<Vec<_>>(), [(source, group)]);
+    assert!(router.may_differ(source, group));
+    assert!(!router.may_differ(address([10, 0, 3, 6]), address([225, 1, 1, 2])));
+    let row = router.offload(source, group).unwrap();
+    assert_eq!((row.is_known, row.incoming()), (true, Some(0)));
+    assert_eq!([row.outgoing, row.alive, row.to_core].map(|set| set.iter().collect::<Vec<_>>()), [[1], [0], [1]]);
+}
+
+#[test]
+fn what_a_data_plane_tells() {
+    let mut router = joined();
+    let (source, group) = (address([10, 0, 3, 5]), address([225, 1, 1, 1]));
+    assert_eq!(router.frame(0, 0, &bytes_of(DATA)), DONE);
+    assert_eq!(router.keep(source, group, 1000), Ok(true));
+    let [active] = &router.rows(Table::Active).unwrap()[..] else { panic!("one row") };
+    assert_eq!(active.end, 211_000);
+    assert_eq!(router.seen(0, 0, source, group), DONE);
+    assert_eq!(router.changed(), []);
+    assert_eq!(router.seen(0, 3, source, group), Err(Error::Refused(Refusal::BadInterface)));
+}
+
+#[test]
+fn a_router_without_room_offers_nothing() {
+    let settings = Settings { limit: 1, ..Settings::default() };
+    let mut router = Router::new(&settings, &interfaces(), &routes(), &ranges()).unwrap();
+    let (source, group) = (address([10, 0, 2, 7]), address([225, 1, 1, 1]));
+    assert_eq!(router.up(7, 2), DONE);
+    assert!(router.offload(address([10, 0, 3, 6]), group).is_some());
+    assert_eq!(router.seen(0, 2, source, group), DONE);
+    assert_eq!(router.offload(address([10, 0, 3, 6]), group), None);
+    assert!(router.offload(source, group).is_some());
+}
+
+#[test]
 fn a_router_goes_to_another_thread() {
     let mut router = joined();
     let sent = std::thread::spawn(move || {

@@ -30,10 +30,17 @@ unfolding mask_of
 same_bits p q zero same = refl
 same_bits p q (suc n) same = rw (same n (omega arith), same_bits p q n (λ i below. same i (omega arith)))
 
--- the words of a set that shows a test are those of the test
-pub low_shown : (s : Members) (p : Set) → Shows s p → mask_of (λ q. has s (0 + q)) 64 ≡ mask_of p 64
-low_shown s p shows = same_bits _ _ 64 (λ i below.
-    let z : 0 + i ≡ i = omega arith in let l : nat_lt i 120 ≡ true = grind (arith, nat_tests) in rw (z, shows i, l))
+-- the words of a set that agrees with a test below 120 are those of the test
+pub low_agreed : (s : Members) (p : Set) → ((i : ℕ) → nat_lt i 120 ≡ true → has s i ≡ p i)
+    → mask_of (λ q. has s (0 + q)) 64 ≡ mask_of p 64
+low_agreed s p agrees = same_bits _ _ 64 (λ i below.
+    let z : 0 + i ≡ i = omega arith in let l : nat_lt i 120 ≡ true = grind (arith, nat_tests) in rw (z, agrees i l))
 
-pub high_shown : (s : Members) (p : Set) → Shows s p → mask_of (λ q. has s (64 + q)) 56 ≡ mask_of (λ q. p (64 + q)) 56
-high_shown s p shows = same_bits _ _ 56 (λ i below. let l : nat_lt (64 + i) 120 ≡ true = grind (arith, nat_tests) in rw (shows (64 + i), l))
+pub high_agreed : (s : Members) (p : Set) → ((i : ℕ) → nat_lt i 120 ≡ true → has s i ≡ p i)
+    → mask_of (λ q. has s (64 + q)) 56 ≡ mask_of (λ q. p (64 + q)) 56
+high_agreed s p agrees = same_bits _ _ 56 (λ i below.
+    let l : nat_lt (64 + i) 120 ≡ true = grind (arith, nat_tests) in rw (agrees (64 + i) l))
+
+-- one that shows it does
+pub shown_agrees : (s : Members) (p : Set) → Shows s p → (i : ℕ) → nat_lt i 120 ≡ true → has s i ≡ p i
+shown_agrees s p shows i below = rw (shows i, below)

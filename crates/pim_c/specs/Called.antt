@@ -1,27 +1,37 @@
 -- What a call leaves of a handle, and answers, by what stood there: nothing, a router that has failed, or one that hasn't.
-use Rattle.std.specs.Prelude.{[], Bool, Err, List, None, Ok, Option, Result, Some, false, true, unwrap_or, ℕ, ◌+◌, ◌≡◌, ◌⊎◌}
+use Rattle.std.specs.Prelude.{[], Bool, Err, List, None, Ok, Option, Result, Some, false, min, true, unwrap_or, ℕ, ◌+◌, ◌≡◌, ◌⊎◌}
+use Rattle.pim_fanout.specs.Disturbed.{is_disturbed}
 use Rattle.pim_ip.specs.Refusal.{refusal_number}
 use Rattle.pim_ip.specs.declared.refusal.Refusal.{Refusal}
 use Rattle.pim_ifset.specs.Members.{mask_of}
 use Rattle.pim_model.specs.Cache.{Answers, cached}
+use Rattle.pim_model.specs.Judging.{last_moment}
 use Rattle.pim_model.specs.Limits.{config_test}
 use Rattle.pim_model.specs.Printed.{rows}
-use Rattle.pim_model.specs.Sets.{Set}
+use Rattle.pim_model.specs.Sets.{Set, is_kept_alive}
 use Rattle.pim_model.specs.State.{opening}
 use Rattle.pim_model.specs.Step.{step}
 use Rattle.pim_model.specs.Sure.{needs_no_memory}
+use Rattle.pim_offload.specs.Keeping.{keep}
+use Rattle.pim_offload.specs.Offered.{Offered, offered}
+use Rattle.pim_reach.specs.Named.{event_named}
 use Rattle.pim_router.specs.Costs.{IsCheap}
-use Rattle.pim_router.specs.Standing.{Standing, begun, nothing_shown, standing}
+use Rattle.pim_router.specs.Listing.{ListsSame}
+use Rattle.pim_router.specs.Staying.{OffersStay}
+use Rattle.pim_router.specs.Standing.{Standing, begun, nothing_shown, standing, with_state}
 use Rattle.pim_session.specs.Session.{Shown}
 use Rattle.pim_types.specs.declared.config.Config.{Config}
 use Rattle.pim_types.specs.declared.event.Event.{Event}
+use Rattle.pim_types.specs.declared.fact.Key.{Key}
 use Rattle.pim_types.specs.declared.outcome.Emission.{Emission}
 use Rattle.pim_types.specs.declared.table.Row.{Row}
 use Rattle.pim_types.specs.declared.table.Table.{Table}
-use Rattle.pim_c.specs.Told.{answer_number, bytes_in, no_interface, packet_of, row_of, written}
+use Rattle.pim_c.specs.Told.{answer_number, bytes_in, kept_number, name_of, no_interface, packet_of, row_of, written}
 use Rattle.pim_c.specs.declared.told.Forwarding.{Forwarding}
 use Rattle.pim_c.specs.declared.told.Interfaces.{Interfaces}
+use Rattle.pim_c.specs.declared.told.NamedSource.{NamedSource}
 use Rattle.pim_c.specs.declared.told.Packet.{Packet}
+use Rattle.pim_c.specs.declared.told.PlaneRow.{PlaneRow}
 use Rattle.pim_c.specs.declared.told.TableRow.{TableRow}
 
 -- a new router
@@ -36,6 +46,8 @@ lost s = record { router = nothing_shown; sent = s.sent; rows = s.rows }
 abbrev pub Taken : Shown → Standing → Event → Shown → Type 0
 Taken s r e left = (left.router.standing ≡ Some (standing (step r.state e)))
     × IsCheap r.state e left.router.probes left.router.touched
+    × ListsSame left.router.changed (event_named r.state e)
+    × OffersStay left.router.disturbed r.state (step r.state e).state
     × (left.sent ≡ (step r.state e).emissions) × (left.rows ≡ s.rows)
 
 abbrev pub SteppedFrom : Shown → Option Standing → Event → ℕ → Shown → Type 0
@@ -62,6 +74,33 @@ Refused (Some s) answer left = (answer ≡ refused_number s.router.standing) × 
 -- an event was copied, or memory was refused for that; where it was, the router took it, or memory was refused
 abbrev pub Copied : Option Shown → Event → ℕ → Option Shown → Type 0
 Copied old e answer left = Stepped old e answer left ⊎ Refused old answer left
+
+abbrev pub SeenFrom : Shown → Option Standing → Event → ℕ → Shown → Type 0
+SeenFrom s None e answer left = (answer ≡ 41) × (left ≡ lost s)
+SeenFrom s (Some r) e answer left =
+    ((answer ≡ answer_number (step r.state e).answer) × Taken s r e left) ⊎ ((answer ≡ 40) × (left ≡ lost s))
+
+-- the router took the event that tells of a packet, or memory was refused, whatever event it is
+abbrev pub Seen : Option Shown → Event → ℕ → Option Shown → Type 0
+Seen None e answer left = (answer ≡ 50) × (left ≡ None)
+Seen (Some s) e answer (Some left) = SeenFrom s s.router.standing e answer left
+Seen (Some s) e answer None = ⊥
+
+abbrev pub KeptFrom : Shown → Option Standing → ℕ → ℕ → ℕ → ℕ → Shown → Type 0
+KeptFrom s None source group moment answer left = (answer ≡ 41) × (left ≡ lost s)
+KeptFrom s (Some r) source group moment answer left =
+    ((answer ≡ kept_number (is_kept_alive r.state group source)) × (left ≡ record {
+      router = with_state s.router r (keep r.state group source (min moment last_moment));
+      sent = s.sent;
+      rows = s.rows;
+    }))
+    ⊎ ((answer ≡ 40) × (left ≡ lost s))
+
+-- the source's timer was moved where it runs, or memory was refused
+abbrev pub Kept : Option Shown → ℕ → ℕ → ℕ → ℕ → Option Shown → Type 0
+Kept None source group moment answer left = (answer ≡ 50) × (left ≡ None)
+Kept (Some s) source group moment answer (Some left) = KeptFrom s s.router.standing source group moment answer left
+Kept (Some s) source group moment answer None = ⊥
 
 abbrev pub ReadFrom : Shown → Option Standing → Table → ℕ → Shown → Type 0
 ReadFrom s None table answer left = (answer ≡ 41) × (left ≡ s)
@@ -100,6 +139,16 @@ abbrev pub touched_in : Option Shown → ℕ
 touched_in None = 0
 touched_in (Some s) = s.router.touched
 
+-- the sources whose rows the last event changed
+abbrev pub changed_in : Option Shown → List Key
+changed_in None = []
+changed_in (Some s) = s.router.changed
+
+-- what is offered of the source may have changed at the last event
+abbrev pub may_differ_in : Option Shown → ℕ → ℕ → Bool
+may_differ_in None source group = true
+may_differ_in (Some s) source group = is_disturbed s.router.disturbed group source
+
 -- a packet that is there is told, and its bytes are written
 abbrev pub PacketTold : Option Emission → Bool → Packet → Packet → List ℕ → List ℕ → Type 0
 PacketTold None is_there packet told room filled = (is_there ≡ false) × (told ≡ packet) × (filled ≡ room)
@@ -109,6 +158,10 @@ PacketTold (Some emission) is_there packet told room filled =
 abbrev pub RowTold : Option Row → Bool → TableRow → TableRow → Type 0
 RowTold None is_there row told = (is_there ≡ false) × (told ≡ row)
 RowTold (Some found) is_there row told = (is_there ≡ true) × (told ≡ row_of found)
+
+abbrev pub NameTold : Option Key → Bool → NamedSource → NamedSource → Type 0
+NameTold None is_there name told = (is_there ≡ false) × (told ≡ name)
+NameTold (Some key) is_there name told = (is_there ≡ true) × (told ≡ name_of key)
 
 -- the interfaces that pass a test, as bits
 abbrev pub interfaces_of : Set → Interfaces
@@ -133,6 +186,25 @@ AnswersTold (Some a) is_there row told = (is_there ≡ true) × (told ≡ forwar
 abbrev pub CachedTold : Option Standing → ℕ → ℕ → Bool → Forwarding → Forwarding → Type 0
 CachedTold None source group is_there row told = (is_there ≡ false) × (told ≡ row)
 CachedTold (Some r) source group is_there row told = AnswersTold (cached r.state group source) is_there row told
+
+-- what is offered of a source, as it is told
+abbrev pub plane_row_of : Offered → PlaneRow
+plane_row_of o = record {
+  is_known = o.is_known;
+  incoming = unwrap_or o.row.incoming no_interface;
+  outgoing = interfaces_of o.row.outgoing;
+  alive = interfaces_of o.row.alive;
+  to_core = interfaces_of o.row.to_core;
+}
+
+abbrev pub OfferTold : Option Offered → Bool → PlaneRow → PlaneRow → Type 0
+OfferTold None is_there row told = (is_there ≡ false) × (told ≡ row)
+OfferTold (Some o) is_there row told = (is_there ≡ true) × (told ≡ plane_row_of o)
+
+-- what a data plane may do of the packets of a source is told
+abbrev pub OffloadTold : Option Standing → ℕ → ℕ → Bool → PlaneRow → PlaneRow → Type 0
+OffloadTold None source group is_there row told = (is_there ≡ false) × (told ≡ row)
+OffloadTold (Some r) source group is_there row told = OfferTold (offered r.state group source) is_there row told
 
 abbrev pub MadeBy : Result (Unit {0}) Refusal → Option Shown → Config → ℕ → Option Shown → Type 0
 MadeBy (Ok _) old config answer left = (answer ≡ 0) × (left ≡ Some (new_shown config))

@@ -13,6 +13,7 @@ use Rattle.pim_types.specs.declared.table.DownstreamState.{DownstreamState}
 use Rattle.pim_types.specs.declared.table.RegisterName.{RegisterName}
 use Rattle.pim_types.specs.declared.table.Row.{Row}
 use Rattle.pim_types.specs.declared.table.Table.{Table}
+use Rattle.pim_c.specs.declared.told.NamedSource.{NamedSource}
 use Rattle.pim_c.specs.declared.told.Packet.{Packet}
 use Rattle.pim_c.specs.declared.told.TableRow.{TableRow}
 
@@ -42,6 +43,11 @@ abbrev pub answer_number : Result Verdict Refusal → ℕ
 answer_number (Ok verdict) = verdict_number verdict
 answer_number (Err refusal) = refusal_number refusal
 
+-- whether a keepalive timer runs
+abbrev pub kept_number : Bool → ℕ
+kept_number true = 0
+kept_number false = 52
+
 abbrev pub bytes_in : Emission → List ℕ
 bytes_in (Emission.Link iface bytes) = bytes
 bytes_in (Emission.Unicast destination bytes) = bytes
@@ -58,6 +64,9 @@ written room bytes = take (length room) bytes ++ drop (length bytes) room
 abbrev pub source_bits : Option Addr → ℕ
 source_bits None = 0
 source_bits (Some address) = address.bits
+
+abbrev pub name_of : Key → NamedSource
+name_of k = record { source = source_bits k.source; group = k.group.bits }
 
 abbrev pub iface_number : Option IfaceId → ℕ
 iface_number None = no_interface

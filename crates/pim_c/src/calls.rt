@@ -3,14 +3,16 @@ ghost use Rattle.std.specs.Option.{option_map_or};
 ghost use Rattle.std.specs.List.{slice_get};
 ghost use Rattle.std.specs.Prelude.{◌≡◌, None, length, map, option_and_then, unwrap_or};
 ghost use Rattle.pim_model.specs.Timers.{next_moment};
+ghost use Rattle.pim_offload.specs.Seen.{seen_event};
 ghost use Rattle.pim_types.specs.declared.event.EventKind.{EventKind};
-ghost use Rattle.pim_c.specs.Called.{CachedTold, Copied, Made, PacketTold, ReadBy, RowTold, Stepped, packets_in, probes_in, rows_in, standing_in, touched_in};
+ghost use Rattle.pim_c.specs.Called.{CachedTold, Copied, Kept, Made, NameTold, OffloadTold, PacketTold, ReadBy, RowTold, Seen, Stepped, changed_in, may_differ_in, packets_in, probes_in, rows_in, standing_in, touched_in};
 ghost use Rattle.pim_c.specs.Given.{config_of, event_of, iface_of, range_of, route_of};
 ghost use Rattle.pim_c.specs.Told.{never, table_of};
 
 use crate::given::{self, GivenInterface, GivenRange, GivenRoute, GivenSettings};
 use crate::handle::Handle;
-use crate::told::{self, Forwarding, MEMORY, NO_TABLE, Packet, TableRow};
+use crate::told::{self, Forwarding, MEMORY, NO_TABLE, NamedSource, Packet, PlaneRow, TableRow};
+use pim_intake::LentEvent;
 use pim_types::{Addr, Event, EventKind, IfaceId};
 use std::alloc::Global;
 
@@ -46,7 +48,7 @@ pub extern "C" fn pim_advance(alloc: Global, router: &mut Handle, draw: u32, mom
     ensures { Stepped router.old.place.inside (event_of draw (EventKind.Advance moment)) result router.new.place.inside }
 {
     let kind = EventKind::Advance { moment };
-    router.step(alloc, Ok(Event { draw, kind }))
+    router.step(alloc, &LentEvent::of(&Event { draw, kind }))
 }
 
 /// A packet was received on a link.
@@ -58,17 +60,18 @@ pub extern "C" fn pim_frame(
     iface: u32,
     packet: &[u8],
 ) -> u32
-    ensures { Copied router.old.place.inside (event_of draw (EventKind.Frame (iface_of iface) packet.now)) result router.new.place.inside }
+    ensures { Stepped router.old.place.inside (event_of draw (EventKind.Frame (iface_of iface) packet.now)) result router.new.place.inside }
 {
-    router.step(alloc, given::frame(alloc, draw, iface, packet))
+    let iface = IfaceId { number: iface };
+    router.step(alloc, &LentEvent::frame(draw, iface, packet))
 }
 
 /// A packet was received for an address of the router.
 #[unsafe(no_mangle)]
 pub extern "C" fn pim_unicast(alloc: Global, router: &mut Handle, draw: u32, packet: &[u8]) -> u32
-    ensures { Copied router.old.place.inside (event_of draw (EventKind.Unicast packet.now)) result router.new.place.inside }
+    ensures { Stepped router.old.place.inside (event_of draw (EventKind.Unicast packet.now)) result router.new.place.inside }
 {
-    router.step(alloc, given::unicast(alloc, draw, packet))
+    router.step(alloc, &LentEvent::unicast(draw, packet))
 }
 
 /// The interface goes up.
@@ -79,7 +82,7 @@ pub extern "C" fn pim_up(alloc: Global, router: &mut Handle, draw: u32, iface: u
     let kind = EventKind::Up {
         iface: IfaceId { number: iface },
     };
-    router.step(alloc, Ok(Event { draw, kind }))
+    router.step(alloc, &LentEvent::of(&Event { draw, kind }))
 }
 
 /// The interface goes down.
@@ -90,7 +93,7 @@ pub extern "C" fn pim_down(alloc: Global, router: &mut Handle, draw: u32, iface:
     let kind = EventKind::Down {
         iface: IfaceId { number: iface },
     };
-    router.step(alloc, Ok(Event { draw, kind }))
+    router.step(alloc, &LentEvent::of(&Event { draw, kind }))
 }
 
 /// The unicast routes are replaced.
@@ -103,7 +106,7 @@ pub extern "C" fn pim_routes(
 ) -> u32
     ensures { Copied router.old.place.inside (event_of draw (EventKind.Routes (map route_of routes.now))) result router.new.place.inside }
 {
-    router.step(alloc, given::new_routes(alloc, draw, routes))
+    router.step_copied(alloc, given::new_routes(alloc, draw, routes))
 }
 
 /// The RP ranges are replaced.
@@ -116,7 +119,7 @@ pub extern "C" fn pim_ranges(
 ) -> u32
     ensures { Copied router.old.place.inside (event_of draw (EventKind.Rps (map range_of ranges.now))) result router.new.place.inside }
 {
-    router.step(alloc, given::new_ranges(alloc, draw, ranges))
+    router.step_copied(alloc, given::new_ranges(alloc, draw, ranges))
 }
 
 /// How many packets the last event sent that was taken.
@@ -210,6 +213,96 @@ pub extern "C" fn pim_cached(
     let source = Addr { bits: source };
     let group = Addr { bits: group };
     router.cached(alloc, source, group, forwarding)
+}
+
+/// What a data plane may do of the packets of a source to a group. False where all are the router's.
+#[unsafe(no_mangle)]
+pub extern "C" fn pim_offload(
+    alloc: Global,
+    router: &mut Handle,
+    source: u32,
+    group: u32,
+    row: &mut PlaneRow,
+) -> bool
+    ensures told { OffloadTold (standing_in router.old.place.inside) source group result row.old row.new }
+    ensures stays { router.new.place.inside ≡ router.old.place.inside }
+{
+    let source = Addr { bits: source };
+    let group = Addr { bits: group };
+    router.offload(alloc, source, group, row)
+}
+
+/// How many sources the last event changed the rows of.
+#[unsafe(no_mangle)]
+pub extern "C" fn pim_changed(alloc: Global, router: &mut Handle) -> usize
+    ensures count { result ≡ length (changed_in router.old.place.inside) }
+    ensures stays { router.new.place.inside ≡ router.old.place.inside }
+{
+    router.changed(alloc)
+}
+
+/// One of these sources, counted from 0. False where there is none.
+#[unsafe(no_mangle)]
+pub extern "C" fn pim_changed_source(
+    alloc: Global,
+    router: &mut Handle,
+    index: usize,
+    name: &mut NamedSource,
+) -> bool
+    ensures told { NameTold (slice_get (changed_in router.old.place.inside) index) result name.old name.new }
+    ensures stays { router.new.place.inside ≡ router.old.place.inside }
+{
+    router.changed_source(alloc, index, name)
+}
+
+/// Whether what is offered of a source may have changed at the last event.
+#[unsafe(no_mangle)]
+pub extern "C" fn pim_may_differ(
+    alloc: Global,
+    router: &mut Handle,
+    source: u32,
+    group: u32,
+) -> bool
+    ensures differs { result ≡ may_differ_in router.old.place.inside source group }
+    ensures stays { router.new.place.inside ≡ router.old.place.inside }
+{
+    let source = Addr { bits: source };
+    let group = Addr { bits: group };
+    router.may_differ(alloc, source, group)
+}
+
+/// A data plane saw a packet of a source to a group on the interface.
+#[unsafe(no_mangle)]
+pub extern "C" fn pim_seen(
+    alloc: Global,
+    router: &mut Handle,
+    draw: u32,
+    iface: u32,
+    source: u32,
+    group: u32,
+) -> u32
+    ensures { Seen router.old.place.inside (seen_event draw (iface_of iface) group source) result router.new.place.inside }
+{
+    let iface = IfaceId { number: iface };
+    let source = Addr { bits: source };
+    let group = Addr { bits: group };
+    router.seen(alloc, draw, iface, source, group)
+}
+
+/// A data plane forwarded its last packet of a source to a group at the moment, in ms.
+#[unsafe(no_mangle)]
+pub extern "C" fn pim_keep(
+    alloc: Global,
+    router: &mut Handle,
+    source: u32,
+    group: u32,
+    moment: u64,
+) -> u32
+    ensures { Kept router.old.place.inside source group moment result router.new.place.inside }
+{
+    let source = Addr { bits: source };
+    let group = Addr { bits: group };
+    router.keep(alloc, source, group, moment)
 }
 
 /// The trie nodes that the last event visited.

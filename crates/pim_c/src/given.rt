@@ -136,12 +136,6 @@ fn ranges(alloc: Global, given: &[GivenRange]) -> Result<Series<RpRange>, AllocE
     Ok(all)
 }
 
-fn bytes(alloc: Global, given: &[u8]) -> Result<Series<u8>, AllocError>
-    ensures { IfOk result (λ all. all ≡ given.now) }
-{
-    Ok(Series::from_vec(Vec::from_slice(alloc, given)?))
-}
-
 /// The configuration that these stand for.
 pub fn config(
     alloc: Global,
@@ -172,27 +166,6 @@ pub fn config(
         routes,
         rps,
     })
-}
-
-/// A packet received on a link.
-pub fn frame(alloc: Global, draw: u32, iface: u32, packet: &[u8]) -> Result<Event, AllocError>
-    ensures { IfOk result (λ event. event ≡ event_of draw (EventKind.Frame (iface_of iface) packet.now)) }
-{
-    let kind = EventKind::Frame {
-        iface: IfaceId { number: iface },
-        bytes: bytes(alloc, packet)?,
-    };
-    Ok(Event { draw, kind })
-}
-
-/// A packet received for an address of the router.
-pub fn unicast(alloc: Global, draw: u32, packet: &[u8]) -> Result<Event, AllocError>
-    ensures { IfOk result (λ event. event ≡ event_of draw (EventKind.Unicast packet.now)) }
-{
-    let kind = EventKind::Unicast {
-        bytes: bytes(alloc, packet)?,
-    };
-    Ok(Event { draw, kind })
 }
 
 /// New unicast routes.

@@ -2,21 +2,29 @@
 ghost use Rattle.std.specs.List.{slice_get};
 ghost use Rattle.std.specs.Option.{option_map_or};
 ghost use Rattle.std.specs.Prelude.{◌≡◌, [], Err, IfErr, IfOk, MatchOption, None, Ok, OnErr, Option, Some, false, is_some, length, option_and_then, unwrap_or};
+ghost use Rattle.pim_fanout.specs.Named.{keys_of};
 ghost use Rattle.pim_ip.specs.declared.fault.Fault.{Fault};
 ghost use Rattle.pim_model.specs.Limits.{config_test};
 ghost use Rattle.pim_mfc.specs.Laws.{TellsRow};
 ghost use Rattle.pim_model.specs.Cache.{Answers};
 ghost use Rattle.pim_model.specs.Timers.{next_moment};
+ghost use Rattle.pim_offload.specs.Offered.{Offered as OfferedValue};
+ghost use Rattle.pim_offload.specs.Seen.{seen_event};
+ghost use Rattle.pim_offrow.specs.Shown.{TellsOffload};
 ghost use Rattle.pim_c.specs.Told.{never};
-ghost use Rattle.pim_c.specs.Called.{AnswersTold, CachedTold, Made, PacketTold, Read, ReadFrom, Refused, RowTold, Stepped, SteppedFrom, lost, new_shown, packets_in, probes_in, refused_number, rows_in, standing_in, touched_in};
+ghost use Rattle.pim_c.specs.Called.{AnswersTold, CachedTold, Kept, KeptFrom, Made, NameTold, OfferTold, OffloadTold, PacketTold, Read, ReadFrom, Refused, RowTold, Seen, SeenFrom, Stepped, SteppedFrom, changed_in, lost, may_differ_in, new_shown, packets_in, probes_in, refused_number, rows_in, standing_in, touched_in};
 
 use crate::place::Place;
 use crate::told::{
-    self, DONE, FAILED, Forwarding, MEMORY, NEVER, NO_ROUTER, Packet, TableRow, answer_number,
+    self, DONE, FAILED, Forwarding, MEMORY, NEVER, NO_ROUTER, NamedSource, Packet, PlaneRow,
+    TableRow, answer_number, kept_number,
 };
+use pim_intake::LentEvent;
+use pim_macros::SourceGroup;
 use pim_mfc::CacheRow;
+use pim_offrow::Offered;
 use pim_session::Session;
-use pim_types::{Addr, Config, Emission, Event, Fault, Refusal, Row, Table};
+use pim_types::{Addr, Config, Emission, Event, Fault, IfaceId, Refusal, Row, Table};
 use std::alloc::{AllocError, Global};
 use std::mem::replace;
 
@@ -59,15 +67,58 @@ impl Handle {
         self.is_there = true;
     }
 
-    /// Has the router take an event, for which memory may have been refused. The answer, by its number.
-    pub fn step(&mut self, alloc: Global, event: Result<Event, AllocError>) -> u32
+    /// Has the router take an event. The answer, by its number.
+    pub fn step(&mut self, alloc: Global, event: &LentEvent<'_>) -> u32
+        ensures { Stepped self.old.place.inside event.now result self.new.place.inside }
+    {
+        let Some(mut session) = self.take(alloc) else {
+            return NO_ROUTER;
+        };
+        let answer = step(alloc, session.as_mut(), event);
+        self.put(session);
+        answer
+    }
+
+    /// Has the router take an event that was copied, for which memory may have been refused. The answer, by its number.
+    pub fn step_copied(&mut self, alloc: Global, event: Result<Event, AllocError>) -> u32
         ensures stepped { IfOk event (λ e. Stepped self.old.place.inside e result self.new.place.inside) }
         ensures refused { OnErr event (Refused self.old.place.inside result self.new.place.inside) }
     {
         let Some(mut session) = self.take(alloc) else {
             return NO_ROUTER;
         };
-        let answer = step(alloc, session.as_mut(), event);
+        let answer = step_copied(alloc, session.as_mut(), event);
+        self.put(session);
+        answer
+    }
+
+    /// Tells the router that a data plane saw a packet. The answer, by its number.
+    pub fn seen(
+        &mut self,
+        alloc: Global,
+        draw: u32,
+        iface: IfaceId,
+        source: Addr,
+        group: Addr,
+    ) -> u32
+        ensures { Seen self.old.place.inside (seen_event draw iface group.bits source.bits) result self.new.place.inside }
+    {
+        let Some(mut session) = self.take(alloc) else {
+            return NO_ROUTER;
+        };
+        let answer = seen(alloc, session.as_mut(), draw, iface, source, group);
+        self.put(session);
+        answer
+    }
+
+    /// Tells the router when a data plane forwarded its last packet of a source. The answer, by its number.
+    pub fn keep(&mut self, alloc: Global, source: Addr, group: Addr, moment: u64) -> u32
+        ensures { Kept self.old.place.inside source.bits group.bits moment result self.new.place.inside }
+    {
+        let Some(mut session) = self.take(alloc) else {
+            return NO_ROUTER;
+        };
+        let answer = keep(session.as_mut(), source, group, moment);
         self.put(session);
         answer
     }
@@ -174,6 +225,58 @@ impl Handle {
         let is_there = tell_cached(session.cached(source, group), forwarding);
         self.put(session);
         is_there
+    }
+
+    /// What a data plane may do of the packets of a source.
+    pub fn offload(&mut self, alloc: Global, source: Addr, group: Addr, row: &mut PlaneRow) -> bool
+        ensures told { OffloadTold (standing_in self.old.place.inside) source.bits group.bits result row.old row.new }
+        ensures stays { self.new.place.inside ≡ self.old.place.inside }
+    {
+        let Some(session) = self.take(alloc) else {
+            return false;
+        };
+        let is_there = tell_offload(session.offload(source, group), row);
+        self.put(session);
+        is_there
+    }
+
+    /// How many sources the last event changed the rows of.
+    pub fn changed(&mut self, alloc: Global) -> usize
+        ensures count { result ≡ length (changed_in self.old.place.inside) }
+        ensures stays { self.new.place.inside ≡ self.old.place.inside }
+    {
+        let Some(session) = self.take(alloc) else {
+            return 0;
+        };
+        let count = session.changed().len();
+        self.put(session);
+        count
+    }
+
+    /// One of these sources, counted from 0.
+    pub fn changed_source(&mut self, alloc: Global, index: usize, name: &mut NamedSource) -> bool
+        ensures told { NameTold (slice_get (changed_in self.old.place.inside) index) result name.old name.new }
+        ensures stays { self.new.place.inside ≡ self.old.place.inside }
+    {
+        let Some(session) = self.take(alloc) else {
+            return false;
+        };
+        let is_there = tell_name(session.changed(), index, name);
+        self.put(session);
+        is_there
+    }
+
+    /// Whether what is offered of a source may have changed at the last event.
+    pub fn may_differ(&mut self, alloc: Global, source: Addr, group: Addr) -> bool
+        ensures differs { result ≡ may_differ_in self.old.place.inside source.bits group.bits }
+        ensures stays { self.new.place.inside ≡ self.old.place.inside }
+    {
+        let Some(session) = self.take(alloc) else {
+            return true;
+        };
+        let may_differ = session.may_differ(source, group);
+        self.put(session);
+        may_differ
     }
 
     /// The trie nodes that the last event visited.
@@ -284,15 +387,73 @@ fn tell_cached(row: Option<CacheRow>, forwarding: &mut Forwarding) -> bool
     }
 }
 
+// Tells what is offered of a source, where anything is.
+fn tell_offload(offered: Option<Offered>, row: &mut PlaneRow) -> bool
+    ensures told { (offer : Option OfferedValue) → TellsOffload offered offer → OfferTold offer result row.old row.new }
+    ensures none { offered ≡ None → (result ≡ false) × (row.new ≡ row.old) }
+{
+    match offered {
+        Some(offered) => {
+            *row = told::plane_row(&offered);
+            true
+        }
+        None => false,
+    }
+}
+
+// Tells one of the sources, where it is there.
+fn tell_name(names: &[SourceGroup], index: usize, name: &mut NamedSource) -> bool
+    ensures { NameTold (slice_get (keys_of names.now) index) result name.old name.new }
+{
+    match names.get(index) {
+        Some(found) => {
+            *name = told::named(found);
+            true
+        }
+        None => false,
+    }
+}
+
+// Has a session take an event.
+fn step(alloc: Global, session: &mut Session, event: &LentEvent<'_>) -> u32
+    ensures { SteppedFrom session.old session.old.router.standing event.now result session.new }
+{
+    answer_number(session.step(alloc, event))
+}
+
 // Has a session take an event, for which memory may have been refused: then nothing changes.
-fn step(alloc: Global, session: &mut Session, event: Result<Event, AllocError>) -> u32
+fn step_copied(alloc: Global, session: &mut Session, event: Result<Event, AllocError>) -> u32
     ensures stepped { IfOk event (λ e. SteppedFrom session.old session.old.router.standing e result session.new) }
     ensures refused { OnErr event ((result ≡ refused_number session.old.router.standing) × (session.new ≡ session.old)) }
 {
     match event {
-        Ok(event) => answer_number(session.step(alloc, &event)),
+        Ok(event) => step(alloc, session, &LentEvent::of(&event)),
         Err(_) if session.has_failed() => FAILED,
         Err(_) => MEMORY,
+    }
+}
+
+// Tells a session that a data plane saw a packet.
+fn seen(
+    alloc: Global,
+    session: &mut Session,
+    draw: u32,
+    iface: IfaceId,
+    source: Addr,
+    group: Addr,
+) -> u32
+    ensures { SeenFrom session.old session.old.router.standing (seen_event draw iface group.bits source.bits) result session.new }
+{
+    answer_number(session.seen(alloc, draw, iface, source, group))
+}
+
+// Tells a session when a data plane forwarded its last packet of a source.
+fn keep(session: &mut Session, source: Addr, group: Addr, moment: u64) -> u32
+    ensures { KeptFrom session.old session.old.router.standing source.bits group.bits moment result session.new }
+{
+    match session.keep(source, group, moment) {
+        Ok(runs) => kept_number(runs),
+        Err(fault) => u32::from(fault.number()),
     }
 }
 

@@ -1,16 +1,21 @@
 //! What a program is told: answers, packets and rows.
-ghost use Rattle.std.specs.Prelude.{◌≡◌, ◌+◌, ◌<◌, ◌≤◌, ◌^◌, IfErr, IfOk, if◌then◌else◌};
+ghost use Rattle.std.specs.Prelude.{◌≡◌, ◌+◌, ◌<◌, ◌≤◌, ◌^◌, IfErr, IfOk, if◌then◌else◌, nat_lt, true, ℕ};
+ghost use Rattle.pim_fanout.specs.Before.{name_key};
 ghost use Rattle.pim_ip.specs.Fault.{fault_number};
 ghost use Rattle.pim_ifset.specs.Members.{has, mask_of};
 ghost use Rattle.pim_mfc.specs.Laws.{IsAfresh};
 ghost use Rattle.pim_model.specs.Cache.{Answers};
 ghost use Rattle.pim_model.specs.Sets.{Set};
+ghost use Rattle.pim_offload.specs.Offered.{Offered as OfferedValue};
+ghost use Rattle.pim_offrow.specs.Shown.{ShowsOffered};
 ghost use Rattle.pim_world.specs.Shown.{Shows};
-ghost use Rattle.pim_c.specs.Called.{forwarding_of, interfaces_of};
-ghost use Rattle.pim_c.specs.Told.{answer_number, bytes_in, downstream_number, iface_number, ignored_number, packet_of, register_number, row_of, source_bits, table_of, verdict_number, written};
+ghost use Rattle.pim_c.specs.Called.{forwarding_of, interfaces_of, plane_row_of};
+ghost use Rattle.pim_c.specs.Told.{answer_number, bytes_in, downstream_number, iface_number, ignored_number, kept_number, name_of, packet_of, register_number, row_of, source_bits, table_of, verdict_number, written};
 
 use pim_ifset::IfSet;
+use pim_macros::SourceGroup;
 use pim_mfc::CacheRow;
+use pim_offrow::Offered;
 use pim_types::fact::AssertRole;
 use pim_types::table::{DownstreamState, RegisterName};
 use pim_types::{Addr, Emission, Fault, IfaceId, Ignored, Refusal, Row, Table, Verdict};
@@ -25,6 +30,8 @@ pub const FAILED: u32 = 41;
 pub const NO_ROUTER: u32 = 50;
 /// No table has this letter.
 pub const NO_TABLE: u32 = 51;
+/// The source's keepalive timer doesn't run.
+pub const NO_TIMER: u32 = 52;
 /// No timer runs, or the time isn't there.
 pub const NEVER: u64 = u64::MAX;
 /// No interface.
@@ -64,6 +71,13 @@ pub fn answer_number(answer: Result<Result<Verdict, Refusal>, Fault>) -> u32
         Ok(Err(refusal)) => u32::from(refusal.number()),
         Err(fault) => u32::from(fault.number()),
     }
+}
+
+/// Whether a keepalive timer runs, as the number of an answer.
+pub fn kept_number(runs: bool) -> u32
+    ensures { result ≡ kept_number runs }
+{
+    if runs { DONE } else { NO_TIMER }
 }
 
 /// A packet that leaves, without its bytes.
@@ -375,7 +389,8 @@ fn word(set: IfSet, from: u32, count: u32) -> u64
 
 // Both words of a set.
 fn words(set: IfSet) -> Interfaces
-    ensures { (p : Set) → Shows set p → result ≡ interfaces_of p }
+    ensures shown { (p : Set) → Shows set p → result ≡ interfaces_of p }
+    ensures below { (p : Set) → ((i : ℕ) → nat_lt i 120 ≡ true → has set i ≡ p i) → result ≡ interfaces_of p }
 {
     Interfaces {
         low: word(set, 0, 64),
@@ -394,6 +409,53 @@ pub fn cache_row(row: &CacheRow) -> Forwarding
         immediate: words(row.immediate),
         inherited: words(row.inherited),
         shared_tree: words(row.inherited_rpt),
+    }
+}
+
+/// What a data plane may do of the packets of a source.
+#[repr(C)]
+#[derive(Drop)]
+pub struct PlaneRow {
+    /// The source has a fact.
+    pub is_known: bool,
+    /// Where packets are accepted, or `NO_INTERFACE`.
+    pub incoming: u32,
+    /// Where copies of these leave, but for the interface on which they came.
+    pub outgoing: Interfaces,
+    /// Where a packet shows that the source is alive.
+    pub alive: Interfaces,
+    /// Where a packet is the router's.
+    pub to_core: Interfaces,
+}
+
+/// What is offered of a source as it is told.
+pub fn plane_row(offered: &Offered) -> PlaneRow
+    ensures { (o : OfferedValue) → ShowsOffered offered.now o → result ≡ plane_row_of o }
+{
+    PlaneRow {
+        is_known: offered.is_known,
+        incoming: iface_number(offered.row.incoming),
+        outgoing: words(offered.row.outgoing),
+        alive: words(offered.row.alive),
+        to_core: words(offered.row.to_core),
+    }
+}
+
+/// A source of a group whose row changed.
+#[repr(C)]
+#[derive(Drop)]
+pub struct NamedSource {
+    pub source: u32,
+    pub group: u32,
+}
+
+/// A source of a group as it is told.
+pub fn named(name: &SourceGroup) -> NamedSource
+    ensures { result ≡ name_of (name_key name.now) }
+{
+    NamedSource {
+        source: name.source.bits,
+        group: name.group.bits,
     }
 }
 

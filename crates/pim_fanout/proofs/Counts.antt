@@ -1,5 +1,5 @@
 -- Each named source counts for two, a row and a put, or for one, a removal.
-use Rattle.std.proofs.Common.{◌≡◌, ◌≤◌, ℕ, ◌+◌, ◌*◌, Bool, true, false, List, [], ◌∷◌, ◌++◌, ap, length, sym, ◌∙◌, arith}
+use Rattle.std.proofs.Common.{◌≡◌, ◌≤◌, ℕ, ◌+◌, ◌*◌, Bool, true, false, List, [], ◌∷◌, ◌++◌, ap, length, refl, sym, ◌∙◌, arith}
 use Rattle.std.specs.List.{sum_by}
 use Rattle.std.specs.Prelude.{if◌then◌else◌}
 use Rattle.std.proofs.lemmas.List.{length-map}
@@ -65,3 +65,30 @@ costs_few s names old new is =
     let sum = at_most_sum old new (touches_in s (keys_of names)) is in
     let same : length (keys_of names) ≡ length names = length-map names name_key in
     omega (arith, few, sum, same)
+
+pub one_counts : (c e : ℕ) → 1 ≤ raised (raised c 1) e
+unfolding raised
+one_counts c e = omega arith
+
+pub then_counts : (c e : ℕ) → 1 ≤ raised c (raised e 1)
+unfolding raised
+then_counts c e = omega arith
+
+-- ---- where nothing is touched there are no names
+
+one_at_least : (known : Bool) → 1 ≤ (if known then 2 else 1)
+one_at_least true = omega arith
+one_at_least false = omega arith
+
+nothing_raised : (old new n : ℕ) → new ≡ raised old n → new ≡ 0 → n ≡ 0
+unfolding raised
+nothing_raised old new n is none = omega (arith, is, none)
+
+pub none_counted : (s : State) (names : List SourceGroup) (old new : ℕ) → new ≡ 0
+    → new ≡ raised old (touches_in s (keys_of names)) → names ≡ []
+none_counted s [] old new none is = refl
+none_counted s (n ∷ ns) old new none is =
+    let all = sum_by-cons (touches_of s) (name_key n) (keys_of ns) in
+    let one = one_at_least (has_row s.sources (name_key n)) in
+    let sum = nothing_raised old new (touches_in s (keys_of (n ∷ ns))) is none in
+    absurd (omega (arith, all, one, sum))

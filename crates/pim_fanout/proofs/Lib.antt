@@ -1,6 +1,6 @@
 pub mod Counts
 pub mod Few
-mod Listed
+pub mod Listed
 mod Opened
 mod Others
 mod Refreshed
@@ -8,3 +8,5 @@ mod Same
 mod SameSets
 mod Seen
 pub mod Shown
+pub mod Untouched
+mod Joining

@@ -1,5 +1,6 @@
 pub mod Before
 pub mod Contains
+pub mod Disturbed
 pub mod Same
 pub mod Named
 pub mod Refreshing

@@ -1,10 +1,12 @@
--- The forwarding cache beside the number of rows that were evaluated, and what it is to make named rows anew.
+-- The forwarding cache beside the number of rows that were evaluated, whose rows have changed and which keys were touched,
+-- and what it is to make named rows anew.
 use Rattle.std.specs.List.{sum_by}
 use Rattle.std.specs.Prelude.{List, [], if◌then◌else◌, ℕ, ◌++◌, ◌∷◌}
 use Rattle.pim_trie.specs.Meter.{raised}
 use Rattle.pim_types.specs.declared.fact.Key.{Key}
 use Rattle.pim_model.specs.State.{State}
 use Rattle.pim_model.specs.Tables.{Table, has_row}
+use Rattle.pim_world.specs.declared.touched.Touched.{Touched}
 use Rattle.pim_macros.specs.declared.rows.SourceAnswers.{SourceAnswers}
 use Rattle.pim_cached.specs.Kept.{Cache, refreshed}
 use Rattle.pim_mfc.specs.Kept.{Kept}
@@ -13,13 +15,15 @@ use Rattle.pim_mfc.specs.Laws.{ShowsRows}
 pub record CacheValue : Type 0 where
   pub mfc : Kept
   pub evaluated : ℕ
+  pub changed : List Key
+  pub disturbed : Touched
 
 abbrev pub nothing_cached : CacheValue
-nothing_cached = record { mfc = record { rows = []; changes = 0 }; evaluated = 0 }
+nothing_cached = record { mfc = record { rows = []; changes = 0 }; evaluated = 0; changed = []; disturbed = Touched.Keys [] }
 
--- with both counts begun anew
+-- with both counts and both lists begun anew
 abbrev pub uncounted : CacheValue → CacheValue
-uncounted c = record { mfc = record c.mfc { changes = 0 }; evaluated = 0 }
+uncounted c = record { mfc = record c.mfc { changes = 0 }; evaluated = 0; changed = []; disturbed = Touched.Keys [] }
 
 -- puts, removals and rows evaluated, together
 unfoldable pub touches : CacheValue → ℕ

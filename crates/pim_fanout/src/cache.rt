@@ -1,23 +1,30 @@
 //! The forwarding cache with what an event costs it.
-ghost use Rattle.std.specs.Prelude.{◌≡◌, ◌≤◌, OnOk, sum_by};
+ghost use Rattle.std.specs.Prelude.{◌≡◌, ◌≤◌, ◌++◌, [], OnOk, if◌then◌else◌, sum_by};
 ghost use Rattle.pim_fanout.specs.Before.{name_key};
+ghost use Rattle.pim_fanout.specs.Disturbed.{joined};
 ghost use Rattle.pim_fanout.specs.Refreshing.{Refreshes, RefreshesOne, nothing_cached, touches, touches_in, touches_of, uncounted};
 ghost use Rattle.pim_fanout.specs.Named.{keys_of};
 ghost use Rattle.pim_fanout.specs.Visits.{named_nodes};
 ghost use Rattle.pim_trie.specs.Meter.{raised};
+ghost use Rattle.pim_world.specs.declared.touched.Touched.{Touched as TouchedValue};
 
 use crate::before::has_fact;
+use crate::disturbed::Disturbed;
 use pim_macros::{Evaluations, SourceGroup, row};
 use pim_mfc::Mfc;
 use pim_trie::Meter;
-use pim_world::World;
+use pim_types::Series;
+use pim_world::{Touched, World};
 use std::alloc::{AllocError, Global};
 use std::marker::Model;
 
-/// The forwarding cache, and how many rows were evaluated for it.
+/// The forwarding cache, how many rows were evaluated for it, and whose they were; and which sources may have been disturbed
+/// beside, that have no row.
 pub struct Cache {
     mfc: Mfc,
     evaluated: Evaluations,
+    changed: Vec<SourceGroup>,
+    disturbed: Disturbed,
 }
 
 // Written out, so that it is proved once (docs/PROOF_NOTES.md, Drops).
@@ -26,16 +33,28 @@ impl Drop for Cache {
         let Cache {
             mfc: _,
             evaluated: _,
+            changed: _,
+            disturbed: _,
         } = self;
     }
 }
 
 impl Model for Cache {
+    ghost use Rattle.std.specs.Prelude.{[], ◌≡◌};
+    ghost use Rattle.pim_fanout.specs.Named.{keys_of};
     ghost use Rattle.pim_fanout.specs.Refreshing.{CacheValue};
+    ghost use Rattle.pim_trie.specs.Meter.{raised};
 
     ghost Value = { CacheValue };
 
-    ghost view = { λ c. record { mfc = c.mfc; evaluated = c.evaluated } };
+    ghost view = { λ c. record {
+      mfc = c.mfc;
+      evaluated = c.evaluated;
+      changed = keys_of c.changed.items;
+      disturbed = c.disturbed;
+    } };
+
+    ghost invariant = { λ c. raised c.mfc.changes c.evaluated ≡ 0 → c.changed.items ≡ [] };
 }
 
 impl Cache {
@@ -46,6 +65,8 @@ impl Cache {
         Cache {
             mfc: Mfc::new(alloc),
             evaluated: Evaluations::none(),
+            changed: Vec::new(alloc),
+            disturbed: Disturbed::none(alloc),
         }
     }
 
@@ -65,12 +86,38 @@ impl Cache {
         self.mfc.changes().saturating_add(self.evaluated.count())
     }
 
-    /// An event begins: both counts are 0.
+    /// The sources whose rows were made anew or taken out since the last `reset`: none where nothing was touched.
+    pub fn changed(&self) -> &[SourceGroup]
+        ensures names { keys_of result.now ≡ self.now.changed }
+        ensures none { touches self.now ≡ 0 → result.now ≡ [] }
+    {
+        self.changed.as_slice()
+    }
+
+    /// Which sources may have been disturbed since the last `reset`, with a row or without one.
+    pub fn disturbed(&self) -> &Disturbed
+        ensures { result.now ≡ self.now.disturbed }
+    {
+        &self.disturbed
+    }
+
+    /// All sources may be disturbed, where it is so.
+    pub fn disturb_all_if(&mut self, is_so: bool)
+        ensures { self.new ≡ record self.old { disturbed = if is_so then TouchedValue.All else self.old.disturbed } }
+    {
+        if is_so {
+            self.disturbed.add_all();
+        }
+    }
+
+    /// An event begins: both counts are 0, no source has changed, and none was disturbed.
     pub fn reset(&mut self)
         ensures { self.new ≡ uncounted self.old }
     {
         self.mfc.reset();
         self.evaluated = Evaluations::none();
+        self.changed.clear();
+        self.disturbed.clear();
     }
 
     // Makes the row of a source anew, or takes it out.
@@ -82,6 +129,7 @@ impl Cache {
     ) -> Result<(), AllocError>
         ensures shown { OnOk result (RefreshesOne (name_key name) world.now self.old.mfc.rows self.new.mfc.rows) }
         ensures few { OnOk result (touches self.new ≡ raised (touches self.old) (touches_of world.now (name_key name))) }
+        ensures listed { OnOk result ((self.new.changed ≡ self.old.changed) × (self.new.disturbed ≡ self.old.disturbed)) }
         ensures at_least { raised meter.old (named_nodes world.now name) ≤ meter.new }
     {
         if !has_fact(world, name) {
@@ -93,10 +141,8 @@ impl Cache {
         Ok(())
     }
 
-    /// Makes the row anew of each named source that has a fact, by one evaluation and one put, and takes that of each
-    /// other out. The meter rises by the nodes that its look-ups visit, at least those of the sight of each named source that
-    /// has a fact. After an error nothing is known of the rows.
-    pub fn refresh(
+    // Makes the row of each of these sources anew, or takes it out.
+    fn refresh_rows(
         &mut self,
         world: &World,
         meter: &mut Meter,
@@ -104,11 +150,48 @@ impl Cache {
     ) -> Result<(), AllocError>
         ensures shown { OnOk result (Refreshes (keys_of names.now) world.now self.old.mfc.rows self.new.mfc.rows) }
         ensures few { OnOk result (touches self.new ≡ raised (touches self.old) (touches_in world.now (keys_of names.now))) }
+        ensures listed { OnOk result ((self.new.changed ≡ self.old.changed) × (self.new.disturbed ≡ self.old.disturbed)) }
         ensures at_least { OnOk result (raised meter.old (sum_by (named_nodes world.now) names.now) ≤ meter.new) }
     {
         for name in names {
             self.refresh_one(world, meter, *name)?;
         }
         Ok(())
+    }
+
+    // Puts these names behind the changed ones, or where there are none in their place, and the touched keys behind the others.
+    fn list(&mut self, mut names: Vec<SourceGroup>, touched: Touched) -> Result<(), AllocError>
+        requires { touches self.old ≡ 0 → names.items ≡ [] }
+        ensures kept { (self.new.mfc ≡ self.old.mfc) × (self.new.evaluated ≡ self.old.evaluated) }
+        ensures changed { OnOk result (self.new.changed ≡ self.old.changed ++ keys_of names.items) }
+        ensures disturbed { OnOk result (self.new.disturbed ≡ joined self.old.disturbed touched) }
+    {
+        self.disturbed.add(touched)?;
+        if self.changed.is_empty() {
+            self.changed = names;
+            return Ok(());
+        }
+        self.changed.append(&mut names)
+    }
+
+    /// Makes the row anew of each named source that has a fact, by one evaluation and one put, takes that of each
+    /// other out, and lists them all as changed; and the sources that the touched keys name, or whose group, are disturbed. The meter
+    /// rises by the nodes that its look-ups visit, at least those of the sight of each named source that has a fact. After an error
+    /// nothing is known of the rows.
+    pub fn refresh(
+        &mut self,
+        world: &World,
+        meter: &mut Meter,
+        names: Series<SourceGroup>,
+        touched: Touched,
+    ) -> Result<(), AllocError>
+        ensures shown { OnOk result (Refreshes (keys_of names) world.now self.old.mfc.rows self.new.mfc.rows) }
+        ensures few { OnOk result (touches self.new ≡ raised (touches self.old) (touches_in world.now (keys_of names))) }
+        ensures listed { OnOk result (self.new.changed ≡ self.old.changed ++ keys_of names) }
+        ensures disturbed { OnOk result (self.new.disturbed ≡ joined self.old.disturbed touched) }
+        ensures at_least { OnOk result (raised meter.old (sum_by (named_nodes world.now) names) ≤ meter.new) }
+    {
+        self.refresh_rows(world, meter, names.as_slice())?;
+        self.list(names.into_vec(), touched)
     }
 }

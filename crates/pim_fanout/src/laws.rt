@@ -1,6 +1,6 @@
 //! Laws of who is named, and of the rows, each the contract of a function with nothing to do.
 
-ghost use Rattle.pim_fanout.specs.Laws.{EventShowsRows, FiredNamesAreReached, FiredOthersKeep, FiringShowsRows, NamesAreFew, NamesAreNamed, NamesAreReached, NamesRise, OpeningShowsRows, OthersKeep, PlainShowsRows, PresentShowsRows};
+ghost use Rattle.pim_fanout.specs.Laws.{EventShowsRows, FiredNamesAreReached, FiredOthersKeep, FiringShowsRows, NamesAreFew, NamesAreNamed, NamesAreReached, NamesRise, OpeningShowsRows, OthersKeep, PlainShowsRows, PresentShowsRows, UntouchedIsUnnamed};
 
 /// Each named source stands once.
 #[tactic(auto, using(crate::proofs::Opened::names_rise))]
@@ -12,6 +12,11 @@ pub fn names_rise()
 #[tactic(auto, using(crate::proofs::Listed::names_are_named))]
 pub fn names_are_named()
     ensures { NamesAreNamed }
+{}
+
+/// What a change doesn't touch isn't named, whether it has a fact or not, where routes and RP ranges are as they were.
+pub fn untouched_is_unnamed()
+    ensures { UntouchedIsUnnamed }
 {}
 
 /// No more of them are named than of all.

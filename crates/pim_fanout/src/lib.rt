@@ -5,10 +5,12 @@
 pub mod before;
 pub mod cache;
 mod compare;
+pub mod disturbed;
 pub mod laws;
 pub mod naming;
 
 pub use before::{Before, KnownSource, SourceBefore};
 pub use cache::Cache;
 pub use compare::{is_same_address, is_same_path};
+pub use disturbed::Disturbed;
 pub use naming::named;

@@ -99,6 +99,16 @@ impl Mfc {
         Some(CacheRow::of(row))
     }
 
+    /// What was evaluated of a source and is kept. No event looks it up.
+    pub fn kept(&self, name: SourceGroup) -> Option<SourceAnswers>
+        ensures { result ≡ kept_row self.now name.group.bits name.source.bits }
+    {
+        let mut uncounted = Meter::outside_events();
+        self.rows
+            .get(name.group, Some(name.source), &mut uncounted)
+            .copied()
+    }
+
     /// How a packet of the source that came on the interface goes, by its row alone; `None` where there is none, or where
     /// more comes of the packet than that KAT(S,G) is set and copies leave on links. The meter rises by the nodes visited,
     /// 66 at most, and by one at least where there is a row.

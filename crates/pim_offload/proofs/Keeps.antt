@@ -37,7 +37,7 @@ true_lt : (a b : ℕ) → nat_lt a b ≡ true → a < b
 true_lt a b e = grind (arith, nat_tests, e)
 
 -- a timer that runs
-running : (s : State) (g src end : ℕ) → keepalive_end s g src ≡ Some end → is_kept_alive s g src ≡ true
+pub running : (s : State) (g src end : ℕ) → keepalive_end s g src ≡ Some end → is_kept_alive s g src ≡ true
 unfolding keepalive_end is_kept_alive
 running s g src end e = go (row_at s.sources (source_key 0 g src)) e
   where
@@ -46,7 +46,7 @@ running s g src end e = go (row_at s.sources (source_key 0 g src)) e
     go None e = cc
     go (Some r) e = ap (λ (k : Option ℕ). is_some k) e
 
-running_there : (s : State) (g src : ℕ) → is_kept_alive s g src ≡ true → has_row s.sources (source_key 0 g src) ≡ true
+pub running_there : (s : State) (g src : ℕ) → is_kept_alive s g src ≡ true → has_row s.sources (source_key 0 g src) ≡ true
 unfolding is_kept_alive has_row
 running_there s g src e = go (row_at s.sources (source_key 0 g src)) e
   where
@@ -173,7 +173,7 @@ module _ (s : State) (g src m : ℕ) (runs : is_kept_alive s g src ≡ true) whe
 -- ---- whether it is set or not
 
 module _ (s : State) (g src m : ℕ) where
-  keep_by : (P : State → Type 0) → P s
+  pub keep_by : (P : State → Type 0) → P s
       → ((end : ℕ) → keepalive_end s g src ≡ Some end → end < m + keepalive_period
       → P (kept_until s g src (m + keepalive_period))) → P (keep s g src m)
   unfolding keep

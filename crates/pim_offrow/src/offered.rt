@@ -10,7 +10,7 @@ use pim_macros::SourceAnswers;
 #[derive(Clone, Copy)]
 pub struct Offered {
     /// Whether the source has a fact: its row then stays as it is until an event lists the source as changed. That of another
-    /// stays until the router's next event.
+    /// stays until an event may have disturbed it.
     pub is_known: bool,
     pub row: OffloadRow,
 }

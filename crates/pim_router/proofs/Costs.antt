@@ -72,7 +72,7 @@ cheap_turn (Err fault) s e probes touched before rest plain costs none = tt
 
 -- ---- the last of some events
 
-state_then : (s : State) (es : List Event) (e : Event) → state_after s (es ++ e ∷ []) ≡ (step (state_after s es) e).state
+pub state_then : (s : State) (es : List Event) (e : Event) → state_after s (es ++ e ∷ []) ≡ (step (state_after s es) e).state
 unfolding state_after ran
 state_then s [] e = refl
 state_then s (x ∷ es) e = state_then (step s x).state es e

@@ -72,7 +72,7 @@ module _ {X : Type 0} (told : State → State → List X) (w : ℕ) where
   instant_fires s e =
       same_end as_it_is (next_due e.end) (told_once told w) (fire_once w) (λ t d. refl) (length (timers s) + 1) s
 
-  instant_told : (s : State) (e d : Ending) → IsFirable s → ends_from e.end s ≡ true → next_due e.end s ≡ Some d
+  pub instant_told : (s : State) (e d : Ending) → IsFirable s → ends_from e.end s ≡ true → next_due e.end s ≡ Some d
       → (told_instant told w s e).1 ≡ told s (own_firing s d) ++ (told_instant told w (fire_once w s d).0 e).1
   unfolding told_instant told_once and_then
   instant_told s e d firable from there =
@@ -82,13 +82,13 @@ module _ {X : Type 0} (told : State → State → List X) (w : ℕ) where
       (ap (next_due e.end) (instant_fires s e) ∙ instant_ends w s e d firable from there)
       (ap (next_due e.end) (instant_fires (fire_once w s d).0 e) ∙ later_ends w s e d firable from there))
 
-  instant_silent : (s : State) (e : Ending) → next_due e.end s ≡ None → (told_instant told w s e).1 ≡ []
+  pub instant_silent : (s : State) (e : Ending) → next_due e.end s ≡ None → (told_instant told w s e).1 ≡ []
   unfolding told_instant
   instant_silent s e none =
       ap (λ (p : State × List X). p.1)
       (same_when_none (next_due e.end) (told_once told w) (length (timers s) + 1) s none)
 
-  all_told : (m : ℕ) (s : State) (e : Ending) → IsReady s.present s → next_due m s ≡ Some e
+  pub all_told : (m : ℕ) (s : State) (e : Ending) → IsReady s.present s → next_due m s ≡ Some e
       → (told_all told w m s).1 ≡ (told_instant told w s e).1 ++ (told_all told w m (fire_instant w s e).0).1
   unfolding told_all and_then
   all_told m s e ready there =
@@ -100,7 +100,7 @@ module _ {X : Type 0} (told : State → State → List X) (w : ℕ) where
       ∙ ap (λ (t : State). (fire_all w m t).0) (instant_fires s e)) ∙ all_later_ends w m s e ready there))
       ∙ ap (λ (t : State). (told_instant told w s e).1 ++ (told_all told w m t).1) (instant_fires s e)
 
-  all_silent : (m : ℕ) (s : State) → next_due m s ≡ None → (told_all told w m s).1 ≡ []
+  pub all_silent : (m : ℕ) (s : State) → next_due m s ≡ None → (told_all told w m s).1 ≡ []
   unfolding told_all
   all_silent m s none =
       ap (λ (p : State × List X). p.1)

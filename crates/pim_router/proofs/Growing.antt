@@ -1,7 +1,8 @@
 -- Facts before and after a change, by a test of keys.
-use Rattle.std.proofs.Common.{◌≡◌, Bool, true, false, cond, List, [], ◌∷◌, ◌++◌, ◌||◌, filter, Option, Some, None, refl, ap, sym, ◌∙◌}
+use Rattle.std.proofs.Common.{◌≡◌, Bool, true, false, cond, List, [], ◌∷◌, ◌++◌, ◌||◌, ◌&&◌, filter, Option, Some, None, refl, ap, sym, ◌∙◌}
 use Rattle.std.proofs.lemmas.Bool.{or_left, or_right}
 use Rattle.std.proofs.lemmas.List.Folds.{list_any-append}
+use Rattle.std.specs.Cmp.{first_so}
 use Rattle.std.specs.List.{list_any}
 use Rattle.std.specs.Prelude.{fold}
 use Rattle.pim_types.specs.declared.fact.AssertRow.{AssertRow}
@@ -12,12 +13,31 @@ use Rattle.pim_types.specs.declared.fact.OverrideTimerRow.{OverrideTimerRow}
 use Rattle.pim_types.specs.declared.fact.SourceRow.{SourceRow}
 use Rattle.pim_model.specs.Messages.{Message}
 use Rattle.pim_model.specs.State.{State}
-use Rattle.pim_model.specs.Tables.{Table, keys_in, put, set_row}
+use Rattle.pim_model.specs.Tables.{Table, has_row, keys_in, put, set_row}
 use Rattle.pim_model.specs.Upstream.{fact_keys}
+use Rattle.pim_types.specs.Keys.{same_key}
+use Rattle.pim_locality.proofs.Differing.{passing_named, row_named}
 use Rattle.pim_laws.proofs.FewerFacts.{IsFewer, row_without}
-use Rattle.pim_laws.proofs.ListLaws.{either}
+use Rattle.pim_laws.proofs.ListLaws.{any_more, either}
 use Rattle.pim_laws.proofs.RowLaws.{any_of_put}
 use Rattle.pim_laws.proofs.TableLaws.{any_of_map}
+
+-- ---- keys among others
+
+pub any_left : (p : Key → Bool) (xs ys : List Key) → list_any p xs ≡ true → list_any p (xs ++ ys) ≡ true
+any_left p xs ys here = list_any-append p xs ys ∙ or_left (list_any p xs) (list_any p ys) here
+
+pub any_right : (p : Key → Bool) (xs ys : List Key) → list_any p ys ≡ true → list_any p (xs ++ ys) ≡ true
+any_right p xs ys here = list_any-append p xs ys ∙ or_right (list_any p xs) (list_any p ys) here
+
+-- a key that has a row is among the keys of its table
+pub row_among : {R : Type 0} (p : Key → Bool) (k : Key) (t : Table R) → has_row t k ≡ true → p k ≡ true
+    → list_any p (keys_in t) ≡ true
+row_among p k t there named =
+    any_more (λ x. p x && same_key k x) p (λ x e. first_so (p x) (same_key k x) e) (keys_in t)
+    (passing_named p k named (keys_in t) ∙ row_named k t ∙ there)
+
+-- ---- facts that are more
 
 or_or : (a b x : Bool) → ((a || x) || (b || x)) ≡ ((a || b) || x)
 or_or true b x = refl

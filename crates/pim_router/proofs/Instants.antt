@@ -114,12 +114,13 @@ pub moment_told : (o : Option Ending) (due : ℕ × Timer) → Some due ≡ opti
 moment_told None due e = cc
 moment_told (Some d) due e = cc
 
-pub shown_moment : (shown : Shown) (failed : Bool) (r : Standing) (probes touched : ℕ)
-    → (if failed then nothing_shown else record { standing = Some r; probes = probes; touched = touched }) ≡ shown
+pub shown_moment : (shown : Shown) (failed : Bool) (r : Standing) (probes touched : ℕ) (changed : List Key) (disturbed : Touched)
+    → (if failed then nothing_shown
+    else record { standing = Some r; probes = probes; touched = touched; changed = changed; disturbed = disturbed }) ≡ shown
     → failed ≡ false → (m : Option ℕ) → m ≡ option_map (λ (e : Ending). e.end) (next_ending r.state)
     → m ≡ option_and_then (λ (x : Standing). next_moment x.state) shown.standing
 unfolding next_moment
-shown_moment shown failed r probes touched shows works m is =
+shown_moment shown failed r probes touched changed disturbed shows works m is =
     let some = rw works at shows in
     is ∙ ap (λ (x : Shown). option_and_then (λ (y : Standing). next_moment y.state) x.standing) some
 

@@ -8,6 +8,7 @@ mod IgmpFacts
 mod Growing
 mod Heard
 mod Instants
+mod Listing
 mod Judgements
 mod MovedEnds
 mod MovedReports
@@ -15,12 +16,16 @@ mod Plainly
 mod Rows
 mod Runs
 mod Sending
+mod Staying
 mod Settling
 mod SourceEnds
 mod Taking
 mod OtherRoutes
 mod Packets
+mod Offering
 mod Plans
+mod Repeats
+mod Restarted
 mod Touching
 mod Tunnelled
 mod Visited

@@ -80,7 +80,7 @@ module _ (p : Key → Bool) (x : Bool) (g src : ℕ) (its : (i : ℕ) → p (sou
   abbrev k : Key
   k = source_key 0 g src
 
-  keepalive_grows : (s : State) → FactsGrow p x s (with_keepalive s g src)
+  pub keepalive_grows : (s : State) → FactsGrow p x s (with_keepalive s g src)
   unfolding with_keepalive
   keepalive_grows s = sources_grow p x k (its 0) s _
 

@@ -4,8 +4,11 @@ use Rattle.std.proofs.Common.{◌≡◌, ℕ, Bool, true, false, List, ap, inl, 
 use Rattle.pim_types.specs.declared.fact.Key.{Key}
 use Rattle.pim_model.specs.declared.accepted.Accepted.{Accepted}
 use Rattle.pim_model.specs.Full.{is_full, join_prune_is_full, keys_are_full, source_is_full}
-use Rattle.pim_locality.specs.Touches.{packet_keys}
+use Rattle.pim_locality.specs.Rest.{IsAtRest}
+use Rattle.pim_router.specs.Repeats.{keys_of_packet}
 use Rattle.pim_macros.specs.Sights.{IsSourceSight}
+use Rattle.pim_model.specs.Registers.{registered_group, registered_source}
+use Rattle.pim_model.specs.Sets.{is_kept_alive}
 use Rattle.pim_model.specs.State.{State}
 use Rattle.pim_model.specs.Step.{advanced, change, rps_replaced, stopped, taken, taken_unless_full}
 use Rattle.pim_ip.specs.declared.refusal.Refusal.{Refusal}
@@ -19,12 +22,15 @@ use Rattle.pim_ip.specs.Ipv4.{Packet}
 use Rattle.pim_types.specs.declared.config.IfaceId.{IfaceId}
 use Rattle.pim_types.specs.declared.config.Route.{Route}
 use Rattle.pim_types.specs.declared.config.RpRange.{RpRange}
-use Rattle.pim_wire.specs.Values.{JoinPrune}
+use Rattle.pim_wire.specs.RegisterParts.{group_in, source_in}
+use Rattle.pim_wire.specs.Values.{Encapsulated, JoinPrune, Null, Register}
 use Rattle.pim_model.specs.Downstream.{joined_keys, pruned_keys}
-use Rattle.pim_downstream.specs.declared.named.Named.{Named}
+use Rattle.pim_downstream.specs.Naming.{changes_after}
+use Rattle.pim_downstream.specs.declared.effect.Change.{Change}
 use Rattle.pim_macros.specs.declared.sight.SourceSight.{SourceSight}
 use Rattle.pim_router.specs.OtherRoutes.{with_routes}
-use Rattle.pim_router.specs.Planning.{Fits, HasKeys, HasSight, HasSomeKeys, HasSomeSight, IsSightOf, Supplies, touched_of}
+use Rattle.pim_router.specs.Planning.{Fits, HasChanges, HasHeard, HasKeys, HasSight, HasSomeSight, IsSightOf, Supplies, touched_of}
+use Rattle.pim_router.specs.declared.plan.Heard.{Heard}
 use Rattle.pim_router.specs.declared.plan.Means.{Means}
 use Rattle.pim_router.specs.declared.plan.Plan.{Plan}
 use Rattle.pim_router.proofs.Touching.{MakesNone, facts_covered, packet_covered}
@@ -59,8 +65,14 @@ pub keys_where : (on : Bool) (keys none : List Key) (otherwise : Touched) → on
     → Touched.Keys keys ≡ (if on then Touched.Keys none else otherwise)
 keys_where on keys none otherwise is are = rw is (ap Touched.Keys are)
 
-pub all_where : (on : Bool) (keys : Touched) → on ≡ false → Touched.All ≡ (if on then keys else Touched.All)
-all_where on keys is = rw is refl
+-- and on two
+pub restarted_where : (on too : Bool) (keys these : List Key) (none : Touched) → on ≡ false → too ≡ true → keys ≡ these
+    → Touched.Keys keys ≡ (if on then none else (if too then Touched.Keys these else Touched.All))
+restarted_where on too keys these none is also are = rw (is, also) (ap Touched.Keys are)
+
+pub all_where : (on too : Bool) (none these : Touched) → on ≡ false → too ≡ false
+    → Touched.All ≡ (if on then none else (if too then these else Touched.All))
+all_where on too none these is also = rw (is, also) refl
 
 pub these_where : (on : Bool) (keys first second : List Key) → on ≡ true → keys ≡ first
     → Touched.Keys keys ≡ Touched.Keys (if on then first else second)
@@ -69,6 +81,14 @@ these_where on keys first second is are = rw is (ap Touched.Keys are)
 pub those_where : (on : Bool) (keys first second : List Key) → on ≡ false → keys ≡ second
     → Touched.Keys keys ≡ Touched.Keys (if on then first else second)
 those_where on keys first second is are = rw is (ap Touched.Keys are)
+
+-- ---- a Register
+
+-- whether its source is kept alive, asked of what is read of it
+pub kept_alive_of : (s : State) (r : Register) (g src : ℕ) → g ≡ group_in r → src ≡ source_in r
+    → is_kept_alive s g src ≡ is_kept_alive s (registered_group r) (registered_source r)
+kept_alive_of s (Encapsulated inner) g src group source = λ j. is_kept_alive s (group j) (source j)
+kept_alive_of s (Null own of_group) g src group source = λ j. is_kept_alive s (group j) (source j)
 
 -- ---- routes and RP ranges
 
@@ -120,18 +140,18 @@ module _ (s : State) (i : IfaceId) (p : Packet) where
       ap (λ (n : ℕ). source_is_full s n p.source) (sym group) ∙ ap (λ (n : ℕ). source_is_full s g n) (sym source)
       ∙ sym is ∙ e
 
-  pub data_fits : (sight : SourceSight) (keys : List Key) (plan : Plan)
+  pub data_fits : IsAtRest s → (sight : SourceSight) (keys : List Key) (plan : Plan)
       → (let q : Plan = record { touched = Touched.Keys keys; means = Means.Sight sight } in plan ≡ q)
       → sight.star.group.bits ≡ p.destination → sight.source.bits ≡ p.source → IsSourceSight s sight
       → is_full s (Accepted.Data i p) ≡ false
-      → keys ≡ packet_keys s sight.star.group.bits sight.source.bits i.number → Fits s (Accepted.Data i p) plan
+      → keys ≡ keys_of_packet s sight.star.group.bits sight.source.bits i.number → Fits s (Accepted.Data i p) plan
   unfolding touched_of
-  data_fits sight keys plan is group source shown room those =
-      let are : keys ≡ packet_keys s p.destination p.source i.number =
-      those ∙ ap (λ (n : ℕ). packet_keys s n sight.source.bits i.number) group
-      ∙ ap (λ (n : ℕ). packet_keys s p.destination n i.number) source in
+  data_fits rest sight keys plan is group source shown room those =
+      let are : keys ≡ keys_of_packet s p.destination p.source i.number =
+      those ∙ ap (λ (n : ℕ). keys_of_packet s n sight.source.bits i.number) group
+      ∙ ap (λ (n : ℕ). keys_of_packet s p.destination n i.number) source in
       keys_fit s (Accepted.Data i p) plan keys (Means.Sight sight) is (ap Touched.Keys are) room
-      (packet_covered s i p keys are)
+      (packet_covered s rest i p keys are)
       (record { shown = shown; group = group; source = source })
 
 -- what is taken, where there is room and where there is none
@@ -153,38 +173,52 @@ module _ (s : State) (w : ℕ) (a : Accepted) where
 -- ---- what a plan gives to its change
 
 module _ (s : State) (a : Accepted) (m : Means) where
-  some_keys : (joined pruned : List Key) (n : Means) → HasKeys joined pruned n → HasSomeKeys n
-  some_keys joined pruned (Means.Keys named) h = tt
-  some_keys joined pruned Means.Nothing h = h
-  some_keys joined pruned (Means.Sight sight) h = h
+  some_heard : (joined pruned : List Key) (n : Means) → HasKeys joined pruned n → HasHeard n
+  some_heard joined pruned (Means.Heard heard) h = tt
+  some_heard joined pruned Means.Nothing h = h
+  some_heard joined pruned (Means.Sight sight) h = h
 
   some_sight : (g src : ℕ) (n : Means) → HasSight s g src n → HasSomeSight n
   some_sight g src (Means.Sight sight) h = tt
   some_sight g src Means.Nothing h = h
-  some_sight g src (Means.Keys named) h = h
+  some_sight g src (Means.Heard heard) h = h
 
   module _ (i : IfaceId) (message : JoinPrune) where
-    pub to_me_has_keys : a ≡ Accepted.JoinPruneToMe i message → Supplies s a m → HasSomeKeys m
-    to_me_has_keys is supplied =
-        some_keys (joined_keys s i.number message) (pruned_keys i.number message) m
-        (subst (λ (x : Accepted). Supplies s x m) is supplied)
+    abbrev joined : List Key
+    joined = joined_keys s i.number message
 
-    pub seen_has_keys : a ≡ Accepted.JoinPruneSeen i message → Supplies s a m → HasSomeKeys m
-    seen_has_keys is supplied =
-        some_keys (joined_keys s i.number message) (pruned_keys i.number message) m
-        (subst (λ (x : Accepted). Supplies s x m) is supplied)
+    abbrev pruned : List Key
+    pruned = pruned_keys i.number message
 
-    pub to_me_keys : (named : Named) → a ≡ Accepted.JoinPruneToMe i message → Supplies s a m → m ≡ Means.Keys named
-        → (named.joined.items ≡ joined_keys s i.number message) × (named.pruned.items ≡ pruned_keys i.number message)
-    to_me_keys named is supplied are =
-        subst (λ (n : Means). HasKeys (joined_keys s i.number message) (pruned_keys i.number message) n) are
-        (subst (λ (x : Accepted). Supplies s x m) is supplied)
+    pub to_me_is_heard : a ≡ Accepted.JoinPruneToMe i message → Supplies s a m → HasHeard m
+    to_me_is_heard is supplied =
+        some_heard joined pruned m (subst (λ (x : Accepted). Supplies s x m) is supplied).0
 
-    pub seen_keys : (named : Named) → a ≡ Accepted.JoinPruneSeen i message → Supplies s a m → m ≡ Means.Keys named
-        → (named.joined.items ≡ joined_keys s i.number message) × (named.pruned.items ≡ pruned_keys i.number message)
-    seen_keys named is supplied are =
-        subst (λ (n : Means). HasKeys (joined_keys s i.number message) (pruned_keys i.number message) n) are
-        (subst (λ (x : Accepted). Supplies s x m) is supplied)
+    pub seen_is_heard : a ≡ Accepted.JoinPruneSeen i message → Supplies s a m → HasHeard m
+    seen_is_heard is supplied = some_heard joined pruned m (subst (λ (x : Accepted). Supplies s x m) is supplied)
+
+    module _ (heard : Heard) (are : m ≡ Means.Heard heard) where
+      pub to_me_keys : a ≡ Accepted.JoinPruneToMe i message → Supplies s a m
+          → (heard.named.joined.items ≡ joined) × (heard.named.pruned.items ≡ pruned)
+      to_me_keys is supplied =
+          subst (λ (n : Means). HasKeys joined pruned n) are (subst (λ (x : Accepted). Supplies s x m) is supplied).0
+
+      pub to_me_changes : a ≡ Accepted.JoinPruneToMe i message → Supplies s a m → (holdtime : ℕ)
+          → holdtime ≡ message.holdtime
+          → heard.changes.items
+          ≡ changes_after s i.number holdtime heard.named.joined.items heard.named.pruned.items
+      to_me_changes is supplied holdtime lasts =
+          let those : HasChanges (changes_after s i.number message.holdtime joined pruned) (Means.Heard heard) =
+          subst (λ (n : Means). HasChanges (changes_after s i.number message.holdtime joined pruned) n) are
+          (subst (λ (x : Accepted). Supplies s x m) is supplied).1 in
+          let named : (heard.named.joined.items ≡ joined) × (heard.named.pruned.items ≡ pruned) =
+          to_me_keys is supplied in
+          those ∙ sym (λ j. changes_after s i.number (lasts j) (named.0 j) (named.1 j))
+
+      pub seen_keys : a ≡ Accepted.JoinPruneSeen i message → Supplies s a m
+          → (heard.named.joined.items ≡ joined) × (heard.named.pruned.items ≡ pruned)
+      seen_keys is supplied =
+          subst (λ (n : Means). HasKeys joined pruned n) are (subst (λ (x : Accepted). Supplies s x m) is supplied)
 
   module _ (i : IfaceId) (p : Packet) (is : a ≡ Accepted.Data i p) (supplied : Supplies s a m) where
     pub data_has_sight : HasSomeSight m

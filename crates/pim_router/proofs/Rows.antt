@@ -70,16 +70,15 @@ each_ok (Ok x) f p = f x p
 each_ok (Err e) f p = tt
 
 -- their rows, and no others, are touched
-pub touches_named : (o changed t : State) (touched : Touched) (names slice : List SourceGroup) (old new : ℕ)
-    → AreNames o changed touched (keys_of names) → slice ≡ names → new ≡ raised old (touches_in t (keys_of slice))
+pub touches_named : (o changed t : State) (touched : Touched) (names : List SourceGroup) (old new : ℕ)
+    → AreNames o changed touched (keys_of names) → new ≡ raised old (touches_in t (keys_of names))
     → new ≡ raised old (touches_in t (names_of o changed touched))
-touches_named o changed t touched names slice old new are sliced costs =
-    costs ∙ ap (λ (ns : List SourceGroup). raised old (touches_in t (keys_of ns))) sliced
-    ∙ ap (λ (ks : List Key). raised old (touches_in t ks)) are.are
+touches_named o changed t touched names old new are costs =
+    costs ∙ ap (λ (ks : List Key). raised old (touches_in t ks)) are.are
 
 -- ---- after an event
 
-named_timeless : (s : State) (w : ℕ) (a : Accepted) → ((m : ℕ) → ¬ (a ≡ Accepted.Advance m))
+pub named_timeless : (s : State) (w : ℕ) (a : Accepted) → ((m : ℕ) → ¬ (a ≡ Accepted.Advance m))
     → named_of s w a ≡ named_by s (change s w a).state
 unfolding named_of
 named_timeless s w (Accepted.Up i) timeless = refl
@@ -91,12 +90,10 @@ named_timeless s w a timeless = refl
 
 module _ (s : State) (w : ℕ) (a : Accepted) (timeless : (m : ℕ) → ¬ (a ≡ Accepted.Advance m)) (touched : Touched)
     (names : List SourceGroup) (are : AreNames s (change s w a).state touched (keys_of names)) where
-  pub rows_after : (t : State) (old new : Table SourceAnswers) (lent : InterfaceTable) (slice : List SourceGroup)
+  pub rows_after : (t : State) (old new : Table SourceAnswers) (lent : InterfaceTable)
       → IsQuiet s → lent ≡ interfaces_of s → length lent.configured ≤ 120 → t ≡ (taken s w a).state
-      → slice ≡ names → Refreshes (keys_of slice) t old new → ShowsRows old (cached s) → ShowsRows new (cached t)
-  rows_after t old new lent slice quiet lends few is sliced refreshed_so shows =
-      let refreshes : Refreshes (keys_of names) t old new =
-      subst (λ (ns : List SourceGroup). Refreshes (keys_of ns) t old new) sliced refreshed_so in
+      → Refreshes (keys_of names) t old new → ShowsRows old (cached s) → ShowsRows new (cached t)
+  rows_after t old new lent quiet lends few is refreshes shows =
       let same : t ≡ (done s w (change s w a)).state = is ∙ ap (λ x. x.state) (taken_is_done s w a timeless) in
       let within : length s.configured ≤ 120 = subst (λ (x : InterfaceTable). length x.configured ≤ 120) lends few in
       subst (λ (u : State). ShowsRows new (cached u)) (sym same)
@@ -105,48 +102,45 @@ module _ (s : State) (w : ℕ) (a : Accepted) (timeless : (m : ℕ) → ¬ (a �
       same
       (subst (λ (ks : List Key). ShowsRows new (refreshed ks t (cached s))) are.are (refreshes (cached s) shows))))
 
-  pub cost_after : (t : State) (old new : ℕ) (slice : List SourceGroup) → slice ≡ names
-      → new ≡ raised old (touches_in t (keys_of slice)) → new ≤ old + 2 * length (named_of s w a)
-  cost_after t old new slice sliced costs =
-      let most : new ≤ old + 2 * length slice = costs_few t slice old new costs in
-      let lengths : length slice ≡ length names = ap (λ (ns : List SourceGroup). length ns) sliced in
+  pub cost_after : (t : State) (old new : ℕ) → new ≡ raised old (touches_in t (keys_of names))
+      → new ≤ old + 2 * length (named_of s w a)
+  cost_after t old new costs =
+      let most : new ≤ old + 2 * length names = costs_few t names old new costs in
       let few : length names ≤ length (named_by s (change s w a).state) =
       few_of s (change s w a).state touched names are in
       let same : length (named_by s (change s w a).state) ≡ length (named_of s w a) =
       ap (λ (ks : List Key). length ks) (sym (named_timeless s w a timeless)) in
-      omega (arith, most, few, same, lengths)
+      omega (arith, most, few, same)
 
 -- ---- after a timer's end
 
 module _ (s : State) (w : ℕ) (e : Ending) (touched : Touched) (names : List SourceGroup)
     (are : AreNames s (own_firing s e) touched (keys_of names)) where
-  pub rows_fired : (t : State) (old new : Table SourceAnswers) (lent : InterfaceTable) (slice : List SourceGroup)
+  pub rows_fired : (t : State) (old new : Table SourceAnswers) (lent : InterfaceTable)
       → IsQuiet s → lent ≡ interfaces_of s → length lent.configured ≤ 120 → t ≡ (fire_once w s e).0
-      → slice ≡ names → Refreshes (keys_of slice) t old new → ShowsRows old (cached s) → ShowsRows new (cached t)
-  rows_fired t old new lent slice quiet lends few is sliced refreshed_so shows =
-      let refreshes : Refreshes (keys_of names) t old new =
-      subst (λ (ns : List SourceGroup). Refreshes (keys_of ns) t old new) sliced refreshed_so in
+      → Refreshes (keys_of names) t old new → ShowsRows old (cached s) → ShowsRows new (cached t)
+  rows_fired t old new lent quiet lends few is refreshes shows =
       let within : length s.configured ≤ 120 = subst (λ (x : InterfaceTable). length x.configured ≤ 120) lends few in
       subst (λ (u : State). ShowsRows new (cached u)) (sym is)
       (firing_shows_rows s quiet within w e touched are.covers new
       (subst (λ (u : State). ShowsRows new (refreshed (named_among s (clear s (own_firing s e)).0 touched) u (cached s))) is
       (subst (λ (ks : List Key). ShowsRows new (refreshed ks t (cached s))) are.are (refreshes (cached s) shows))))
 
-  pub cost_fired : (t : State) (old new : ℕ) (slice : List SourceGroup) → slice ≡ names
-      → new ≡ raised old (touches_in t (keys_of slice)) → new ≤ old + 2 * length (named_by s (own_firing s e))
-  cost_fired t old new slice sliced costs =
-      let most : new ≤ old + 2 * length slice = costs_few t slice old new costs in
-      let lengths : length slice ≡ length names = ap (λ (ns : List SourceGroup). length ns) sliced in
+  pub cost_fired : (t : State) (old new : ℕ) → new ≡ raised old (touches_in t (keys_of names))
+      → new ≤ old + 2 * length (named_by s (own_firing s e))
+  cost_fired t old new costs =
+      let most : new ≤ old + 2 * length names = costs_few t names old new costs in
       let few : length names ≤ length (named_by s (own_firing s e)) = few_of s (own_firing s e) touched names are in
-      omega (arith, most, few, lengths)
+      omega (arith, most, few)
 
 -- ---- what the router shows of them
 
-pub tells_shown : (shown : Shown) (failed : Bool) (r : Standing) (probes touched : ℕ)
-    → (if failed then nothing_shown else record { standing = Some r; probes = probes; touched = touched }) ≡ shown
+pub tells_shown : (shown : Shown) (failed : Bool) (r : Standing) (probes touched : ℕ) (changed : List Key) (disturbed : Touched)
+    → (if failed then nothing_shown
+    else record { standing = Some r; probes = probes; touched = touched; changed = changed; disturbed = disturbed }) ≡ shown
     → failed ≡ false → (row : Option CacheRow) (g src : ℕ) → TellsRow row (cached r.state g src)
     → IfSome shown.standing (λ (x : Standing). TellsRow row (cached x.state g src))
-tells_shown shown failed r probes touched shows works row g src tells =
+tells_shown shown failed r probes touched changed disturbed shows works row g src tells =
     let some = ap (λ (x : Shown). x.standing) (rw works at shows) in
     rw (← some) tells
 

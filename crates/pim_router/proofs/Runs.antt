@@ -3,6 +3,7 @@ use Rattle.std.proofs.Common.{◌≡◌, ℕ, Bool, false, Some, Ok, suc, ◌+�
 use Rattle.std.proofs.Math.ListN.{drop_of_length-le}
 use Rattle.std.proofs.Math.Seq.{drop-cons}
 use Rattle.pim_types.specs.declared.event.Event.{Event}
+use Rattle.pim_types.specs.declared.fact.Key.{Key}
 use Rattle.pim_types.specs.declared.outcome.Outcome.{Outcome}
 use Rattle.pim_locality.specs.Rest.{IsAtRest}
 use Rattle.std.specs.Prelude.{if◌then◌else◌}
@@ -11,6 +12,7 @@ use Rattle.pim_asked.proofs.Steps.{run_is_asked}
 use Rattle.pim_words.proofs.Bounded.{run_stays_within}
 use Rattle.pim_words.proofs.Few.{counted_stay_bounded}
 use Rattle.pim_words.specs.Bounded.{IsBounded}
+use Rattle.pim_world.specs.declared.touched.Touched.{Touched}
 use Rattle.pim_model.specs.Cause.{OutcomesAreAsked}
 use Rattle.pim_model.specs.Limits.{config_test}
 use Rattle.pim_model.specs.State.{State, opening}
@@ -68,34 +70,39 @@ module _ (first : State) (events : List Event) where
       ended s told (subst (λ (es : List Event). Runs first events s told es) (drop_of_length-le events le) runs)
 
 -- a router that shows this and works stands as the configuration opens, where that is what is shown
-is_opening : (shown : Shown) (failed : Bool) (r : Standing) (probes touched : ℕ)
-    → (if failed then nothing_shown else record { standing = Some r; probes = probes; touched = touched }) ≡ shown
+is_opening : (shown : Shown) (failed : Bool) (r : Standing) (probes touched : ℕ) (changed : List Key) (disturbed : Touched)
+    → (if failed then nothing_shown
+    else record { standing = Some r; probes = probes; touched = touched; changed = changed; disturbed = disturbed }) ≡ shown
     → failed ≡ false → (s : State) → shown.standing ≡ Some (beginning s) → r.state ≡ s
-is_opening shown failed r probes touched shows works s opens =
+is_opening shown failed r probes touched changed disturbed shows works s opens =
     let some = rw works at shows in
     let new : Some r ≡ Some (beginning s) = ap (λ (x : Shown). x.standing) some ∙ opens in
     let alike : r ≡ beginning s = cc new in
     ap (λ (x : Standing). x.state) alike
 
 -- the outcomes of a new router's run are asked for
-pub is_asked : (shown : Shown) (failed : Bool) (r : Standing) (probes touched : ℕ) (events : List Event)
+pub is_asked : (shown : Shown) (failed : Bool) (r : Standing) (probes touched : ℕ) (changed : List Key) (disturbed : Touched)
+    (events : List Event)
     (outcomes : List Outcome)
-    → (if failed then nothing_shown else record { standing = Some r; probes = probes; touched = touched }) ≡ shown
+    → (if failed then nothing_shown
+    else record { standing = Some r; probes = probes; touched = touched; changed = changed; disturbed = disturbed }) ≡ shown
     → failed ≡ false → outcomes ≡ run r.state events
     → (c : Config) → config_test c ≡ Ok tt → shown.standing ≡ Some (beginning (opening c))
     → OutcomesAreAsked [] (opening c) events outcomes
-is_asked shown failed r probes touched events outcomes shows works are c accepted opens =
-    let same : r.state ≡ opening c = is_opening shown failed r probes touched shows works (opening c) opens in
+is_asked shown failed r probes touched changed disturbed events outcomes shows works are c accepted opens =
+    let same : r.state ≡ opening c = is_opening shown failed r probes touched changed disturbed shows works (opening c) opens in
     subst (λ (os : List Outcome). OutcomesAreAsked [] (opening c) events os)
     (sym (are ∙ ap (λ (s : State). run s events) same)) (run_is_asked c events accepted)
 
 -- after a new router's run the limit bounds its facts
-pub is_bounded : (shown : Shown) (failed : Bool) (r : Standing) (probes touched : ℕ) (events : List Event) (after : State)
-    → (if failed then nothing_shown else record { standing = Some r; probes = probes; touched = touched }) ≡ shown
+pub is_bounded : (shown : Shown) (failed : Bool) (r : Standing) (probes touched : ℕ) (changed : List Key) (disturbed : Touched)
+    (events : List Event) (after : State)
+    → (if failed then nothing_shown
+    else record { standing = Some r; probes = probes; touched = touched; changed = changed; disturbed = disturbed }) ≡ shown
     → failed ≡ false → after ≡ state_after r.state events
     → (c : Config) → config_test c ≡ Ok tt → shown.standing ≡ Some (beginning (opening c)) → IsBounded c after
-is_bounded shown failed r probes touched events after shows works are c accepted opens =
-    let same : r.state ≡ opening c = is_opening shown failed r probes touched shows works (opening c) opens in
+is_bounded shown failed r probes touched changed disturbed events after shows works are c accepted opens =
+    let same : r.state ≡ opening c = is_opening shown failed r probes touched changed disturbed shows works (opening c) opens in
     subst (λ (s : State). IsBounded c s) (sym (are ∙ ap (λ (s : State). state_after s events) same))
     (record {
       beside_asserts = run_stays_within c events accepted;

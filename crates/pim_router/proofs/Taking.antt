@@ -6,6 +6,7 @@ use Rattle.pim_types.specs.declared.outcome.Emission.{Emission}
 use Rattle.pim_types.specs.declared.config.Route.{Route}
 use Rattle.pim_types.specs.declared.config.RpRange.{RpRange}
 use Rattle.pim_types.specs.declared.event.Event.{Event}
+use Rattle.pim_types.specs.declared.fact.Key.{Key}
 use Rattle.pim_types.specs.declared.event.EventKind.{EventKind}
 use Rattle.pim_types.specs.declared.outcome.Outcome.{Outcome}
 use Rattle.pim_types.specs.declared.outcome.Stop.{Stop}
@@ -205,14 +206,16 @@ concluded_silently s w (Ok a) = full_silently s w a (is_full s a)
 concluded_silently s w (Err stop) = stopped_silently s stop
 
 -- so there is room for what it sends
-pub finds_room : {A E : Type 0} (shown : Shown) (failed : Bool) (r : Standing) (probes touched : ℕ) (event : Event)
+pub finds_room : {A E : Type 0} (shown : Shown) (failed : Bool) (r : Standing) (probes touched : ℕ) (changed : List Key) (disturbed : Touched)
+    (event : Event)
     (outcome : Outcome) (sent : List Emission) (taken_up room : ℕ) (q : Result A E)
-    → (if failed then nothing_shown else record { standing = Some r; probes = probes; touched = touched }) ≡ shown
+    → (if failed then nothing_shown
+    else record { standing = Some r; probes = probes; touched = touched; changed = changed; disturbed = disturbed }) ≡ shown
     → failed ≡ false → outcome ≡ outcome_of (step r.state event)
     → sent ≡ outcome.emissions → taken_up ≤ room → room < taken_up + length sent
     → IfSome shown.standing (λ x. IsTrue (needs_no_memory (step x.state event).answer) → IsOk q)
 unfolding step
-finds_room shown failed r probes touched event outcome sent taken_up room q shows works is are fits full =
+finds_room shown failed r probes touched changed disturbed event outcome sent taken_up room q shows works is are fits full =
     let some = ap (λ (x : Shown). x.standing) (rw works at shows) in
     rw (← some) (λ sure.
     let none : length sent ≡ 0 =

@@ -1,7 +1,7 @@
 -- Which machines a change concerns, and of which groups and sources it makes facts.
 use Rattle.std.proofs.Common.{◌≡◌, ℕ, Bool, true, false, List, [], ◌∷◌, ◌&&◌, ◌||◌, ◌++◌, ◌==◌, filter, min, map, not, Option, Some, None, refl, ap, eqb-true, subst, sym, ◌∙◌}
 use Rattle.std.specs.Cmp.{first_so, second_so}
-use Rattle.std.proofs.lemmas.Bool.{or_left, or_right}
+use Rattle.std.proofs.lemmas.Bool.{or_left}
 use Rattle.std.proofs.lemmas.List.Folds.{list_any-append}
 use Rattle.std.specs.List.{list_any}
 use Rattle.std.specs.Option.{option_map_or}
@@ -9,7 +9,7 @@ use Rattle.std.specs.Prelude.{fold, if◌then◌else◌}
 use Rattle.pim_types.specs.declared.fact.JoinTimerRow.{JoinTimerRow}
 use Rattle.pim_types.specs.declared.fact.Key.{Key}
 use Rattle.pim_types.specs.declared.fact.NeighbourRow.{NeighbourRow}
-use Rattle.pim_types.specs.Keys.{group_in, is_of_group, is_on, is_star, names_source, neighbour_key, star_key}
+use Rattle.pim_types.specs.Keys.{is_of_group, is_star, names_source, neighbour_key, star_key}
 use Rattle.pim_wire.specs.declared.hello.Hello.{Hello as HelloValue}
 use Rattle.pim_types.specs.declared.config.IfaceId.{IfaceId}
 use Rattle.pim_ip.specs.declared.addr.Addr.{Addr}
@@ -17,7 +17,7 @@ use Rattle.pim_wire.specs.Values.{Encapsulated, JoinPrune, Null, Register}
 use Rattle.pim_wire.specs.declared.assert.Assert.{Assert as AssertMessage}
 use Rattle.pim_model.specs.Forwarding.{register_received}
 use Rattle.pim_model.specs.declared.accepted.Accepted.{Accepted}
-use Rattle.pim_model.specs.Downstream.{asserts_after_joins, is_named, joined_keys, keys_taken, pruned_keys, row_after, rpt_rows_joined, to_me, touched_keys}
+use Rattle.pim_model.specs.Downstream.{asserts_after_joins, is_named, joined_keys, keys_taken, pruned_keys, row_after, to_me, touched_keys}
 use Rattle.pim_model.specs.Firing.{fired}
 use Rattle.pim_model.specs.Full.{asserted_keys}
 use Rattle.pim_model.specs.Hellos.{hello_holdtime_of, hello_received, hello_triggered, is_generation_changed, is_lost_to, neighbour_replaced, neighbour_restarted}
@@ -34,17 +34,19 @@ use Rattle.pim_laws.proofs.FewerFacts.{IsFewer, down_fewer, ended_fewer, fewer_b
 use Rattle.pim_laws.proofs.ListLaws.{either}
 use Rattle.pim_laws.proofs.Parts.{Asserts, JoinTimers}
 use Rattle.pim_locality.proofs.EventLaws.{change_touches}
+use Rattle.pim_locality.proofs.JoinPrunes.{join_prune_touches_moved, new_rows_moved}
 use Rattle.pim_locality.proofs.RefreshedNeighbours.{hello_again_touches_none}
 use Rattle.pim_locality.proofs.OwnKeys.{present_touches_none}
 use Rattle.pim_locality.proofs.SilentEvents.{seen_touches_none, timer_touches}
 use Rattle.pim_locality.proofs.Touches.{agrees_then, widened}
 use Rattle.pim_locality.specs.Events.{touched_by_event}
+use Rattle.pim_locality.specs.JoinPrunes.{moved_among, moved_keys}
 use Rattle.pim_locality.specs.Locality.{AgreesBut, touching}
 use Rattle.pim_locality.specs.Touches.{isnt_neighbour, packet_keys, touched_by}
 use Rattle.pim_opening.specs.Covers.{Concerns, Covers, IsWithin, NewAreNamed}
 use Rattle.pim_opening.specs.Openings.{has_facts}
 use Rattle.pim_neighbours.specs.Refreshed.{is_refreshed}
-use Rattle.pim_ready.specs.Ready.{IsLawful, Rises}
+use Rattle.pim_ready.specs.Ready.{IsLawful, IsOrdered, Rises}
 use Rattle.pim_router.specs.Ends.{has_other_sources, keeps_group, touched_by_end, touched_by_source}
 use Rattle.pim_router.proofs.SourceEnds.{source_end_touches}
 use Rattle.pim_model.specs.Full.{reported_groups, reported_sources}
@@ -53,51 +55,50 @@ use Rattle.pim_laws.specs.Laws.{is_under_source}
 use Rattle.igmp_wire.specs.Values.{Query as QueryValue, Record}
 use Rattle.pim_locality.specs.Scopes.{reads}
 use Rattle.pim_ready.specs.Ready.{IsSettled}
-use Rattle.pim_querier.specs.Reports.{all_move_ends}
+use Rattle.pim_querier.specs.Reports.{all_keep_modes, moved_sources}
 use Rattle.pim_router.proofs.IgmpFacts.{query_leaves_facts, report_names_facts, star_names_none}
-use Rattle.pim_router.proofs.MovedReports.{report_touches_none, reported_there}
+use Rattle.pim_router.proofs.MovedReports.{report_touches_moved, reported_known}
 use Rattle.pim_router.proofs.Tunnelled.{routes_leave_facts, rps_leave_facts, stop_leaves_facts}
 use Rattle.pim_model.specs.Registers.{is_null, register_stop_seen, registered_group, registered_source}
 use Rattle.pim_ip.specs.Ipv4.{Packet}
 use Rattle.pim_router.proofs.Packets.{packet_named, register_named}
 use Rattle.pim_wire.specs.declared.register.RegisterStop.{RegisterStop as RegisterStopValue}
 use Rattle.pim_types.specs.Keys.{source_key}
+use Rattle.pim_router.specs.Repeats.{is_assert_known, keys_of_packet, lost_keys, moves_end, without_generation}
+use Rattle.pim_locality.specs.Rest.{IsAtRest}
+use Rattle.pim_model.specs.Sets.{is_kept_alive}
+use Rattle.pim_router.proofs.Repeats.{assert_concerned, packet_concerned, register_concerned, so_false}
+use Rattle.pim_router.proofs.Restarted.{restarted_touches, same_priority}
 use Rattle.pim_router.proofs.Asserted.{asserted_named}
-use Rattle.pim_router.proofs.Growing.{Grows, all_more, facts_grow, filtered, stays}
+use Rattle.pim_router.proofs.Growing.{Grows, facts_grow, stays}
 use Rattle.pim_router.proofs.Heard.{seen_named}
 
 -- ---- a Join/Prune
 
-module _ (p : Key → Bool) (s : State) (i holdtime : ℕ) (joined pruned : List Key) where
-  rows_grow : Grows p (list_any p (joined ++ pruned)) (keys_in s.downstream)
+module _ (p : Key → Bool) (s : State) (ordered : IsOrdered s) (i holdtime : ℕ) (joined pruned : List Key) where
+  abbrev some_moved : Bool
+  some_moved = list_any p (moved_among s i holdtime joined pruned)
+
+  rows_grow : Grows p some_moved (keys_in s.downstream)
       (keys_in (fold (λ t k. set_row t k (row_after s i holdtime joined pruned k)) s.downstream
       (touched_keys s i joined pruned)))
-  unfolding touched_keys rpt_rows_joined
-  rows_grow e =
-      either (list_any p (keys_in s.downstream)) (list_any p (touched_keys s i joined pruned))
-      (or_left (list_any p (keys_in s.downstream)) (list_any p (joined ++ pruned)))
-      (λ f. either (list_any p (joined ++ pruned)) (list_any p (rpt_rows_joined s i joined))
-      (or_right (list_any p (keys_in s.downstream)) (list_any p (joined ++ pruned)))
-      (λ g. or_left (list_any p (keys_in s.downstream)) (list_any p (joined ++ pruned))
-      (filtered p (λ k. is_on i k && k.rpt && is_named joined (star_key i (group_in k))) (keys_in s.downstream) g))
-      (sym (list_any-append p (joined ++ pruned) (rpt_rows_joined s i joined)) ∙ f))
-      (all_more p (row_after s i holdtime joined pruned) (touched_keys s i joined pruned) s.downstream e)
+  unfolding keys_taken
+  rows_grow e = new_rows_moved s ordered i holdtime joined pruned p e
 
-  keys_grow : Grows p (list_any p (joined ++ pruned)) (fact_keys s)
-      (fact_keys (keys_taken s i holdtime joined pruned))
+  keys_grow : Grows p some_moved (fact_keys s) (fact_keys (keys_taken s i holdtime joined pruned))
   unfolding keys_taken asserts_after_joins
   keys_grow =
-      facts_grow p (list_any p (joined ++ pruned)) s _ _ s.join_timers s.override_timers s.sources rows_grow
-      (λ e. or_left (list_any p (keys_in s.asserts)) (list_any p (joined ++ pruned))
+      facts_grow p some_moved s _ _ s.join_timers s.override_timers s.sources rows_grow
+      (λ e. or_left (list_any p (keys_in s.asserts)) some_moved
       (rows_left (λ e. not (is_loser (Some e.1) && is_named joined e.0)) s.asserts p e))
-      (stays p (list_any p (joined ++ pruned)) (keys_in s.join_timers))
-      (stays p (list_any p (joined ++ pruned)) (keys_in s.override_timers))
-      (stays p (list_any p (joined ++ pruned)) (keys_in s.sources))
+      (stays p some_moved (keys_in s.join_timers))
+      (stays p some_moved (keys_in s.override_timers))
+      (stays p some_moved (keys_in s.sources))
 
-taken_named : (s : State) (i : ℕ) (m : JoinPrune) → NewAreNamed (joined_keys s i m ++ pruned_keys i m) s (to_me s i m)
+taken_named : (s : State) → IsOrdered s → (i : ℕ) (m : JoinPrune) → NewAreNamed (moved_keys s i m) s (to_me s i m)
 unfolding to_me
-taken_named s i m g src there =
-    keys_grow (names_source g src) s i m.holdtime (joined_keys s i m) (pruned_keys i m) there
+taken_named s ordered i m g src there =
+    keys_grow (names_source g src) s ordered i m.holdtime (joined_keys s i m) (pruned_keys i m) there
 
 -- ---- changes after which there are no other facts
 
@@ -148,16 +149,6 @@ hello_leaves_facts s i a w h =
     let after : State = neighbour_replaced (if _ then hello_triggered s i w else s) i a h in
     let heard : IsFewer s after = no_other s after (replaced _ i a h ∙ triggered s i w _) in
     fewer_so (is_generation_changed s i a h) s _ _ (fewer_both s after _ heard (restarted s after i a w)) heard
-
-so_false : (b : Bool) → not b ≡ true → b ≡ false
-so_false false e = refl
-so_false true e = cc
-
-same_priority : (m n : Option ℕ) → same_option m n ≡ true → n ≡ m
-same_priority None None e = refl
-same_priority None (Some n) e = cc
-same_priority (Some m) None e = cc
-same_priority (Some m) (Some n) e = ap Some (sym (eqb-true m n e))
 
 module _ (s : State) (i a : ℕ) (h : HelloValue) where
   tests : Option NeighbourRow → Bool
@@ -220,23 +211,23 @@ of_second p xs ys none some =
 -- ---- what was accepted
 
 module _ (s : State) where
-  pub named_keys : (i : IfaceId) (m : JoinPrune) (joined pruned keys : List Key)
-      → joined ≡ joined_keys s i.number m → pruned ≡ pruned_keys i.number m → keys ≡ joined ++ pruned
-      → keys ≡ joined_keys s i.number m ++ pruned_keys i.number m
-  named_keys i m joined pruned keys joins prunes all =
-      all ∙ ap (λ ks. ks ++ pruned) joins ∙ ap (λ ks. joined_keys s i.number m ++ ks) prunes
+  pub named_keys : (i : IfaceId) (m : JoinPrune) (holdtime : ℕ) (joined pruned keys : List Key)
+      → holdtime ≡ m.holdtime → joined ≡ joined_keys s i.number m → pruned ≡ pruned_keys i.number m
+      → keys ≡ moved_among s i.number holdtime joined pruned → keys ≡ moved_keys s i.number m
+  named_keys i m holdtime joined pruned keys lasts joins prunes all =
+      all ∙ (λ j. moved_among s i.number (lasts j) (joins j) (prunes j))
 
-  pub named_covered : (i : IfaceId) (m : JoinPrune) (joined pruned keys : List Key)
-      → joined ≡ joined_keys s i.number m → pruned ≡ pruned_keys i.number m → keys ≡ joined ++ pruned
+  pub named_covered : (i : IfaceId) (m : JoinPrune) (holdtime : ℕ) (joined pruned keys : List Key) → IsOrdered s
+      → holdtime ≡ m.holdtime → joined ≡ joined_keys s i.number m → pruned ≡ pruned_keys i.number m
+      → keys ≡ moved_among s i.number holdtime joined pruned
       → (w : ℕ) → Concerns keys s (change s w (Accepted.JoinPruneToMe i m)).state
-  unfolding touched_by_event change
-  named_covered i m joined pruned keys joins prunes all w =
+  unfolding change
+  named_covered i m holdtime joined pruned keys ordered lasts joins prunes all w =
       subst (λ ks. Concerns ks s (change s w (Accepted.JoinPruneToMe i m)).state)
-      (sym (named_keys i m joined pruned keys joins prunes all))
+      (sym (named_keys i m holdtime joined pruned keys lasts joins prunes all))
       (record {
-        agrees = change_touches s w (Accepted.JoinPruneToMe i m)
-            (joined_keys s i.number m ++ pruned_keys i.number m) refl;
-        named = taken_named s i.number m;
+        agrees = join_prune_touches_moved s ordered i.number m;
+        named = taken_named s ordered i.number m;
       })
 
   pub refreshed_covered : (i : IfaceId) (from : Addr) (h : HelloValue) (none : List Key) (refreshed : Bool) → Rises s.neighbours → refreshed ≡ is_refreshed s.neighbours i.number from.bits h
@@ -248,6 +239,20 @@ module _ (s : State) where
       (record {
         agrees = refreshed_touches_none s i.number from.bits h w rises (sym tested ∙ e);
         named = λ g src there. or_left (has_facts s g src) false
+            ((hello_leaves_facts s i.number from.bits w h).passed (names_source g src) there);
+      })
+
+  pub restarted_covered : (i : IfaceId) (from : Addr) (h : HelloValue) (keys : List Key) → Rises s.neighbours
+      → is_refreshed s.neighbours i.number from.bits (without_generation h) ≡ true → keys ≡ lost_keys s i.number from.bits
+      → (w : ℕ) → Concerns keys s (change s w (Accepted.Hello i from h)).state
+  unfolding change
+  restarted_covered i from h keys rises kept those w =
+      let s' : State = hello_received s i.number from.bits h w in
+      let lost : List Key = lost_keys s i.number from.bits in
+      subst (λ ks. Concerns ks s s') (sym those)
+      (record {
+        agrees = restarted_touches s i.number from.bits w h rises kept;
+        named = λ g src there. or_left (has_facts s g src) (list_any (names_source g src) lost)
             ((hello_leaves_facts s i.number from.bits w h).passed (names_source g src) there);
       })
 
@@ -313,35 +318,49 @@ module _ (s : State) where
       })
 
   pub moved_covered : (i : IfaceId) (records : List Record) (keys : List Key) → IsSettled s
-      → all_move_ends s i.number records ≡ true → keys ≡ []
+      → all_keep_modes s i.number records ≡ true → keys ≡ moved_sources s i.number records
       → (w : ℕ) → Concerns keys s (change s w (Accepted.Report i records)).state
   unfolding change
-  moved_covered i records keys settled moves none w =
+  moved_covered i records keys settled keep those w =
       let under = each_of_list is_under_source s.source_records settled.ahead.firable.source_records in
-      subst (λ ks. Concerns ks s (change s w (Accepted.Report i records)).state) (sym none)
+      let moved : List Key = moved_sources s i.number records in
+      subst (λ ks. Concerns ks s (change s w (Accepted.Report i records)).state) (sym those)
       (record {
-        agrees = report_touches_none s i.number records
-            (record { groups = settled.ordered.group_records; sources = settled.ordered.source_records; under = under }) moves;
-        named = λ g src there. or_left (has_facts s g src) false
-            (either (has_facts s g src)
-            (list_any (names_source g src) (reported_groups i.number records ++ reported_sources i.number records)) (λ h. h)
-            (λ named. reported_there s i.number records moves (names_source g src)
+        agrees = report_touches_moved s i.number records
+            (record { groups = settled.ordered.group_records; sources = settled.ordered.source_records; under = under }) keep;
+        named = λ g src there.
+            either (has_facts s g src)
+            (list_any (names_source g src) (reported_groups i.number records ++ reported_sources i.number records))
+            (or_left (has_facts s g src) (list_any (names_source g src) moved))
+            (λ named. reported_known s i.number records (names_source g src)
             (of_second (names_source g src) (reported_groups i.number records) (reported_sources i.number records)
             (stars_none g src i.number records) named))
-            (report_names_facts s i.number records under g src there));
+            (report_names_facts s i.number records under g src there);
       })
 
-  pub packet_covered : (i : IfaceId) (packet : Packet) (keys : List Key)
-      → keys ≡ packet_keys s packet.destination packet.source i.number
-      → (w : ℕ) → Concerns keys s (change s w (Accepted.Data i packet)).state
+  packet_keys_cover : (i : IfaceId) (packet : Packet) (w : ℕ)
+      → Concerns (packet_keys s packet.destination packet.source i.number) s (change s w (Accepted.Data i packet)).state
   unfolding touched_by_event change
-  packet_covered i packet keys those w =
-      let named : List Key = packet_keys s packet.destination packet.source i.number in
-      subst (λ ks. Concerns ks s (change s w (Accepted.Data i packet)).state) (sym those)
-      (record {
-        agrees = change_touches s w (Accepted.Data i packet) named refl;
+  packet_keys_cover i packet w =
+      record {
+        agrees = change_touches s w (Accepted.Data i packet)
+            (packet_keys s packet.destination packet.source i.number) refl;
         named = packet_named s packet.destination packet.source i.number;
-      })
+      }
+
+  pub packet_covered : IsAtRest s → (i : IfaceId) (packet : Packet) (keys : List Key)
+      → keys ≡ keys_of_packet s packet.destination packet.source i.number
+      → (w : ℕ) → Concerns keys s (change s w (Accepted.Data i packet)).state
+  unfolding change
+  packet_covered rest i packet keys those w =
+      subst (λ ks. Concerns ks s (change s w (Accepted.Data i packet)).state) (sym those)
+      (go (moves_end s packet.destination packet.source i.number) refl)
+    where
+      go : (b : Bool) → moves_end s packet.destination packet.source i.number ≡ b
+          → Concerns (if b then [] else packet_keys s packet.destination packet.source i.number) s
+          (change s w (Accepted.Data i packet)).state
+      go true moves = packet_concerned s rest packet.destination packet.source i.number moves
+      go false moves = packet_keys_cover i packet w
 
   pub register_covered : (packet : Packet) (r : Register) (keys : List Key)
       → keys ≡ source_key 0 (registered_group r) (registered_source r) ∷ []
@@ -354,6 +373,28 @@ module _ (s : State) where
         agrees = change_touches s w (Accepted.Register packet r) named refl;
         named = received_named s packet r;
       })
+
+  -- ---- what is heard again
+
+  pub register_known : IsAtRest s → (packet : Packet) (r : Register) (keys : List Key)
+      → is_kept_alive s (registered_group r) (registered_source r) ≡ true → keys ≡ []
+      → (w : ℕ) → Concerns keys s (change s w (Accepted.Register packet r)).state
+  unfolding change
+  register_known rest packet r keys kept none w =
+      subst (λ ks. Concerns ks s (change s w (Accepted.Register packet r)).state) (sym none) (go r kept)
+    where
+      go : (r : Register) → is_kept_alive s (registered_group r) (registered_source r) ≡ true
+          → Concerns [] s (change s w (Accepted.Register packet r)).state
+      go (Encapsulated inner) kept = register_concerned s rest inner.destination inner.source packet false kept
+      go (Null source group) kept = register_concerned s rest group source packet true kept
+
+  pub assert_known : IsAtRest s → (i : IfaceId) (from : Addr) (x : AssertMessage) (keys : List Key)
+      → is_assert_known s i.number from.bits x ≡ true → keys ≡ []
+      → (w : ℕ) → Concerns keys s (change s w (Accepted.Assert i from x)).state
+  unfolding change
+  assert_known rest i from x keys known none w =
+      subst (λ ks. Concerns ks s (change s w (Accepted.Assert i from x)).state) (sym none)
+      (assert_concerned s rest i.number from.bits x known)
 
 -- all may be touched by it, and it makes no facts
 abbrev pub MakesNone : Accepted → Type 0

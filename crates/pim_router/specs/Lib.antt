@@ -1,3 +1,5 @@
+pub mod Listing
+pub mod Staying
 pub mod Costs
 pub mod Ends
 pub mod Naming
@@ -9,3 +11,4 @@ pub mod Settling
 pub mod Standing
 pub mod Stops
 pub mod Visits
+pub mod Repeats

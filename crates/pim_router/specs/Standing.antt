@@ -1,35 +1,50 @@
--- What a router shows: its state, how many packets its last event copied, and what that event cost.
-use Rattle.std.specs.Prelude.{List, None, Option, Some, fold, ℕ}
+-- What a router shows: its state, how many packets its last event copied, what that event cost, and whose rows of the
+-- forwarding cache it changed.
+use Rattle.std.specs.Prelude.{List, None, Option, Some, [], fold, ℕ}
 use Rattle.pim_types.specs.declared.event.Event.{Event}
+use Rattle.pim_types.specs.declared.fact.Key.{Key}
 use Rattle.pim_types.specs.declared.outcome.Outcome.{Outcome}
 use Rattle.pim_model.specs.State.{State}
 use Rattle.pim_model.specs.Step.{Answered, run, state_after}
+use Rattle.pim_world.specs.declared.touched.Touched.{Touched}
 
 pub record Standing : Type 0 where
   pub state : State
   pub copies : ℕ
 
--- how the router stands, or that it has failed; the trie nodes that its last event visited, and the rows of the
--- forwarding cache that it evaluated, put in and took out
+-- how the router stands, or that it has failed; the trie nodes that its last event visited, the rows of the forwarding
+-- cache that it evaluated, put in and took out, the sources that it named, and those that it disturbed
 pub record Shown : Type 0 where
   pub standing : Option Standing
   pub probes : ℕ
   pub touched : ℕ
+  pub changed : List Key
+  pub disturbed : Touched
 
 -- once memory was refused to it
 abbrev pub nothing_shown : Shown
-nothing_shown = record { standing = None; probes = 0; touched = 0 }
+nothing_shown = record { standing = None; probes = 0; touched = 0; changed = []; disturbed = Touched.All }
 
 -- before its first event
 abbrev pub beginning : State → Standing
 beginning s = record { state = s; copies = 0 }
 
 abbrev pub begun : State → Shown
-begun s = record { standing = Some (beginning s); probes = 0; touched = 0 }
+begun s = record {
+  standing = Some (beginning s);
+  probes = 0;
+  touched = 0;
+  changed = [];
+  disturbed = Touched.Keys [];
+}
 
 -- after an event
 abbrev pub standing : Answered → Standing
 standing a = record { state = a.state; copies = a.copies }
+
+-- in another state, with all else as it was
+abbrev pub with_state : Shown → Standing → State → Shown
+with_state shown r s = record shown { standing = Some (record r { state = s }) }
 
 -- the copies of the last of these outcomes; where there are none, those of the event before
 unfoldable pub last_copies : ℕ → List Outcome → ℕ

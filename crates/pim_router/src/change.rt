@@ -10,13 +10,13 @@ ghost use Rattle.pim_model.specs.Registers.{is_null, registered_group, registere
 ghost use Rattle.pim_model.specs.State.{iface_count};
 ghost use Rattle.pim_model.specs.Step.{Change, change, decapsulated, iface_up, packet_forwarded};
 ghost use Rattle.pim_router.specs.Naming.{HasNoPacket, IsConfigured};
-ghost use Rattle.pim_router.specs.Planning.{HasSomeKeys, HasSomeSight, IsSightOf, Supplies};
+ghost use Rattle.pim_router.specs.Planning.{HasHeard, HasSomeSight, IsSightOf, Supplies};
 ghost use Rattle.pim_router.specs.Sending.{Sends};
 ghost use Rattle.pim_router.specs.declared.plan.Means.{Means as MeansValue};
 
-use crate::plan::Means;
+use crate::plan::{Heard, Means};
 use pim_data::{Leaving, arrived, leave};
-use pim_downstream::{Named, to_me};
+use pim_downstream::take_changes;
 use pim_hello::triggered_end;
 use pim_ip::Ipv4View;
 use pim_macros::SourceSight;
@@ -85,13 +85,13 @@ fn decapsulate(
 }
 
 impl Means {
-    // The keys of a Join/Prune.
-    fn keys(&self) -> &Named
-        requires { HasSomeKeys self.now }
-        ensures { self.now ≡ MeansValue.Keys result.now }
+    // What was heard in a Join/Prune.
+    fn heard(&self) -> &Heard
+        requires { HasHeard self.now }
+        ensures { self.now ≡ MeansValue.Heard result.now }
     {
         match self {
-            Means::Keys(named) => named,
+            Means::Heard(heard) => heard,
             Means::Nothing | Means::Sight(_) => unreachable!(),
         }
     }
@@ -103,7 +103,7 @@ impl Means {
     {
         match self {
             Means::Sight(sight) => *sight,
-            Means::Nothing | Means::Keys(_) => unreachable!(),
+            Means::Nothing | Means::Heard(_) => unreachable!(),
         }
     }
 }
@@ -182,10 +182,11 @@ fn apply_without_packet(
         Accepted::JoinPruneToMe { iface, message } => {
             // It tells that the interface is below 120.
             world.interfaces().recall_few();
-            to_me(world, turn, meter, *iface, message.holdtime(), means.keys())
+            let Heard { named, changes } = means.heard();
+            take_changes(world, meter, *iface, message.holdtime(), named, changes)
         }
         Accepted::JoinPruneSeen { iface, message } => {
-            pim_upstream::seen(world, turn, meter, *iface, message, means.keys())
+            pim_upstream::seen(world, turn, meter, *iface, message, &means.heard().named)
         }
         Accepted::Assert {
             iface,

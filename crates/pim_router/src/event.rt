@@ -1,5 +1,5 @@
 //! One event: it is judged; what is accepted changes the state, where there is room for its facts.
-ghost use Rattle.std.specs.Prelude.{◌≡◌, ◌≤◌, ◌<◌, ◌+◌, ◌*◌, [], IfOk, IsOk, IsOkUnless, IsTrue, Ok, OnOk, length, true, ℕ};
+ghost use Rattle.std.specs.Prelude.{◌≡◌, ◌≤◌, ◌<◌, ◌+◌, ◌*◌, [], IfOk, IsOk, IsOkUnless, IsTrue, Ok, OnOk, false, length, true, ℕ};
 ghost use Rattle.pim_fanout.specs.Laws.{names_of};
 ghost use Rattle.pim_fanout.specs.Refreshing.{touches, touches_in};
 ghost use Rattle.pim_fanout.specs.Named.{keys_of};
@@ -9,6 +9,7 @@ ghost use Rattle.pim_mfc.specs.Laws.{ShowsRows};
 ghost use Rattle.pim_model.specs.Cache.{cached};
 ghost use Rattle.pim_model.specs.declared.accepted.Accepted.{Accepted};
 ghost use Rattle.pim_model.specs.Reach.{where_accepted};
+ghost use Rattle.pim_model.specs.State.{State};
 ghost use Rattle.pim_model.specs.Step.{change, outcome_of, step, taken, taken_unless_full};
 ghost use Rattle.pim_model.specs.Sure.{needs_no_memory};
 ghost use Rattle.pim_reach.specs.Named.{event_named, named_of};
@@ -20,9 +21,12 @@ ghost use Rattle.pim_intake.specs.Memory.{is_frame};
 ghost use Rattle.pim_ip.specs.Ipv4.{Packet};
 ghost use Rattle.pim_model.specs.Judging.{judged};
 ghost use Rattle.pim_types.specs.declared.config.IfaceId.{IfaceId as IfaceValue};
+ghost use Rattle.pim_router.specs.Listing.{ListsMore, ListsSame};
 ghost use Rattle.pim_router.specs.Naming.{IsConfigured};
 ghost use Rattle.pim_router.specs.Planning.{Fits};
 ghost use Rattle.pim_router.specs.Settling.{AreNames};
+ghost use Rattle.pim_offload.specs.Staying.{is_rerouting};
+ghost use Rattle.pim_router.specs.Staying.{OffersStay, StaysBeside, disturbed_by};
 ghost use Rattle.pim_router.specs.Stops.{stop_outcome};
 ghost use Rattle.pim_router.specs.Visits.{taken_nodes};
 ghost use Rattle.pim_trie.specs.Meter.{raised};
@@ -34,15 +38,16 @@ use crate::settle::settle;
 use crate::time::advance;
 use pim_data::Leaving;
 use pim_fanout::{Before, Cache};
-use pim_intake::judge;
+use pim_intake::{LentEvent, judge};
 use pim_ip::Ipv4View;
 use pim_macros::SourceGroup;
+use pim_messages::Room;
 use pim_mfc::Forward;
 use pim_model::Accepted;
 use pim_opening::Opening;
 use pim_trie::Meter;
-use pim_types::{Event, Fault, IfaceId, Outcome, Refusal, Series, Stop, Verdict};
-use pim_world::{Turn, World};
+use pim_types::{Fault, IfaceId, Outcome, Refusal, Series, Stop, Verdict};
+use pim_world::{Touched, Turn, World};
 use std::alloc::Global;
 
 // The outcome of an event that changes nothing.
@@ -108,6 +113,40 @@ fn change_world(
     Ok(Changed { outcome, names })
 }
 
+// Whether the event brings new routes or RP ranges.
+fn is_rerouting(accepted: &Accepted<'_>) -> bool
+    ensures { result ≡ is_rerouting accepted.now }
+{
+    match accepted {
+        Accepted::Routes { .. } => true,
+        Accepted::Rps { .. } => true,
+        Accepted::Advance { .. } => false,
+        Accepted::Up { .. } => false,
+        Accepted::Down { .. } => false,
+        Accepted::Hello { .. } => false,
+        Accepted::JoinPruneToMe { .. } => false,
+        Accepted::JoinPruneSeen { .. } => false,
+        Accepted::Assert { .. } => false,
+        Accepted::Query { .. } => false,
+        Accepted::Report { .. } => false,
+        Accepted::Data { .. } => false,
+        Accepted::Register { .. } => false,
+        Accepted::RegisterStop { .. } => false,
+    }
+}
+
+// What a change disturbs: new routes and RP ranges touch what has facts alone, and move any source.
+fn disturbed_by(accepted: &Accepted<'_>, plan: Plan) -> Touched
+    ensures { result ≡ disturbed_by accepted.now plan.touched }
+{
+    let Plan { touched, means: _ } = plan;
+    if is_rerouting(accepted) {
+        Touched::All
+    } else {
+        touched
+    }
+}
+
 // The same, and then the rows of the named sources.
 fn take_change(
     world: &mut World,
@@ -115,28 +154,32 @@ fn take_change(
     turn: &mut Turn,
     meter: &mut Meter,
     accepted: &Accepted<'_>,
-    plan: &Plan,
+    plan: Plan,
 ) -> Result<Outcome, Fault>
     requires timeless { (moment : ℕ) → ¬ (accepted.now ≡ Accepted.Advance moment) }
     requires rest { IsAtRest world.old }
     requires shown { ShowsRows cache.old.mfc.rows (cached world.old) }
     requires begun { turn.old.messages ≡ [] }
     requires configured { IsConfigured world.old accepted.now }
-    requires plan { Fits world.old accepted.now plan.now }
+    requires plan { Fits world.old accepted.now plan }
     ensures outcome { IfOk result (λ outcome. outcome ≡ outcome_of (taken world.old turn.old.draw accepted.now)) }
     ensures state { OnOk result (world.new ≡ (taken world.old turn.old.draw accepted.now).state) }
     ensures shown { OnOk result (ShowsRows cache.new.mfc.rows (cached world.new)) }
     ensures touched { OnOk result (touches cache.new ≡ raised (touches cache.old) (touches_in world.new
-        (names_of world.old (change world.old turn.old.draw accepted.now).state plan.now.touched))) }
+        (names_of world.old (change world.old turn.old.draw accepted.now).state plan.touched))) }
     ensures few { OnOk result (touches cache.new
         ≤ touches cache.old + 2 * length (named_of world.old turn.old.draw accepted.now)) }
+    ensures listed { OnOk result (ListsMore cache.old.changed (named_of world.old turn.old.draw accepted.now)
+        cache.new.changed) }
+    ensures stays { (o : State) → StaysBeside cache.old.disturbed o world.old
+        → OnOk result (StaysBeside cache.new.disturbed o world.new) }
     ensures fault { IsOkUnless result Fault.Memory }
-    ensures at_least { OnOk result (raised meter.old (taken_nodes world.old plan.now.touched accepted.now) ≤ meter.new) }
+    ensures at_least { OnOk result (raised meter.old (taken_nodes world.old plan.touched accepted.now) ≤ meter.new) }
 {
     // It tells that there are at most 120 interfaces.
     world.interfaces().recall_few();
-    let Changed { outcome, names } = change_world(world, turn, meter, accepted, plan)?;
-    cache.refresh(world, meter, names.as_slice())?;
+    let Changed { outcome, names } = change_world(world, turn, meter, accepted, &plan)?;
+    cache.refresh(world, meter, names, disturbed_by(accepted, plan))?;
     Ok(outcome)
 }
 
@@ -158,6 +201,10 @@ fn take_unless_full(
     ensures shown { OnOk result (ShowsRows cache.new.mfc.rows (cached world.new)) }
     ensures few { OnOk result (touches cache.new ≤ touches cache.old
         + 2 * length (where_accepted world.old (named_of world.old turn.old.draw) (Ok accepted.now))) }
+    ensures listed { OnOk result (ListsMore cache.old.changed
+        (where_accepted world.old (named_of world.old turn.old.draw) (Ok accepted.now)) cache.new.changed) }
+    ensures stays { (o : State) → StaysBeside cache.old.disturbed o world.old
+        → OnOk result (StaysBeside cache.new.disturbed o world.new) }
     ensures fault { IsOkUnless result Fault.Memory }
     ensures rises { OnOk result (meter.old ≤ meter.new) }
 {
@@ -165,18 +212,26 @@ fn take_unless_full(
         return advance(world, cache, turn, meter, *moment);
     }
     match planned(world, turn, meter, accepted)? {
-        Some(plan) => take_change(world, cache, turn, meter, accepted, &plan),
+        Some(plan) => take_change(world, cache, turn, meter, accepted, plan),
         None => Ok(stopped(turn.alloc, Stop::Refuse(Refusal::Full))),
     }
+}
+
+// Whether there was room for one fact more and is none now, or the other way round: without room each packet of a source that
+// has no fact is refused.
+fn has_room_changed(was_full: bool, is_full: bool) -> bool
+    ensures { result ≡ false → was_full ≡ is_full }
+{
+    was_full != is_full
 }
 
 // What was accepted, in a turn of its own.
 #[tactic(auto, unfolding(pim_model::specs::Step::step))]
 fn take_turn(
-    alloc: Global,
+    room: &mut Room,
     world: &mut World,
     cache: &mut Cache,
-    event: &Event,
+    event: &LentEvent<'_>,
     accepted: &Accepted<'_>,
     meter: &mut Meter,
 ) -> Result<Outcome, Fault>
@@ -187,11 +242,17 @@ fn take_turn(
     ensures state { OnOk result (world.new ≡ (step world.old event.now).state) }
     ensures shown { OnOk result (ShowsRows cache.new.mfc.rows (cached world.new)) }
     ensures few { OnOk result (touches cache.new ≤ touches cache.old + 2 * length (event_named world.old event.now)) }
+    ensures listed { OnOk result (ListsMore cache.old.changed (event_named world.old event.now) cache.new.changed) }
+    ensures stays { OnOk result (OffersStay cache.new.disturbed world.old world.new) }
     ensures fault { IsOkUnless result Fault.Memory }
     ensures rises { OnOk result (meter.old ≤ meter.new) }
 {
-    let mut turn = Turn::new(alloc, event.draw);
-    take_unless_full(world, cache, &mut turn, meter, accepted)
+    let mut turn = Turn::new(room.taken(), event.draw());
+    let was_full = world.passes_limit(1);
+    let outcome = take_unless_full(world, cache, &mut turn, meter, accepted)?;
+    cache.disturb_all_if(has_room_changed(was_full, world.passes_limit(1)));
+    *room = turn.room;
+    Ok(outcome)
 }
 
 // What the row of its source decides of a packet of data.
@@ -217,10 +278,10 @@ fn by_row(
 
 // A packet of data: it goes by the row of its source, where that alone decides it.
 fn take_data(
-    alloc: Global,
+    room: &mut Room,
     world: &mut World,
     cache: &mut Cache,
-    event: &Event,
+    event: &LentEvent<'_>,
     accepted: &Accepted<'_>,
     iface: IfaceId,
     packet: &Ipv4View<'_>,
@@ -232,26 +293,29 @@ fn take_data(
     requires data { accepted.now ≡ Accepted.Data iface packet.now }
     requires below { iface.number < 120 }
     requires uncounted { touches cache.old ≡ 0 }
+    requires unlisted { cache.old.changed ≡ [] }
     requires unvisited { meter.old ≡ 0 }
     ensures outcome { IfOk result (λ outcome. outcome ≡ outcome_of (step world.old event.now)) }
     ensures state { OnOk result (world.new ≡ (step world.old event.now).state) }
     ensures shown { OnOk result (ShowsRows cache.new.mfc.rows (cached world.new)) }
     ensures cheap { OnOk result (IsCheap world.old event.now meter.new (touches cache.new)) }
+    ensures listed { OnOk result (ListsSame cache.new.changed (event_named world.old event.now)) }
+    ensures stays { OnOk result (OffersStay cache.new.disturbed world.old world.new) }
     ensures fault { IsOkUnless result Fault.Memory }
     ensures rises { OnOk result (meter.old ≤ meter.new) }
 {
     match by_row(cache, iface, packet, meter) {
-        Some(forward) => take_plain(alloc, world, packet, forward, meter),
-        None => take_turn(alloc, world, cache, event, accepted, meter),
+        Some(forward) => take_plain(room, world, packet, forward, meter),
+        None => take_turn(room, world, cache, event, accepted, meter),
     }
 }
 
 // What was accepted that is no packet of data.
 fn take_other(
-    alloc: Global,
+    room: &mut Room,
     world: &mut World,
     cache: &mut Cache,
-    event: &Event,
+    event: &LentEvent<'_>,
     accepted: &Accepted<'_>,
     meter: &mut Meter,
 ) -> Result<Outcome, Fault>
@@ -260,22 +324,25 @@ fn take_other(
     requires heard { judged world.old event.now.kind ≡ Ok accepted.now }
     requires other { (i : IfaceValue) (p : Packet) → ¬ (accepted.now ≡ Accepted.Data i p) }
     requires uncounted { touches cache.old ≡ 0 }
+    requires unlisted { cache.old.changed ≡ [] }
     ensures outcome { IfOk result (λ outcome. outcome ≡ outcome_of (step world.old event.now)) }
     ensures state { OnOk result (world.new ≡ (step world.old event.now).state) }
     ensures shown { OnOk result (ShowsRows cache.new.mfc.rows (cached world.new)) }
     ensures cheap { OnOk result (IsCheap world.old event.now meter.new (touches cache.new)) }
+    ensures listed { OnOk result (ListsSame cache.new.changed (event_named world.old event.now)) }
+    ensures stays { OnOk result (OffersStay cache.new.disturbed world.old world.new) }
     ensures fault { IsOkUnless result Fault.Memory }
     ensures rises { OnOk result (meter.old ≤ meter.new) }
 {
-    take_turn(alloc, world, cache, event, accepted, meter)
+    take_turn(room, world, cache, event, accepted, meter)
 }
 
 // What was accepted.
 fn take_accepted(
-    alloc: Global,
+    room: &mut Room,
     world: &mut World,
     cache: &mut Cache,
-    event: &Event,
+    event: &LentEvent<'_>,
     accepted: &Accepted<'_>,
     meter: &mut Meter,
 ) -> Result<Outcome, Fault>
@@ -283,11 +350,14 @@ fn take_accepted(
     requires shown { ShowsRows cache.old.mfc.rows (cached world.old) }
     requires heard { judged world.old event.now.kind ≡ Ok accepted.now }
     requires uncounted { touches cache.old ≡ 0 }
+    requires unlisted { cache.old.changed ≡ [] }
     requires unvisited { is_frame event.now.kind ≡ true → meter.old ≡ 0 }
     ensures outcome { IfOk result (λ outcome. outcome ≡ outcome_of (step world.old event.now)) }
     ensures state { OnOk result (world.new ≡ (step world.old event.now).state) }
     ensures shown { OnOk result (ShowsRows cache.new.mfc.rows (cached world.new)) }
     ensures cheap { OnOk result (IsCheap world.old event.now meter.new (touches cache.new)) }
+    ensures listed { OnOk result (ListsSame cache.new.changed (event_named world.old event.now)) }
+    ensures stays { OnOk result (OffersStay cache.new.disturbed world.old world.new) }
     ensures fault { IsOkUnless result Fault.Memory }
     ensures rises { OnOk result (meter.old ≤ meter.new) }
 {
@@ -295,37 +365,40 @@ fn take_accepted(
         Accepted::Data { iface, packet } => {
             // It tells that the interface is below 120.
             world.interfaces().recall_few();
-            take_data(alloc, world, cache, event, accepted, *iface, packet, meter)
+            take_data(room, world, cache, event, accepted, *iface, packet, meter)
         }
-        _ => take_other(alloc, world, cache, event, accepted, meter),
+        _ => take_other(room, world, cache, event, accepted, meter),
     }
 }
 
 /// Takes an event. Its cost is counted from 0: in the meter the nodes that its look-ups visit, in the cache the rows that it
-/// touches.
+/// touches, whose sources are listed there.
 #[tactic(auto, unfolding(pim_model::specs::Step::step))]
 pub(crate) fn take_in(
-    alloc: Global,
+    room: &mut Room,
     world: &mut World,
     cache: &mut Cache,
-    event: &Event,
+    event: &LentEvent<'_>,
     meter: &mut Meter,
 ) -> Result<Outcome, Fault>
     requires rest { IsAtRest world.old }
     requires shown { ShowsRows cache.old.mfc.rows (cached world.old) }
     requires uncounted { touches cache.old ≡ 0 }
+    requires unlisted { cache.old.changed ≡ [] }
     requires unvisited { is_frame event.now.kind ≡ true → meter.old ≡ 0 }
     ensures outcome { IfOk result (λ outcome. outcome ≡ outcome_of (step world.old event.now)) }
     ensures state { OnOk result (world.new ≡ (step world.old event.now).state) }
     ensures rest { OnOk result (IsAtRest world.new) }
     ensures shown { OnOk result (ShowsRows cache.new.mfc.rows (cached world.new)) }
     ensures cheap { OnOk result (IsCheap world.old event.now meter.new (touches cache.new)) }
+    ensures listed { OnOk result (ListsSame cache.new.changed (event_named world.old event.now)) }
+    ensures stays { OnOk result (OffersStay cache.new.disturbed world.old world.new) }
     ensures fault { IsOkUnless result Fault.Memory }
     ensures sure { IsTrue (needs_no_memory (step world.old event.now).answer) → IsOk result }
     ensures rises { OnOk result (meter.old ≤ meter.new) }
 {
-    match judge(alloc, world, event, meter)? {
-        Ok(accepted) => take_accepted(alloc, world, cache, event, &accepted, meter),
-        Err(stop) => Ok(stopped(alloc, stop)),
+    match judge(room.alloc, world, event, meter)? {
+        Ok(accepted) => take_accepted(room, world, cache, event, &accepted, meter),
+        Err(stop) => Ok(stopped(room.alloc, stop)),
     }
 }

@@ -1,13 +1,16 @@
 //! The router: events in, outcomes and packets out, exactly as the written machine has them.
 #![tactic(auto)]
 
+mod again;
 pub mod change;
 pub mod event;
 mod plain;
 pub mod plan;
+mod plane;
 mod rerouted;
 pub mod router;
 pub mod settle;
 pub mod time;
 
+pub use pim_offrow::{Offered, OffloadRow};
 pub use router::Router;

@@ -10,16 +10,16 @@ ghost use Rattle.pim_router.specs.Plainly.{Forwards};
 
 use pim_data::copies;
 use pim_ip::Ipv4View;
+use pim_messages::Room;
 use pim_mfc::Forward;
 use pim_types::{Fault, Outcome, Series, Verdict};
 use pim_world::{Meter, World};
-use std::alloc::Global;
 
 /// Takes a packet as its row says: KAT(S,G) is set or not, and copies leave on links. Nothing is opened, settled or told, where
 /// the source has a row; that is found by the place that the row of the cache keeps.
 #[tactic(auto, unfolding(pim_cached::specs::Decided::plainly_taken, pim_cached::specs::Decided::kept_if))]
 pub(crate) fn take_plain(
-    alloc: Global,
+    room: &mut Room,
     world: &mut World,
     packet: &Ipv4View<'_>,
     forward: Forward,
@@ -33,7 +33,7 @@ pub(crate) fn take_plain(
     ensures fault { IsOkUnless result Fault.Memory }
 {
     let olist = forward.olist.without_tunnel();
-    let copies = copies(world, alloc, packet, olist)?;
+    let copies = copies(world, room, packet, olist)?;
     if forward.sets_keepalive {
         world.keep_alive(packet.destination(), packet.source(), forward.place, meter)?;
     }

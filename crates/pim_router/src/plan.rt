@@ -1,8 +1,9 @@
 //! What is planned of an event before its change: whether there is room for the facts that it names, what its change
 //! touches, and what that needs. Each kind of event says all three in one place.
-ghost use Rattle.std.specs.Prelude.{◌≡◌, ◌≤◌, ◌∷◌, [], IfOk, OnOk, filter, not, true};
+ghost use Rattle.std.specs.Prelude.{◌≡◌, ◌<◌, ◌≤◌, ◌∷◌, [], IfOk, OnOk, filter, not, true};
 ghost use Rattle.pim_types.specs.Keys.{is_star, source_key};
 ghost use Rattle.pim_model.specs.Registers.{registered_group, registered_source};
+ghost use Rattle.pim_model.specs.State.{iface_count};
 ghost use Rattle.pim_model.specs.declared.accepted.Accepted.{Accepted as AcceptedValue};
 ghost use Rattle.pim_locality.specs.Rest.{IsAtRest};
 ghost use Rattle.pim_locality.specs.Touches.{packet_keys};
@@ -10,29 +11,39 @@ ghost use Rattle.pim_macros.specs.Sights.{IsSourceSight};
 ghost use Rattle.pim_downstream.specs.Visits.{named_nodes};
 ghost use Rattle.pim_mrib.specs.Routes.{rp_nodes};
 ghost use Rattle.pim_model.specs.Limits.{are_routes, are_rps};
+ghost use Rattle.pim_router.specs.Repeats.{keys_of_packet};
 ghost use Rattle.pim_router.specs.Naming.{IsConfigured};
 ghost use Rattle.pim_router.specs.Planning.{IsPlanned, IsSightOf};
 ghost use Rattle.pim_router.specs.Visits.{data_plan_nodes, routes_nodes, rps_nodes};
 ghost use Rattle.pim_trie.specs.Meter.{raised};
 
+use crate::again::{is_assert_known, is_kept_alive, keeps_priority, moves_end};
 use crate::rerouted::{touched_by_routes, touched_by_rps};
 use igmp_wire::{QueryView, ReportView};
-use pim_downstream::Named;
+use pim_downstream::{Change, Effect, Named};
+use pim_hello::asserts_lost_to;
 use pim_ip::Ipv4View;
 use pim_macros::{SourceSight, StarSight};
 use pim_model::Accepted;
 use pim_register::source_is_full;
-use pim_types::{Addr, IfaceId, Key, Route, RpRange, Series};
+use pim_types::{Addr, Hop, IfaceId, Key, Route, RpRange, Series};
 use pim_wire::{Assert, Hello, JoinPruneView, RegisterStop, RegisterView};
 use pim_world::{Meter, Touched, Turn, World};
 use std::alloc::{AllocError, Global};
+
+/// What was heard in a Join/Prune: the keys that it names and, where it is to the router, the rows that it leaves.
+#[derive(Drop)]
+pub struct Heard {
+    pub named: Named,
+    pub changes: Vec<Change>,
+}
 
 /// What the change of an event needs beside the event.
 #[derive(Drop)]
 pub enum Means {
     Nothing,
-    /// The keys that a Join/Prune names.
-    Keys(Named),
+    /// What was heard in a Join/Prune.
+    Heard(Heard),
     /// What the macros of a packet's source read.
     Sight(SourceSight),
 }
@@ -53,6 +64,13 @@ impl Plan {
             touched: Touched::All,
             means: Means::Nothing,
         }
+    }
+
+    // Nothing is touched.
+    fn of_nothing(alloc: Global) -> Plan
+        ensures { result ≡ record { touched = Touched.Keys []; means = Means.Nothing } }
+    {
+        Plan::of_keys(Series::new(alloc))
     }
 
     // These keys are touched.
@@ -88,21 +106,36 @@ fn only(alloc: Global, key: Key) -> Result<Series<Key>, AllocError>
     Ok(Series::from_vec(keys))
 }
 
-// A Hello that says no more of its neighbour than that it lasts touches nothing, any other may touch all.
-fn plan_hello(world: &World, turn: &Turn, iface: IfaceId, from: Addr, hello: &Hello) -> Option<Plan>
+// A Hello that says no more of its neighbour than that it lasts touches nothing, or the asserts that were lost to it where it
+// started anew. Any other may touch all.
+fn plan_hello(
+    world: &World,
+    turn: &Turn,
+    iface: IfaceId,
+    from: Addr,
+    hello: &Hello,
+) -> Result<Option<Plan>, AllocError>
     requires { IsAtRest world.now }
-    ensures { IsPlanned world.now (AcceptedValue.Hello iface from hello.now) result }
+    ensures { IfOk result (λ plan. IsPlanned world.now (AcceptedValue.Hello iface from hello.now) plan) }
 {
     if pim_hello::is_full(world, iface, from, hello) {
-        return None;
+        return Ok(None);
     }
     if world.neighbours().is_refreshed(iface, from, hello) {
-        return Some(Plan::of_keys(Series::new(turn.alloc)));
+        return Ok(Some(Plan::of_nothing(turn.alloc)));
     }
-    Some(Plan::of_all())
+    if keeps_priority(world, iface, from, hello) {
+        let neighbour = Hop {
+            iface,
+            address: from,
+        };
+        let keys = asserts_lost_to(world, turn, neighbour)?;
+        return Ok(Some(Plan::of_keys(Series::from_vec(keys))));
+    }
+    Ok(Some(Plan::of_all()))
 }
 
-// A Join/Prune to the router touches all keys that it names.
+// A Join/Prune to the router touches the keys of which it moves more than an end.
 fn plan_join_prune(
     world: &World,
     turn: &Turn,
@@ -110,15 +143,18 @@ fn plan_join_prune(
     iface: IfaceId,
     message: &JoinPruneView<'_>,
 ) -> Result<Option<Plan>, AllocError>
+    requires { IsAtRest world.now }
     ensures plan { IfOk result (λ plan. IsPlanned world.now (AcceptedValue.JoinPruneToMe iface message.now) plan) }
     ensures at_least { OnOk result (raised meter.old (named_nodes world.now message.now) ≤ meter.new) }
 {
     let named = Named::of(world, turn, meter, iface, message)?;
-    if pim_downstream::is_full(world, turn, message.holdtime(), &named)? {
+    let holdtime = message.holdtime();
+    if pim_downstream::is_full(world, turn, holdtime, &named)? {
         return Ok(None);
     }
-    let touched = Touched::Keys(named.keys(turn.alloc)?);
-    let means = Means::Keys(named);
+    let Effect { changes, moved } = Effect::of(world, turn, iface, holdtime, &named)?;
+    let touched = Touched::Keys(moved);
+    let means = Means::Heard(Heard { named, changes });
     Ok(Some(Plan { touched, means }))
 }
 
@@ -136,11 +172,12 @@ fn plan_seen(
 {
     let named = Named::of(world, turn, meter, iface, message)?;
     let touched = Touched::Keys(of_sources(turn.alloc, &named.pruned)?);
-    let means = Means::Keys(named);
+    let changes = Vec::new(turn.alloc);
+    let means = Means::Heard(Heard { named, changes });
     Ok(Some(Plan { touched, means }))
 }
 
-// An Assert touches the keys of the asserts that it names.
+// An Assert touches the keys of the asserts that it names, or none where the known winner says again what it said.
 fn plan_assert(
     world: &World,
     turn: &Turn,
@@ -148,10 +185,14 @@ fn plan_assert(
     from: Addr,
     assert: &Assert,
 ) -> Result<Option<Plan>, AllocError>
+    requires { IsAtRest world.now }
     ensures { IfOk result (λ plan. IsPlanned world.now (AcceptedValue.Assert iface from assert.now) plan) }
 {
     if pim_asserts::is_full(world, iface, assert) {
         return Ok(None);
+    }
+    if is_assert_known(world, iface, from, assert) {
+        return Ok(Some(Plan::of_nothing(turn.alloc)));
     }
     let keys = pim_asserts::named_keys(turn.alloc, iface, assert)?;
     Ok(Some(Plan::of_keys(keys)))
@@ -167,10 +208,11 @@ fn plan_query(
 ) -> Option<Plan>
     ensures { IsPlanned world.now (AcceptedValue.Query iface from query.now) result }
 {
-    Some(Plan::of_keys(Series::new(turn.alloc)))
+    Some(Plan::of_nothing(turn.alloc))
 }
 
-// A report that moves the ends of timers alone touches nothing, any other the groups and the sources that it names.
+// A report whose groups keep their modes touches the sources that it moves, any other the groups and the sources that it
+// names.
 fn plan_report(
     world: &World,
     turn: &Turn,
@@ -183,8 +225,9 @@ fn plan_report(
     if pim_querier::is_full(world, turn.alloc, iface, report)? {
         return Ok(None);
     }
-    if pim_querier::all_move_ends(world, iface, report) {
-        return Ok(Some(Plan::of_keys(Series::new(turn.alloc))));
+    if pim_querier::all_keep_modes(world, iface, report) {
+        let moved = pim_querier::moved_sources(world, turn.alloc, iface, report)?;
+        return Ok(Some(Plan::of_keys(moved)));
     }
     let keys = pim_querier::named_keys(turn.alloc, iface, report)?;
     Ok(Some(Plan::of_keys(keys)))
@@ -210,6 +253,24 @@ fn packet_keys(
     Ok(Series::from_vec(keys))
 }
 
+// The keys that a packet of data touches: none where it moves at most the end of its source's keepalive timer.
+fn keys_of_packet(
+    world: &World,
+    alloc: Global,
+    iface: IfaceId,
+    sight: &SourceSight,
+) -> Result<Series<Key>, AllocError>
+    requires sight { IsSourceSight world.now sight.now }
+    requires below { iface.number < 120 }
+    ensures { IfOk result (λ keys. keys
+        ≡ keys_of_packet world.now sight.now.star.group.bits sight.now.source.bits iface.number) }
+{
+    if moves_end(world, sight, iface) {
+        return Ok(Series::new(alloc));
+    }
+    packet_keys(world, alloc, iface, sight)
+}
+
 // A packet of data goes by the sight of its source.
 fn plan_data(
     world: &World,
@@ -218,6 +279,8 @@ fn plan_data(
     iface: IfaceId,
     packet: &Ipv4View<'_>,
 ) -> Result<Option<Plan>, AllocError>
+    requires rest { IsAtRest world.now }
+    requires configured { iface.number < iface_count world.now }
     ensures plan { IfOk result (λ plan. IsPlanned world.now (AcceptedValue.Data iface packet.now) plan) }
     ensures at_least { OnOk result (raised meter.old (data_plan_nodes world.now packet.now) ≤ meter.new) }
 {
@@ -225,9 +288,11 @@ fn plan_data(
     if source_is_full(world, group, source) {
         return Ok(None);
     }
+    // It tells that the interface is below 120.
+    world.interfaces().recall_few();
     let star = StarSight::of(world, group, meter);
     let sight = SourceSight::of(world, star, source, meter);
-    let touched = Touched::Keys(packet_keys(world, turn.alloc, iface, &sight)?);
+    let touched = Touched::Keys(keys_of_packet(world, turn.alloc, iface, &sight)?);
     let means = Means::Sight(sight);
     Ok(Some(Plan { touched, means }))
 }
@@ -239,7 +304,7 @@ fn registered_key(register: &RegisterView<'_>) -> Key
     Key::source(IfaceId::NONE, register.group(), register.source())
 }
 
-// A Register touches the source of its packet.
+// A Register touches the source of its packet, or nothing where that is kept alive.
 fn plan_register(
     world: &World,
     turn: &Turn,
@@ -247,11 +312,15 @@ fn plan_register(
     packet: &Ipv4View<'_>,
     register: &RegisterView<'_>,
 ) -> Result<Option<Plan>, AllocError>
+    requires { IsAtRest world.now }
     ensures plan { IfOk result (λ plan. IsPlanned world.now (AcceptedValue.Register packet.now register.now) plan) }
     ensures at_least { OnOk result (raised meter.old (rp_nodes world.now.ranges (registered_group register.now)) ≤ meter.new) }
 {
     if pim_register::is_full(world, meter, packet, register) {
         return Ok(None);
+    }
+    if is_kept_alive(world, register.group(), register.source()) {
+        return Ok(Some(Plan::of_nothing(turn.alloc)));
     }
     let keys = only(turn.alloc, registered_key(register))?;
     Ok(Some(Plan::of_keys(keys)))
@@ -324,7 +393,7 @@ pub(crate) fn planned(
         }
         Accepted::Routes { routes } => plan_routes(world, turn, meter, routes.as_slice()),
         Accepted::Rps { ranges } => plan_rps(world, turn, meter, ranges.as_slice()),
-        Accepted::Hello { iface, from, hello } => Ok(plan_hello(world, turn, *iface, *from, hello)),
+        Accepted::Hello { iface, from, hello } => plan_hello(world, turn, *iface, *from, hello),
         Accepted::JoinPruneToMe { iface, message } => plan_join_prune(
             world, turn, meter, *iface, message,
         ),

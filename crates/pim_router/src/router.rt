@@ -1,11 +1,22 @@
 //! The router.
 ghost use Rattle.std.specs.Option.{option_map_or};
-ghost use Rattle.std.specs.Prelude.{◌≡◌, ◌+◌, ◌<◌, ◌++◌, ◌↔◌, [], Err, IfErr, IfOk, IfSome, IsOk, IsOkUnless, IsTrue, None, Ok, OnErr, OnOk, Some, option_and_then};
+ghost use Rattle.std.specs.Prelude.{◌≡◌, ◌+◌, ◌<◌, ◌++◌, ◌↔◌, [], Err, IfErr, IfOk, IfSome, IsOk, IsOkUnless, IsTrue, None, Ok, OnErr, OnOk, Some, min, option_and_then};
 ghost use Rattle.std.specs.Vec.{vec_capacity, vec_len};
 ghost use Rattle.pim_fanout.specs.Refreshing.{touches};
 ghost use Rattle.pim_mfc.specs.Laws.{ShowsRows, TellsRow};
 ghost use Rattle.pim_model.specs.Cache.{cached};
 ghost use Rattle.pim_router.specs.Costs.{IsCheap, IsLastCheap};
+ghost use Rattle.pim_model.specs.Judging.{last_moment};
+ghost use Rattle.pim_model.specs.Sets.{is_kept_alive};
+ghost use Rattle.pim_offload.specs.Keeping.{keep};
+ghost use Rattle.pim_offload.specs.Offered.{offered};
+ghost use Rattle.pim_offload.specs.Seen.{seen_event};
+ghost use Rattle.pim_offrow.specs.Shown.{TellsOffload};
+ghost use Rattle.pim_fanout.specs.Disturbed.{is_disturbed};
+ghost use Rattle.pim_router.specs.Listing.{IsLastListed, ListsSame};
+ghost use Rattle.pim_router.specs.Staying.{LastOffersStay, OffersStay};
+ghost use Rattle.pim_fanout.specs.Named.{keys_of};
+ghost use Rattle.pim_reach.specs.Named.{event_named};
 ghost use Rattle.pim_ip.specs.declared.fault.Fault.{Fault};
 ghost use Rattle.pim_model.specs.Step.{outcome_of, run, state_after, step};
 ghost use Rattle.pim_model.specs.Limits.{config_test};
@@ -13,30 +24,40 @@ ghost use Rattle.pim_model.specs.State.{opening};
 ghost use Rattle.pim_model.specs.Cause.{OutcomesAreAsked};
 ghost use Rattle.pim_model.specs.Printed.{rows};
 ghost use Rattle.pim_model.specs.Timers.{next_moment};
-ghost use Rattle.pim_router.specs.Standing.{beginning, begun, nothing_shown, last_copies, standing, standing_after};
+ghost use Rattle.pim_router.specs.Standing.{beginning, begun, nothing_shown, last_copies, standing, standing_after, with_state};
 ghost use Rattle.pim_types.specs.declared.config.Config.{Config as ConfigValue};
 ghost use Rattle.pim_model.specs.Sure.{needs_no_memory};
 ghost use Rattle.pim_locality.specs.Rest.{IsAtRest};
 ghost use Rattle.pim_words.specs.Bounded.{IsBounded};
 
 use crate::event::take_in;
+use crate::plane::{bare_packet, keep, offer};
 use pim_fanout::Cache;
+use pim_intake::LentEvent;
 use pim_macros::SourceGroup;
+use pim_messages::Room;
 use pim_mfc::CacheRow;
+use pim_offrow::Offered;
 use pim_trie::Probes;
-use pim_types::{Addr, Config, Emission, Event, Fault, Outcome, Refusal, Row, Table, Verdict};
+use pim_types::{
+    Addr, Config, Emission, Event, Fault, IfaceId, Outcome, Refusal, Row, Table, Verdict,
+};
 use pim_world::World;
 use std::alloc::{AllocError, Global};
 use std::marker::Model;
 
+// The last moment that an event may have, in ms.
+const LAST_MOMENT: u64 = 1 << 62;
+
 /// A router: its state, or nothing more once memory was refused to it.
 #[derive(Drop)]
 pub struct Router {
-    alloc: Global,
     failed: bool,
     world: World,
     // The forwarding cache: a row for each source with a fact.
     cache: Cache,
+    // For packets that leave.
+    room: Room,
     // Of the last event.
     copies: u32,
     probes: Probes,
@@ -56,6 +77,8 @@ impl Model for Router {
       standing = Some (record { state = r.world; copies = r.copies });
       probes = r.probes.meter;
       touched = touches r.cache;
+      changed = r.cache.changed;
+      disturbed = r.cache.disturbed;
     } };
 
     ghost invariant = { λ r. r.failed ≡ false → IsAtRest r.world × ShowsRows r.cache.mfc.rows (cached r.world) };
@@ -74,10 +97,10 @@ impl Router {
     {
         match World::new(alloc, &config)? {
             Ok(world) => Ok(Ok(Router {
-                alloc,
                 failed: false,
                 world,
                 cache: Cache::new(alloc),
+                room: Room::new(alloc),
                 copies: 0,
                 probes: Probes::new(),
             })),
@@ -144,6 +167,48 @@ impl Router {
         self.cache.touched()
     }
 
+    /// The sources whose rows of the forwarding cache the last event changed: all others have the rows that they had. Of an
+    /// `Advance` they are those of all its timers' ends, so a source may stand here more than once; a plain packet of data, and an event that
+    /// is ignored or refused, changes none. Where nothing was touched there is none, nor before the first event, nor where the
+    /// router has failed. No memory is taken.
+    pub fn changed(&self) -> &[SourceGroup]
+        ensures names { keys_of result.now ≡ self.now.changed }
+        ensures none { self.now.touched ≡ 0 → result.now ≡ [] }
+    {
+        if self.failed {
+            return &[];
+        }
+        self.cache.changed()
+    }
+
+    /// What a data plane may do of the packets of (S,G), which a kernel or a chip forwards by rows that it is told. That of a source
+    /// with a fact stays until `changed` lists it, that of another until `may_differ` says so of it. `None` of a source without a fact
+    /// where there is no room for one, whose packets are all the router's, and where the router has failed. No memory is taken.
+    pub fn offload(&self, source: Addr, group: Addr) -> Option<Offered>
+        ensures told { IfSome self.now.standing (λ r. TellsOffload result (offered r.state group.bits source.bits)) }
+        ensures failed { self.now.standing ≡ None → result ≡ None }
+    {
+        if self.failed {
+            return None;
+        }
+        offer(&self.world, &self.cache, SourceGroup { source, group })
+    }
+
+    /// Whether what `offload` tells of (S,G) may be another than before the last event, whether the source has a fact or not: where it
+    /// answers no, it is the same. It answers yes of the sources that the event's change touched, and of all sources of a group that
+    /// it touched whole; of all after new routes or RP ranges, after an interface went up or down, after a Hello that says more
+    /// than that its neighbour lasts or started anew, and where there is no more room for a fact, or room again; and where the
+    /// router has failed. No memory is taken.
+    #[tactic(auto, unfolding(pim_fanout::specs::Disturbed::is_disturbed))]
+    pub fn may_differ(&self, source: Addr, group: Addr) -> bool
+        ensures { result ≡ is_disturbed self.now.disturbed group.bits source.bits }
+    {
+        if self.failed {
+            return true;
+        }
+        self.cache.disturbed().holds(SourceGroup { source, group })
+    }
+
     /// The rows of a printed table, ascending by their keys. The only fault of a router that hasn't failed is want of
     /// memory.
     pub fn rows(&self, table: Table) -> Result<Vec<Row>, Fault>
@@ -154,7 +219,7 @@ impl Router {
         if self.failed {
             return Err(Fault::Failed);
         }
-        Ok(pim_printed::rows(&self.world, self.alloc, table)?)
+        Ok(pim_printed::rows(&self.world, self.room.alloc, table)?)
     }
 
     /// Takes one event: it is done, ignored or refused. The packets that leave stand at the end of the
@@ -173,6 +238,36 @@ impl Router {
             ≡ emissions.old.items ++ (step r.state event.now).emissions)) }
         ensures cheap { IfSome self.old.standing (λ r. OnOk result
             (IsCheap r.state event.now self.new.probes self.new.touched)) }
+        ensures changed { IfSome self.old.standing (λ r. OnOk result
+            (ListsSame self.new.changed (event_named r.state event.now))) }
+        ensures stays { IfSome self.old.standing (λ r. OnOk result
+            (OffersStay self.new.disturbed r.state (step r.state event.now).state)) }
+        ensures failing { OnErr result (self.new ≡ nothing_shown) }
+        ensures silent { OnErr result (emissions.new.items ≡ emissions.old.items) }
+        ensures failed { (result ≡ Err Fault.Failed) ↔ (self.old.standing ≡ None) }
+        ensures fault { IfSome self.old.standing (λ r. IsOkUnless result Fault.Memory) }
+        ensures sure { IfSome self.old.standing (λ r. IsTrue (needs_no_memory (step r.state event.now).answer)
+            → IsOk result) }
+    {
+        self.step_lent(&LentEvent::of(event), emissions)
+    }
+
+    /// Takes one event whose packet, routes or ranges are lent, and copies none of them: all else is as of `step`.
+    pub fn step_lent(
+        &mut self,
+        event: &LentEvent<'_>,
+        emissions: &mut Vec<Emission>,
+    ) -> Result<Result<Verdict, Refusal>, Fault>
+        ensures answer { IfSome self.old.standing (λ r. IfOk result (λ answer. answer ≡ (step r.state event.now).answer)) }
+        ensures state { IfSome self.old.standing (λ r. OnOk result (self.new.standing ≡ Some (standing (step r.state event.now)))) }
+        ensures sent { IfSome self.old.standing (λ r. OnOk result (emissions.new.items
+            ≡ emissions.old.items ++ (step r.state event.now).emissions)) }
+        ensures cheap { IfSome self.old.standing (λ r. OnOk result
+            (IsCheap r.state event.now self.new.probes self.new.touched)) }
+        ensures changed { IfSome self.old.standing (λ r. OnOk result
+            (ListsSame self.new.changed (event_named r.state event.now))) }
+        ensures stays { IfSome self.old.standing (λ r. OnOk result
+            (OffersStay self.new.disturbed r.state (step r.state event.now).state)) }
         ensures failing { OnErr result (self.new ≡ nothing_shown) }
         ensures silent { OnErr result (emissions.new.items ≡ emissions.old.items) }
         ensures failed { (result ≡ Err Fault.Failed) ↔ (self.old.standing ≡ None) }
@@ -185,7 +280,7 @@ impl Router {
         }
         self.failed = true;
         let outcome = take_next(
-            self.alloc,
+            &mut self.room,
             &mut self.world,
             &mut self.cache,
             event,
@@ -195,6 +290,80 @@ impl Router {
         self.copies = outcome.copies;
         self.failed = false;
         Ok(outcome.answer)
+    }
+
+    /// A data plane saw a packet of (S,G) on the interface, and tells no more of it: what `step` does of a frame that brings such a
+    /// packet with a TTL of 1. The state and the messages are those of any packet of (S,G) there; its copies and its Register
+    /// don't leave.
+    pub fn seen(
+        &mut self,
+        draw: u32,
+        iface: IfaceId,
+        source: Addr,
+        group: Addr,
+        emissions: &mut Vec<Emission>,
+    ) -> Result<Result<Verdict, Refusal>, Fault>
+        ensures answer { IfSome self.old.standing (λ r. IfOk result (λ answer.
+            answer ≡ (step r.state (seen_event draw iface group.bits source.bits)).answer)) }
+        ensures state { IfSome self.old.standing (λ r. OnOk result (self.new.standing
+            ≡ Some (standing (step r.state (seen_event draw iface group.bits source.bits))))) }
+        ensures sent { IfSome self.old.standing (λ r. OnOk result (emissions.new.items ≡ emissions.old.items
+            ++ (step r.state (seen_event draw iface group.bits source.bits)).emissions)) }
+        ensures cheap { IfSome self.old.standing (λ r. OnOk result (IsCheap r.state
+            (seen_event draw iface group.bits source.bits) self.new.probes self.new.touched)) }
+        ensures changed { IfSome self.old.standing (λ r. OnOk result (ListsSame self.new.changed
+            (event_named r.state (seen_event draw iface group.bits source.bits)))) }
+        ensures stays { IfSome self.old.standing (λ r. OnOk result (OffersStay self.new.disturbed r.state
+            (step r.state (seen_event draw iface group.bits source.bits)).state)) }
+        ensures failing { OnErr result (self.new ≡ nothing_shown) }
+        ensures silent { OnErr result (emissions.new.items ≡ emissions.old.items) }
+        ensures failed { (result ≡ Err Fault.Failed) ↔ (self.old.standing ≡ None) }
+        ensures fault { IfSome self.old.standing (λ r. IsOkUnless result Fault.Memory) }
+    {
+        if self.failed {
+            return Err(Fault::Failed);
+        }
+        let Ok(packet) = bare_packet(&mut self.room, SourceGroup { source, group }) else {
+            self.failed = true;
+            return Err(Fault::Memory);
+        };
+        let answer = self.step_lent(&LentEvent::frame(draw, iface, &packet), emissions);
+        self.room.give(packet);
+        answer
+    }
+
+    /// A data plane forwarded its last packet of (S,G) at the moment, in ms: KAT(S,G), where it runs, ends 210 s after it, or when
+    /// it would end later. It tells whether the timer runs: one that doesn't isn't started. A moment past the last that an event
+    /// may have counts as that. What `copies`, `probes`, `touched`, `changed`, `may_differ` and `offload` tell stays.
+    pub fn keep(&mut self, source: Addr, group: Addr, moment: u64) -> Result<bool, Fault>
+        ensures runs { IfSome self.old.standing (λ r. IfOk result (λ runs.
+            runs ≡ is_kept_alive r.state group.bits source.bits)) }
+        ensures state { IfSome self.old.standing (λ r. OnOk result (self.new
+            ≡ with_state self.old r (keep r.state group.bits source.bits (min moment last_moment)))) }
+        ensures failing { OnErr result (self.new ≡ nothing_shown) }
+        ensures failed { (result ≡ Err Fault.Failed) ↔ (self.old.standing ≡ None) }
+        ensures fault { IfSome self.old.standing (λ r. IsOkUnless result Fault.Memory) }
+    {
+        if self.failed {
+            return Err(Fault::Failed);
+        }
+        self.failed = true;
+        let runs = keep(
+            &mut self.world,
+            SourceGroup { source, group },
+            moment.min(LAST_MOMENT),
+            &mut self.probes.meter,
+        )?;
+        self.failed = false;
+        Ok(runs)
+    }
+
+    /// Takes packets back that were sent and are done with: others are written into their room. It changes nothing of what the
+    /// router shows, and takes no memory that it can't do without.
+    pub fn take_back(&mut self, packets: Vec<Emission>)
+        ensures { self.new ≡ self.old }
+    {
+        self.room.take_back(packets);
     }
 
     /// Takes events one after the other, and tells the outcome of each. After a fault the router answers
@@ -210,6 +379,10 @@ impl Router {
             → IfSome self.new.standing (λ r. IsBounded c r.state) }
         ensures cheap { IfSome self.old.standing (λ r. OnOk result
             (IsLastCheap r.state events.now self.new.probes self.new.touched)) }
+        ensures changed { IfSome self.old.standing (λ r. OnOk result
+            (IsLastListed r.state events.now self.new.changed)) }
+        ensures stays { IfSome self.old.standing (λ r. OnOk result
+            (LastOffersStay r.state events.now self.new.disturbed)) }
         ensures failing { OnErr result (self.new ≡ nothing_shown) }
         ensures failed { (result ≡ Err Fault.Failed) ↔ (self.old.standing ≡ None) }
         ensures fault { IfSome self.old.standing (λ r. IsOkUnless result Fault.Memory) }
@@ -220,7 +393,7 @@ impl Router {
         }
         self.failed = true;
         let outcomes = run_world(
-            self.alloc,
+            &mut self.room,
             &mut self.world,
             &mut self.cache,
             events,
@@ -258,13 +431,13 @@ fn last_copies(before: u32, outcomes: &[Outcome]) -> u32
     copies
 }
 
-// Takes an event. It begins both counts anew: of the nodes that its look-ups visit, and of the rows of the cache that it
-// touches.
+// Takes an event. It begins both counts anew, of the nodes that its look-ups visit, and of the rows of the cache that it
+// touches, with the list of the sources whose they are.
 fn take_next(
-    alloc: Global,
+    room: &mut Room,
     world: &mut World,
     cache: &mut Cache,
-    event: &Event,
+    event: &LentEvent<'_>,
     probes: &mut Probes,
 ) -> Result<Outcome, Fault>
     requires rest { IsAtRest world.old }
@@ -274,17 +447,19 @@ fn take_next(
     ensures rest { OnOk result (IsAtRest world.new) }
     ensures shown { OnOk result (ShowsRows cache.new.mfc.rows (cached world.new)) }
     ensures cheap { OnOk result (IsCheap world.old event.now probes.new.meter (touches cache.new)) }
+    ensures listed { OnOk result (ListsSame cache.new.changed (event_named world.old event.now)) }
+    ensures stays { OnOk result (OffersStay cache.new.disturbed world.old world.new) }
     ensures fault { IsOkUnless result Fault.Memory }
     ensures sure { IsTrue (needs_no_memory (step world.old event.now).answer) → IsOk result }
 {
     probes.begin();
     cache.reset();
-    take_in(alloc, world, cache, event, &mut probes.meter)
+    take_in(room, world, cache, event, &mut probes.meter)
 }
 
 // Takes events one after the other.
 fn run_world(
-    alloc: Global,
+    room: &mut Room,
     world: &mut World,
     cache: &mut Cache,
     events: &[Event],
@@ -297,12 +472,14 @@ fn run_world(
     ensures rest { OnOk result (IsAtRest world.new) }
     ensures shown { OnOk result (ShowsRows cache.new.mfc.rows (cached world.new)) }
     ensures cheap { OnOk result (IsLastCheap world.old events.now probes.new.meter (touches cache.new)) }
+    ensures listed { OnOk result (IsLastListed world.old events.now cache.new.changed) }
+    ensures stays { OnOk result (LastOffersStay world.old events.now cache.new.disturbed) }
     ensures fault { IsOkUnless result Fault.Memory }
     ensures sure { events.now ≡ [] → IsOk result }
 {
-    let mut outcomes = Vec::new(alloc);
+    let mut outcomes = Vec::new(room.alloc);
     for event in events {
-        outcomes.push(take_next(alloc, world, cache, event, probes)?)?;
+        outcomes.push(take_next(room, world, cache, &LentEvent::of(event), probes)?)?;
     }
     Ok(outcomes)
 }

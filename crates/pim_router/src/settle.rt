@@ -118,6 +118,6 @@ pub(crate) fn settle(
     ensures at_least { OnOk result (raised meter.old (naming_nodes (cleared_by opening.now world.old).0 before.now) ≤ meter.new) }
 {
     let names = follow(world, turn, meter, opening, before)?;
-    world.write(&turn.out, emissions)?;
+    world.write(&mut turn.room, &turn.out, emissions)?;
     Ok(names)
 }

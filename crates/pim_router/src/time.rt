@@ -16,9 +16,12 @@ ghost use Rattle.pim_router.specs.Visits.{end_nodes, firing_nodes};
 ghost use Rattle.pim_trie.specs.Meter.{raised};
 ghost use Rattle.pim_world.specs.Turns.{saying};
 ghost use Rattle.pim_model.specs.Firing.{fire_all, fire_instant, fire_once, fired};
+ghost use Rattle.pim_model.specs.State.{State};
 ghost use Rattle.pim_model.specs.Step.{advanced, outcome_of};
 ghost use Rattle.pim_model.specs.Timers.{next_due};
 ghost use Rattle.pim_ready.specs.Ready.{IsLawful};
+ghost use Rattle.pim_router.specs.Listing.{ListsMore};
+ghost use Rattle.pim_router.specs.Staying.{StaysBeside};
 ghost use Rattle.pim_router.specs.Ends.{ending_of, has_other_sources, keeps_group, touched_by_end, touched_by_source};
 ghost use Rattle.pim_tables.specs.Ends.{due_of};
 
@@ -137,8 +140,10 @@ fn fire_world(
     turn: &mut Turn,
     meter: &mut Meter,
     due: (u64, Timer),
+    touched: &Touched,
     emissions: &mut Vec<Emission>,
 ) -> Result<Series<SourceGroup>, Fault>
+    requires touched { touched.now ≡ touched_by_end world.old due.1.kind due.1.key }
     requires lawful { IsLawful world.old }
     requires quiet { IsQuiet world.old }
     requires begun { turn.old.messages ≡ [] }
@@ -152,9 +157,8 @@ fn fire_world(
     ensures fault { IsOkUnless result Fault.Memory }
     ensures at_least { OnOk result (raised meter.old (firing_nodes world.old due) ≤ meter.new) }
 {
-    let touched = touched_by_end(world, turn.alloc, due.1)?;
-    let opening = Opening::of(world, turn.alloc, &touched, meter)?;
-    let before = Before::of(world, turn.alloc, meter, &touched)?;
+    let opening = Opening::of(world, turn.alloc, touched, meter)?;
+    let before = Before::of(world, turn.alloc, meter, touched)?;
     world.set_present(due.0);
     fired(world, turn, meter, due.1)?;
     // It tells that asserts, sources and registers are under keys of their kind.
@@ -183,15 +187,20 @@ fn fire_once(
         (names_of world.old (own_firing world.old (ending_of due)) (touched_by_end world.old due.1.kind due.1.key)))) }
     ensures few { OnOk result (touches cache.new
         ≤ touches cache.old + 2 * length (named_by world.old (own_firing world.old (ending_of due)))) }
+    ensures listed { OnOk result (ListsMore cache.old.changed (named_by world.old (own_firing world.old (ending_of due)))
+        cache.new.changed) }
     ensures draw { OnOk result (turn.new.draw ≡ turn.old.draw) }
+    ensures stays { (o : State) → StaysBeside cache.old.disturbed o world.old
+        → OnOk result (StaysBeside cache.new.disturbed o world.new) }
     ensures fault { IsOkUnless result Fault.Memory }
     ensures at_least { OnOk result (raised meter.old (firing_nodes world.old due) ≤ meter.new) }
 {
     // It tells that there are at most 120 interfaces.
     world.interfaces().recall_few();
     turn.out = Outbox::new(turn.alloc);
-    let names = fire_world(world, turn, meter, due, emissions)?;
-    cache.refresh(world, meter, names.as_slice())?;
+    let touched = touched_by_end(world, turn.alloc, due.1)?;
+    let names = fire_world(world, turn, meter, due, &touched, emissions)?;
+    cache.refresh(world, meter, names, touched)?;
     Ok(())
 }
 
@@ -215,7 +224,11 @@ fn fire_instant(
     ensures shown { OnOk result (ShowsRows cache.new.mfc.rows (cached world.new)) }
     ensures few { OnOk result (touches cache.new
         ≤ touches cache.old + 2 * length (told_instant named_by turn.old.draw world.old (ending_of first)).1) }
+    ensures listed { OnOk result (ListsMore cache.old.changed
+        (told_instant named_by turn.old.draw world.old (ending_of first)).1 cache.new.changed) }
     ensures draw { OnOk result (turn.new.draw ≡ turn.old.draw) }
+    ensures stays { (o : State) → StaysBeside cache.old.disturbed o world.old
+        → OnOk result (StaysBeside cache.new.disturbed o world.new) }
     ensures fault { IsOkUnless result Fault.Memory }
     ensures rises { OnOk result (meter.old ≤ meter.new) }
 {
@@ -245,6 +258,10 @@ fn fire_all(
     ensures shown { OnOk result (ShowsRows cache.new.mfc.rows (cached world.new)) }
     ensures few { OnOk result (touches cache.new
         ≤ touches cache.old + 2 * length (told_all named_by turn.old.draw moment world.old).1) }
+    ensures listed { OnOk result (ListsMore cache.old.changed (told_all named_by turn.old.draw moment world.old).1
+        cache.new.changed) }
+    ensures stays { (o : State) → StaysBeside cache.old.disturbed o world.old
+        → OnOk result (StaysBeside cache.new.disturbed o world.new) }
     ensures fault { IsOkUnless result Fault.Memory }
     ensures rises { OnOk result (meter.old ≤ meter.new) }
 {
@@ -271,6 +288,10 @@ pub(crate) fn advance(
     ensures shown { OnOk result (ShowsRows cache.new.mfc.rows (cached world.new)) }
     ensures few { OnOk result (touches cache.new
         ≤ touches cache.old + 2 * length (told_all named_by turn.old.draw moment world.old).1) }
+    ensures listed { OnOk result (ListsMore cache.old.changed (told_all named_by turn.old.draw moment world.old).1
+        cache.new.changed) }
+    ensures stays { (o : State) → StaysBeside cache.old.disturbed o world.old
+        → OnOk result (StaysBeside cache.new.disturbed o world.new) }
     ensures fault { IsOkUnless result Fault.Memory }
     ensures rises { OnOk result (meter.old ≤ meter.new) }
 {

@@ -1,23 +1,38 @@
 //! A router behind a box, with what the last calls told of it.
 ghost use Rattle.std.specs.Option.{option_map_or};
-ghost use Rattle.std.specs.Prelude.{◌≡◌, ◌↔◌, [], Err, IfErr, IfOk, IfSome, IsOk, IsOkUnless, IsSome, IsTrue, None, Ok, OnErr, OnOk, Some, option_and_then};
+ghost use Rattle.std.specs.Prelude.{◌≡◌, ◌↔◌, [], Err, IfErr, IfOk, IfSome, IsOk, IsOkUnless, IsSome, IsTrue, None, Ok, OnErr, OnOk, Some, min, option_and_then};
 ghost use Rattle.pim_ip.specs.declared.fault.Fault.{Fault};
+ghost use Rattle.pim_fanout.specs.Disturbed.{is_disturbed};
+ghost use Rattle.pim_fanout.specs.Named.{keys_of};
 ghost use Rattle.pim_mfc.specs.Laws.{TellsRow};
 ghost use Rattle.pim_model.specs.Cache.{cached};
+ghost use Rattle.pim_model.specs.Judging.{last_moment};
 ghost use Rattle.pim_model.specs.Limits.{config_test};
 ghost use Rattle.pim_model.specs.Printed.{rows};
+ghost use Rattle.pim_model.specs.Sets.{is_kept_alive};
 ghost use Rattle.pim_model.specs.State.{opening};
 ghost use Rattle.pim_model.specs.Step.{step};
 ghost use Rattle.pim_model.specs.Sure.{needs_no_memory};
 ghost use Rattle.pim_model.specs.Timers.{next_moment};
+ghost use Rattle.pim_offload.specs.Keeping.{keep};
+ghost use Rattle.pim_offload.specs.Offered.{offered};
+ghost use Rattle.pim_offload.specs.Seen.{seen_event};
+ghost use Rattle.pim_offrow.specs.Shown.{TellsOffload};
+ghost use Rattle.pim_reach.specs.Named.{event_named};
 ghost use Rattle.pim_router.specs.Costs.{IsCheap};
-ghost use Rattle.pim_router.specs.Standing.{begun, nothing_shown, standing};
+ghost use Rattle.pim_router.specs.Listing.{ListsSame};
+ghost use Rattle.pim_router.specs.Staying.{OffersStay};
+ghost use Rattle.pim_router.specs.Standing.{begun, nothing_shown, standing, with_state};
 
+use pim_intake::LentEvent;
+use pim_macros::SourceGroup;
 use pim_mfc::CacheRow;
+use pim_offrow::Offered;
 use pim_router::Router;
-use pim_types::{Addr, Config, Emission, Event, Fault, Refusal, Row, Table, Verdict};
+use pim_types::{Addr, Config, Emission, Fault, IfaceId, Refusal, Row, Table, Verdict};
 use std::alloc::Global;
 use std::marker::Model;
+use std::mem;
 
 /// A router, the packets of the last event that it took, and the rows of the table that was asked for last.
 pub struct Session {
@@ -82,16 +97,24 @@ impl Session {
         }
     }
 
-    /// Takes one event, as `Router::step` does, and keeps its packets in place of those before. After a fault the packets are as
+    /// Takes one event, as `Router::step_lent` does, and keeps its packets in place of those before. After a fault the packets are as
     /// they were, and the session answers `Failed` from then on. There is none in a session that hasn't failed, where the event is
     /// ignored, or refused for its bytes, its moment or its interface.
-    pub fn step(&mut self, alloc: Global, event: &Event) -> Result<Result<Verdict, Refusal>, Fault>
+    pub fn step(
+        &mut self,
+        alloc: Global,
+        event: &LentEvent<'_>,
+    ) -> Result<Result<Verdict, Refusal>, Fault>
         ensures answer { IfSome self.old.router.standing (λ r. IfOk result (λ answer. answer ≡ (step r.state event.now).answer)) }
         ensures state { IfSome self.old.router.standing (λ r. OnOk result
             (self.new.router.standing ≡ Some (standing (step r.state event.now)))) }
         ensures sent { IfSome self.old.router.standing (λ r. OnOk result (self.new.sent ≡ (step r.state event.now).emissions)) }
         ensures cheap { IfSome self.old.router.standing (λ r. OnOk result
             (IsCheap r.state event.now self.new.router.probes self.new.router.touched)) }
+        ensures changed { IfSome self.old.router.standing (λ r. OnOk result
+            (ListsSame self.new.router.changed (event_named r.state event.now))) }
+        ensures stays { IfSome self.old.router.standing (λ r. OnOk result
+            (OffersStay self.new.router.disturbed r.state (step r.state event.now).state)) }
         ensures failing { OnErr result (self.new.router ≡ nothing_shown) }
         ensures silent { OnErr result (self.new.sent ≡ self.old.sent) }
         ensures failed { (result ≡ Err Fault.Failed) ↔ (self.old.router.standing ≡ None) }
@@ -104,9 +127,9 @@ impl Session {
             return Err(Fault::Failed);
         }
         let mut sent = Vec::new(alloc);
-        match self.router.step(event, &mut sent) {
+        match self.router.step_lent(event, &mut sent) {
             Ok(answer) => {
-                self.sent = sent;
+                self.keep_sent(sent);
                 Ok(answer)
             }
             Err(fault) => {
@@ -114,6 +137,83 @@ impl Session {
                 Err(fault)
             }
         }
+    }
+
+    /// A data plane saw a packet of (S,G) on the interface, as `Router::seen` is told. What leaves is kept in place of the packets
+    /// before. After a fault these are as they were, and the session answers `Failed` from then on.
+    pub fn seen(
+        &mut self,
+        alloc: Global,
+        draw: u32,
+        iface: IfaceId,
+        source: Addr,
+        group: Addr,
+    ) -> Result<Result<Verdict, Refusal>, Fault>
+        ensures answer { IfSome self.old.router.standing (λ r. IfOk result (λ answer.
+            answer ≡ (step r.state (seen_event draw iface group.bits source.bits)).answer)) }
+        ensures state { IfSome self.old.router.standing (λ r. OnOk result (self.new.router.standing
+            ≡ Some (standing (step r.state (seen_event draw iface group.bits source.bits))))) }
+        ensures sent { IfSome self.old.router.standing (λ r. OnOk result
+            (self.new.sent ≡ (step r.state (seen_event draw iface group.bits source.bits)).emissions)) }
+        ensures cheap { IfSome self.old.router.standing (λ r. OnOk result (IsCheap r.state
+            (seen_event draw iface group.bits source.bits) self.new.router.probes self.new.router.touched)) }
+        ensures changed { IfSome self.old.router.standing (λ r. OnOk result (ListsSame self.new.router.changed
+            (event_named r.state (seen_event draw iface group.bits source.bits)))) }
+        ensures stays { IfSome self.old.router.standing (λ r. OnOk result (OffersStay self.new.router.disturbed r.state
+            (step r.state (seen_event draw iface group.bits source.bits)).state)) }
+        ensures failing { OnErr result (self.new.router ≡ nothing_shown) }
+        ensures silent { OnErr result (self.new.sent ≡ self.old.sent) }
+        ensures failed { (result ≡ Err Fault.Failed) ↔ (self.old.router.standing ≡ None) }
+        ensures fault { IfSome self.old.router.standing (λ r. IsOkUnless result Fault.Memory) }
+        ensures rows { self.new.rows ≡ self.old.rows }
+    {
+        if self.is_lost {
+            return Err(Fault::Failed);
+        }
+        let mut leaving = Vec::new(alloc);
+        match self.router.seen(draw, iface, source, group, &mut leaving) {
+            Ok(answer) => {
+                self.keep_sent(leaving);
+                Ok(answer)
+            }
+            Err(fault) => {
+                self.is_lost = true;
+                Err(fault)
+            }
+        }
+    }
+
+    /// A data plane forwarded its last packet of (S,G) at the moment, in ms, as `Router::keep` is told. It tells whether KAT(S,G)
+    /// runs. After a fault the session answers `Failed` from then on.
+    pub fn keep(&mut self, source: Addr, group: Addr, moment: u64) -> Result<bool, Fault>
+        ensures runs { IfSome self.old.router.standing (λ r. IfOk result (λ runs.
+            runs ≡ is_kept_alive r.state group.bits source.bits)) }
+        ensures state { IfSome self.old.router.standing (λ r. OnOk result (self.new.router
+            ≡ with_state self.old.router r (keep r.state group.bits source.bits (min moment last_moment)))) }
+        ensures failing { OnErr result (self.new.router ≡ nothing_shown) }
+        ensures failed { (result ≡ Err Fault.Failed) ↔ (self.old.router.standing ≡ None) }
+        ensures fault { IfSome self.old.router.standing (λ r. IsOkUnless result Fault.Memory) }
+        ensures rest { (self.new.sent ≡ self.old.sent) × (self.new.rows ≡ self.old.rows) }
+    {
+        if self.is_lost {
+            return Err(Fault::Failed);
+        }
+        match self.router.keep(source, group, moment) {
+            Ok(runs) => Ok(runs),
+            Err(fault) => {
+                self.is_lost = true;
+                Err(fault)
+            }
+        }
+    }
+
+    // Packets that were sent, in place of those before, whose room the router has again.
+    fn keep_sent(&mut self, sent: Vec<Emission>)
+        ensures sent { self.new.sent ≡ sent.items }
+        ensures rest { (self.new.router ≡ self.old.router) × (self.new.rows ≡ self.old.rows) }
+    {
+        let done = mem::replace(&mut self.sent, sent);
+        self.router.take_back(done);
     }
 
     /// Whether memory was refused to it: it answers `Failed` from then on.
@@ -182,6 +282,39 @@ impl Session {
             return None;
         }
         self.router.cached(source, group)
+    }
+
+    /// What a data plane may do of the packets of (S,G), as `Router::offload` tells it; `None` after a fault.
+    pub fn offload(&self, source: Addr, group: Addr) -> Option<Offered>
+        ensures told { IfSome self.now.router.standing (λ r. TellsOffload result (offered r.state group.bits source.bits)) }
+        ensures failed { self.now.router.standing ≡ None → result ≡ None }
+    {
+        if self.is_lost {
+            return None;
+        }
+        self.router.offload(source, group)
+    }
+
+    /// The sources whose rows the last event changed, as `Router::changed` lists them; none after a fault.
+    pub fn changed(&self) -> &[SourceGroup]
+        ensures names { keys_of result.now ≡ self.now.router.changed }
+        ensures none { self.now.router.touched ≡ 0 → result.now ≡ [] }
+    {
+        if self.is_lost {
+            return &[];
+        }
+        self.router.changed()
+    }
+
+    /// Whether what is offered of (S,G) may have changed at the last event, as `Router::may_differ` tells it; true after a fault.
+    #[tactic(auto, unfolding(pim_fanout::specs::Disturbed::is_disturbed))]
+    pub fn may_differ(&self, source: Addr, group: Addr) -> bool
+        ensures { result ≡ is_disturbed self.now.router.disturbed group.bits source.bits }
+    {
+        if self.is_lost {
+            return true;
+        }
+        self.router.may_differ(source, group)
     }
 
     /// The trie nodes that the last event visited, as `Router::probes` counts them; 0 after a fault.

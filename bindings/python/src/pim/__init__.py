@@ -20,7 +20,7 @@ from ctypes import Structure, byref, c_bool, c_char_p, c_size_t, c_uint8, c_uint
 from functools import cache
 from typing import Any, NamedTuple, Self
 
-__all__ = ["Answer", "Forwarding", "Refused", "Router", "Row", "Sent", "TABLES", "answer_text", "version"]
+__all__ = ["Answer", "Forwarding", "PlaneRow", "Refused", "Router", "Row", "Sent", "TABLES", "answer_text", "version"]
 
 NEVER, NO_INTERFACE, MOST_BYTES = 2**64 - 1, 2**32 - 1, 1528
 # The letters of the tables.
@@ -60,6 +60,7 @@ class Answer(enum.IntEnum):
     FAILED = 41
     NO_ROUTER = 50
     NO_TABLE = 51
+    NO_TIMER = 52
     OWN = 101
     NOT_FOR_ME = 102
     OTHER_TYPE = 103
@@ -165,6 +166,14 @@ class Told(Structure):
     ]
 
 
+class ToldPlane(Structure):
+    _fields_ = [("is_known", c_bool), ("incoming", c_uint32), ("outgoing", Words), ("alive", Words), ("to_core", Words)]
+
+
+class ToldName(Structure):
+    _fields_ = numbers("source", "group")
+
+
 # ---- what is told
 
 
@@ -184,6 +193,16 @@ class Forwarding(NamedTuple):
     immediate: frozenset[int]
     inherited: frozenset[int]
     shared_tree: frozenset[int]
+
+
+class PlaneRow(NamedTuple):
+    """What a data plane may do of the packets of a source to a group: whether the source has a fact, the interface on which packets
+    are accepted, where copies of these leave, where a packet shows the source alive, and where it is the router's."""
+    is_known: bool
+    incoming: int | None
+    outgoing: frozenset[int]
+    alive: frozenset[int]
+    to_core: frozenset[int]
 
 
 def ends(moment: int, without: str) -> str:
@@ -212,9 +231,10 @@ def load(path: str) -> ctypes.CDLL:
     """The library, with what its calls answer where that is no number of 32 bits."""
     library = ctypes.CDLL(path)
     answers: dict[str, Any] = {"packets": c_size_t, "rows": c_size_t, "packet": c_bool, "row": c_bool, "cached": c_bool}
+    answers |= {"offload": c_bool, "changed": c_size_t, "changed_source": c_bool, "may_differ": c_bool}
     answers |= {"next_moment": c_uint64, "probes": c_uint64, "touched": c_uint64, "end": None}
     answers |= {"version": c_char_p, "answer_text": c_char_p}
-    names = "new advance frame unicast up down routes ranges copies read".split()
+    names = "new advance frame unicast up down routes ranges copies read seen keep".split()
     for name in [*names, *answers]:
         getattr(library, f"pim_{name}").restype = answers.get(name, c_uint32)
     return library
@@ -360,6 +380,39 @@ class Router:
             return None
         lists = (each.interfaces() for each in (told.immediate, told.inherited, told.shared_tree))
         return Forwarding(None if told.rpf == NO_INTERFACE else told.rpf, told.has_spt_bit, told.has_tunnel, *lists)
+
+    # ---- a data plane; include/pim.h says what one owes
+
+    def offload(self, source: str, group: str) -> PlaneRow | None:
+        """What a data plane may do of the packets of a source to a group; None where all are the router's."""
+        told = ToldPlane()
+        if not self.call("offload", c_uint32(address(source)), c_uint32(address(group)), byref(told)):
+            return None
+        sets = (each.interfaces() for each in (told.outgoing, told.alive, told.to_core))
+        return PlaneRow(told.is_known, None if told.incoming == NO_INTERFACE else told.incoming, *sets)
+
+    def changed(self) -> list[tuple[str, str]]:
+        """The sources whose rows the last event changed, each with its group; one may stand there more than once."""
+        told, names = ToldName(), []
+        for index in range(self.call("changed")):
+            self.call("changed_source", c_size_t(index), byref(told))
+            names.append((str(ipaddress.IPv4Address(told.source)), str(ipaddress.IPv4Address(told.group))))
+        return names
+
+    def may_differ(self, source: str, group: str) -> bool:
+        """Whether what `offload` tells of a source, with a fact or without one, may have changed at the last event."""
+        return self.call("may_differ", c_uint32(address(source)), c_uint32(address(group)))
+
+    def seen(self, iface: int, source: str, group: str, draw: int | None = None) -> Answer:
+        """An event: a data plane saw a packet of a source to a group on an interface. Its copies and its Register don't leave."""
+        return self.event("seen", draw, c_uint32(iface), c_uint32(address(source)), c_uint32(address(group)))
+
+    def keep(self, source: str, group: str, moment: int) -> Answer:
+        """A data plane forwarded a packet of a source to a group at a moment: the source's keepalive timer, where it runs, ends 210 s
+        after that, or when it would end later. NO_TIMER where none runs: it is started by `seen` alone."""
+        return Answer(self.call("keep", c_uint32(address(source)), c_uint32(address(group)), c_uint64(moment)))
+
+    # ---- costs
 
     def probes(self) -> int:
         """The trie nodes that the last event visited."""

@@ -1,6 +1,10 @@
 use Rattle.std.proofs.Common.{Ok, ap, ◌∙◌}
 use Rattle.pim_fanout.specs.Refreshing.{touches}
 use Rattle.pim_router.proofs.Costs.{cheap_turn, plain_cheap, untouched}
+use Rattle.pim_reach.specs.Named.{event_named}
+use Rattle.pim_router.proofs.Instants.{on_ok}
+use Rattle.pim_router.proofs.Staying.{plain_offers_stay}
+use Rattle.pim_router.proofs.Listing.{alone, plain_event_names_none, unlisted}
 use Rattle.pim_router.proofs.Plainly.{answered_by_row, its_packet, not_plain, plain_outcome, plain_rows, plain_state}
 use Rattle.pim_router.proofs.event.take_data.Goals as goal
 
@@ -46,3 +50,34 @@ returns-in-None-clause-cheap c =
     absurd (not_plain c.args.cache.now.mfc c.args.world.now c.args.iface c.args.packet.now c.requires.shown
     c.requires.below c.by_row.result c.in-None.is c.by_row.ensures.decided packet.0 packet.1))
     c.take_turn.ensures.few c.requires.uncounted
+
+pub returns-in-Some-clause-listed : goal.returns-in-Some-clause-listed
+returns-in-Some-clause-listed c =
+    let answered = answered_by_row c.args.cache.now.mfc c.args.world.now c.args.iface c.args.packet.now
+    c.requires.shown c.requires.below c.in-Some.forward c.by_row.result c.in-Some.is c.by_row.ensures.decided in
+    on_ok c.take_plain.result
+    (unlisted c.args.cache.now.changed c.args.world.now c.args.event.now c.requires.unlisted
+    (plain_event_names_none c.args.world.now c.args.event.now c.args.iface c.args.packet.now answered.how
+    c.requires.rest (c.requires.heard ∙ ap Ok c.requires.data) answered.known answered.answered))
+
+pub returns-in-None-clause-listed : goal.returns-in-None-clause-listed
+returns-in-None-clause-listed c =
+    alone c.take_turn.result c.args.cache.now.changed (event_named c.args.world.now c.args.event.now)
+    c.take_turn.new.cache.changed c.requires.unlisted c.take_turn.ensures.listed
+
+pub returns-in-Some-clause-stays : goal.returns-in-Some-clause-stays
+returns-in-Some-clause-stays c =
+    let answered = answered_by_row c.args.cache.now.mfc c.args.world.now c.args.iface c.args.packet.now
+    c.requires.shown c.requires.below c.in-Some.forward c.by_row.result c.in-Some.is c.by_row.ensures.decided in
+    plain_offers_stay c.take_plain.result c.args.world.now c.take_plain.new.world c.args.event.now c.args.packet.now
+    answered.how c.requires.rest
+    (record {
+      iif = c.args.iface;
+      heard = c.requires.heard ∙ ap Ok c.requires.data;
+      known = answered.known;
+      answered = answered.answered;
+    })
+    (plain_state c.args.cache.now.mfc c.args.world.now c.args.event.now c.args.iface c.args.packet.now c.in-Some.forward
+    c.requires.rest (c.requires.heard ∙ ap Ok c.requires.data) answered c.take_plain.result c.take_plain.new.world
+    c.take_plain.ensures.state)
+    c.args.cache.now.disturbed

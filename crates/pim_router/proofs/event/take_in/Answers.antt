@@ -1,8 +1,10 @@
-use Rattle.std.proofs.Common.{arith, sym, ◌∙◌}
+use Rattle.std.proofs.Common.{arith, refl, sym, ◌∙◌}
 use Rattle.std.proofs.lemmas.Result.{on_ok_weaker}
 use Rattle.pim_world.proofs.Visits.{at_least_itself, rises_by}
 use Rattle.pim_fanout.specs.Refreshing.{touches}
 use Rattle.pim_router.proofs.Costs.{is_cheap, untouched}
+use Rattle.pim_router.proofs.Staying.{offers_the_same}
+use Rattle.pim_router.proofs.Listing.{stopped_names_none, unlisted}
 use Rattle.pim_router.proofs.Plainly.{stop_isnt_plain}
 use Rattle.pim_router.proofs.Taking.{accepted_unsurely, fails_unsurely, rests_after}
 use Rattle.pim_router.proofs.event.take_in.Goals as goal
@@ -39,3 +41,13 @@ returns-in-Ok-clause-rises c =
 
 pub returns-in-Err-clause-rises : goal.returns-in-Err-clause-rises
 returns-in-Err-clause-rises c = rises_by _ _ _ (at_least_itself _ _ _ c.judge.ensures.visited)
+
+pub returns-in-Err-clause-listed : goal.returns-in-Err-clause-listed
+returns-in-Err-clause-listed c =
+    unlisted c.args.cache.now.changed c.args.world.now c.args.event.now c.requires.unlisted
+    (stopped_names_none c.args.world.now c.args.event.now c.in-Err.stop
+    (sym c.in_ok-accepted.ensures.value ∙ c.in-Err.is))
+
+pub returns-in-Err-clause-stays : goal.returns-in-Err-clause-stays
+returns-in-Err-clause-stays c =
+    offers_the_same c.args.world.now c.args.world.now c.args.cache.now.disturbed refl

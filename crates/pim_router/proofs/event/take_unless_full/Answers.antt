@@ -7,6 +7,8 @@ use Rattle.pim_router.proofs.Rows.{named_in_time, named_with_room}
 use Rattle.pim_model.specs.Full.{is_full}
 use Rattle.pim_model.specs.Step.{Answered, outcome_of, taken, taken_unless_full}
 use Rattle.pim_world.proofs.Visits.{rises_by}
+use Rattle.pim_router.specs.Listing.{ListsMore}
+use Rattle.pim_router.proofs.Listing.{named_without_room, nothing_more}
 use Rattle.pim_router.specs.Planning.{Fits, IsPlanned}
 use Rattle.pim_router.specs.declared.plan.Plan.{Plan}
 use Rattle.pim_router.proofs.Plans.{time_is_taken, with_room, without_room}
@@ -31,6 +33,12 @@ returns-in-Advance-clause-few c =
     (named_in_time c.args.world.now c.args.turn.now.draw c.args.accepted.now c.in-Advance.moment c.in-Advance.is)
     c.advance.ensures.few
 
+pub returns-in-Advance-clause-listed : goal.returns-in-Advance-clause-listed
+returns-in-Advance-clause-listed c =
+    subst (λ (ks : List Key). OnOk c.advance.result (ListsMore c.args.cache.now.changed ks c.advance.new.cache.changed))
+    (named_in_time c.args.world.now c.args.turn.now.draw c.args.accepted.now c.in-Advance.moment c.in-Advance.is)
+    c.advance.ensures.listed
+
 pub returns-in-Some : goal.returns-in-Some
 returns-in-Some c =
     let fits : Fits c.args.world.now c.args.accepted.now c.in-Some.plan =
@@ -48,6 +56,11 @@ returns-in-Some c =
           ≤ touches c.args.cache.now + 2 * length ks))
           (named_with_room c.args.world.now c.args.turn.now.draw c.args.accepted.now fits.room)
           c.take_change.ensures.few;
+      listed = subst (λ (ks : List Key). OnOk c.take_change.result (ListsMore c.args.cache.now.changed ks
+          c.take_change.new.cache.changed))
+          (named_with_room c.args.world.now c.args.turn.now.draw c.args.accepted.now fits.room)
+          c.take_change.ensures.listed;
+      stays = c.take_change.ensures.stays;
       fault = c.take_change.ensures.fault;
       rises = on_ok_weaker c.take_change.result
           (λ e. omega (arith, c.in_ok-plan.ensures.rises, rises_by _ _ _ e)) c.take_change.ensures.at_least;
@@ -63,6 +76,9 @@ returns-in-None c =
       state = ap (λ (x : Answered). x.state) refused;
       shown = c.requires.shown;
       few = omega arith;
+      listed = nothing_more c.args.cache.now.changed _
+          (named_without_room c.args.world.now c.args.turn.now.draw c.args.accepted.now full);
+      stays = λ o stays. stays;
       fault = tt;
       rises = c.in_ok-plan.ensures.rises;
     }

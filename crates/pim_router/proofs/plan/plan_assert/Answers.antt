@@ -1,21 +1,31 @@
-use Rattle.std.proofs.Common.{ap, sym, ◌∙◌}
+use Rattle.std.proofs.Common.{[], refl, sym, ◌∙◌}
 use Rattle.pim_model.specs.declared.accepted.Accepted.{Accepted}
 use Rattle.pim_model.specs.Full.{is_full}
-use Rattle.pim_world.specs.declared.touched.Touched.{Touched}
 use Rattle.pim_router.specs.Planning.{touched_of}
 use Rattle.pim_router.specs.declared.plan.Means.{Means}
-use Rattle.pim_router.proofs.Plans.{keys_fit}
-use Rattle.pim_router.proofs.Touching.{assert_covered}
+use Rattle.pim_router.proofs.Plans.{keys_fit, these_where, those_where}
+use Rattle.pim_router.proofs.Touching.{assert_covered, assert_known}
 use Rattle.pim_router.proofs.plan.plan_assert.Goals as goal
 
 pub returns-then-is_full : goal.returns-then-is_full
 unfolding is_full
 returns-then-is_full c = sym c.is_full.ensures ∙ c.if-is_full.true
 
+pub returns-then-is_assert_known : goal.returns-then-is_assert_known
+unfolding is_full touched_of
+returns-then-is_assert_known c =
+    keys_fit c.args.world.now (Accepted.Assert c.args.iface c.args.from c.args.assert.now) c.of_nothing.result [] Means.Nothing
+    c.of_nothing.ensures
+    (these_where _ [] [] _ (sym c.is_assert_known.ensures ∙ c.if-is_assert_known.true) refl)
+    (sym c.is_full.ensures ∙ c.if-is_full.false)
+    (assert_known c.args.world.now c.requires c.args.iface c.args.from c.args.assert.now []
+    (sym c.is_assert_known.ensures ∙ c.if-is_assert_known.true) refl) tt
+
 pub returns : goal.returns
 unfolding is_full touched_of
 returns c =
     keys_fit c.args.world.now (Accepted.Assert c.args.iface c.args.from c.args.assert.now) c.of_keys.result
-    c.in_ok-keys.keys Means.Nothing c.of_keys.ensures (ap Touched.Keys c.in_ok-keys.ensures)
+    c.in_ok-keys.keys Means.Nothing c.of_keys.ensures
+    (those_where _ c.in_ok-keys.keys [] _ (sym c.is_assert_known.ensures ∙ c.if-is_assert_known.false) c.in_ok-keys.ensures)
     (sym c.is_full.ensures ∙ c.if-is_full.false)
     (assert_covered c.args.world.now c.args.iface c.args.from c.args.assert.now c.in_ok-keys.keys c.in_ok-keys.ensures) tt

@@ -12,14 +12,14 @@ returns-then-source_is_full-clause-plan c =
 
 pub returns-clause-plan : goal.returns-clause-plan
 returns-clause-plan c =
-    data_fits c.args.world.now c.args.iface c.args.packet.now c.of-sight.result c.in_ok-packet_keys.field-0 _ refl
+    data_fits c.args.world.now c.args.iface c.args.packet.now c.requires.rest c.of-sight.result c.in_ok-keys_of_packet.field-0 _ refl
     (ap (λ (t : StarSight). t.group.bits) c.of-sight.ensures.star
     ∙ ap (λ (a : Addr). a.bits) c.of-star.ensures.group ∙ c.destination-group.ensures)
     (ap (λ (a : Addr). a.bits) c.of-sight.ensures.source ∙ c.source-source.ensures.value)
     c.of-sight.ensures.sight
     (source_room c.args.world.now c.args.iface c.args.packet.now _ _ _ _ c.destination-group.ensures c.source-source.ensures.value
     c.source_is_full.ensures c.if-source_is_full.false)
-    c.in_ok-packet_keys.ensures
+    c.in_ok-keys_of_packet.ensures
 
 pub returns-then-source_is_full-clause-at_least : goal.returns-then-source_is_full-clause-at_least
 returns-then-source_is_full-clause-at_least c =

@@ -1,4 +1,4 @@
-use Rattle.std.proofs.Common.{[], sym, ◌∙◌}
+use Rattle.std.proofs.Common.{sym, ◌∙◌}
 use Rattle.pim_model.specs.declared.accepted.Accepted.{Accepted}
 use Rattle.pim_model.specs.Full.{is_full}
 use Rattle.pim_router.specs.Planning.{touched_of}
@@ -11,22 +11,22 @@ pub returns-then-branch : goal.returns-then-branch
 unfolding is_full
 returns-then-branch c = sym c.in_ok-is_full.ensures ∙ c.if-branch.true
 
-pub returns-then-all_move_ends : goal.returns-then-all_move_ends
+pub returns-then-all_keep_modes : goal.returns-then-all_keep_modes
 unfolding is_full touched_of
-returns-then-all_move_ends c =
-    keys_fit c.args.world.now (Accepted.Report c.args.iface c.args.report.now) c.of_keys.result c.new.result
-    Means.Nothing c.of_keys.ensures
-    (these_where _ c.new.result [] _ (sym c.all_move_ends.ensures ∙ c.if-all_move_ends.true) c.new.ensures)
+returns-then-all_keep_modes c =
+    keys_fit c.args.world.now (Accepted.Report c.args.iface c.args.report.now) c.of_keys.result
+    c.in_ok-moved.moved Means.Nothing c.of_keys.ensures
+    (these_where _ c.in_ok-moved.moved _ _ (sym c.all_keep_modes.ensures ∙ c.if-all_keep_modes.true) c.in_ok-moved.ensures)
     (sym c.in_ok-is_full.ensures ∙ c.if-branch.false)
-    (moved_covered c.args.world.now c.args.iface c.args.report.now c.new.result c.requires.settled
-    (sym c.all_move_ends.ensures ∙ c.if-all_move_ends.true) c.new.ensures) tt
+    (moved_covered c.args.world.now c.args.iface c.args.report.now c.in_ok-moved.moved c.requires.settled
+    (sym c.all_keep_modes.ensures ∙ c.if-all_keep_modes.true) c.in_ok-moved.ensures) tt
 
 pub returns : goal.returns
 unfolding is_full touched_of
 returns c =
     keys_fit c.args.world.now (Accepted.Report c.args.iface c.args.report.now) c.of_keys-2.result c.in_ok-keys.keys
     Means.Nothing c.of_keys-2.ensures
-    (those_where _ c.in_ok-keys.keys [] _ (sym c.all_move_ends.ensures ∙ c.if-all_move_ends.false) c.in_ok-keys.ensures)
+    (those_where _ c.in_ok-keys.keys _ _ (sym c.all_keep_modes.ensures ∙ c.if-all_keep_modes.false) c.in_ok-keys.ensures)
     (sym c.in_ok-is_full.ensures ∙ c.if-branch.false)
     (reported_covered c.args.world.now c.args.iface c.args.report.now c.in_ok-keys.keys c.requires.settled
     c.in_ok-keys.ensures) tt

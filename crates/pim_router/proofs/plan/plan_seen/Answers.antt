@@ -15,7 +15,7 @@ unfolding is_full touched_of
 returns-clause-plan c =
     let those = c.in_ok-of_sources.ensures ∙ ap (λ (ks : List Key). filter (λ k. not (is_star k)) ks) c.deref.ensures.value in
     keys_fit c.args.world.now (Accepted.JoinPruneSeen c.args.iface c.args.message.now) _ c.in_ok-of_sources.field-0
-    (Means.Keys c.in_ok-named.named) refl
+    (Means.Heard (record { named = c.in_ok-named.named; changes = c.new-changes.result })) refl
     (ap Touched.Keys (those ∙ ap (λ (ks : List Key). filter (λ k. not (is_star k)) ks) c.in_ok-named.ensures.pruned)) refl
     (seen_covered c.args.world.now c.args.iface c.args.message.now _ c.in_ok-of_sources.field-0
     c.in_ok-named.ensures.pruned those)

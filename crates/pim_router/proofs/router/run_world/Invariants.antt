@@ -1,9 +1,11 @@
-use Rattle.std.proofs.Common.{drop}
+use Rattle.std.proofs.Common.{drop, take}
 use Rattle.pim_fanout.specs.Refreshing.{touches}
 use Rattle.pim_mfc.specs.Laws.{ShowsRows}
 use Rattle.pim_model.specs.Cache.{cached}
 use Rattle.pim_router.proofs.Costs.{Counted}
 use Rattle.pim_router.proofs.Runs.{Runs}
+use Rattle.pim_router.specs.Listing.{IsLastListed}
+use Rattle.pim_router.specs.Staying.{LastOffersStay}
 use Rattle.pim_router.proofs.router.run_world.Given as goal
 
 abbrev pub invariant-loop-event : goal.invariant-loop-event
@@ -11,3 +13,5 @@ invariant-loop-event l =
     Runs l.fn.world l.events l.world l.outcomes.items (drop l.event-index l.events)
     × ShowsRows l.cache.mfc.rows (cached l.world)
     × Counted l.fn.world l.events l.event-index l.world l.probes.meter (touches l.cache)
+    × IsLastListed l.fn.world (take l.event-index l.events) l.cache.changed
+    × LastOffersStay l.fn.world (take l.event-index l.events) l.cache.disturbed

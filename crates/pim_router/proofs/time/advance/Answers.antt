@@ -1,5 +1,6 @@
 use Rattle.pim_laws.proofs.FiringLaws.{ahead_is_ready}
 use Rattle.pim_router.proofs.Rows.{rows_present}
+use Rattle.pim_router.proofs.Staying.{stays_present}
 use Rattle.pim_router.proofs.time.advance.Goals as goal
 
 pub fire_all-requires-clause-lawful : goal.fire_all-requires-clause-lawful
@@ -18,3 +19,8 @@ returns-clause-shown c =
     rows_present c.fire_all.new.world c.set_present.new.self c.args.moment c.fire_all.new.cache.mfc.rows
     c.interfaces.result.now c.interfaces.ensures c.recall_few.ensures c.set_present.ensures
     c.in_ok-fire_all.ensures.shown
+
+pub returns-clause-stays : goal.returns-clause-stays
+returns-clause-stays c = λ o stays.
+    stays_present o c.fire_all.new.world c.set_present.new.self c.args.moment c.fire_all.new.cache.disturbed
+    c.set_present.ensures (c.in_ok-fire_all.ensures.stays o stays)

@@ -2,7 +2,9 @@ use Rattle.std.proofs.Common.{◌≤◌, ◌+◌, ◌*◌, ◌++◌, length, ap,
 use Rattle.pim_fanout.specs.Refreshing.{touches}
 use Rattle.pim_model.specs.Reach.{told_instant}
 use Rattle.pim_reach.specs.Named.{named_by}
-use Rattle.pim_router.proofs.Firings.{all_cost, all_costs_none, instant_costs}
+use Rattle.pim_router.proofs.Firings.{all_cost, all_costs_none, all_silent, instant_costs}
+use Rattle.pim_router.proofs.Listing.{all_listed, all_lists_none, instant_lists}
+use Rattle.pim_router.specs.Listing.{ListsMore}
 use Rattle.pim_laws.proofs.FiringLaws.{next_is_due, next_is_least}
 use Rattle.pim_model.specs.Firing.{fire_instant}
 use Rattle.pim_model.specs.Timers.{next_due}
@@ -11,7 +13,7 @@ use Rattle.pim_router.proofs.time.fire_all.Goals as goal
 use Rattle.pim_router.specs.Ends.{ending_of}
 
 pub instants-init : goal.instants-init
-instants-init c = (firing_begins c.args.turn.now.draw c.args.moment c.args.world.now c.args.emissions.now.items c.requires.lawful c.requires.quiet c.requires.ready, refl, c.requires.shown, all_costs_none c.args.turn.now.draw c.args.moment c.args.world.now (touches c.args.cache.now), omega arith)
+instants-init c = (firing_begins c.args.turn.now.draw c.args.moment c.args.world.now c.args.emissions.now.items c.requires.lawful c.requires.quiet c.requires.ready, refl, c.requires.shown, all_costs_none c.args.turn.now.draw c.args.moment c.args.world.now (touches c.args.cache.now), omega arith, all_lists_none c.args.turn.now.draw c.args.moment c.args.world.now c.args.cache.now.changed, λ o stays. stays)
 
 pub fire_instant-requires-clause-from : goal.fire_instant-requires-clause-from
 fire_instant-requires-clause-from c =
@@ -57,6 +59,16 @@ instants-preserved c = (
       + 2 * length (told_instant named_by w c.instants.world (ending_of c.in-Some.first)).1) c.instants.invariant.1
       c.in_ok-fire_instant.ensures.few) c.instants.invariant.3,
   omega (arith, c.instants.invariant.4, c.in_ok-fire_instant.ensures.rises),
+  instant_lists c.args.turn.now.draw c.args.moment c.args.world.now c.args.cache.now.changed c.instants.world
+      c.instants.cache.changed (ending_of c.in-Some.first) c.instants.invariant.0.ready
+      (ending_told (next_due c.args.moment c.instants.world) c.in-Some.first (sym c.next_due.ensures ∙ c.in-Some.is))
+      c.fire_instant.new.world c.fire_instant.new.cache.changed
+      (c.in_ok-fire_instant.ensures.state
+      ∙ ap (λ w. (fire_instant w c.instants.world (ending_of c.in-Some.first)).0) c.instants.invariant.1)
+      (subst (λ w. ListsMore c.instants.cache.changed
+      (told_instant named_by w c.instants.world (ending_of c.in-Some.first)).1 c.fire_instant.new.cache.changed)
+      c.instants.invariant.1 c.in_ok-fire_instant.ensures.listed) c.instants.invariant.5,
+  λ o stays. c.in_ok-fire_instant.ensures.stays o (c.instants.invariant.6 o stays),
 )
 
 pub returns-clause-state : goal.returns-clause-state
@@ -79,5 +91,16 @@ returns-clause-few c =
     all_cost c.args.turn.now.draw c.args.moment c.args.world.now (touches c.args.cache.now) c.instants.world
     (touches c.instants.cache) c.instants.invariant.3
 
+pub returns-clause-listed : goal.returns-clause-listed
+returns-clause-listed c =
+    all_listed c.args.turn.now.draw c.args.moment c.args.world.now c.args.cache.now.changed c.instants.world
+    c.instants.cache.changed
+    (all_silent named_by c.args.turn.now.draw c.args.moment c.instants.world
+    (none_told (next_due c.args.moment c.instants.world) (sym c.next_due.ensures ∙ c.in_default.is)))
+    c.instants.invariant.5
+
 pub returns-clause-rises : goal.returns-clause-rises
 returns-clause-rises c = c.instants.invariant.4
+
+pub returns-clause-stays : goal.returns-clause-stays
+returns-clause-stays c = c.instants.invariant.6

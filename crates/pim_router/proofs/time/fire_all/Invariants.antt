@@ -6,6 +6,9 @@ use Rattle.pim_model.specs.Cache.{cached}
 use Rattle.pim_model.specs.Timers.{next_due}
 use Rattle.pim_router.proofs.Firings.{AllCosts}
 use Rattle.pim_router.proofs.Instants.{ByMoment}
+use Rattle.pim_model.specs.State.{State}
+use Rattle.pim_router.specs.Staying.{StaysBeside}
+use Rattle.pim_router.proofs.Listing.{AllLists}
 use Rattle.pim_router.proofs.time.fire_all.Given as goal
 
 abbrev pub invariant-instants : goal.invariant-instants
@@ -14,6 +17,8 @@ invariant-instants l =
     × (l.turn.draw ≡ l.fn.turn.draw) × ShowsRows l.cache.mfc.rows (cached l.world)
     × AllCosts l.fn.turn.draw l.moment l.fn.world (touches l.fn.cache) l.world (touches l.cache)
     × (l.fn.meter ≤ l.meter)
+    × AllLists l.fn.turn.draw l.moment l.fn.world l.fn.cache.changed l.world l.cache.changed
+    × ((o : State) → StaysBeside l.fn.cache.disturbed o l.fn.world → StaysBeside l.cache.disturbed o l.world)
 
 abbrev pub decreases-instants : goal.decreases-instants
 decreases-instants l = instants_left l.moment (next_due l.moment l.world)

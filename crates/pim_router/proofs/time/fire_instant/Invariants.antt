@@ -5,6 +5,9 @@ use Rattle.pim_mfc.specs.Laws.{ShowsRows}
 use Rattle.pim_model.specs.Cache.{cached}
 use Rattle.pim_router.proofs.Firings.{InstantCosts}
 use Rattle.pim_router.proofs.Instants.{WithinInstant}
+use Rattle.pim_model.specs.State.{State}
+use Rattle.pim_router.specs.Staying.{StaysBeside}
+use Rattle.pim_router.proofs.Listing.{InstantLists}
 use Rattle.pim_router.specs.Ends.{ending_of}
 use Rattle.pim_router.proofs.time.fire_instant.Given as goal
 
@@ -14,6 +17,8 @@ invariant-firings l =
     × (l.turn.draw ≡ l.fn.turn.draw) × ShowsRows l.cache.mfc.rows (cached l.world)
     × InstantCosts l.fn.turn.draw l.fn.world (ending_of l.first) (touches l.fn.cache) l.world (touches l.cache)
     × (l.fn.meter ≤ l.meter)
+    × InstantLists l.fn.turn.draw l.fn.world (ending_of l.first) l.fn.cache.changed l.world l.cache.changed
+    × ((o : State) → StaysBeside l.fn.cache.disturbed o l.fn.world → StaysBeside l.cache.disturbed o l.world)
 
 abbrev pub decreases-firings : goal.decreases-firings
 decreases-firings l = still_due l.first.0 l.fn.world l.world

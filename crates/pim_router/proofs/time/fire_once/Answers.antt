@@ -3,6 +3,10 @@ use Rattle.pim_model.specs.Firing.{fire_once}
 use Rattle.pim_model.specs.Reach.{own_firing}
 use Rattle.pim_world.specs.Turns.{Taking}
 use Rattle.pim_fanout.specs.Refreshing.{touches}
+use Rattle.pim_router.proofs.Listing.{listed_fired}
+use Rattle.pim_world.specs.declared.touched.Touched.{Touched}
+use Rattle.pim_fanout.specs.Disturbed.{joined}
+use Rattle.pim_router.proofs.Staying.{stays_fired}
 use Rattle.pim_router.proofs.Rows.{cost_fired, rows_fired, touches_named}
 use Rattle.pim_router.specs.Ends.{ending_of, touched_by_end}
 use Rattle.pim_world.proofs.Visits.{rises_by, then_rises}
@@ -13,9 +17,9 @@ returns-clause-shown c =
     rows_fired c.args.world.now c.args.turn.now.draw (ending_of c.args.due)
     (touched_by_end c.args.world.now c.args.due.1.kind c.args.due.1.key) c.in_ok-names.names
     c.in_ok-names.ensures.names c.fire_world.new.world c.args.cache.now.mfc.rows c.refresh.new.self.mfc.rows
-    c.interfaces.result.now c.as_slice.result.now c.requires.quiet c.interfaces.ensures c.recall_few.ensures
+    c.interfaces.result.now c.requires.quiet c.interfaces.ensures c.recall_few.ensures
     (c.in_ok-names.ensures.state ∙ ap (λ w. (fire_once w c.args.world.now (ending_of c.args.due)).0)
-    (ap (λ (t : Taking). t.draw) c.turn.view_is)) c.as_slice.ensures
+    (ap (λ (t : Taking). t.draw) c.turn.view_is))
     c.in_ok-refresh.ensures.shown c.requires.shown
 
 pub returns-clause-few : goal.returns-clause-few
@@ -23,8 +27,14 @@ returns-clause-few c =
     cost_fired c.args.world.now c.args.turn.now.draw (ending_of c.args.due)
     (touched_by_end c.args.world.now c.args.due.1.kind c.args.due.1.key) c.in_ok-names.names
     c.in_ok-names.ensures.names c.fire_world.new.world (touches c.args.cache.now) (touches c.refresh.new.self)
-    c.as_slice.result.now
-    c.as_slice.ensures c.in_ok-refresh.ensures.few
+    c.in_ok-refresh.ensures.few
+
+pub returns-clause-listed : goal.returns-clause-listed
+returns-clause-listed c =
+    listed_fired c.args.world.now (ending_of c.args.due)
+    (touched_by_end c.args.world.now c.args.due.1.kind c.args.due.1.key) c.in_ok-names.names
+    c.in_ok-names.ensures.names c.requires.quiet c.args.cache.now.changed c.refresh.new.self.changed
+    c.in_ok-refresh.ensures.listed
 
 pub returns-clause-at_least : goal.returns-clause-at_least
 returns-clause-at_least c =
@@ -33,6 +43,17 @@ returns-clause-at_least c =
 pub returns-clause-touched : goal.returns-clause-touched
 returns-clause-touched c =
     touches_named c.args.world.now (own_firing c.args.world.now (ending_of c.args.due)) c.fire_world.new.world
-    (touched_by_end c.args.world.now c.args.due.1.kind c.args.due.1.key) c.in_ok-names.names c.as_slice.result.now
-    (touches c.args.cache.now) (touches c.refresh.new.self) c.in_ok-names.ensures.names c.as_slice.ensures
+    (touched_by_end c.args.world.now c.args.due.1.kind c.args.due.1.key) c.in_ok-names.names
+    (touches c.args.cache.now) (touches c.refresh.new.self) c.in_ok-names.ensures.names
     c.in_ok-refresh.ensures.few
+
+pub returns-clause-stays : goal.returns-clause-stays
+returns-clause-stays c = λ o stays.
+    stays_fired o c.args.world.now c.fire_world.new.world c.args.turn.now.draw (ending_of c.args.due)
+    (touched_by_end c.args.world.now c.args.due.1.kind c.args.due.1.key) c.in_ok-names.ensures.names.covers
+    c.requires.quiet c.interfaces.result.now c.interfaces.ensures c.recall_few.ensures
+    (c.in_ok-names.ensures.state ∙ ap (λ w. (fire_once w c.args.world.now (ending_of c.args.due)).0)
+    (ap (λ (t : Taking). t.draw) c.turn.view_is))
+    c.args.cache.now.disturbed c.refresh.new.self.disturbed
+    (c.in_ok-refresh.ensures.disturbed ∙ ap (λ (t : Touched). joined c.args.cache.now.disturbed t) c.in_ok-touched.ensures)
+    stays

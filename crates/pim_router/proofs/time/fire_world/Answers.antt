@@ -20,9 +20,9 @@ use Rattle.pim_router.proofs.time.fire_world.Goals as goal
 pub returns-clause-state : goal.returns-clause-state
 returns-clause-state c =
     subst (λ (p : State × List Emission). OnOk c.settle.result (c.settle.new.world ≡ p.0))
-    (fired_in_turn c.args.world.now c.args.due c.set_present.new.self c.fired.new.world c.in_ok-touched.touched
+    (fired_in_turn c.args.world.now c.args.due c.set_present.new.self c.fired.new.world c.args.touched.now
     c.in_ok-opening.opening c.args.turn.now c.args.turn.now c.fired.new.turn c.requires.lawful c.requires.quiet
-    c.recall_keyed.ensures c.in_ok-touched.ensures c.in_ok-opening.ensures.opening c.requires.begun refl
+    c.recall_keyed.ensures c.requires.touched c.in_ok-opening.ensures.opening c.requires.begun refl
     c.set_present.ensures c.in_ok-fired.ensures.state c.in_ok-fired.ensures.messages)
     c.settle.ensures.state
 
@@ -30,9 +30,9 @@ pub returns-clause-sent : goal.returns-clause-sent
 returns-clause-sent c =
     subst (λ (p : State × List Emission). OnOk c.settle.result (c.settle.new.emissions.items
     ≡ c.args.emissions.now.items ++ p.1))
-    (fired_in_turn c.args.world.now c.args.due c.set_present.new.self c.fired.new.world c.in_ok-touched.touched
+    (fired_in_turn c.args.world.now c.args.due c.set_present.new.self c.fired.new.world c.args.touched.now
     c.in_ok-opening.opening c.args.turn.now c.args.turn.now c.fired.new.turn c.requires.lawful c.requires.quiet
-    c.recall_keyed.ensures c.in_ok-touched.ensures c.in_ok-opening.ensures.opening c.requires.begun refl
+    c.recall_keyed.ensures c.requires.touched c.in_ok-opening.ensures.opening c.requires.begun refl
     c.set_present.ensures c.in_ok-fired.ensures.state c.in_ok-fired.ensures.messages)
     c.settle.ensures.sent
 
@@ -40,11 +40,11 @@ pub returns-clause-names : goal.returns-clause-names
 returns-clause-names c =
     each_ok c.settle.result
     (λ names named. subst (λ (t : Touched). AreNames c.args.world.now (own_firing c.args.world.now (ending_of c.args.due)) t
-    (keys_of names)) c.in_ok-touched.ensures
+    (keys_of names)) c.requires.touched
     (names_opened c.args.world.now (own_firing c.args.world.now (ending_of c.args.due)) c.fired.new.world
-    c.in_ok-touched.touched c.in_ok-opening.opening c.in_ok-before.before (keys_of names) c.requires.quiet
+    c.args.touched.now c.in_ok-opening.opening c.in_ok-before.before (keys_of names) c.requires.quiet
     c.recall_keyed.ensures
-    (end_touched c.args.world.now c.args.due c.in_ok-touched.touched c.requires.lawful c.in_ok-touched.ensures)
+    (end_touched c.args.world.now c.args.due c.args.touched.now c.requires.lawful c.requires.touched)
     (end_fired c.args.world.now c.args.due c.set_present.new.self c.fired.new.world c.set_present.ensures
     c.in_ok-fired.ensures.state)
     c.in_ok-opening.ensures.opening c.in_ok-before.ensures.before named))
@@ -54,7 +54,7 @@ pub returns-clause-at_least : goal.returns-clause-at_least
 unfolding firing_nodes
 returns-clause-at_least c =
     let s = c.args.world.now in
-    let touched = c.in_ok-touched.ensures in
+    let touched = c.requires.touched in
     on_ok_weaker c.settle.result
     (λ e. then_rises _ _ _ _
     (two_in_turn _ _ _ _ _

@@ -1,53 +1,26 @@
-use Rattle.std.proofs.Common.{◌≡◌, ◌≤◌, ◌+◌, ◌++◌, [], ◌∷◌, ap, arith, get_or, subst, sym, take, ◌∙◌}
-use Rattle.std.proofs.lemmas.List.{map-append, take_all, take_more}
-use Rattle.std.specs.List.{sum_by}
-use Rattle.pim_ip.specs.Addr.{addr}
+use Rattle.std.proofs.Common.{◌≡◌, List, ap, arith, subst, sym, ◌∙◌}
+use Rattle.std.proofs.lemmas.Result.{on_ok_weaker}
 use Rattle.pim_trie.specs.Meter.{raised}
-use Rattle.pim_cached.specs.Kept.{is_listed, refreshed}
-use Rattle.pim_mfc.specs.Laws.{ShowsRows}
-use Rattle.pim_fanout.specs.Before.{name_key}
 use Rattle.pim_fanout.specs.Named.{keys_of}
-use Rattle.pim_fanout.specs.Refreshing.{touches, touches_in, touches_of}
-use Rattle.pim_fanout.proofs.Counts.{one_more}
+use Rattle.pim_fanout.specs.Refreshing.{touches, touches_in}
+use Rattle.pim_fanout.proofs.Counts.{none_counted}
 use Rattle.pim_macros.specs.declared.name.SourceGroup.{SourceGroup}
-use Rattle.pim_fanout.specs.Visits.{named_nodes}
-use Rattle.pim_world.proofs.Visits.{next_made, raised_by_none}
 use Rattle.pim_fanout.proofs.cache.Cache.refresh.Goals as goal
 
-pub loop-name-init : goal.loop-name-init
-unfolding refreshed is_listed
-loop-name-init c = record {
-  shown = λ cache shows. shows;
-  few = sym (raised_by_none (touches c.args.self.now));
-  visited = omega (arith, raised_by_none c.args.meter.now);
-}
-
-pub loop-name-preserved : goal.loop-name-preserved
-loop-name-preserved c =
-    let s = c.args.world.now in
-    let names = c.args.names.now in
-    let i = c.loop-name.name-index in
-    let none : SourceGroup = record { group = addr 0; source = addr 0 } in
-    let more : keys_of (take (i + 1) names) ≡ keys_of (take i names) ++ name_key (get_or names i none) ∷ [] =
-    ap keys_of (take_more names i none c.loop-name-test.true) ∙ map-append name_key (take i names) (get_or names i none ∷ []) in
-    record {
-      shown = λ cache shows.
-          subst (λ ks. ShowsRows (c.refresh_one.new.self.mfc).rows (refreshed ks s cache))
-          (sym more)
-          (c.in_ok-refresh_one.ensures.shown (keys_of (take i names)) cache (c.loop-name.invariant.shown cache shows));
-      few = one_more (touches_of s) (keys_of (take i names)) _ (name_key (get_or names i none)) (touches c.args.self.now)
-          (touches c.loop-name.self) (touches c.refresh_one.new.self) more c.loop-name.invariant.few
-          c.in_ok-refresh_one.ensures.few;
-      visited = next_made (named_nodes s) names i _ _ _ none c.loop-name-test.true c.loop-name.invariant.visited
-          c.in_ok-refresh_one.ensures.at_least;
-    }
-
-pub returns-clause-at_least : goal.returns-clause-at_least
-returns-clause-at_least c =
-    subst (λ ns. raised c.args.meter.now (sum_by (named_nodes c.args.world.now) ns) ≤ c.loop-name.meter)
-    (take_all c.loop-name.name-index c.args.names.now c.loop-name-test.false) c.loop-name.invariant.visited
+pub list-requires : goal.list-requires
+list-requires c = λ none.
+    c.into_vec.ensures
+    ∙ none_counted c.args.world.now c.args.names (touches c.args.self.now) (touches c.refresh_rows.new.self) none
+    (c.in_ok-refresh_rows.ensures.few
+    ∙ ap (λ (ns : List SourceGroup). raised (touches c.args.self.now) (touches_in c.args.world.now (keys_of ns)))
+    c.as_slice.ensures)
 
 pub returns-clause-few : goal.returns-clause-few
+unfolding touches
 returns-clause-few c =
-    subst (λ ns. touches c.loop-name.self ≡ raised (touches c.args.self.now) (touches_in c.args.world.now (keys_of ns)))
-    (take_all c.loop-name.name-index c.args.names.now c.loop-name-test.false) c.loop-name.invariant.few
+    let same : touches c.list.new.self ≡ touches c.refresh_rows.new.self =
+    λ j. raised (c.list.ensures.kept.0 j).changes (c.list.ensures.kept.1 j) in
+    on_ok_weaker c.list.result
+    (λ e. same ∙ (c.in_ok-refresh_rows.ensures.few
+    ∙ ap (λ (ns : List SourceGroup). raised (touches c.args.self.now) (touches_in c.args.world.now (keys_of ns)))
+    c.as_slice.ensures)) c.list.ensures.changed

@@ -1,8 +1,9 @@
-use Rattle.std.proofs.Common.{refl, sym, ◌∙◌}
+use Rattle.std.proofs.Common.{◌≤◌, arith, refl, sym, ◌∙◌}
 use Rattle.pim_mfc.specs.Kept.{with_row, without_row}
 use Rattle.pim_mfc.proofs.Shown.{removal_refreshes}
+use Rattle.pim_trie.specs.Meter.{raised}
 use Rattle.pim_fanout.specs.Refreshing.{touches}
-use Rattle.pim_fanout.proofs.Counts.{one_put, one_taken_out}
+use Rattle.pim_fanout.proofs.Counts.{one_counts, one_put, one_taken_out, then_counts}
 use Rattle.pim_fanout.proofs.Refreshed.{put_named}
 use Rattle.pim_world.proofs.Visits.{none_asked, one_asked}
 use Rattle.pim_fanout.proofs.cache.Cache.refresh_one.Goals as goal
@@ -44,3 +45,22 @@ returns-clause-at_least c =
 pub returns-in_err-put-clause-at_least : goal.returns-in_err-put-clause-at_least
 returns-in_err-put-clause-at_least c =
     one_asked _ _ _ _ (sym c.has_fact.ensures ∙ c.if-not-has_fact.false) c.row-made.ensures.at_least
+
+pub invariant_of-self : goal.invariant_of-self
+unfolding without_row
+invariant_of-self c = λ none.
+    let some : 1 ≤ raised c.remove.new.self.changes c.self.inside.evaluated =
+    rw (c.remove.ensures) (one_counts (c.self.inside.mfc).changes c.self.inside.evaluated) in
+    absurd (omega (arith, none, some))
+
+pub invariant_of-self-in_err-put : goal.invariant_of-self-in_err-put
+invariant_of-self-in_err-put c = λ none.
+    let some : 1 ≤ raised c.put.new.self.changes c.row-made.new.evaluated =
+    rw (c.row-made.ensures.counted) (then_counts c.put.new.self.changes c.self.inside.evaluated) in
+    absurd (omega (arith, none, some))
+
+pub invariant_of-self-2 : goal.invariant_of-self-2
+invariant_of-self-2 c = λ none.
+    let some : 1 ≤ raised c.put.new.self.changes c.row-made.new.evaluated =
+    rw (c.row-made.ensures.counted) (then_counts c.put.new.self.changes c.self.inside.evaluated) in
+    absurd (omega (arith, none, some))

@@ -1,0 +1,120 @@
+//! Which sources changes may have disturbed, whether they have a fact or not.
+ghost use Rattle.std.specs.Prelude.{◌≡◌, ◌++◌, [], OnOk};
+ghost use Rattle.pim_fanout.specs.Disturbed.{is_disturbed, joined};
+ghost use Rattle.pim_locality.specs.Locality.{touching};
+ghost use Rattle.pim_locality.specs.Scopes.{reads};
+ghost use Rattle.pim_types.specs.Keys.{source_key};
+ghost use Rattle.pim_world.specs.declared.touched.Touched.{Touched as TouchedValue};
+
+use pim_macros::SourceGroup;
+use pim_types::{Addr, Key};
+use pim_world::Touched;
+use std::alloc::{AllocError, Global};
+use std::marker::Model;
+
+/// The keys that some changes touched, or that all were. Its room is kept.
+pub struct Disturbed {
+    all: bool,
+    keys: Vec<Key>,
+}
+
+// Written out, so that it is proved once (docs/PROOF_NOTES.md, Drops).
+impl Drop for Disturbed {
+    fn drop(self) {
+        let Disturbed { all: _, keys: _ } = self;
+    }
+}
+
+impl Model for Disturbed {
+    ghost use Rattle.std.specs.Prelude.{if◌then◌else◌};
+    ghost use Rattle.pim_world.specs.declared.touched.Touched.{Touched};
+
+    ghost Value = { Touched };
+
+    ghost view = { λ d. if d.all then Touched.All else Touched.Keys d.keys.items };
+}
+
+// Whether a fact under the key is read by the machines of the source.
+#[tactic(auto, unfolding(pim_locality::specs::Scopes::reads))]
+fn is_read(name: SourceGroup, key: Key) -> bool
+    ensures { result ≡ reads (source_key 0 name.group.bits name.source.bits) key }
+{
+    let source = key.source.unwrap_or(Addr::NONE);
+    key.group == name.group && (source == Addr::NONE || source == name.source)
+}
+
+// Whether that is so of one of the keys.
+#[tactic(auto, unfolding(pim_locality::specs::Locality::touching))]
+fn is_touched(keys: &[Key], name: SourceGroup) -> bool
+    ensures { result ≡ touching keys.now (source_key 0 name.group.bits name.source.bits) }
+{
+    for key in keys {
+        if is_read(name, *key) {
+            return true;
+        }
+    }
+    false
+}
+
+impl Disturbed {
+    /// None. It takes no memory.
+    pub fn none(alloc: Global) -> Disturbed
+        ensures { result ≡ TouchedValue.Keys [] }
+    {
+        Disturbed {
+            all: false,
+            keys: Vec::new(alloc),
+        }
+    }
+
+    /// Forgets them all.
+    pub fn clear(&mut self)
+        ensures { self.new ≡ TouchedValue.Keys [] }
+    {
+        self.all = false;
+        self.keys.clear();
+    }
+
+    /// All are touched.
+    pub fn add_all(&mut self)
+        ensures { self.new ≡ TouchedValue.All }
+    {
+        self.all = true;
+    }
+
+    // These keys too; where there are none, as they stand.
+    #[tactic(auto, unfolding(crate::specs::Disturbed::joined))]
+    fn add_keys(&mut self, mut keys: Vec<Key>) -> Result<(), AllocError>
+        ensures { OnOk result (self.new ≡ joined self.old (TouchedValue.Keys keys.items)) }
+    {
+        if self.all {
+            return Ok(());
+        }
+        if self.keys.is_empty() {
+            self.keys = keys;
+            return Ok(());
+        }
+        self.keys.append(&mut keys)
+    }
+
+    /// Those of one change more.
+    pub fn add(&mut self, touched: Touched) -> Result<(), AllocError>
+        ensures { OnOk result (self.new ≡ joined self.old touched) }
+    {
+        match touched {
+            Touched::All => {
+                self.add_all();
+                Ok(())
+            }
+            Touched::Keys(keys) => self.add_keys(keys.into_vec()),
+        }
+    }
+
+    /// Whether the source may be disturbed: a key names it, or its group whole.
+    #[tactic(auto, unfolding(crate::specs::Disturbed::is_disturbed))]
+    pub fn holds(&self, name: SourceGroup) -> bool
+        ensures { result ≡ is_disturbed self.now name.group.bits name.source.bits }
+    {
+        self.all || is_touched(&self.keys, name)
+    }
+}

@@ -1,0 +1,83 @@
+-- What is offered of a source, with a fact or without one, stays where the fact and the answers do, and where there is room for
+-- one fact more in both states or in neither.
+use Rattle.std.specs.Prelude.{Bool, None, Option, Some, false, length, true, ℕ, ◌≡◌, ◌≤◌}
+use Rattle.pim_ip.specs.Ipv4.{Packet}
+use Rattle.pim_types.specs.declared.event.Event.{Event}
+use Rattle.pim_types.specs.Keys.{source_key}
+use Rattle.pim_model.specs.Cache.{Plain, answers}
+use Rattle.pim_model.specs.Clearing.{clear}
+use Rattle.pim_model.specs.declared.accepted.Accepted.{Accepted}
+use Rattle.pim_model.specs.Firing.{fire_once}
+use Rattle.pim_model.specs.Full.{passes_limit}
+use Rattle.pim_model.specs.Limits.{most_ifaces}
+use Rattle.pim_model.specs.Reach.{own_firing}
+use Rattle.pim_model.specs.State.{State}
+use Rattle.pim_model.specs.Step.{change, done, step}
+use Rattle.pim_model.specs.Tables.{has_row}
+use Rattle.pim_model.specs.Timers.{Ending}
+use Rattle.pim_reach.specs.Named.{is_named}
+use Rattle.pim_locality.specs.Rest.{IsAtRest}
+use Rattle.pim_cached.specs.Decided.{IsDecided}
+use Rattle.pim_cached.specs.Kept.{SameAnswers}
+use Rattle.pim_offload.specs.Keeping.{keep}
+use Rattle.pim_offload.specs.Offered.{Offered, offered}
+use Rattle.pim_offload.specs.ToldLaws.{DecideAlike}
+
+-- nothing in both, or what decides the same of a packet, whichever of the interfaces that can be configured it came on, of a
+-- source with a fact or of one without
+abbrev pub OffersAlike : Option Offered → Option Offered → Type 0
+OffersAlike None None = Unit {0}
+OffersAlike (Some a) (Some b) = (a.is_known ≡ b.is_known) × DecideAlike (Some a.row) (Some b.row)
+OffersAlike _ _ = ⊥
+
+pub record SourceStays (g src : ℕ) (s t : State) : Type 0 where
+  pub fact : has_row s.sources (source_key 0 g src) ≡ has_row t.sources (source_key 0 g src)
+  pub answers_are : SameAnswers (answers s g src) (answers t g src)
+
+-- ---- laws
+
+abbrev pub OfferStays : Type 0
+OfferStays = (s t : State) (g src : ℕ) → SourceStays g src s t → passes_limit s 1 ≡ passes_limit t 1
+    → OffersAlike (offered s g src) (offered t g src)
+
+-- the test by which sources are named tells it of any source: of an event, of a timer's end, and of the present alone
+abbrev pub UnnamedSourceStays : Type 0
+UnnamedSourceStays = (s : State) (w : ℕ) (a : Accepted) → length s.configured ≤ most_ifaces → (g src : ℕ)
+    → is_named g src s (clear s (change s w a).state).0 ≡ false → SourceStays g src s (done s w (change s w a)).state
+
+abbrev pub FiringSourceStays : Type 0
+FiringSourceStays = (s : State) (w : ℕ) (e : Ending) → length s.configured ≤ most_ifaces → (g src : ℕ)
+    → is_named g src s (clear s (own_firing s e)).0 ≡ false → SourceStays g src s (fire_once w s e).0
+
+abbrev pub TimeSourceStays : Type 0
+TimeSourceStays = (s : State) (m g src : ℕ) → SourceStays g src s (record s { present = m })
+
+-- a plain packet, and what a plane tells of a source, leave what is offered of all sources
+abbrev pub PlainOfferStays : Type 0
+PlainOfferStays = (s : State) (e : Event) (p : Packet) (how : Plain) → IsAtRest s → IsDecided s e p how → (g src : ℕ)
+    → OffersAlike (offered s g src) (offered (step s e).state g src)
+
+abbrev pub KeepOfferStays : Type 0
+KeepOfferStays = (s : State) (g src m : ℕ) → IsAtRest s → (h x : ℕ)
+    → OffersAlike (offered s h x) (offered (keep s g src m) h x)
+
+-- an event changes routes or RP ranges
+abbrev pub is_rerouting : Accepted → Bool
+is_rerouting (Accepted.Routes routes) = true
+is_rerouting (Accepted.Rps ranges) = true
+is_rerouting _ = false
+
+pub record KeepsRoutes (s t : State) : Type 0 where
+  pub routes : s.routes ≡ t.routes
+  pub ranges : s.ranges ≡ t.ranges
+
+-- no other does, and no timer's end
+abbrev pub EventKeepsRoutes : Type 0
+EventKeepsRoutes = (s : State) (w : ℕ) (a : Accepted) → is_rerouting a ≡ false → KeepsRoutes s (change s w a).state
+
+abbrev pub FiringKeepsRoutes : Type 0
+FiringKeepsRoutes = (s : State) (e : Ending) → KeepsRoutes s (own_firing s e)
+
+-- what stays in turn stays
+abbrev pub StaysInTurn : Type 0
+StaysInTurn = (s t u : State) (g src : ℕ) → SourceStays g src s t → SourceStays g src t u → SourceStays g src s u

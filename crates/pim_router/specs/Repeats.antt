@@ -1,0 +1,74 @@
+-- What is heard again: events that change no more than the end of a timer that runs, or that end what a neighbour won.
+use Rattle.std.specs.Option.{option_map_or}
+use Rattle.std.specs.Prelude.{Bool, List, None, Option, [], false, filter, if◌then◌else◌, not, ℕ, ◌&&◌, ◌==◌, ◌||◌}
+use Rattle.pim_types.specs.declared.fact.AssertMetric.{AssertMetric}
+use Rattle.pim_types.specs.declared.fact.AssertRow.{AssertRow}
+use Rattle.pim_types.specs.declared.fact.Key.{Key}
+use Rattle.pim_types.specs.Keys.{source_key, star_key}
+use Rattle.pim_wire.specs.declared.assert.Assert.{Assert as AssertMessage}
+use Rattle.pim_wire.specs.declared.hello.Hello.{Hello as HelloValue}
+use Rattle.pim_model.specs.AssertMacros.{is_infinite}
+use Rattle.pim_model.specs.Asserts.{theirs_of}
+use Rattle.pim_model.specs.Desires.{join_desired}
+use Rattle.pim_model.specs.Forwarding.{has_local_receivers}
+use Rattle.pim_model.specs.Hellos.{is_lost_to as is_lost_to_neighbour}
+use Rattle.pim_model.specs.Registers.{is_spt_wanted}
+use Rattle.pim_model.specs.Rows.{same_metric}
+use Rattle.pim_model.specs.Sets.{inherited_olist, inherited_olist_rpt, is_kept_alive, is_loser, spt_bit}
+use Rattle.pim_model.specs.State.{State}
+use Rattle.pim_model.specs.Tables.{has_row, keys_in, row_at}
+use Rattle.pim_model.specs.Unicast.{is_connected, is_rpf_interface, is_rpf_interface_rp}
+use Rattle.pim_locality.specs.Touches.{packet_keys}
+
+-- ---- a Hello
+
+-- but for the generation that it tells
+abbrev pub without_generation : HelloValue → HelloValue
+without_generation h = record h { generation = None }
+
+-- the asserts that a neighbour won of the router
+abbrev pub lost_keys : State → ℕ → ℕ → List Key
+lost_keys s i address = keys_in (filter (is_lost_to_neighbour i address) s.asserts)
+
+-- ---- an Assert
+
+-- the machine that it is for first
+abbrev pub asserted_key : ℕ → AssertMessage → Key
+asserted_key i a = if a.source.bits == 0 then star_key i a.group.bits else source_key i a.group.bits a.source.bits
+
+-- the router lost to this metric
+unfoldable pub is_lost_to : Option AssertRow → AssertMetric → Bool
+is_lost_to row theirs =
+    is_loser row && option_map_or (λ (r : AssertRow). same_metric r.winner theirs) row false
+
+-- the winner says again what it said, and doesn't cancel
+unfoldable pub is_assert_known : State → ℕ → ℕ → AssertMessage → Bool
+is_assert_known s i from a =
+    is_lost_to (row_at s.asserts (asserted_key i a)) (theirs_of a from) && not (is_infinite (theirs_of a from))
+
+-- ---- a packet of data
+
+-- it comes by the shortest path tree, which is joined, or from a link of the router
+unfoldable pub is_direct : State → ℕ → ℕ → ℕ → Bool
+is_direct s g src iif = is_rpf_interface s src iif && (is_connected s src || join_desired s g src)
+
+-- of a source that local receivers have by the shared tree the keepalive timer is set
+unfoldable pub is_watched : State → ℕ → ℕ → Bool
+is_watched s g src = has_local_receivers s g src && is_spt_wanted s
+
+-- the router forwards where it came, and has no assert there
+unfoldable pub asserts_anew : State → ℕ → ℕ → ℕ → Bool
+asserts_anew s g src iif =
+    (if spt_bit s g src then inherited_olist s g src else inherited_olist_rpt s g src) iif
+    && not (has_row s.asserts (if spt_bit s g src then source_key iif g src else star_key iif g))
+
+-- at most the end of its source's keepalive timer moves
+unfoldable pub moves_end : State → ℕ → ℕ → ℕ → Bool
+moves_end s g src iif =
+    if is_direct s g src iif then is_kept_alive s g src && spt_bit s g src
+    else (if is_rpf_interface_rp s g iif && not (spt_bit s g src)
+    then is_kept_alive s g src || not (is_watched s g src) else not (asserts_anew s g src iif))
+
+-- then nothing is touched
+abbrev pub keys_of_packet : State → ℕ → ℕ → ℕ → List Key
+keys_of_packet s g src iif = if moves_end s g src iif then [] else packet_keys s g src iif

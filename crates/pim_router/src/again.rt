@@ -1,0 +1,162 @@
+//! What is heard again: which events change no more than the end of a timer that runs, so that they touch nothing; and which
+//! Hellos end no more than the asserts that their neighbour won.
+ghost use Rattle.std.specs.Prelude.{◌≡◌, ◌<◌, if◌then◌else◌};
+ghost use Rattle.pim_neighbours.specs.Refreshed.{is_refreshed};
+ghost use Rattle.pim_macros.specs.Sights.{InSource, IsSourceSight};
+ghost use Rattle.pim_model.specs.Rows.{same_metric};
+ghost use Rattle.pim_model.specs.Sets.{is_kept_alive, spt_bit};
+ghost use Rattle.pim_model.specs.Tables.{has_row};
+ghost use Rattle.pim_types.specs.Keys.{source_key, star_key};
+ghost use Rattle.pim_router.specs.Repeats.{asserted_key, asserts_anew, is_assert_known, is_direct, is_lost_to, is_watched, moves_end, without_generation};
+
+use pim_data::is_on_list;
+use pim_macros::SourceSight;
+use pim_macros::asserts::is_infinite;
+use pim_types::fact::{AssertMetric, AssertRole, AssertRow};
+use pim_types::{Addr, IfaceId, Key};
+use pim_wire::{Assert, Hello};
+use pim_world::World;
+
+// ---- a Hello
+
+/// Whether a Hello says no more of its neighbour than that it lasts, and may have started anew: it is known with this
+/// priority.
+pub(crate) fn keeps_priority(world: &World, iface: IfaceId, from: Addr, hello: &Hello) -> bool
+    ensures { result ≡ is_refreshed world.now.neighbours iface.number from.bits (without_generation hello.now) }
+{
+    let unnumbered = Hello {
+        generation: None,
+        ..*hello
+    };
+    world.neighbours().is_refreshed(iface, from, &unnumbered)
+}
+
+// ---- an Assert
+
+// The key of the machine that an Assert is for first.
+fn asserted_key(iface: IfaceId, assert: &Assert) -> Key
+    ensures { result ≡ asserted_key iface.number assert.now }
+{
+    if assert.source == Addr::NONE {
+        Key::star(iface, assert.group)
+    } else {
+        Key::source(iface, assert.group, assert.source)
+    }
+}
+
+// Both routers announce the same.
+fn is_same_metric(first: AssertMetric, second: AssertMetric) -> bool
+    ensures { result ≡ same_metric first second }
+{
+    first.rpt == second.rpt
+        && first.preference == second.preference
+        && first.metric == second.metric
+        && first.address == second.address
+}
+
+// The router lost to this metric.
+#[tactic(auto, unfolding(crate::specs::Repeats::is_lost_to))]
+fn is_lost_to(row: Option<AssertRow>, theirs: AssertMetric) -> bool
+    ensures { result ≡ is_lost_to row theirs }
+{
+    match row {
+        Some(row) => matches!(row.role, AssertRole::Loser) && is_same_metric(row.winner, theirs),
+        None => false,
+    }
+}
+
+/// Whether an Assert is one of the winner that the router lost to, with the metric that it had: it doesn't cancel.
+#[tactic(auto, unfolding(crate::specs::Repeats::is_assert_known))]
+pub(crate) fn is_assert_known(world: &World, iface: IfaceId, from: Addr, assert: &Assert) -> bool
+    ensures { result ≡ is_assert_known world.now iface.number from.bits assert.now }
+{
+    let theirs = AssertMetric {
+        rpt: assert.rpt,
+        preference: assert.preference,
+        metric: assert.metric,
+        address: from,
+    };
+    let row = world.store().assert_at(asserted_key(iface, assert));
+    is_lost_to(row, theirs) && !is_infinite(theirs)
+}
+
+// ---- a packet of data, or a Register
+
+/// Whether the keepalive timer of the source runs.
+#[tactic(auto, unfolding(pim_model::specs::Sets::is_kept_alive))]
+pub(crate) fn is_kept_alive(world: &World, group: Addr, source: Addr) -> bool
+    ensures { result ≡ is_kept_alive world.now group.bits source.bits }
+{
+    match world
+        .store()
+        .source(Key::source(IfaceId::NONE, group, source))
+    {
+        Some(row) => row.keepalive.is_some(),
+        None => false,
+    }
+}
+
+// Whether the packet comes by the shortest path tree, which is joined, or from a link of the router.
+#[tactic(auto, unfolding(crate::specs::Repeats::is_direct))]
+fn is_direct(world: &World, sight: &SourceSight, iface: IfaceId) -> bool
+    requires { IsSourceSight world.now sight.now }
+    ensures { result ≡ is_direct world.now sight.now.star.group.bits sight.now.source.bits iface.number }
+{
+    sight.is_rpf_interface(iface) && (sight.is_connected() || sight.join_desired())
+}
+
+// Whether the source is watched where local receivers have it by the shared tree.
+#[tactic(auto, unfolding(crate::specs::Repeats::is_watched))]
+fn is_watched(world: &World, sight: &SourceSight) -> bool
+    requires { IsSourceSight world.now sight.now }
+    ensures { result ≡ is_watched world.now sight.now.star.group.bits sight.now.source.bits }
+{
+    sight.has_local_receivers() && sight.is_spt_wanted
+}
+
+// The key of the assert that a packet off its tree may make: of (S,G) once the shortest path tree is reached, of (*,G)
+// before.
+fn stray_key(sight: &SourceSight, iface: IfaceId) -> Key
+    ensures { InSource sight.now (λ s g src. result
+        ≡ (if spt_bit s g src then source_key iface.number g src else star_key iface.number g)) }
+{
+    if sight.spt {
+        Key::source(iface, sight.star.group, sight.source)
+    } else {
+        Key::star(iface, sight.star.group)
+    }
+}
+
+// Whether there is an assert under the key.
+#[tactic(auto, unfolding(pim_model::specs::Tables::has_row))]
+fn has_assert(world: &World, key: Key) -> bool
+    ensures { result ≡ has_row world.now.asserts key }
+{
+    world.store().assert_at(key).is_some()
+}
+
+// Whether the router forwards where the packet came, and has no assert there.
+#[tactic(auto, unfolding(crate::specs::Repeats::asserts_anew))]
+fn asserts_anew(world: &World, sight: &SourceSight, iface: IfaceId) -> bool
+    requires sight { IsSourceSight world.now sight.now }
+    requires below { iface.number < 120 }
+    ensures { result ≡ asserts_anew world.now sight.now.star.group.bits sight.now.source.bits iface.number }
+{
+    is_on_list(sight, iface) && !has_assert(world, stray_key(sight, iface))
+}
+
+/// Whether a packet that came on the interface moves at most the end of the keepalive timer of its source.
+#[tactic(auto, unfolding(crate::specs::Repeats::moves_end))]
+pub(crate) fn moves_end(world: &World, sight: &SourceSight, iface: IfaceId) -> bool
+    requires sight { IsSourceSight world.now sight.now }
+    requires below { iface.number < 120 }
+    ensures { result ≡ moves_end world.now sight.now.star.group.bits sight.now.source.bits iface.number }
+{
+    if is_direct(world, sight, iface) {
+        return sight.is_kept_alive && sight.spt;
+    }
+    if sight.star.is_rpf_interface(iface) && !sight.spt {
+        return sight.is_kept_alive || !is_watched(world, sight);
+    }
+    !asserts_anew(world, sight, iface)
+}

@@ -1,0 +1,120 @@
+//! What the router tells a data plane, a kernel or a chip that forwards by told rows, and what it is told by one.
+ghost use Rattle.std.specs.Prelude.{◌≡◌, ◌≤◌, ◌^◌, IfOk, OnOk, true};
+ghost use Rattle.pim_locality.specs.Rest.{IsAtRest};
+ghost use Rattle.pim_macros.specs.declared.rows.SourceAnswers.{SourceAnswers};
+ghost use Rattle.pim_mfc.specs.Laws.{ShowsRows};
+ghost use Rattle.pim_model.specs.Cache.{cached};
+ghost use Rattle.pim_model.specs.Sets.{is_kept_alive};
+ghost use Rattle.pim_model.specs.Tables.{Table, has_row};
+ghost use Rattle.pim_types.specs.Keys.{source_key};
+ghost use Rattle.pim_offload.specs.Keeping.{keep, keepalive_end, kept_until};
+ghost use Rattle.pim_offload.specs.Offered.{offered};
+ghost use Rattle.pim_offload.specs.Seen.{bare_text};
+ghost use Rattle.pim_offrow.specs.Shown.{TellsOffload};
+
+use pim_fanout::Cache;
+use pim_ip::{ControlHeader, write_header};
+use pim_macros::{Evaluations, SourceGroup, row};
+use pim_messages::Room;
+use pim_offrow::Offered;
+use pim_register::source_is_full;
+use pim_trie::Meter;
+use pim_types::{IfaceId, Key};
+use pim_world::World;
+use std::alloc::AllocError;
+
+// Keepalive_Period (RFC 7761, section 4.11), also at the RP, in ms.
+const KEEPALIVE_PERIOD: u64 = 210_000;
+
+// The protocol number of UDP.
+const PROTOCOL_UDP: u8 = 17;
+
+/// What a data plane may do of the packets of a source: by its row of the cache, or evaluated where it has no fact.
+pub(crate) fn offer(world: &World, cache: &Cache, name: SourceGroup) -> Option<Offered>
+    requires { ShowsRows cache.now.mfc.rows (cached world.now) }
+    ensures { TellsOffload result (offered world.now name.group.bits name.source.bits) }
+{
+    if let Some(answers) = cache.mfc().kept(name) {
+        return Some(Offered::known(&answers));
+    }
+    if source_is_full(world, name.group, name.source) {
+        return None;
+    }
+    // No event evaluates this.
+    let (mut uncounted, mut evaluated) = (Meter::outside_events(), Evaluations::none());
+    let made = row(world, name, &mut uncounted, &mut evaluated);
+    Some(Offered::unknown(&made.answers()))
+}
+
+// When KAT(S,G) ends, if it runs, in ms.
+#[tactic(auto, unfolding(pim_offload::specs::Keeping::keepalive_end))]
+fn keepalive_end(world: &World, name: SourceGroup) -> Option<u64>
+    ensures { result ≡ keepalive_end world.now name.group.bits name.source.bits }
+{
+    let key = Key::source(IfaceId::NONE, name.group, name.source);
+    world.store().source(key)?.keepalive
+}
+
+// KAT(S,G), which runs, ends at this moment, in ms. No trie is looked into: the meter stays.
+fn keep_until(
+    world: &mut World,
+    name: SourceGroup,
+    end: u64,
+    meter: &mut Meter,
+) -> Result<(), AllocError>
+    requires { has_row world.old.sources (source_key 0 name.group.bits name.source.bits) ≡ true }
+    ensures state { OnOk result (world.new ≡ kept_until world.old name.group.bits name.source.bits end) }
+    ensures unvisited { OnOk result (meter.new ≡ meter.old) }
+{
+    let place = world.store().source_place(name.group, name.source);
+    world
+        .store_mut()
+        .keep_alive(name.group, name.source, end, place, meter)
+}
+
+/// A packet of the source passed at the moment, in ms: KAT(S,G), where it runs, ends 210 s later, or when it would end after that.
+/// It tells whether the timer runs. The meter stays.
+pub(crate) fn keep(
+    world: &mut World,
+    name: SourceGroup,
+    moment: u64,
+    meter: &mut Meter,
+) -> Result<bool, AllocError>
+    requires rest { IsAtRest world.old }
+    requires within { moment ≤ 2 ^ 62 }
+    ensures runs { IfOk result (λ runs. runs ≡ is_kept_alive world.old name.group.bits name.source.bits) }
+    ensures state { OnOk result (world.new ≡ keep world.old name.group.bits name.source.bits moment) }
+    ensures rest { OnOk result (IsAtRest world.new) }
+    ensures shown { (rows : Table SourceAnswers) → ShowsRows rows (cached world.old)
+        → OnOk result (ShowsRows rows (cached world.new)) }
+    ensures unvisited { OnOk result (meter.new ≡ meter.old) }
+{
+    match keepalive_end(world, name) {
+        None => Ok(false),
+        Some(end) => {
+            let later = moment + KEEPALIVE_PERIOD;
+            if end < later {
+                keep_until(world, name, later, meter)?;
+            }
+            Ok(true)
+        }
+    }
+}
+
+/// The bytes that tell of a packet by its source and its group alone: a header that no router passes on. An error is want of
+/// memory.
+pub(crate) fn bare_packet(room: &mut Room, name: SourceGroup) -> Result<Vec<u8>, AllocError>
+    ensures { IfOk result (λ bytes. bytes.items ≡ bare_text name.group.bits name.source.bits) }
+{
+    let header = ControlHeader {
+        router_alert: false,
+        time_to_live: 1,
+        protocol: PROTOCOL_UDP,
+        source: name.source,
+        destination: name.group,
+        payload_length: 0,
+    };
+    let mut bytes = room.buffer();
+    write_header(&header, &mut bytes)?;
+    Ok(bytes)
+}
