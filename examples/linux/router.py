@@ -28,9 +28,10 @@ import pim  # noqa: E402
 from pimtext import packets, words  # noqa: E402
 
 ETH_P_IP = 0x0800
-SOL_PACKET, PACKET_ADD_MEMBERSHIP, PACKET_MR_ALLMULTI = 263, 1, 2
+SOL_PACKET, PACKET_ADD_MEMBERSHIP, PACKET_AUXDATA, PACKET_MR_ALLMULTI = 263, 1, 8, 2
+TP_STATUS_CSUMNOTREADY = 8
 PACKET_OUTGOING = 4
-PIM = 103
+UDP, PIM = 17, 103
 RTMGRP_LINK, RTMGRP_IPV4_ROUTE = 1, 0x40
 SIOCGIFFLAGS, IFF_RUNNING = 0x8913, 0x40
 # What a route of the kernel is taken to prefer.
@@ -43,27 +44,59 @@ def asked(*words_of):
     return json.loads(said or "[]")
 
 
+def filled(packet):
+    """A packet whose sender left the UDP checksum to its card, with the checksum."""
+    header, total = 4 * (packet[0] & 15), int.from_bytes(packet[2:4], "big")
+    content = bytearray(packet[header:total])
+    if packet[9] != UDP or len(content) < 8 or int.from_bytes(packet[6:8], "big") & 0x3FFF:
+        return packet
+    content[6:8] = b"\0\0"
+    summed = packet[12:20] + bytes([0, UDP]) + len(content).to_bytes(2, "big") + content + b"\0" * (len(content) % 2)
+    # In UDP 0 would say that there is none.
+    checksum = -sum(struct.unpack(f"!{len(summed) // 2}H", summed)) % 0xFFFF or 0xFFFF
+    content[6:8] = checksum.to_bytes(2, "big")
+    return packet[:header] + bytes(content)
+
+
 class Port:
     """An interface of the machine, with its packet socket."""
 
     def __init__(self, number, name):
-        self.number, self.name, self.is_up = number, name, False
+        self.number, self.name, self.is_up, self.index = number, name, False, 0
         own = asked("address", "show", "dev", name)[0]["addr_info"][0]
         self.address, self.length = own["local"], own["prefixlen"]
         self.socket = socket.socket(socket.AF_PACKET, socket.SOCK_DGRAM, socket.htons(ETH_P_IP))
-        self.socket.bind((name, ETH_P_IP))
-        all_groups = struct.pack("IHH8s", socket.if_nametoindex(name), PACKET_MR_ALLMULTI, 0, b"")
-        self.socket.setsockopt(SOL_PACKET, PACKET_ADD_MEMBERSHIP, all_groups)
+        self.socket.setsockopt(SOL_PACKET, PACKET_AUXDATA, 1)
+
+    def bind(self):
+        """To the interface that has the name now, if it is another one than before."""
+        index = socket.if_nametoindex(self.name)
+        if index != self.index:
+            self.socket.bind((self.name, ETH_P_IP))
+            all_groups = struct.pack("IHH8s", index, PACKET_MR_ALLMULTI, 0, b"")
+            self.socket.setsockopt(SOL_PACKET, PACKET_ADD_MEMBERSHIP, all_groups)
+            self.index = index
 
     def is_running(self):
         request = struct.pack("16sH14s", self.name.encode(), 0, b"")
-        flags = struct.unpack("16sH14s", fcntl.ioctl(self.socket, SIOCGIFFLAGS, request))[1]
+        try:
+            flags = struct.unpack("16sH14s", fcntl.ioctl(self.socket, SIOCGIFFLAGS, request))[1]
+            self.bind()
+        except OSError:
+            return False
         return bool(flags & IFF_RUNNING)
 
     def hear(self):
-        """A packet that came, or None for one that the machine itself sent."""
-        packet, source = self.socket.recvfrom(65535)
-        return None if source[2] == PACKET_OUTGOING else packet
+        """A packet that came; None for one that the machine itself sent, and where the interface went down."""
+        try:
+            packet, told, _, source = self.socket.recvmsg(65535, socket.CMSG_SPACE(20))
+        except OSError:
+            return None
+        if source[2] == PACKET_OUTGOING or len(packet) < 20:
+            return None
+        packet = packet[: int.from_bytes(packet[2:4], "big")]
+        status = next((int.from_bytes(value[:4], sys.byteorder) for level, kind, value in told if (level, kind) == (SOL_PACKET, PACKET_AUXDATA)), 0)
+        return filled(packet) if status & TP_STATUS_CSUMNOTREADY else packet
 
     def send(self, packet):
         group = packet[16:20]
@@ -117,12 +150,15 @@ class Machine:
             self.leave(where, packet)
 
     def leave(self, where, packet):
-        if isinstance(where, str):
-            self.say(f"sends to {where}: {told(packet)}")
-            self.raw.sendto(packet, (where, 0))
-        else:
-            self.say(f"sends on {self.ports[where].name}: {told(packet)}")
-            self.ports[where].send(packet)
+        try:
+            if isinstance(where, str):
+                self.say(f"sends to {where}: {told(packet)}")
+                self.raw.sendto(packet, (where, 0))
+            else:
+                self.say(f"sends on {self.ports[where].name}: {told(packet)}")
+                self.ports[where].send(packet)
+        except OSError as error:
+            self.say(f"  which is lost: {error.strerror}")
 
     def advance(self):
         self.done(self.router.advance(self.now()), "")

@@ -1,0 +1,90 @@
+//! Sends numbered packets to a group at a rate, or counts those that arrive.
+//!
+//!     stream send GROUP ADDRESS COUNT RATE          from the interface that has the address
+//!     stream receive GROUP ADDRESS COUNT SECONDS    until all have come, or for so long
+use socket2::{Domain, SockAddr, Socket, Type};
+use std::io;
+use std::net::{Ipv4Addr, SocketAddrV4, UdpSocket};
+use std::os::unix::io::AsRawFd;
+use std::time::{Duration, Instant};
+
+const PORT: u16 = 5004;
+const BYTES: usize = 100;
+/// So many threads send, since the kernel carries a packet through all namespaces before a call returns.
+const SENDERS: usize = 8;
+const ROOM: i32 = 64 << 20;
+
+/// Sends the packets of some numbers, each when it is due at the rate of all.
+fn send_some(group: Ipv4Addr, from: Ipv4Addr, numbers: impl Iterator<Item = u64>, rate: u64) -> io::Result<()> {
+    let socket = Socket::new(Domain::IPV4, Type::DGRAM, None)?;
+    socket.set_multicast_if_v4(&from)?;
+    socket.set_multicast_ttl_v4(16)?;
+    let socket = UdpSocket::from(socket);
+    let to = SocketAddrV4::new(group, PORT);
+    let began = Instant::now();
+    let mut packet = [b'.'; BYTES];
+    for number in numbers {
+        let due = Duration::from_nanos(number * 1_000_000_000 / rate);
+        let early = due.saturating_sub(began.elapsed());
+        if early > Duration::from_millis(1) {
+            std::thread::sleep(early);
+        }
+        packet[..8].copy_from_slice(&number.to_be_bytes());
+        socket.send_to(&packet, to)?;
+    }
+    Ok(())
+}
+
+fn send(group: Ipv4Addr, from: Ipv4Addr, count: u64, rate: u64) -> io::Result<()> {
+    let began = Instant::now();
+    std::thread::scope(|scope| {
+        let some = |first| scope.spawn(move || send_some(group, from, (first..count).step_by(SENDERS), rate));
+        let senders: Vec<_> = (0..SENDERS as u64).map(some).collect();
+        senders.into_iter().try_for_each(|sender| sender.join().unwrap_or_else(|_| Err(io::ErrorKind::Other.into())))
+    })?;
+    let seconds = began.elapsed().as_secs_f64();
+    println!("sent {count} in {seconds:.2} s, {:.0} a second", count as f64 / seconds);
+    Ok(())
+}
+
+fn receive(group: Ipv4Addr, at: Ipv4Addr, count: u64, seconds: u64) -> io::Result<()> {
+    let socket = Socket::new(Domain::IPV4, Type::DGRAM, None)?;
+    let room: *const i32 = &ROOM;
+    // SAFETY: the place has the four bytes that are said. Where the right is missing the usual room has to do.
+    unsafe { libc::setsockopt(socket.as_raw_fd(), libc::SOL_SOCKET, libc::SO_RCVBUFFORCE, room.cast(), 4) };
+    socket.set_reuse_address(true)?;
+    socket.bind(&SockAddr::from(SocketAddrV4::new(group, PORT)))?;
+    socket.join_multicast_v4(&group, &at)?;
+    let socket = UdpSocket::from(socket);
+    socket.set_read_timeout(Some(Duration::from_millis(200)))?;
+    println!("joined");
+    let end = Instant::now() + Duration::from_secs(seconds);
+    let (mut seen, mut all, mut packet) = (vec![false; count as usize], 0u64, [0u8; BYTES]);
+    let mut left = count;
+    while left > 0 && Instant::now() < end {
+        match socket.recv(&mut packet) {
+            Ok(BYTES) => {}
+            _ => continue,
+        }
+        let mut number = [0; 8];
+        number.copy_from_slice(&packet[..8]);
+        all += 1;
+        if let Some(place) = seen.get_mut(u64::from_be_bytes(number) as usize).filter(|place| !**place) {
+            *place = true;
+            left -= 1;
+        }
+    }
+    println!("received {} of {count}, and {} twice", count - left, all - (count - left));
+    Ok(())
+}
+
+fn main() -> io::Result<()> {
+    let words: Vec<_> = std::env::args().skip(1).collect();
+    let number = |at: usize| words.get(at).and_then(|word| word.parse().ok()).ok_or(io::ErrorKind::InvalidInput);
+    let address = |at: usize| words.get(at).and_then(|word| word.parse().ok()).ok_or(io::ErrorKind::InvalidInput);
+    match words.first().map(String::as_str) {
+        Some("send") => send(address(1)?, address(2)?, number(3)?, number(4)?),
+        Some("receive") => receive(address(1)?, address(2)?, number(3)?, number(4)?),
+        _ => Err(io::Error::new(io::ErrorKind::InvalidInput, "stream send|receive GROUP ADDRESS COUNT RATE|SECONDS")),
+    }
+}

@@ -1,0 +1,404 @@
+//! What the router says of itself over the control socket, as tables of text and as JSON.
+use crate::daemon::Daemon;
+use crate::mroute::REGISTER_VIF;
+use crate::plane::Entry;
+use crate::ports::{Port, Standing};
+use crate::routes::{longest, Counts};
+use crate::settings::{mask, RpSettings};
+use pim::{Interfaces, Row, Table};
+use serde_json::{json, Map, Value};
+use std::collections::{BTreeMap, BTreeSet};
+use std::net::Ipv4Addr;
+
+pub const TOPICS: [&str; 6] = ["mroute", "neighbors", "igmp", "rp", "interfaces", "counters"];
+const SSM: (u32, u8) = (0xe800_0000, 8);
+/// States of `Table::Downstream`.
+const PRUNED: u32 = 3;
+const REGISTER_STATES: [&str; 4] = ["none", "join", "join pending", "prune"];
+
+/// Rows of named values, in the order in which a table of text has them.
+type Rows = Vec<Vec<(&'static str, Value)>>;
+
+/// The answer to a line of a client.
+pub fn answer(daemon: &mut Daemon, line: &str) -> String {
+    let words: Vec<_> = line.split_whitespace().collect();
+    let (topic, is_json) = match words[..] {
+        ["show", topic] => (topic, false),
+        ["show", topic, "json"] => (topic, true),
+        _ => return format!("error: \"{line}\" is nothing that can be asked\n"),
+    };
+    let rows = match topic {
+        "mroute" => mroute(daemon),
+        "neighbors" => neighbours(daemon),
+        "igmp" => igmp(daemon),
+        "rp" => rp(daemon),
+        "interfaces" => interfaces(daemon),
+        "counters" => counters(daemon),
+        _ => return format!("error: there is no \"{topic}\" to show, but {}\n", TOPICS.join(", ")),
+    };
+    match rows {
+        Err(error) => format!("error: {error}\n"),
+        Ok(rows) if is_json => as_json(topic, rows),
+        Ok(rows) => as_text(&rows),
+    }
+}
+
+fn as_json(topic: &str, rows: Rows) -> String {
+    let objects = rows
+        .into_iter()
+        .map(|row| Value::Object(row.into_iter().map(|(name, value)| (name.to_string(), value)).collect::<Map<_, _>>()));
+    let whole = json!({ topic: objects.collect::<Vec<_>>() });
+    format!("{whole:#}\n")
+}
+
+fn cell(value: &Value) -> String {
+    match value {
+        Value::Null => "-".to_string(),
+        Value::String(text) => text.clone(),
+        Value::Array(list) if list.is_empty() => "-".to_string(),
+        Value::Array(list) => list.iter().map(cell).collect::<Vec<_>>().join(" "),
+        other => other.to_string(),
+    }
+}
+
+/// Columns as wide as what stands in them.
+fn as_text(rows: &Rows) -> String {
+    let names: Vec<_> = rows.first().map_or(Vec::new(), |row| row.iter().map(|(name, _)| name.replace('_', " ")).collect());
+    let cells = rows.iter().map(|row| row.iter().map(|(_, value)| cell(value)).collect::<Vec<_>>());
+    let lines: Vec<_> = std::iter::once(names).chain(cells).collect();
+    let count = lines[0].len();
+    let widths: Vec<_> = (0..count).map(|column| lines.iter().map(|line| line[column].len()).max().unwrap_or(0)).collect();
+    let padded = |line: &Vec<String>| {
+        line.iter().zip(&widths).map(|(cell, width)| format!("{cell:width$}")).collect::<Vec<_>>().join("  ")
+    };
+    let text: Vec<_> = lines.iter().map(|line| padded(line).trim_end().to_string()).collect();
+    if rows.is_empty() {
+        "none\n".to_string()
+    } else {
+        text.join("\n") + "\n"
+    }
+}
+
+fn seconds(milliseconds: u64) -> Value {
+    json!((milliseconds / 100) as f64 / 10.0)
+}
+
+/// The seconds until a moment; null for one that doesn't come.
+fn until(end: u64, now: u64) -> Value {
+    if end == u64::MAX {
+        Value::Null
+    } else {
+        seconds(end.saturating_sub(now))
+    }
+}
+
+fn rows_of(daemon: &mut Daemon, table: Table) -> Result<Vec<Row>, String> {
+    daemon.router.rows(table).map_err(|error| error.to_string())
+}
+
+fn address(number: u32) -> Value {
+    json!(Ipv4Addr::from(number).to_string())
+}
+
+// ---- RPs and ways
+
+fn rp_of(ranges: &[RpSettings], group: u32) -> Option<Ipv4Addr> {
+    let is_ssm = group & mask(SSM.1) == SSM.0;
+    let fits = ranges.iter().filter(|range| !is_ssm && range.groups.contains(group));
+    fits.max_by_key(|range| range.groups.length).map(|range| range.address)
+}
+
+/// The interface towards an address, and the next hop, or the address itself on a link of the router.
+fn way(daemon: &Daemon, to: Ipv4Addr) -> Option<(u32, Ipv4Addr)> {
+    let number = u32::from(to);
+    let own = daemon.ports.iter().find(|port| port.standing.is_up() && port.subnet.contains(number));
+    if let Some(port) = own {
+        return Some((port.number, to));
+    }
+    longest(&daemon.routes, number).map(|(next_hop, iface)| (iface, next_hop.into()))
+}
+
+fn rp(daemon: &mut Daemon) -> Result<Rows, String> {
+    let mut groups: BTreeSet<u32> = rows_of(daemon, Table::Upstream)?.iter().map(|row| row.group).collect();
+    groups.extend(rows_of(daemon, Table::Groups)?.iter().map(|row| row.group));
+    let ranges = &daemon.settings.rps;
+    let row = |range: &RpSettings| {
+        let is_here = daemon.ports.iter().any(|port| port.subnet.address == range.address);
+        let way = way(daemon, range.address).filter(|_| !is_here);
+        let used: Vec<_> = groups
+            .iter()
+            .filter(|group| rp_of(ranges, **group) == Some(range.address) && range.groups.contains(**group))
+            .collect();
+        vec![
+            ("groups", json!(range.groups.to_string())),
+            ("rp", json!(range.address.to_string())),
+            ("is_here", json!(is_here)),
+            ("interface", way.map_or(Value::Null, |(iface, _)| json!(daemon.name(iface)))),
+            ("next_hop", way.map_or(Value::Null, |(_, hop)| json!(hop.to_string()))),
+            ("used_by", json!(used.len())),
+        ]
+    };
+    Ok(ranges.iter().map(row).collect())
+}
+
+// ---- neighbours, interfaces, IGMP
+
+fn neighbours(daemon: &mut Daemon) -> Result<Rows, String> {
+    let rows = rows_of(daemon, Table::Neighbours)?;
+    let now = daemon.now();
+    let row = |row: &Row| {
+        let known = daemon.neighbours.get(&(row.iface, row.source.into()));
+        vec![
+            ("interface", json!(daemon.name(row.iface))),
+            ("address", address(row.source)),
+            ("up_seconds", known.map_or(Value::Null, |known| seconds(now.saturating_sub(known.since)))),
+            ("expires_seconds", until(row.end, now)),
+            ("priority", known.map_or(Value::Null, |known| json!(known.priority))),
+            ("hello", known.map_or(Value::Null, |known| json!(known.said.split(": ").nth(1)))),
+        ]
+    };
+    Ok(rows.iter().map(row).collect())
+}
+
+/// By RFC 7761, 4.3.2: the priorities count where all announce one.
+fn designated(daemon: &Daemon, port: &Port) -> Ipv4Addr {
+    let here = daemon.neighbours.iter().filter(|((iface, _), _)| *iface == port.number);
+    let others: Vec<_> = here.map(|((_, address), known)| (known.priority, *address)).collect();
+    let all_announce = others.iter().all(|(priority, _)| priority.is_some());
+    let weight = |priority: Option<u32>| if all_announce { priority } else { None };
+    let own = (weight(Some(port.settings.priority)), port.subnet.address);
+    others.into_iter().map(|(priority, address)| (weight(priority), address)).fold(own, Ord::max).1
+}
+
+fn interfaces(daemon: &mut Daemon) -> Result<Rows, String> {
+    let row = |port: &Port| {
+        let (is_up, why) = match &port.standing {
+            Standing::Up => (true, Value::Null),
+            Standing::Down(why) => (false, json!(why)),
+        };
+        let neighbours = daemon.neighbours.keys().filter(|(iface, _)| *iface == port.number).count();
+        vec![
+            ("interface", json!(port.settings.name)),
+            ("address", json!(port.subnet.to_string())),
+            ("vif", if port.has_vif { json!(port.number) } else { Value::Null }),
+            ("is_up", json!(is_up)),
+            ("dr", if is_up { json!(designated(daemon, port).to_string()) } else { Value::Null }),
+            ("neighbors", json!(neighbours)),
+            ("heard", json!(port.passed.heard)),
+            ("refused", json!(port.passed.refused)),
+            ("sent", json!(port.passed.sent)),
+            ("copies", json!(port.passed.copies)),
+            ("not_sent", json!(port.passed.not_sent)),
+            ("why_down", why),
+        ]
+    };
+    Ok(daemon.ports.iter().map(row).collect())
+}
+
+fn igmp(daemon: &mut Daemon) -> Result<Rows, String> {
+    let now = daemon.now();
+    let (groups, sources) = (rows_of(daemon, Table::Groups)?, rows_of(daemon, Table::Sources)?);
+    let of_group = |row: &Row| {
+        let mode = if row.is_set { "exclude" } else { "include" };
+        vec![
+            ("interface", json!(daemon.name(row.iface))),
+            ("group", address(row.group)),
+            ("source", json!("*")),
+            ("mode", json!(mode)),
+            ("expires_seconds", until(row.end, now)),
+        ]
+    };
+    let of_source = |row: &Row| {
+        // A source of a group in EXCLUDE that has no time is excluded.
+        let mode = if row.end == u64::MAX { "excluded" } else { "included" };
+        vec![
+            ("interface", json!(daemon.name(row.iface))),
+            ("group", address(row.group)),
+            ("source", address(row.source)),
+            ("mode", json!(mode)),
+            ("expires_seconds", until(row.end, now)),
+        ]
+    };
+    let key = |row: &Row| (row.iface, row.group, row.source);
+    let mut all: BTreeMap<_, _> = groups.iter().map(|row| ((row.iface, row.group, 0), of_group(row))).collect();
+    all.extend(sources.iter().map(|row| (key(row), of_source(row))));
+    Ok(all.into_values().collect())
+}
+
+// ---- the forwarding cache
+
+fn names(daemon: &Daemon, set: Interfaces) -> Vec<String> {
+    set.iter().map(|iface| daemon.name(iface).to_string()).collect()
+}
+
+/// The shared trees: each group that a host or a router asked for.
+fn shared_trees(daemon: &mut Daemon) -> Result<BTreeMap<(u32, u32), Vec<(&'static str, Value)>>, String> {
+    let mut wanted: BTreeMap<u32, BTreeSet<String>> = BTreeMap::new();
+    for row in rows_of(daemon, Table::Downstream)?.iter().filter(|row| row.source == 0 && row.state != PRUNED) {
+        wanted.entry(row.group).or_default().insert(daemon.name(row.iface).to_string());
+    }
+    let joined: BTreeSet<_> = wanted.keys().copied().collect();
+    let mut hosts = BTreeSet::new();
+    for row in rows_of(daemon, Table::Groups)?.iter().filter(|row| row.is_set) {
+        hosts.insert(row.group);
+        let port = &daemon.ports[row.iface as usize];
+        if designated(daemon, port) == port.subnet.address {
+            wanted.entry(row.group).or_default().insert(port.settings.name.clone());
+        }
+    }
+    let row = |(group, outgoing): (&u32, &BTreeSet<String>)| {
+        let rp = rp_of(&daemon.settings.rps, *group);
+        let is_here = daemon.ports.iter().any(|port| Some(port.subnet.address) == rp);
+        let way = rp.filter(|_| !is_here).and_then(|rp| way(daemon, rp));
+        let hosts = if hosts.contains(group) { "C" } else { "" };
+        let routers = if joined.contains(group) { "J" } else { "" };
+        let cells = vec![
+            ("source", json!("*")),
+            ("group", address(*group)),
+            ("flags", json!(format!("S{hosts}{routers}"))),
+            ("incoming", way.map_or(Value::Null, |(iface, _)| json!(daemon.name(iface)))),
+            ("outgoing", json!(outgoing)),
+            ("forwarding", json!(if is_here { "this is the RP" } else { "by each source's entry" })),
+            ("packets", Value::Null),
+            ("bytes", Value::Null),
+            ("stray", Value::Null),
+        ];
+        ((*group, 0), cells)
+    };
+    Ok(wanted.iter().map(row).collect())
+}
+
+/// Who forwards packets of an entry.
+fn forwarding(entry: &Entry) -> &'static str {
+    let is_register = entry.forwarded.parent == REGISTER_VIF;
+    match (entry.row, entry.forwarded.outgoing) {
+        (None, _) => "nobody: the router is full, or is the source",
+        (Some(_), outgoing) if outgoing == 1 << REGISTER_VIF => "router",
+        (Some(_), 0) if is_register => "nobody: it has no incoming interface",
+        (Some(_), 0) => "nobody asks",
+        (Some(_), _) => "kernel",
+    }
+}
+
+fn mroute(daemon: &mut Daemon) -> Result<Rows, String> {
+    daemon.look()?;
+    let active = rows_of(daemon, Table::Active)?;
+    let states: BTreeMap<_, _> = active.iter().map(|row| ((row.group, row.source), row)).collect();
+    let mut all = shared_trees(daemon)?;
+    for (key, entry) in daemon.plane.entries() {
+        let place = (u32::from(key.group), u32::from(key.source));
+        let state = states.get(&place);
+        let flag = |letter: char, is_set: bool| if is_set { letter.to_string() } else { String::new() };
+        let register = state.map_or("none", |row| REGISTER_STATES.get(row.state as usize).copied().unwrap_or("?"));
+        let flags =
+            flag('T', state.map_or(false, |row| row.is_set)) + &flag('F', register == "join") + &flag('U', !entry.is_known());
+        let row = entry.row.filter(|_| entry.forwarded.parent != REGISTER_VIF);
+        let outgoing = row.map_or(Vec::new(), |row| {
+            names(daemon, row.outgoing)
+                .into_iter()
+                .filter(|name| Some(name.as_str()) != row.incoming.map(|iface| daemon.name(iface)))
+                .collect()
+        });
+        let cells = vec![
+            ("source", address(place.1)),
+            ("group", address(place.0)),
+            ("flags", json!(flags)),
+            ("incoming", row.and_then(|row| row.incoming).map_or(Value::Null, |iface| json!(daemon.name(iface)))),
+            ("outgoing", json!(outgoing)),
+            ("forwarding", json!(forwarding(entry))),
+            ("packets", entry.used.map_or(Value::Null, |used| json!(used.packets))),
+            ("bytes", entry.used.map_or(Value::Null, |used| json!(used.bytes))),
+            ("stray", entry.used.map_or(Value::Null, |used| json!(used.stray))),
+        ];
+        all.insert(place, cells);
+    }
+    Ok(all.into_values().collect())
+}
+
+// ---- counters
+
+fn counters(daemon: &mut Daemon) -> Result<Rows, String> {
+    let it = daemon.counters.clone();
+    let refused: u64 = it.refused.values().sum();
+    let routes = daemon.route_counts;
+    let mut found = vec![
+        ("seconds since the router began", daemon.now() / 1000),
+        ("events given to the router", it.events),
+        ("events that it ignored", it.ignored),
+        ("events that it refused", refused),
+    ];
+    let reasons: Vec<_> =
+        it.refused.iter().map(|(number, count)| (format!("  of these: {}", pim::answer_text(*number)), *count)).collect();
+    let more = [
+        ("messages that a full router was offered in parts", it.split),
+        ("parts offered", it.parts),
+        ("parts taken", it.parts_taken),
+        ("unicasts heard", it.unicasts_heard),
+        ("unicasts sent", it.unicasts_sent),
+        ("unicasts that couldn't be sent", it.unicasts_not_sent),
+        ("packets for which the kernel had no entry", it.no_cache),
+        ("strays that the kernel told", it.strays),
+        ("packets that the kernel handed up whole", it.whole),
+        ("checksums filled in", it.checksums_filled),
+        ("entries in the kernel's forwarding cache", daemon.plane.len() as u64),
+        ("rows told to the kernel", it.entries_written),
+        ("rows withdrawn from the kernel", it.entries_removed),
+        ("sources of which the kernel's counts told", it.kept),
+        ("packets of which the router was told that they were seen", it.seen),
+        ("routes told to the router", daemon.routes.len() as u64),
+        ("kernel routes taken by their next hop", routes.by_next_hop as u64),
+        ("  of these with several next hops", routes.multipath as u64),
+        ("kernel routes left out for a lower metric", routes.higher_metric as u64),
+        ("kernel routes that refuse packets", routes.refusing as u64),
+        ("kernel routes elsewhere", routes.elsewhere as u64),
+    ];
+    let first = found.drain(..).map(|(name, count)| (name.to_string(), count));
+    let all = first.chain(reasons).chain(more.into_iter().map(|(name, count)| (name.to_string(), count)));
+    Ok(all.map(|(name, count)| vec![("counter", json!(name)), ("count", json!(count))]).collect())
+}
+
+/// What was taken of the kernel's routes, in words.
+pub fn routes_said(counts: &Counts, told: usize) -> String {
+    let Counts { by_next_hop, multipath, higher_metric, refusing, elsewhere, .. } = counts;
+    format!(
+        "the kernel's routes: {by_next_hop} are taken by their next hop ({multipath} of several, the highest on an interface of the \
+         router); {higher_metric} are left out for another one of their prefix with a lower metric; {refusing} that refuse \
+         (blackhole, unreachable, prohibit, throw) and {elsewhere} that lead elsewhere (another interface, another subnet, IPv6) are \
+         holes; told to the router are {told}"
+    )
+}
+
+#[cfg(test)]
+mod tests {
+    use super::*;
+
+    #[test]
+    fn a_table_has_columns() {
+        let rows = vec![
+            vec![("name", json!("a")), ("is_up", json!(true)), ("out", json!(["x", "y"]))],
+            vec![("name", json!("long")), ("is_up", json!(false)), ("out", json!([]))],
+        ];
+        assert_eq!(as_text(&rows), "name  is up  out\na     true   x y\nlong  false  -\n");
+        assert_eq!(as_text(&Vec::new()), "none\n");
+        let read: Value = serde_json::from_str(&as_json("things", rows)).unwrap();
+        assert_eq!(read["things"][1], json!({"name": "long", "is_up": false, "out": []}));
+    }
+
+    #[test]
+    fn the_longest_range_gives_the_rp_and_ssm_has_none() {
+        let range = |text: &str, last| {
+            let (address, length) = text.split_once('/').unwrap();
+            let groups = crate::settings::Subnet { address: address.parse().unwrap(), length: length.parse().unwrap() };
+            RpSettings { groups, address: Ipv4Addr::new(10, 0, 0, last) }
+        };
+        let ranges = [range("224.0.0.0/4", 1), range("239.0.0.0/8", 2)];
+        let rp = |text: &str| rp_of(&ranges, text.parse::<Ipv4Addr>().unwrap().into()).map(|rp| rp.octets()[3]);
+        assert_eq!([rp("239.1.1.1"), rp("225.1.1.1"), rp("232.1.1.1")], [Some(2), Some(1), None]);
+    }
+
+    #[test]
+    fn a_moment_is_told_in_tenths_of_a_second() {
+        assert_eq!(until(12_345, 10_000), json!(2.3));
+        assert_eq!(until(u64::MAX, 10_000), Value::Null);
+    }
+}
