@@ -41,6 +41,8 @@ static void without_a_router(void) {
     struct pim_packet packet = {true, 7, 7, 7};
     struct pim_row row = {.table = 7};
     struct pim_forwarding forwarding = {.rpf = 7};
+    struct pim_plane_row plane = {.incoming = 7};
+    struct pim_source_group name = {7, 7};
     is("advance without a router", pim_advance(&none, 0, 1), PIM_NO_ROUTER);
     is("frame without a router", pim_frame(&none, 0, 0, room, 2), PIM_NO_ROUTER);
     is("unicast without a router", pim_unicast(&none, 0, room, 2), PIM_NO_ROUTER);
@@ -61,6 +63,14 @@ static void without_a_router(void) {
     is("its row", row.table, 7);
     is("cached without a router", pim_cached(&none, 0x0a000305, 0xe1010101, &forwarding), false);
     is("its forwarding", forwarding.rpf, 7);
+    is("offload without a router", pim_offload(&none, 0x0a000305, 0xe1010101, &plane), false);
+    is("its row", plane.incoming, 7);
+    is("changed without a router", pim_changed(&none), 0);
+    is("a changed source without a router", pim_changed_source(&none, 0, &name), false);
+    is("its name", name.source == 7 && name.group == 7, true);
+    is("may differ without a router", pim_may_differ(&none, 0x0a000305, 0xe1010101), true);
+    is("seen without a router", pim_seen(&none, 0, 0, 0x0a000305, 0xe1010101), PIM_NO_ROUTER);
+    is("keep without a router", pim_keep(&none, 0x0a000305, 0xe1010101, 1), PIM_NO_ROUTER);
     is("probes without a router", pim_probes(&none), 0);
     is("touched without a router", pim_touched(&none), 0);
     pim_end(&none);
@@ -261,12 +271,97 @@ static void cached(struct pim_router *router) {
     is("inherited_olist on the shared tree", told.shared_tree.low == 0 && told.shared_tree.high == 0, true);
 }
 
+/* ---- a data plane: the source of the Join, another one, and a third that is on the router's own link */
+
+static void told_rows(struct pim_router *router) {
+    struct pim_plane_row row = {.incoming = 7};
+    is("the source's row", pim_offload(router, 0x0a000305, 0xe1010101, &row), true);
+    is("it is known", row.is_known, true);
+    is("by the source's tree", row.incoming, 0);
+    is("where copies leave", row.outgoing.low == 1 << 1 && row.outgoing.high == 0, true);
+    is("where it is alive", row.alive.low == 1 << 0 && row.alive.high == 0, true);
+    is("where it is the router's", row.to_core.low == 1 << 1 && row.to_core.high == 0, true);
+    is("another source's row", pim_offload(router, 0x0a000306, 0xe1010101, &row), true);
+    is("it is unknown", row.is_known, false);
+    is("by the shared tree", row.incoming, 0);
+    is("no copies", row.outgoing.low | row.outgoing.high, 0);
+    is("nobody hears of it", row.alive.low | row.alive.high, 0);
+    is("nowhere the router's", row.to_core.low | row.to_core.high, 0);
+    is("one on a link of the router", pim_offload(router, 0x0a000207, 0xe1010101, &row), true);
+    is("whose first packet is the router's", row.to_core.low, 1 << 2);
+}
+
+static void told_packets(struct pim_router *router) {
+    struct pim_source_group name = {7, 7};
+    is("seen", pim_seen(router, 0, 0, 0x0a000305, 0xe1010101), PIM_DONE);
+    is("nothing leaves", pim_packets(router), 0);
+    is("nothing is touched", pim_touched(router), 0);
+    is("nothing changed", pim_changed(router), 0);
+    is("nothing may differ", pim_may_differ(router, 0x0a000305, 0xe1010101), false);
+    is("seen on no interface", pim_seen(router, 0, 3, 0x0a000305, 0xe1010101), 22);
+    is("seen of an address of the router", pim_seen(router, 0, 0, 0x0a000002, 0xe1010101), PIM_IGNORED);
+    is("seen to no group", pim_seen(router, 0, 0, 0x0a000305, 0x0a000306), PIM_NOT_FOR_ME);
+    is("seen of a source on a link", pim_seen(router, 0, 2, 0x0a000207, 0xe1010101), PIM_DONE);
+    is("its row changed", pim_changed(router), 1);
+    is("whose", pim_changed_source(router, 0, &name), true);
+    is("its source and group", name.source == 0x0a000207 && name.group == 0xe1010101, true);
+    is("no second one", pim_changed_source(router, 1, &name), false);
+    is("it may differ", pim_may_differ(router, 0x0a000207, 0xe1010101), true);
+    is("others don't", pim_may_differ(router, 0x0a000306, 0xe1010102), false);
+    is("keep", pim_keep(router, 0x0a000305, 0xe1010101, 1000), PIM_DONE);
+    is("what changed stays", pim_changed(router), 1);
+    is("keep of another source", pim_keep(router, 0x0a000306, 0xe1010101, 1000), PIM_NO_TIMER);
+    is("active sources", pim_read(router, 'F'), PIM_DONE);
+    is("how many", pim_rows(router), 2);
+}
+
+static void kept(struct pim_router *router) {
+    struct pim_row row = {.table = 7};
+    is("the second one", pim_row(router, 1, &row), true);
+    is("it is kept for 210 s", row.source == 0x0a000305 && row.end == 1000 + 210000, true);
+    is("keep at an earlier moment", pim_keep(router, 0x0a000305, 0xe1010101, 500), PIM_DONE);
+    is("active sources again", pim_read(router, 'F'), PIM_DONE);
+    is("the second one again", pim_row(router, 1, &row), true);
+    is("its end stays", row.end, 1000 + 210000);
+}
+
+static void plane(void) {
+    struct pim_router router = PIM_NO_HANDLE;
+    is("new for a plane", made(&router, &usual), PIM_DONE);
+    moments_and_interfaces(&router);
+    packets(&router);
+    told_rows(&router);
+    told_packets(&router);
+    kept(&router);
+    pim_end(&router);
+}
+
+/* A router with room for one fact. */
+static void full(void) {
+    struct pim_settings small = PIM_USUAL_SETTINGS;
+    struct pim_router router = PIM_NO_HANDLE;
+    struct pim_plane_row row = {.incoming = 7};
+    small.limit = 1;
+    is("new with room for one", made(&router, &small), PIM_DONE);
+    is("up", pim_up(&router, 7, 2), PIM_DONE);
+    is("an unknown source's row", pim_offload(&router, 0x0a000306, 0xe1010101, &row), true);
+    is("seen of a source on a link", pim_seen(&router, 0, 2, 0x0a000207, 0xe1010101), PIM_DONE);
+    row.incoming = 7;
+    is("any source may differ", pim_may_differ(&router, 0x0a000306, 0xe1010101), true);
+    is("there is no room", pim_offload(&router, 0x0a000306, 0xe1010101, &row), false);
+    is("what isn't written", row.incoming, 7);
+    is("the known one's row", pim_offload(&router, 0x0a000207, 0xe1010101, &row), true);
+    is("of another group there is no room", pim_seen(&router, 0, 2, 0x0a000207, 0xe1010102), PIM_FULL);
+    pim_end(&router);
+}
+
 /* A router with 120 interfaces, and hosts on some that want a source of a group: what is told of interface 64 and above. */
 static void many_interfaces(void) {
     static const uint32_t hosts[] = {1, 63, 64, 119};
     struct pim_interface many[120];
     struct pim_router router = PIM_NO_HANDLE;
     struct pim_forwarding told;
+    struct pim_plane_row row;
     uint8_t packet[] = {0x45, 0, 0, 28, 0, 0, 0, 0, 64, 17, 0, 0, 10, 0, 0, 9, 232, 1, 1, 1, 0, 1, 0, 2, 0, 8, 0, 0};
     for (uint32_t at = 0; at < COUNT(many); at++) many[at] = (struct pim_interface){0x0a000001 + (at << 8), 24, 1, 500, 2500};
     is("120 interfaces", pim_new(&router, &usual, many, COUNT(many), NULL, 0, one, 1), PIM_DONE);
@@ -285,6 +380,9 @@ static void many_interfaces(void) {
     is("its row", pim_cached(&router, 0x0a000009, 0xe8010101, &told), true);
     is("the low word", told.inherited.low, (uint64_t)1 << 63 | 1 << 1);
     is("the high word", told.inherited.high, (uint64_t)1 << 55 | 1);
+    is("its row for a plane", pim_offload(&router, 0x0a000009, 0xe8010101, &row), true);
+    is("the low word of it", row.outgoing.low, (uint64_t)1 << 63 | 1 << 1);
+    is("the high word of it", row.outgoing.high, (uint64_t)1 << 55 | 1);
     pim_end(&router);
 }
 
@@ -307,6 +405,8 @@ int main(void) {
     cached(&router);
     tables(&router);
     many_interfaces();
+    plane();
+    full();
     texts();
     is("the other's moment", pim_next_moment(&other), PIM_NEVER);
     is("the other's packets", pim_packets(&other), 0);

@@ -9,7 +9,7 @@ HEADER = TOP / "include" / "pim.h"
 NAMES = {
     "Handle": "pim_router", "GivenInterface": "pim_interface", "GivenRoute": "pim_route", "GivenRange": "pim_range",
     "GivenSettings": "pim_settings", "Packet": "pim_packet", "TableRow": "pim_row", "Interfaces": "pim_interfaces",
-    "Forwarding": "pim_forwarding",
+    "Forwarding": "pim_forwarding", "PlaneRow": "pim_plane_row", "NamedSource": "pim_source_group",
 }
 # `Place` is a pointer beside what takes no room.
 TYPES = {"u8": "uint8_t", "u32": "uint32_t", "u64": "uint64_t", "usize": "size_t", "bool": "bool", "Place": "void *"}

@@ -5,8 +5,8 @@ import sys
 from pimtext.kept import TOP, cache, sum_of_sources
 
 PROVED = TOP / "crates" / "pimlab" / "out" / "pimlab"
-# What PIMLAB_BUILD may say, and how the file of such an unproved build ends.
-BUILDS = {"proved": "", "unproved": "", "sanitized": "-sanitized"}
+# What PIMLAB_BUILD may say.
+BUILDS = ["proved", "unproved", "sanitized"]
 
 
 def is_proved():
@@ -22,58 +22,69 @@ def is_proved():
     return True
 
 
-def build(path):
-    """Builds both unproved programs: one to a path, the sanitized one beside it. Answers the seconds."""
+def build(path, is_sanitized):
+    """Builds an unproved program to a path. Answers the seconds."""
     # This takes a while to load, and most calls don't build.
     from pimtext import unproved
     try:
-        return unproved.build_program(path)
+        return unproved.build_sanitized(path) if is_sanitized else unproved.build_program(path)
     except unproved.Failed as failed:
         sys.stderr.write(str(failed))
         sys.exit("pimlab: it couldn't be built")
 
 
-def build_once(path, ending):
-    """Has both programs kept."""
+def build_once(path, is_sanitized):
+    """Has a program kept."""
     from pimtext import unproved
     with unproved.alone("pimlab"):
-        if not os.path.exists(path + ending):
+        if not os.path.exists(path):
             unproved.say("pimlab: building once, one to two minutes; the build isn't proved (./test builds and proves)")
-            seconds = build(path)
+            seconds = build(path, is_sanitized)
             unproved.forget_old("pimlab-*")
             unproved.say(f"pimlab: built in {seconds} s, and kept in {cache()}")
 
 
-def run_once(ending, words):
-    """Builds and runs where nothing can be kept; answers the status."""
-    import subprocess
-    import tempfile
-    with tempfile.TemporaryDirectory(prefix="pimlab-") as folder:
-        build(f"{folder}/pimlab")
-        return subprocess.run([f"{folder}/pimlab{ending}", *words]).returncode
-
-
-def unproved_program(ending, words):
-    """Where the unproved program is; where it can't be kept this process ends with it."""
-    path = f"{cache()}/pimlab-{sum_of_sources('pimlab')}"
-    if not os.access(path + ending, os.X_OK):
+def unproved_program(is_sanitized):
+    """Where the unproved program is; None where it can't be kept."""
+    path = f"{cache()}/pimlab-{sum_of_sources('pimlab')}{'-sanitized' if is_sanitized else ''}"
+    if not os.access(path, os.X_OK):
         import shutil
         if shutil.which("rt") is None:
             sys.exit("pimlab: it isn't built, and there is no command `rt`, the Rattle kit's, that could build it")
         try:
-            build_once(path, ending)
+            build_once(path, is_sanitized)
         except OSError as error:
-            print(f"pimlab: building for this call alone, one to two minutes: {error}", file=sys.stderr, flush=True)
-            sys.exit(run_once(ending, words))
-    return path + ending
+            print(f"pimlab: a build can't be kept: {error}", file=sys.stderr, flush=True)
+            return None
+    return path
 
 
-def chosen(words=()):
-    """Where the program is that is to be run, built where it isn't there; the words are for a build that can't be kept."""
-    wanted = os.environ.get("PIMLAB_BUILD", "proved")
-    if wanted not in BUILDS:
-        sys.exit(f"pimlab: PIMLAB_BUILD is {wanted!r}, and should be one of {', '.join(BUILDS)}")
-    return str(PROVED) if wanted == "proved" and is_proved() else unproved_program(BUILDS[wanted], words)
+def wanted():
+    """What PIMLAB_BUILD says."""
+    build = os.environ.get("PIMLAB_BUILD", "proved")
+    if build not in BUILDS:
+        sys.exit(f"pimlab: PIMLAB_BUILD is {build!r}, and should be one of {', '.join(BUILDS)}")
+    return build
+
+
+def chosen():
+    """Where the program is that is to be run, built where it isn't there; None where none can be kept."""
+    return str(PROVED) if wanted() == "proved" and is_proved() else unproved_program(wanted() == "sanitized")
+
+
+def kept():
+    """The same; this process ends where none can be kept."""
+    return chosen() or sys.exit(1)
+
+
+def run_once(words):
+    """Builds and runs where nothing can be kept; answers the status."""
+    import subprocess
+    import tempfile
+    print("pimlab: building for this call alone, one to two minutes", file=sys.stderr, flush=True)
+    with tempfile.TemporaryDirectory(prefix="pimlab-") as folder:
+        build(f"{folder}/pimlab", wanted() == "sanitized")
+        return subprocess.run([f"{folder}/pimlab", *words]).returncode
 
 
 def version():
@@ -86,5 +97,7 @@ def run(words):
     if words == ["--version"]:
         print(f"pimlab {version()}, {'proved' if is_proved() else 'not proved'}")
         return
-    path = chosen(words)
+    path = chosen()
+    if path is None:
+        sys.exit(run_once(words))
     os.execv(path, [path, *words])

@@ -2,6 +2,7 @@
 
 What the program would refuse isn't looked for here: these are the scenarios that it has played.
 """
+import functools
 import json
 import subprocess
 import sys
@@ -9,7 +10,7 @@ from dataclasses import dataclass, field
 from ipaddress import IPv4Interface
 from pathlib import Path
 
-from pimtext import toml_lines
+from pimtext import program, toml_lines
 from pimtext.addresses import ranges_of, routes_of
 
 PIMLAB = Path(__file__).resolve().parent.parent.parent / "pimlab"
@@ -131,9 +132,15 @@ class Refused(Exception):
     """The program didn't play the scenario; the text is its own line."""
 
 
+@functools.cache
+def playing():
+    """What plays a scenario: the program, which is looked for once, or `./pimlab`, where none can be kept."""
+    return program.chosen() or PIMLAB
+
+
 def run_text(text):
     """The lines that the program prints of a scenario's text, with tables."""
-    ran = subprocess.run([PIMLAB, "run", "-", "--tables"], input=text, capture_output=True, text=True)
+    ran = subprocess.run([playing(), "run", "-", "--tables"], input=text, capture_output=True, text=True)
     if ran.returncode:
         raise Refused(ran.stderr.strip())
     return ran.stdout.splitlines()
@@ -141,7 +148,7 @@ def run_text(text):
 
 def run_file(path):
     """The same of a file. What the program says on standard error stands there; its status ends this program."""
-    ran = subprocess.run([PIMLAB, "run", path, "--tables"], stdout=subprocess.PIPE, text=True)
+    ran = subprocess.run([playing(), "run", path, "--tables"], stdout=subprocess.PIPE, text=True)
     if ran.returncode:
         sys.exit(ran.returncode)
     return ran.stdout.splitlines()

@@ -58,8 +58,8 @@ class Spoilt(unittest.TestCase):
     def test_a_meter_that_is_set_back_at_the_end(self):
         self.spoil(
             "pim_router/src/router.rt",
-            "    take_in(alloc, world, cache, event, &mut probes.meter)\n",
-            "    let outcome = take_in(alloc, world, cache, event, &mut probes.meter);\n"
+            "    take_in(room, world, cache, event, &mut probes.meter)\n",
+            "    let outcome = take_in(room, world, cache, event, &mut probes.meter);\n"
             "    probes.begin();\n    probes.meter.visit();\n    outcome\n",
         )
         self.refused("a count begins anew in take_next")
@@ -84,9 +84,9 @@ class Spoilt(unittest.TestCase):
     def test_rows_evaluated_in_another_cache(self):
         self.spoil(
             "pim_router/src/event.rt",
-            "    cache.refresh(world, meter, names.as_slice())?;",
-            "    Cache::new(turn.alloc).refresh(world, meter, names.as_slice())?;\n"
-            "    cache.refresh(world, meter, names.as_slice())?;",
+            "    cache.refresh(world, meter, names, disturbed_by(accepted, plan))?;",
+            "    Cache::new(turn.alloc).refresh(world, meter, names.try_clone()?, Touched::All)?;\n"
+            "    cache.refresh(world, meter, names, disturbed_by(accepted, plan))?;",
         )
         self.refused("a count is made in take_change")
 
@@ -113,6 +113,23 @@ class Spoilt(unittest.TestCase):
             "    cache.mfc().cached(name);\n    cache\n        .mfc()\n        .forward(",
         )
         self.refused("a row is told in by_row")
+
+    def test_an_event_that_asks_what_a_plane_does(self):
+        self.spoil(
+            "pim_router/src/router.rt",
+            "        let outcome = take_next(",
+            "        offer(&self.world, &self.cache, SourceGroup { source: Addr::NONE, group: Addr::NONE });\n"
+            "        let outcome = take_next(",
+        )
+        self.refused("a row is offered in Router::step")
+
+    def test_a_row_asked_for_whole(self):
+        self.spoil(
+            "pim_router/src/event.rt",
+            "    cache\n        .mfc()\n        .forward(",
+            "    cache.mfc().kept(name);\n    cache\n        .mfc()\n        .forward(",
+        )
+        self.refused("a row is told whole in by_row")
 
     def test_a_place_that_is_gone(self):
         self.spoil("pim_router/src/router.rt", "    cache.reset();\n", "")

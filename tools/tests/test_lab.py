@@ -5,6 +5,7 @@ import tempfile
 import tomllib
 import unittest
 from pathlib import Path
+from unittest import mock
 
 from lab import GroupRecord, Network, hosts, topology
 from lab.hosts import ALLOW, BLOCK, IS_EX, IS_IN, TO_EX, TO_IN, Wish
@@ -162,6 +163,23 @@ class Links(unittest.TestCase):
         self.assertEqual(sorted(numbers), list(range(1, 21)))
 
 
+class Calls(unittest.TestCase):
+    def test_a_ring_of_20_is_played_by_a_few_calls_of_the_program(self):
+        net, names = Network(), [f"r{number}" for number in range(20)]
+        net.ring(*names)
+        net.rp("r10")
+        camera, viewers = net.host("camera", "r0"), [net.host(f"viewer{at}", names[at]) for at in (3, 7, 12, 17)]
+        with mock.patch.object(scenario, "run_text", wraps=scenario.run_text) as played:
+            net.run(10)
+            for viewer in viewers:
+                viewer.join(GROUP)
+            net.run(5)
+            camera.stream(GROUP, times=20)
+            net.run(60)
+        self.assertEqual([set(viewer.payloads()) for viewer in viewers], 4 * [{str(number).encode() for number in range(1, 21)}])
+        self.assertLessEqual(played.call_count, 10)
+
+
 class Odd(unittest.TestCase):
     """What is odd in a network's run, with the line of this file that made it so."""
 
@@ -221,10 +239,29 @@ WRONG = [
     ('net.routers["west"].rows(net)', " is no table of a router"),
     ('net.routers["west"].rows("Neighbor")', "'Neighbor' is no table of a router; is Neighbour meant?"),
     ('net.run(1); net.routers["west"].rows(Neighbour, ifcae=0)', "Neighbour has no column ifcae; is iface meant?"),
-    ('net.run(1); net.packets("Hello")', "'Hello' is no kind of packet; is Hello meant?"),
+    ('net.run(1); net.packets("Hello")', "'Hello' is no kind of packet: it is the class of this name, without quotes"),
+    ('net.run(1); net.packets("Helo")', "'Helo' is no kind of packet; is Hello meant?"),
     ('net.run(1); net.tree("239.1.1.1", "somebody")', "'somebody' is no source"),
     ('net.run(1); viewer.served("239.1.1.1", "10.99.0.1")', "the source 10.99.0.1 is in the subnet of no link that is up"),
     ('net.tables()', "nothing has run yet"),
+    ('net.save("net.toml")', "nothing has run yet"),
+    ('net.run(1); net.save("/nowhere/net.toml")', "/nowhere/net.toml can't be written: No such file or directory"),
+    ('net.routers["wset"].neighbours()', "there is no router wset; is west meant?"),
+    ('net.links["west-hubb"].down()', "there is no link west-hubb; is west-hub meant?"),
+    ('net.run("5")', "'5' is no number of seconds: it is a number from 0 on"),
+    ("net.run(-5)", "-5 is no number of seconds: it is a number from 0 on"),
+    ('Network(loss=3)', "3 is no share of the packets that are lost: it is a number from 0 to 1"),
+    ('Network(delay=3)', "3 is no delay: it is the least and the most seconds, as (0.01, 0.05)"),
+    ('Network(delay=(2, 1))', "the delay (2, 1) begins with the longer one"),
+    ('Network(step=0)', "0 is no step: it is a number from 0.001 on"),
+    ('net.link("a", "b", cost="x")', "'x' is no cost of a link: it is a whole number from 1 on"),
+    ('net.link("a", "b", "c", subnet="10.9.9.0/30")', "the subnet 10.9.9.0/30 is too small: c would have its address 3"),
+    ('net.host("x", net.link("a", subnet="10.9.9.0/26"))', "the subnet 10.9.9.0/26 is too small: x would have its address 101"),
+    ('net.ring("a")', "a line has two routers or more, and a ring too"),
+    ('camera.send("239.1.1.1", "one")', "'one' is no payload: it is bytes, as b\"one\""),
+    ('camera.send("239.1.1.1", bytes(1473))', "a payload of 1473 bytes is too long: a packet takes 1472"),
+    ('camera.send("239.1.1.1", b"one", ttl=256)', "256 is no TTL: it is a whole number from 0 to 255"),
+    ('camera.stream("239.1.1.1", every=-1)', "-1 is no number of seconds"),
     ('net.run(1); net.router("late")', "late: routers, links and hosts are made before the first run"),
 ]
 BEFORE = """\

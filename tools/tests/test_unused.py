@@ -106,6 +106,11 @@ class Listed(unittest.TestCase):
         used = "#[tactic(auto, using(crate::proofs::Lemmas::forgotten))]\npub fn law()\n    ensures { IsRoute }\n{}\n"
         self.assertEqual(listed(used, LEMMAS), ["inner_forgotten"])
 
+    def test_an_import_is_no_use_in_groups_of_groups_too(self):
+        imports = "use Rattle.kin.proofs.{Lemmas.{forgotten, IsRoute}, Deep.{forgotten as old, Deeper.{inner_forgotten}}}\n"
+        self.assertEqual(listed("", imports + LEMMAS), ["forgotten", "inner_forgotten"])
+        self.assertEqual(listed("", imports + LEMMAS + "\nlast : ℕ\nlast = forgotten last\n"), ["inner_forgotten", "last"])
+
     def test_a_record_that_nothing_names(self):
         self.assertEqual(listed("", LEMMAS.replace("→ IsRoute n", "→ n ≡ n")), ["IsRoute", "forgotten", "inner_forgotten"])
 

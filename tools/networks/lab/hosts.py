@@ -2,7 +2,7 @@
 from dataclasses import dataclass, field
 
 from lab.lines import calling
-from lab.mistakes import group_given, source_given
+from lab.mistakes import group_given, ms_given, number_given, payload_given, source_given
 from lab.playing import Action
 from pimtext import packets
 
@@ -117,12 +117,14 @@ class Host:
 
     def send(self, group, payload=b"", ttl=16, after=0.0):
         """Sends a packet of data to a group, at the present or so many seconds later."""
-        data = packets.write_data(self.address, group_given(group), payload, ttl)
-        self.net.schedule(Speech(self, data), self.net.now + round(1000 * after))
+        ttl = number_given(ttl, "TTL", 0, 255, is_whole=True)
+        data = packets.write_data(self.address, group_given(group), payload_given(payload), ttl)
+        self.net.schedule(Speech(self, data), self.net.now + ms_given(after, "number of seconds"))
 
     def stream(self, group, every=1.0, times=10):
         """Sends packets one after the other from the present on; the first says `1`, the next `2`, and so on."""
-        for number in range(times):
+        number_given(every, "number of seconds")
+        for number in range(number_given(times, "number of packets", is_whole=True)):
             self.send(group, str(number + 1).encode(), after=number * every)
 
     def take(self, moment, packet, path):

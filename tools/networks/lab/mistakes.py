@@ -1,4 +1,5 @@
 """What somebody who builds a network gets wrong, in sentences."""
+import math
 from difflib import get_close_matches
 from ipaddress import AddressValueError, IPv4Network, NetmaskValueError
 
@@ -13,8 +14,23 @@ KINDS = [
 ]
 
 
+# The most bytes of a packet on a link that are left for the payload of data, by the headers of IP and UDP.
+MOST_PAYLOAD = 1500 - 28
+
+
 class Mistake(ValueError):
     """A sentence on what is wrong with a call."""
+
+
+class Named(dict):
+    """Routers, links or hosts by their names; `kind` is what one of them is called."""
+
+    def __init__(self, kind):
+        super().__init__()
+        self.kind = kind
+
+    def __missing__(self, name):
+        raise Mistake(f"there is no {self.kind} {name}{near(name, list(self))}")
 
 
 def near(word, known):
@@ -60,12 +76,59 @@ def subnet_given(subnet):
         raise Mistake(f"the subnet {subnet!r} is none: {wrong}; wanted is one as \"10.0.1.0/24\"") from None
 
 
+def number_given(value, what, least=0, most=math.inf, is_whole=False):
+    """A number that lies between two others, or a sentence."""
+    kind, wanted = (int, "a whole number") if is_whole else ((int, float), "a number")
+    if not isinstance(value, kind) or isinstance(value, bool) or not least <= value <= most:
+        ends = f"from {least} on" if most == math.inf else f"from {least} to {most}"
+        raise Mistake(f"{shown(value)} is no {what}: it is {wanted} {ends}")
+    return value
+
+
+def share_given(value, what):
+    """A part of all packets, or a sentence."""
+    return number_given(value, f"share of the packets that {what}", 0, 1)
+
+
+def ms_given(seconds, what, least=0):
+    """Seconds as ms, or a sentence."""
+    return round(1000 * number_given(seconds, what, least))
+
+
+def delay_given(delay):
+    """The least and the most ms of two numbers of seconds, or a sentence."""
+    if not isinstance(delay, (tuple, list)) or len(delay) != 2:
+        raise Mistake(f"{shown(delay)} is no delay: it is the least and the most seconds, as (0.01, 0.05)")
+    least, most = (ms_given(seconds, "number of seconds") for seconds in delay)
+    if least > most:
+        raise Mistake(f"the delay {delay!r} begins with the longer one: it is the least and the most seconds, as (0.01, 0.05)")
+    return least, most
+
+
+def payload_given(payload):
+    """The bytes of a packet of data, or a sentence."""
+    if not isinstance(payload, (bytes, bytearray)):
+        raise Mistake(f"{shown(payload)} is no payload: it is bytes, as b\"one\"")
+    if len(payload) > MOST_PAYLOAD:
+        raise Mistake(f"a payload of {len(payload)} bytes is too long: a packet takes {MOST_PAYLOAD}")
+    return bytes(payload)
+
+
+def address_given(subnet, place, who):
+    """The address of a router or host by its place in the subnet of its link, or a sentence."""
+    if place >= subnet.num_addresses - 1:
+        raise Mistake(f"the subnet {subnet} is too small: {who} would have its address {place}")
+    return str(subnet[place])
+
+
 def one_of(kind, known, what):
     """A sentence where a class is none of these; a name of one in its place is told so."""
     if kind not in known:
         name = getattr(kind, "__name__", kind)
-        shown_as = name if isinstance(kind, type) else repr(kind)
-        raise Mistake(f"{shown_as} is no {what}{near(name, [each.__name__ for each in known])}")
+        names = [each.__name__ for each in known]
+        if isinstance(kind, str) and kind in names:
+            raise Mistake(f"{kind!r} is no {what}: it is the class of this name, without quotes")
+        raise Mistake(f"{name if isinstance(kind, type) else repr(kind)} is no {what}{near(name, names)}")
 
 
 def table_given(kind, values):

@@ -7,7 +7,10 @@ from pathlib import Path
 
 from lab.hosts import Host
 from lab.lines import Lines, calling
-from lab.mistakes import Mistake, group_given, is_known_key, kind_given, near, shown, source_given, subnet_given
+from lab.mistakes import (
+    Mistake, Named, address_given, delay_given, group_given, is_known_key, kind_given, ms_given, near, number_given, share_given,
+    shown, source_given, subnet_given,
+)
 from lab.playing import Action, Player
 from lab.topology import Link, Port, Router, routes
 from lab.traffic import HOSTS, START, Chances, Traffic
@@ -46,14 +49,15 @@ class Network:
 
     def __init__(self, seed=0, loss=0.0, delay=(0.0, 0.0), reorder=0.0, step=1.0):
         self.chance = random.Random(seed)
-        self.loss, self.step, self.order = loss, round(1000 * step), count()
-        self.routers, self.links, self.hosts, self.ranges, self.fixed = {}, {}, {}, [], {}
+        self.loss, self.step, self.order = share_given(loss, "are lost"), ms_given(step, "step", 0.001), count()
+        self.routers, self.links, self.hosts, self.ranges, self.fixed = Named("router"), Named("link"), Named("host"), [], {}
         self.now = self.present = self.stepped = 0
         self.player, self.sent, self.paths, self.odd = None, [], {}, []
         self.made, self.spoken = calling(), {}
         MADE.append(weakref.ref(self))
-        self.traffic = Traffic(self, None, Chances(seed, tuple(round(1000 * seconds) for seconds in delay), reorder))
-        self.settles = not (loss or reorder or delay[1])
+        chances = Chances(seed, delay_given(delay), share_given(reorder, "later ones overtake"))
+        self.traffic = Traffic(self, None, chances)
+        self.settles = not (loss or reorder or chances.delay[1])
 
     # ---- what it is made of
 
@@ -74,9 +78,10 @@ class Network:
         self.is_new(name, self.links)
         number = len(self.links) + 1
         subnet = subnet_given(subnet or f"10.{number >> 8}.{number & 255}.0/24")
-        link = Link(name, subnet, cost, self.loss if loss is None else loss, self)
+        cost = number_given(cost, "cost of a link", 1, is_whole=True)
+        link = Link(name, subnet, cost, share_given(self.loss if loss is None else loss, "are lost"), self)
         for router in routers:
-            port = Port(router, len(router.ports), link, str(subnet[len(link.ports) + 1]))
+            port = Port(router, len(router.ports), link, address_given(subnet, len(link.ports) + 1, router.name))
             router.ports.append(port)
             link.ports.append(port)
         self.settles = self.settles and not link.loss
@@ -85,11 +90,13 @@ class Network:
 
     def line(self, *routers):
         """A link from each router to the next."""
+        if len(routers) < 2:
+            raise Mistake("a line has two routers or more, and a ring too")
         return [self.link(*pair) for pair in zip(routers, routers[1:])]
 
     def ring(self, *routers):
         """The same, and from the last to the first."""
-        return self.line(*routers, routers[0])
+        return self.line(*routers, *routers[:1] * (len(routers) > 1))
 
     def host(self, name, at):
         """A host on a link, or at a router: then it has a link of its own there, which loses nothing."""
@@ -97,7 +104,7 @@ class Network:
         link = self.links.get(at) if isinstance(at, str) else at
         if not isinstance(link, Link):
             link = self.link(self.known_router(at, " or link"), name=name, loss=0.0)
-        host = Host(name, link, str(link.subnet[FIRST_HOST + len(link.hosts)]), self)
+        host = Host(name, link, address_given(link.subnet, FIRST_HOST + len(link.hosts), name), self)
         link.hosts.append(host)
         self.hosts[name] = host
         return host
@@ -223,7 +230,7 @@ class Network:
         """Time passes, with all that happens in it."""
         if self.player is None:
             self.start()
-        end = self.now + round(1000 * seconds)
+        end = self.now + ms_given(seconds, "number of seconds")
         while self.traffic.coming(self.stepped, self.step, end):
             self.run_on(end)
         self.now = self.present = end
@@ -286,9 +293,13 @@ class Network:
 
     def tables(self):
         """What each router knows at the present, by names."""
+        return self.running().tables
+
+    def running(self):
+        """What plays it, once it has run."""
         if self.player is None:
             raise Mistake("nothing has run yet")
-        return self.player.tables
+        return self.player
 
     def tree(self, group, source=ANY):
         """The tree of a group and all sources, or of one, a host or an address, as it stands at the present."""
@@ -320,7 +331,7 @@ class Network:
 
     def troubles(self):
         """What routers refused or ignored, in words."""
-        played = self.player.played
+        played = self.running().played
         return [
             f"at {words.seconds(moment)} {step.router}: {words.step(step, played)}: {words.answer(step.verdict, step.cause)}"
             for moment, step in self.odd
@@ -328,12 +339,17 @@ class Network:
 
     def scenario(self):
         """The text of the scenario that was played, for `pimlab` and the other tools."""
-        last = [{"do": "advance", "router": name, "moment": self.now, "draw": draw} for name, draw in self.player.draws.items()]
-        return text_of(self.player.routers, self.player.moves + last)
+        player = self.running()
+        last = [{"do": "advance", "router": name, "moment": self.now, "draw": draw} for name, draw in player.draws.items()]
+        return text_of(player.routers, player.moves + last)
 
     def save(self, path):
         """Writes it to a file."""
-        Path(path).write_text(self.scenario())
+        text = self.scenario()
+        try:
+            Path(path).write_text(text)
+        except OSError as error:
+            raise Mistake(f"{path} can't be written: {error.strerror}") from None
 
 
 def made():

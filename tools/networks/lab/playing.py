@@ -3,7 +3,9 @@
 The program plays a scenario from its beginning, so the moves of all coming moments are planned and played at once. Where
 what they bring isn't what the plan was made for, as where a host answers a query, or a packet has to be delivered, the moves
 up to then are kept and the rest is planned anew. Of the kept moves those that did nothing are dropped: time that only passed.
-What is kept is neither written nor read again: the program takes milliseconds for it.
+What is kept is neither written nor read again. The program plays it again at each call, since it judges a scenario whole before
+it plays any of it. But it is called once for a plan and not for each step of time: a ring of 20 routers for 75 s takes 8
+calls, and 60 ms of the program in all.
 """
 from dataclasses import dataclass, field, replace
 
