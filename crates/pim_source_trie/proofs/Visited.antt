@@ -213,6 +213,22 @@ rows_visited star es s =
     (map (λ r. (host_of (unwrap_or r.0 0), r)) (filter (λ r. is_some r.0) (rows_of star es)))
     (λ test. rows_alike test star es) (host_of s)
 
+-- ---- a group with one value, and with none
+
+pub none_in_empty : (V : Type 0) (s : Option ℕ) → row_nodes {V = V} [] s ≡ 0
+none_in_empty V None = refl
+none_in_empty V (Some s) = none_visited (Option ℕ × V) s
+
+pub none_beside_star : {V : Type 0} (value : V) (s : Option ℕ) → row_nodes ((None, value) ∷ []) s ≡ 0
+none_beside_star value None = refl
+none_beside_star {V} value (Some s) = none_visited (Option ℕ × V) s
+
+pub one_in_source : {V : Type 0} (own : ℕ) (value : V) (s : ℕ) → own < 2 ^ 32 → s < 2 ^ 32
+    → row_nodes ((Some own, value) ∷ []) (Some s) ≡ 1
+unfolding rows_of source_rows
+one_in_source own value s low below =
+    sym (rows_visited None ((own, value) ∷ []) s) ∙ one_among own value s low below
+
 -- ---- the sources of a group, as the table has them
 
 abbrev tests_source : (Prefix → Bool) → Key → Bool

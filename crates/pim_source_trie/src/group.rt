@@ -1,43 +1,41 @@
 //! What is under one group.
-ghost use Rattle.std.specs.Prelude.{◌≡◌, ◌≤◌, ◌∷◌, ◌↔◌, [], IsTrue, IsOk, IfOk, IsSome, OnOk, OnErr, option_copied, option_map};
+ghost use Rattle.std.specs.Prelude.{◌≡◌, ◌≤◌, ◌∷◌, ◌↔◌, [], IsTrue, IsOk, IfOk, IsSome, None, OnOk, OnErr, Some, false, option_copied};
 ghost use Rattle.std.specs.Box.{box_value};
-ghost use Rattle.std.specs.BTreeMap.{insert_entry};
+ghost use Rattle.std.specs.BTreeMap.{insert_entry, is_at};
+ghost use Rattle.pim_source_trie.specs.Kept.{kept_rows};
 ghost use Rattle.pim_source_trie.specs.Rows.{row_cmp, row_in, row_nodes, source_of, without_row};
 ghost use Rattle.pim_trie.specs.Meter.{raised};
 
-use crate::sources::Sources;
+use crate::parts::Parts;
 use pim_ip::Addr;
 use pim_trie::Meter;
 use std::alloc::{AllocError, Global};
 use std::marker::Model;
+use std::mem;
 
-// The value of (*,G), and those of its sources. They are seen as rows under their sources, (*,G)
-// under none.
+// How the values are held. A single one needs nothing beside it; most groups have one.
+#[derive(Drop)]
+pub(crate) enum Kept<V> {
+    Empty,
+    Star(Box<V>),
+    Source(Addr, Box<V>),
+    More(Box<Parts<V>>),
+}
+
+// The value of (*,G), and those of its sources. They are seen as rows under their sources, (*,G) under none.
 #[derive(Drop)]
 pub(crate) struct Group<V> {
     alloc: Global,
-    pub(crate) star: Option<Box<V>>,
-    pub(crate) sources: Sources<V>,
+    pub(crate) kept: Kept<V>,
 }
 
 impl<V> Model for Group<V> {
-    ghost use Rattle.std.specs.Prelude.{option_map};
-    ghost use Rattle.std.specs.Box.{box_value};
-    ghost use Rattle.pim_source_trie.specs.Rows.{Rows, rows_of};
+    ghost use Rattle.pim_source_trie.specs.Kept.{kept_rows};
+    ghost use Rattle.pim_source_trie.specs.Rows.{Rows};
 
     ghost Value = { Rows V };
 
-    ghost view = { λ g. rows_of (option_map box_value g.star) g.sources };
-}
-
-// The value in the box, if there is one.
-pub(crate) fn unboxed<V>(held: &Option<Box<V>>) -> Option<&V>
-    ensures { option_copied result ≡ option_map box_value held.now }
-{
-    match held {
-        Some(value) => Some(&**value),
-        None => None,
-    }
+    ghost view = { λ g. kept_rows g.kept };
 }
 
 impl<V> Group<V> {
@@ -47,32 +45,34 @@ impl<V> Group<V> {
         V: Drop,
         ensures { IfOk result (λ group. group ≡ (source_of source, value) ∷ []) }
     {
-        let mut group = Group {
-            alloc,
-            star: None,
-            sources: Sources::new(alloc),
-        };
-        group.put(source, value)?;
-        Ok(group)
+        let kept = single(source, Box::new(alloc, value)?);
+        Ok(Group { alloc, kept })
     }
 
     // Whether there is no value.
     pub(crate) fn is_empty(&self) -> bool
         ensures { IsTrue result ↔ (self.now ≡ []) }
     {
-        self.star.is_none() && self.sources.is_empty()
+        match &self.kept {
+            Kept::Empty => true,
+            Kept::Star(_) => false,
+            Kept::Source(_, _) => false,
+            Kept::More(parts) => parts.is_empty(),
+        }
     }
 
     // The value of (*,G), or of a source.
-    #[tactic(auto, using(crate::proofs::Visited::raised_by_none, crate::proofs::Visited::rows_at_most))]
+    #[tactic(auto, using(crate::proofs::Visited::rows_at_most))]
     pub(crate) fn get(&self, source: Option<Addr>, meter: &mut Meter) -> Option<&V>
         ensures value { option_copied result ≡ row_in (source_of source) self.now }
         ensures visited { meter.new ≡ raised meter.old (row_nodes self.now (source_of source)) }
         ensures at_most { row_nodes self.now (source_of source) ≤ 33 }
     {
-        match source {
-            None => unboxed(&self.star),
-            Some(source) => self.sources.get(source, meter),
+        match &self.kept {
+            Kept::Empty => None,
+            Kept::Star(value) => star_in(value, source),
+            Kept::Source(own, value) => source_in(*own, value, source, meter),
+            Kept::More(parts) => parts.get(source, meter),
         }
     }
 
@@ -84,10 +84,10 @@ impl<V> Group<V> {
         ensures overwrites { IsSome (row_in (source_of source) self.old) → IsOk result }
         ensures err { OnErr result (self.new ≡ self.old) }
     {
-        match source {
-            None => put_boxed(self.alloc, &mut self.star, value),
-            Some(source) => self.sources.put(source, value),
-        }
+        let kept = mem::replace(&mut self.kept, Kept::Empty);
+        let (kept, result) = with_row(self.alloc, kept, source, value);
+        self.kept = kept;
+        result
     }
 
     // Takes the value away.
@@ -96,23 +96,168 @@ impl<V> Group<V> {
         V: Drop,
         ensures { self.new ≡ without_row (source_of source) self.old }
     {
-        match source {
-            None => drop(self.star.take()),
-            Some(source) => self.sources.remove(source),
+        self.kept = without(mem::replace(&mut self.kept, Kept::Empty), source);
+    }
+}
+
+// A single value.
+fn single<V>(source: Option<Addr>, value: Box<V>) -> Kept<V>
+    ensures { kept_rows result ≡ (source_of source, box_value value) ∷ [] }
+{
+    match source {
+        None => Kept::Star(value),
+        Some(source) => Kept::Source(source, value),
+    }
+}
+
+// The value of (*,G), which alone there is, where it is asked for.
+#[tactic(auto, unfolding(crate::specs::Rows::row_cmp))]
+fn star_in<'a, V>(value: &'a Box<V>, source: Option<Addr>) -> Option<&'a V>
+    ensures { option_copied result ≡ row_in (source_of source) ((None, box_value value.now) ∷ []) }
+{
+    match source {
+        None => Some(&**value),
+        Some(_) => None,
+    }
+}
+
+// The value of a source, which alone there is, where it is asked for. The meter rises as it does in a trie of it.
+#[tactic(auto, unfolding(crate::specs::Rows::row_cmp), using(crate::proofs::Visited::raised_by_none))]
+fn source_in<'a, V>(
+    own: Addr,
+    value: &'a Box<V>,
+    source: Option<Addr>,
+    meter: &mut Meter,
+) -> Option<&'a V>
+    ensures value { option_copied result ≡ row_in (source_of source) ((Some own.bits, box_value value.now) ∷ []) }
+    ensures visited { meter.new
+        ≡ raised meter.old (row_nodes ((Some own.bits, box_value value.now) ∷ []) (source_of source)) }
+{
+    let Some(source) = source else {
+        return None;
+    };
+    meter.visit();
+    if own.bits == source.bits {
+        Some(&**value)
+    } else {
+        None
+    }
+}
+
+// What is kept once the value is put. After a refusal it is what was kept.
+fn with_row<V: Drop>(
+    alloc: Global,
+    kept: Kept<V>,
+    source: Option<Addr>,
+    value: V,
+) -> (Kept<V>, Result<(), AllocError>)
+    ensures ok { OnOk result.1 (kept_rows result.0 ≡ insert_entry row_cmp (kept_rows kept) (source_of source) value) }
+    ensures overwrites { IsSome (row_in (source_of source) (kept_rows kept)) → IsOk result.1 }
+    ensures err { OnErr result.1 (kept_rows result.0 ≡ kept_rows kept) }
+{
+    match kept {
+        Kept::Empty => match Box::new(alloc, value) {
+            Ok(made) => (single(source, made), Ok(())),
+            Err(_) => (Kept::Empty, Err(AllocError)),
+        },
+        Kept::Star(found) => with_star(alloc, found, source, value),
+        Kept::Source(own, found) => with_source(alloc, own, found, source, value),
+        Kept::More(mut parts) => {
+            let result = parts.put(source, value);
+            (Kept::More(parts), result)
         }
     }
 }
 
-// Puts the value into the box, or into a new one. After a refusal nothing has changed.
-fn put_boxed<V: Drop>(alloc: Global, held: &mut Option<Box<V>>, value: V) -> Result<(), AllocError>
-    ensures ok { OnOk result (option_map box_value held.new ≡ Some value) }
-    ensures overwrites { IsSome held.old → IsOk result }
-    ensures err { OnErr result (held.new ≡ held.old) }
+// The same beside the value of (*,G), or over it.
+#[tactic(auto, unfolding(crate::specs::Rows::row_cmp))]
+fn with_star<V: Drop>(
+    alloc: Global,
+    mut found: Box<V>,
+    source: Option<Addr>,
+    value: V,
+) -> (Kept<V>, Result<(), AllocError>)
+    ensures ok { OnOk result.1 (kept_rows result.0
+        ≡ insert_entry row_cmp ((None, box_value found) ∷ []) (source_of source) value) }
+    ensures overwrites { IsSome (row_in (source_of source) ((None, box_value found) ∷ [])) → IsOk result.1 }
+    ensures err { OnErr result.1 (kept_rows result.0 ≡ (None, box_value found) ∷ []) }
 {
-    if let Some(found) = held {
-        **found = value;
-        return Ok(());
+    if source.is_none() {
+        *found = value;
+        return (Kept::Star(found), Ok(()));
     }
-    *held = Some(Box::new(alloc, value)?);
-    Ok(())
+    match Box::new(alloc, Parts::new(alloc)) {
+        Ok(mut parts) => {
+            *parts = Parts::of_star(alloc, found);
+            let result = parts.put(source, value);
+            (Kept::More(parts), result)
+        }
+        Err(_) => (Kept::Star(found), Err(AllocError)),
+    }
+}
+
+// Whether it is this source.
+#[tactic(auto, unfolding(crate::specs::Rows::row_cmp))]
+fn is_source(source: Option<Addr>, own: Addr) -> bool
+    ensures same { IsTrue result → source_of source ≡ Some own.bits }
+    ensures other { result ≡ false → is_at (row_cmp (source_of source)) (Some own.bits) ≡ false }
+{
+    match source {
+        Some(source) => source.bits == own.bits,
+        None => false,
+    }
+}
+
+// The same beside the value of a source, or over it.
+#[tactic(auto, unfolding(crate::specs::Rows::row_cmp))]
+fn with_source<V: Drop>(
+    alloc: Global,
+    own: Addr,
+    mut found: Box<V>,
+    source: Option<Addr>,
+    value: V,
+) -> (Kept<V>, Result<(), AllocError>)
+    ensures ok { OnOk result.1 (kept_rows result.0
+        ≡ insert_entry row_cmp ((Some own.bits, box_value found) ∷ []) (source_of source) value) }
+    ensures overwrites { IsSome (row_in (source_of source) ((Some own.bits, box_value found) ∷ [])) → IsOk result.1 }
+    ensures err { OnErr result.1 (kept_rows result.0 ≡ (Some own.bits, box_value found) ∷ []) }
+{
+    if is_source(source, own) {
+        *found = value;
+        return (Kept::Source(own, found), Ok(()));
+    }
+    match Box::new(alloc, Parts::new(alloc)) {
+        Ok(mut parts) => {
+            *parts = Parts::of_source(alloc, own, found);
+            let result = parts.put(source, value);
+            (Kept::More(parts), result)
+        }
+        Err(_) => (Kept::Source(own, found), Err(AllocError)),
+    }
+}
+
+// What is kept once the value is taken away.
+#[tactic(auto, unfolding(crate::specs::Rows::row_cmp))]
+fn without<V: Drop>(kept: Kept<V>, source: Option<Addr>) -> Kept<V>
+    ensures { kept_rows result ≡ without_row (source_of source) (kept_rows kept) }
+{
+    match kept {
+        Kept::Empty => Kept::Empty,
+        Kept::Star(value) => {
+            if source.is_none() {
+                return Kept::Empty;
+            }
+            Kept::Star(value)
+        }
+        Kept::Source(own, value) => {
+            if is_source(source, own) {
+                return Kept::Empty;
+            }
+            Kept::Source(own, value)
+        }
+        Kept::More(mut parts) => {
+            parts.remove(source);
+            Kept::More(parts)
+        }
+    }
 }

@@ -2,6 +2,7 @@
 #![tactic(auto)]
 
 mod group;
+mod parts;
 pub mod source_trie;
 mod sources;
 pub mod walks;

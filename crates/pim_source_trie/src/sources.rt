@@ -63,6 +63,16 @@ impl<V> Sources<V> {
         }
     }
 
+    // A single source.
+    pub(crate) fn of_one(alloc: Global, source: Addr, value: Box<V>) -> Self
+        ensures { result ≡ (source.bits, box_value value) ∷ [] }
+    {
+        Sources {
+            alloc,
+            held: Held::One(source, value),
+        }
+    }
+
     // Whether there is no value.
     pub(crate) fn is_empty(&self) -> bool
         ensures { IsTrue result ↔ (self.now ≡ []) }
@@ -318,6 +328,21 @@ impl<'a, V> Model for SourcesLeft<'a, V> {
     ghost Value = { SourceValues V };
 
     ghost view = { λ s. option_to_list (option_map source_seen s.one) ++ trie_values (unwrap_or s.many []) };
+}
+
+impl<'a, V> SourcesLeft<'a, V> {
+    ghost use Rattle.std.specs.Prelude.{◌≡◌, ◌∷◌, []};
+
+    // A single one.
+    #[tactic(auto, unfolding(crate::specs::Held::trie_values))]
+    pub(crate) fn of_one(source: Addr, value: &'a V) -> Self
+        ensures { result ≡ (source.bits, value.now) ∷ [] }
+    {
+        SourcesLeft {
+            one: Some((source, value)),
+            many: None,
+        }
+    }
 }
 
 impl<'a, V> Iterator for SourcesLeft<'a, V> {

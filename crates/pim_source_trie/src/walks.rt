@@ -1,12 +1,13 @@
 //! Walks of the groups, and of the entries of one.
 #![tactic(auto, unfolding(crate::specs::Rows::keyed, crate::specs::Rows::rows_of, crate::specs::Rows::source_rows))]
 
-ghost use Rattle.std.specs.Prelude.{◌≡◌, [], map};
+ghost use Rattle.std.specs.Prelude.{◌≡◌, ◌∷◌, [], None, Some, map};
 ghost use Rattle.std.specs.Iterator.{YieldsFirstBy, item_count};
 ghost use Rattle.pim_source_trie.specs.Entries.{bits_of, entry_seen};
 ghost use Rattle.pim_source_trie.specs.Rows.{address_in, keyed};
 
-use crate::group::{Group, unboxed};
+use crate::group::{Group, Kept};
+use crate::parts::{Parts, unboxed};
 use crate::sources::SourcesLeft;
 use pim_ip::Addr;
 use pim_trie::{Trie, Under};
@@ -47,10 +48,45 @@ impl<'a, V> Entries<'a, V> {
     pub(crate) fn of(group: Addr, found: &'a Group<V>) -> Self
         ensures { result ≡ keyed group.bits found.now }
     {
+        // Each leaves at once: a value that lends on one way alone isn't carried past a join.
+        match &found.kept {
+            Kept::Empty => return Entries::none(group),
+            Kept::Star(value) => return Entries::of_star(group, &**value),
+            Kept::Source(own, value) => return Entries::of_source(group, *own, &**value),
+            Kept::More(parts) => return Entries::of_parts(group, &**parts),
+        }
+    }
+
+    // That of (*,G) alone.
+    fn of_star(group: Addr, value: &'a V) -> Self
+        ensures { result ≡ keyed group.bits ((None, value.now) ∷ []) }
+    {
         Entries {
             group,
-            star: unboxed(&found.star),
-            sources: Some(found.sources.iter()),
+            star: Some(value),
+            sources: None,
+        }
+    }
+
+    // That of a source alone.
+    fn of_source(group: Addr, source: Addr, value: &'a V) -> Self
+        ensures { result ≡ keyed group.bits ((Some source.bits, value.now) ∷ []) }
+    {
+        Entries {
+            group,
+            star: None,
+            sources: Some(SourcesLeft::of_one(source, value)),
+        }
+    }
+
+    // Those of (*,G) and of its sources.
+    fn of_parts(group: Addr, parts: &'a Parts<V>) -> Self
+        ensures { result ≡ keyed group.bits parts.now }
+    {
+        Entries {
+            group,
+            star: unboxed(&parts.star),
+            sources: Some(parts.sources.iter()),
         }
     }
 

@@ -111,6 +111,7 @@ fn add_row<R: TellsMarks, K: Keeping<R>>(
 ) -> Result<(), AllocError>
     requires fits { IsTrue (R.fits key) }
     requires told { IsTold R.tells R.says R.fits index.old rows.old }
+    requires absent { row_at rows.old key ≡ None }
     ensures put { OnOk result (rows.new ≡ put rows.old key row) }
     ensures told { IsTold R.tells R.says R.fits index.new rows.new }
     ensures others { KeepsOtherMarks R.tells index.old index.new }
@@ -118,7 +119,7 @@ fn add_row<R: TellsMarks, K: Keeping<R>>(
     ensures rises { OnOk result (meter.old ≤ meter.new) }
 {
     index.mark(key, row, meter)?;
-    if let Err(refused) = rows.put(key, row) {
+    if let Err(refused) = rows.add(key, row) {
         drop_marked(rows, index, key, meter);
         return Err(refused);
     }

@@ -220,6 +220,16 @@ impl<R: Ends, K: Keeping<R>> Timed<R, K> {
         put_in_step(&mut self.ended, &mut self.queue, key, row)
     }
 
+    /// Puts the fact under a key that has none, so that no other is looked for. An error is want of memory, and changes no
+    /// fact.
+    pub fn add(&mut self, key: Key, row: R) -> Result<(), AllocError>
+        requires { row_at self.old key ≡ None }
+        ensures ok { OnOk result (self.new ≡ put self.old key row) }
+        ensures err { OnErr result (self.new ≡ self.old) }
+    {
+        add_in_step(&mut self.ended, &mut self.queue, key, row)
+    }
+
     /// Changes the fact under the key, where there is one, in its place, and answers what it was. The fact is looked up
     /// once, or not at all where the hint is its place (`place`); whatever the hint is, the same is done. An error is want of
     /// memory, and leaves what one of `put` leaves.

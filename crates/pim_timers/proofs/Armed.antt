@@ -12,7 +12,7 @@ use Rattle.pim_timers.specs.Dues.{Due, IsFirst, same_due}
 use Rattle.pim_timers.specs.Ends.{ends_at}
 use Rattle.pim_timers.specs.Next.{IsNext}
 use Rattle.pim_timers.specs.Order.{due_cmp}
-use Rattle.pim_timers.proofs.Firsts.{due_is, due_itself, never_less}
+use Rattle.pim_timers.proofs.SameDues.{due_is, due_itself, never_less}
 use Rattle.pim_timers.proofs.Least.{neither_less, not_earlier}
 use Rattle.pim_timers.proofs.Together.{set_at}
 use Rattle.pim_timers.proofs.Total.{due_cmp_total}

@@ -11,7 +11,7 @@ use Rattle.pim_timers.specs.Dues.{Due, IsFirst, same_due}
 use Rattle.pim_timers.specs.Heap.{entry_cmp}
 use Rattle.pim_timers.specs.Order.{due_cmp}
 use Rattle.pim_timers.proofs.Armed.{first_is_one}
-use Rattle.pim_timers.proofs.Firsts.{due_is, due_itself}
+use Rattle.pim_timers.proofs.SameDues.{due_is, due_itself}
 use Rattle.pim_timers.proofs.Ranks.{due_order}
 
 abbrev pub Entry : Type 0
@@ -56,10 +56,6 @@ module _ (xs ys : List Entry) (e : Entry) where
         omega (arith, some, all)
 
 -- ---- the first
-
-or_right : (a b : Bool) → b ≡ true → (a || b) ≡ true
-or_right true b e = refl
-or_right false b e = e
 
 at_top : (x : Entry) (xs : List Entry) → 0 < length xs → x ≡ slice_index_or xs 0 x → among xs x.0 ≡ true
 at_top x [] some is = absurd (omega (arith, some))
@@ -109,10 +105,6 @@ first_popped (y ∷ xs) ys first (Some x) one some top perm bound = (
 pub surely : {T E P : Type 0} (r : Result T E) → IsOk r → OnOk r P → P
 surely (Ok x) ok then = then
 surely (Err e) ok then = cc
-
-pub some_of : {X P : Type 0} (r : Option X) → IsSome r → ((x : X) → r ≡ Some x → P) → P
-some_of None some then = cc
-some_of (Some x) some then = then x refl
 
 -- by what a call gave
 pub after_ok : {T E P R : Type 0} (r : Result T E) → OnOk r P → (P → R) → OnOk r R

@@ -1,5 +1,5 @@
 -- What is known of the timer that is next.
-use Rattle.std.proofs.Common.{◌≡◌, ℕ, ◌<◌, ◌≤◌, true, false, refl, sym, ap, ◌∙◌, inl, inr, Option, Some, None, arith}
+use Rattle.std.proofs.Common.{None, Option, Some, ap, arith, false, inl, inr, refl, sym, true, ℕ, ◌<◌, ◌∙◌, ◌≡◌, ◌≤◌}
 use Rattle.std.proofs.Common.{nat_lt}
 use Rattle.std.specs.Ordering.{is_lt, ordering_reverse}
 use Rattle.std.specs.declared.cmp.Ordering.{Ordering}
@@ -42,9 +42,6 @@ next_is_one f None None first second = refl
 next_is_one f None (Some b) first second = let set = second.is_set in cc (first b.1)
 next_is_one f (Some a) None first second = let set = first.is_set in cc (second a.1)
 next_is_one f (Some a) (Some b) first second = ap Some (least_is_one f a b first second)
-
-pub none_later : {P : Type 0} {r : Option ℕ} {m : ℕ} → r ≡ None → r ≡ Some m → P
-none_later none some = cc
 
 -- what ends later doesn't come first
 pub not_earlier : (m n : ℕ) (t u : Timer) → n < m → is_lt (due_cmp (m, t) (n, u)) ≡ false

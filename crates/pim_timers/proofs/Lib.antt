@@ -2,11 +2,11 @@ pub mod Armed
 pub mod Arming
 pub mod Changes
 pub mod Entries
-pub mod Firsts
 pub mod Held
 pub mod Least
 pub mod Lookups
 pub mod Members
 pub mod Ranks
+pub mod SameDues
 pub mod Together
 pub mod Total

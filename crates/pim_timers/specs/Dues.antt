@@ -1,5 +1,5 @@
 -- Dues: moments, each with a timer that ends then. A collection of them is seen as a test.
-use Rattle.std.specs.Prelude.{◌≡◌, ℕ, ◌||◌, Bool, true, false, List, Option, Some, None}
+use Rattle.std.specs.Prelude.{◌≡◌, ℕ, Bool, true, false, List, Option, Some, None}
 use Rattle.std.specs.List.{list_any}
 use Rattle.std.specs.Ordering.{is_eq, is_lt}
 use Rattle.pim_types.specs.declared.timer.Timer.{Timer}
@@ -21,18 +21,6 @@ is_among dues d = list_any (same_due d) dues
 abbrev pub IsFirst : (Due → Bool) → Option Due → Type 0
 IsFirst holds None = (d : Due) → holds d ≡ false
 IsFirst holds (Some due) = (holds due ≡ true) × ((d : Due) → holds d ≡ true → is_lt (due_cmp d due) ≡ false)
-
--- a due that is held, before which none of a part of them comes, or nothing where none is in the part
-abbrev pub IsFirstOf : (Due → Bool) → (Due → Bool) → Option Due → Type 0
-IsFirstOf holds part None = (d : Due) → part d ≡ true → holds d ≡ false
-IsFirstOf holds part (Some due) =
-    (holds due ≡ true) × ((d : Due) → holds d ≡ true → part d ≡ true → is_lt (due_cmp d due) ≡ false)
-
--- the first of two parts, by the first of each
-abbrev pub IsFirstOfBoth : Option Due → Option Due → Option Due → Type 0
-IsFirstOfBoth one other first =
-    (holds a b : Due → Bool) → IsFirstOf holds a one → IsFirstOf holds b other
-    → IsFirstOf holds (λ d. a d || b d) first
 
 -- the dues that are held are the ends of the timers, by what tells when each ends
 abbrev pub AreTogether : (Timer → Option ℕ) → (Due → Bool) → Type 0

@@ -66,11 +66,24 @@ impl Queue {
         }
     }
 
+    // Makes room for an entry more, where there is none. There is a quarter more each time, not as much again: entries are
+    // most of what an end takes. An error is want of memory.
+    fn make_room(&mut self) -> Result<(), AllocError>
+        ensures { self.new.dues ≡ self.old.dues }
+    {
+        let entries = self.heap.len();
+        if entries < self.heap.capacity() {
+            return Ok(());
+        }
+        self.heap.reserve_exact(entries / 4 + 4)
+    }
+
     // Puts an entry in. An error is want of memory, and changes nothing.
     fn push(&mut self, due: (u64, Timer)) -> Result<(), AllocError>
         ensures ok { OnOk result ((d : Due) → holds self.new d ≡ (same_due d due || holds self.old d)) }
         ensures err { OnErr result (self.new.dues ≡ self.old.dues) }
     {
+        self.make_room()?;
         self.heap.push(Reverse(due))?;
         Ok(())
     }

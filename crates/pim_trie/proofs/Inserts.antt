@@ -3,8 +3,9 @@ use Rattle.std.proofs.Common.{◌≡◌, ℕ, ◌+◌, ◌<◌, ◌≤◌, Bool,
 use Rattle.slab.specs.Slab.{Slab, get, slab_len, HasRoomFor, with_value, Updates}
 use Rattle.pim_ip.specs.declared.addr.Prefix.{Prefix}
 use Rattle.pim_trie.specs.declared.node.Node.{Node}
+use Rattle.pim_trie.specs.Links.{AreNarrow, IsNarrow}
 use Rattle.pim_trie.specs.Tree.{Path, common, prefix_of, path_of, Tree, Leaf, Fork, child_of, find, put}
-use Rattle.pim_trie.specs.Nodes.{way_to, way_on, link_of, with_link, Held, KeepsOthers, Rebuilds, HasRoomToPut}
+use Rattle.pim_trie.specs.Nodes.{way_to, way_on, link_of, with_link, Held, KeepsOthers, Rebuilds, HasRoom, HasRoomToPut}
 use Rattle.pim_trie.proofs.Ends.{find_below, find_here, find_apart, put_below}
 use Rattle.pim_trie.proofs.Grown.{ends_within, forks, find-Leaf}
 use Rattle.pim_trie.proofs.Helds.{held_none}
@@ -166,11 +167,18 @@ module _ {V : Type 0} where
       (insert_leaf (way_to p depth) (way_on p depth) nodes new key one value full.1
       (fresh ∙ ap (λ q. record { prefix = q; value = Some value; left = None; right = None }) full.0) vacant updates len)
 
+  has_room : (p : Prefix) (depth : ℕ) (nodes : Slab (Node V)) (link : Option ℕ) → link ≡ None
+      → HasRoomToPut nodes (way_to p depth) (way_on p depth) link → HasRoom nodes link
+  has_room p depth nodes link none room =
+      room.2 (sym (find_none room.0 (way_on p depth) (none_held nodes (way_to p depth) link room.0 none room.1)))
+
   pub room_leaf : (p : Prefix) (depth : ℕ) (nodes : Slab (Node V)) (link : Option ℕ) → link ≡ None
       → HasRoomToPut nodes (way_to p depth) (way_on p depth) link → HasRoomFor nodes 1
-  room_leaf p depth nodes link none room =
-      let fits = room.2 (sym (find_none room.0 (way_on p depth) (none_held nodes (way_to p depth) link room.0 none room.1))) in
-      omega (arith, fits)
+  room_leaf p depth nodes link none room = omega (arith, (has_room p depth nodes link none room).0)
+
+  pub narrow_leaf : (p : Prefix) (depth : ℕ) (nodes : Slab (Node V)) (link : Option ℕ) → link ≡ None
+      → HasRoomToPut nodes (way_to p depth) (way_on p depth) link → AreNarrow nodes
+  narrow_leaf p depth nodes link none room = (has_room p depth nodes link none room).1
 
   -- ---- at a node, and below it
 
@@ -214,9 +222,14 @@ module _ {V : Type 0} where
         sym (find_below (way_to p depth) (way_on p depth) nodes key t a.here (bit_past p d) (way_on p (d + 1))
         (rest_below a d bits same more))
 
-    pub room_below : (find t (way_on p depth) ≡ None → HasRoomFor nodes 2)
+    pub room_below : (link : Option ℕ) → (find t (way_on p depth) ≡ None → HasRoom nodes link)
+        → IsNarrow (link_of (bit_past p d) node)
         → HasRoomToPut nodes (way_to p (d + 1)) (way_on p (d + 1)) (link_of (bit_past p d) node)
-    room_below room = (side_of_way, held_below a d bits same more, λ none. room (sym finds_below ∙ none))
+    room_below link room narrow = (
+      side_of_way,
+      held_below a d bits same more,
+      λ none. let r = room (sym finds_below ∙ none) in (r.0, r.1, narrow),
+    )
 
     pub still_there : (low : Slab (Node V)) → KeepsOthers (way_to p (d + 1)) nodes low → get low key ≡ Some node
     still_there low keeps =

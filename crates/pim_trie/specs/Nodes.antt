@@ -7,6 +7,7 @@ use mathlib.Core.Bool.{beq}
 use Rattle.slab.specs.Slab.{Slab, get, slab_len, ContainsKey, HasRoomFor, with_value}
 use Rattle.pim_ip.specs.declared.addr.Prefix.{Prefix}
 use Rattle.pim_trie.specs.declared.node.Node.{Node}
+use Rattle.pim_trie.specs.Links.{AreNarrow, IsNarrow}
 use Rattle.pim_trie.specs.Tree.{Path, common, path_from, prefix_of, path_of, named_entry, past, Tree, Leaf, Fork, regrown, trimmed, tree_entries, is_fork, stand_count, find, put, part_at, IsTrim}
 
 -- the other path begins with the path
@@ -137,10 +138,13 @@ module _ {V : Type 0} where
   abbrev pub IsHeld : Slab (Node V) → Path → Option ℕ → Type 0
   IsHeld nodes path link = (t : Tree V) × Held nodes path link t
 
-  -- some tree is held behind the link, and two nodes more fit where it has no value at the path
+  -- two nodes more fit, and links can hold their keys and that of the node behind this one
+  abbrev pub HasRoom : Slab (Node V) → Option ℕ → Type 0
+  HasRoom nodes link = HasRoomFor nodes 2 × AreNarrow nodes × IsNarrow link
+
+  -- some tree is held behind the link, and there is room where it has no value at the path
   abbrev pub HasRoomToPut : Slab (Node V) → Path → Path → Option ℕ → Type 0
-  HasRoomToPut nodes path rest link =
-      (t : Tree V) × Held nodes path link t × (find t rest ≡ None → HasRoomFor nodes 2)
+  HasRoomToPut nodes path rest link = (t : Tree V) × Held nodes path link t × (find t rest ≡ None → HasRoom nodes link)
 
   -- whatever change has come to the node of the key, it goes on with the tree trimmed
   abbrev pub Prunes : Slab (Node V) → Slab (Node V) → ℕ → Option ℕ → Type 0

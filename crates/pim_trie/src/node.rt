@@ -3,8 +3,10 @@ ghost use Rattle.std.specs.Prelude.{◌≡◌, ◌+◌, ◌-◌, ◌^◌, ◌<�
 ghost use Rattle.std.specs.Borrow.{sem};
 ghost use Rattle.pim_trie.specs.Entries.{entry_seen};
 ghost use Rattle.pim_trie.specs.Tree.{bit_at, prefix_of};
+ghost use Rattle.pim_trie.specs.Links.{IsNarrow};
 ghost use Rattle.pim_trie.specs.Nodes.{way_to};
 
+use crate::link::Link;
 use pim_ip::{Addr, Prefix};
 
 // A node stands for its prefix: it holds the value of that prefix, if there is one, and links the
@@ -14,9 +16,9 @@ pub(crate) struct Node<V> {
     pub(crate) prefix: Prefix,
     pub(crate) value: Option<V>,
     // Where the next bit is 0.
-    pub(crate) left: Option<usize>,
+    pub(crate) left: Link,
     // Where the next bit is 1.
-    pub(crate) right: Option<usize>,
+    pub(crate) right: Link,
 }
 
 // Whether the bit after the first `depth` is 1.
@@ -54,8 +56,8 @@ impl<V> Node<V> {
         Node {
             prefix,
             value,
-            left: None,
-            right: None,
+            left: Link::none(),
+            right: Link::none(),
         }
     }
 
@@ -80,19 +82,25 @@ impl<V> Node<V> {
 
     // The link to the side of a bit.
     pub(crate) fn child(&self, bit: bool) -> Option<usize>
-        ensures { result ≡ link_of bit self.now }
+        ensures link { result ≡ link_of bit self.now }
+        ensures narrow { IsNarrow result }
     {
-        if bit { self.right } else { self.left }
+        if bit {
+            self.right.get()
+        } else {
+            self.left.get()
+        }
     }
 
     // Sets the link to the side of a bit.
     pub(crate) fn set_child(&mut self, bit: bool, link: Option<usize>)
+        requires { IsNarrow link }
         ensures { self.new ≡ with_link bit self.old link }
     {
         if bit {
-            self.right = link;
+            self.right = Link::to(link);
         } else {
-            self.left = link;
+            self.left = Link::to(link);
         }
     }
 
@@ -105,8 +113,12 @@ impl<V> Node<V> {
 
     // The child of a node that has one at most.
     pub(crate) fn only_child(&self) -> Option<usize>
-        ensures { result ≡ option_or (self.now).left (self.now).right }
+        ensures link { result ≡ option_or (self.now).left (self.now).right }
+        ensures narrow { IsNarrow result }
     {
-        self.left.or(self.right)
+        match self.left.get() {
+            Some(key) => Some(key),
+            None => self.right.get(),
+        }
     }
 }

@@ -1,5 +1,5 @@
 //! Look-ups and changes of the nodes behind a link, one node after another.
-ghost use Rattle.std.specs.Prelude.{◌≡◌, ◌+◌, ◌-◌, ◌≤◌, ◌<◌, ℕ, [], Some, None, IsSome, IsOk, OnOk, option_map, filter};
+ghost use Rattle.std.specs.Prelude.{◌≡◌, ◌+◌, ◌-◌, ◌≤◌, ◌<◌, ℕ, [], Some, None, IsSome, IsTrue, IsOk, OnOk, length, option_map, filter};
 ghost use Rattle.std.specs.Option.{option_to_list};
 ghost use Rattle.std.specs.Borrow.{sem};
 ghost use Rattle.pim_trie.specs.Lends.{lends_value_at, value_at};
@@ -7,8 +7,9 @@ ghost use Rattle.std.specs.Iterator.{YieldsFirstBy};
 ghost use Rattle.slab.specs.Slab.{ContainsKey, HasRoomFor};
 ghost use Rattle.pim_trie.specs.Tree.{Tree, common, address_path, prefix_of, path_of, named_entry, find, put, cut, visits, deepest};
 ghost use Rattle.pim_trie.specs.Entries.{entry_seen, is_under};
+ghost use Rattle.pim_trie.specs.Links.{AreNarrow, IsNarrow};
 ghost use Rattle.pim_trie.specs.Meter.{raised};
-ghost use Rattle.pim_trie.specs.Nodes.{way_to, way_on, IsHeld, Held, Leads, Locates, LeavesAt, HasRoomToPut, Rebuilds, Prunes, IsPending, pending_entries, entries_of};
+ghost use Rattle.pim_trie.specs.Nodes.{way_to, way_on, IsHeld, Held, Leads, Locates, LeavesAt, HasRoom, HasRoomToPut, Rebuilds, Prunes, IsPending, pending_entries, entries_of};
 
 use crate::meter::Meter;
 use crate::node::{Node, first_bits, next_bit};
@@ -16,6 +17,9 @@ use crate::pending::Pending;
 use pim_ip::{Addr, Prefix};
 use slab::Slab;
 use std::alloc::AllocError;
+
+// The most nodes whose keys links can hold.
+const MOST_NODES: usize = 4294967295;
 
 // The first node on the way of the prefix that has as many bits as it or more, if it lies in the
 // prefix.
@@ -140,8 +144,8 @@ pub(crate) fn next_entry<'a, V>(
 {
     while let Some(key) = pending.pop() {
         let node = &nodes[key];
-        pending.push(node.right);
-        pending.push(node.left);
+        pending.push(node.right.get());
+        pending.push(node.left.get());
         if let Some(entry) = node.entry() {
             return Some(entry);
         }
@@ -149,7 +153,18 @@ pub(crate) fn next_entry<'a, V>(
     None
 }
 
-// Makes room for the two nodes that a new value may want.
+// Whether two nodes more fit, and links can hold their keys.
+fn has_room<V>(nodes: &Slab<Node<V>>) -> bool
+    ensures room { IsTrue result → HasRoomFor nodes.now 2 }
+    ensures narrow { IsTrue result → AreNarrow nodes.now }
+    ensures within { length nodes.now.slots ≤ nodes.now.capacity }
+{
+    let capacity = nodes.capacity();
+    capacity - nodes.len() >= 2 && capacity <= MOST_NODES
+}
+
+// Makes room for the two nodes that a new value may want. There is a quarter more each time, not as much again: nodes are most
+// of what a trie takes.
 pub(crate) fn make_room<V>(
     nodes: &mut Slab<Node<V>>,
     root: Option<usize>,
@@ -158,11 +173,11 @@ pub(crate) fn make_room<V>(
     requires whole { prefix.length ≤ 32 }
     requires held { IsHeld nodes.old [] root }
     ensures room { OnOk result ((t : Tree V) → Held nodes.old [] root t → find t (path_of prefix) ≡ None
-        → HasRoomFor nodes.new 2) }
+        → HasRoom nodes.new root) }
     ensures overwrites { (t : Tree V) → Held nodes.old [] root t → IsSome (find t (path_of prefix)) → IsOk result }
     ensures kept { nodes.new ≡ record nodes.old { capacity = nodes.new.capacity } }
 {
-    if nodes.capacity() - nodes.len() >= 2 {
+    if has_room(nodes) {
         return Ok(());
     }
     if let Some(key) = locate(nodes, root, prefix, &mut Meter::new()) {
@@ -170,7 +185,12 @@ pub(crate) fn make_room<V>(
             return Ok(());
         }
     }
-    nodes.reserve(2)
+    nodes.reserve_exact(nodes.len() / 4 + 2)?;
+    if has_room(nodes) {
+        Ok(())
+    } else {
+        Err(AllocError)
+    }
 }
 
 // How many bits the two prefixes share, where they share the first `depth`.
@@ -203,10 +223,11 @@ fn put_above<V>(
     requires within { shared ≤ prefix.length }
     requires below { shared < 32 }
     requires there { ContainsKey nodes.old key }
-    requires room { HasRoomFor nodes.old 2 }
-    ensures { (depth : ℕ) (t : Tree V) → Held nodes.old (way_to prefix depth) (Some key) t
+    requires room { HasRoom nodes.old (Some key) }
+    ensures built { (depth : ℕ) (t : Tree V) → Held nodes.old (way_to prefix depth) (Some key) t
         → LeavesAt nodes.old key prefix depth shared
         → Rebuilds (way_to prefix depth) nodes.old nodes.new t (put t (way_on prefix depth) value) (Some result) }
+    ensures narrow { IsNarrow (Some result) }
 {
     let side = next_bit(nodes[key].prefix.address, shared);
     if shared == prefix.length {
@@ -238,6 +259,7 @@ pub(crate) fn insert<V>(
         → Rebuilds (way_to prefix depth) nodes.old nodes.new t (put t (way_on prefix depth) value) (Some result.0) }
     ensures replaced { (t : Tree V) → Held nodes.old (way_to prefix depth) link t
         → result.1 ≡ find t (way_on prefix depth) }
+    ensures narrow { IsNarrow link → IsNarrow (Some result.0) }
 {
     let Some(key) = link else {
         return (nodes.insert_reserved(Node::new(prefix, Some(value))), None);
@@ -273,6 +295,7 @@ pub(crate) fn remove<V: Drop>(
         → Rebuilds (way_to prefix depth) nodes.old nodes.new t (cut t (way_on prefix depth)) result.0 }
     ensures removed { (t : Tree V) → Held nodes.old (way_to prefix depth) link t
         → result.1 ≡ find t (way_on prefix depth) }
+    ensures narrow { IsNarrow link → IsNarrow result.0 }
 {
     let Some(key) = link else {
         return (None, None);
@@ -299,7 +322,8 @@ pub(crate) fn remove<V: Drop>(
 // Takes the node out if it holds no value and does not link two, and says which node is left.
 fn prune<V: Drop>(nodes: &mut Slab<Node<V>>, key: usize) -> Option<usize>
     requires { ContainsKey nodes.old key }
-    ensures { Prunes nodes.old nodes.new key result }
+    ensures prunes { Prunes nodes.old nodes.new key result }
+    ensures narrow { IsNarrow (Some key) → IsNarrow result }
 {
     let node = &nodes[key];
     if node.is_needed() {

@@ -1,6 +1,5 @@
 use Rattle.std.proofs.Common.{None, Some, ap, ◌∙◌}
 use Rattle.pim_model.specs.Tables.{drop_at}
-use Rattle.pim_tables.proofs.Lookups.{left_is_dropped}
 use Rattle.pim_store.proofs.Told.{found_dropped, found_put, marks_again, told_after}
 use Rattle.pim_store.proofs.rows.add_row.Goals as goal
 
@@ -11,8 +10,7 @@ returns-in-Err-clause-told g c =
     (marks_again g.R.TellsMarks.tells g.R.TellsMarks.says c.args.key (Some c.args.row) None _ _ _
     c.in_ok-mark.ensures.ok c.drop_marked.ensures.unmarked)
     (found_dropped c.args.key _ _
-    (c.drop_marked.ensures.removed ∙ ap (λ t. drop_at t c.args.key) c.in-Err.ensures.err
-    ∙ left_is_dropped c.args.key g.R.Ends.kinds.1 c.args.rows.now))
+    (c.drop_marked.ensures.removed ∙ ap (λ t. drop_at t c.args.key) c.in-Err.ensures.err))
 
 pub returns-clause-told : goal.returns-clause-told
 returns-clause-told g c =

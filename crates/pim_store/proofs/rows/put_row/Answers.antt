@@ -1,7 +1,7 @@
 use Rattle.std.proofs.Common.{◌≡◌, OnOk, Some, ap, is_some, subst, sym, ◌∙◌}
 use Rattle.std.proofs.lemmas.Bool.{true≢false}
 use Rattle.pim_model.specs.Tables.{has_row, put, row_at}
-use Rattle.pim_tables.proofs.Lookups.{put_is_changed}
+use Rattle.pim_tables.proofs.Lookups.{absent, put_is_changed}
 use Rattle.pim_tables.proofs.Rows.{always}
 use Rattle.pim_store.proofs.Lowered.{nothing_changed, on_ok_always}
 use Rattle.pim_store.proofs.rows.put_row.Goals as goal
@@ -16,6 +16,14 @@ pub returns-then-branch-clause-new : goal.returns-then-branch-clause-new
 unfolding has_row
 returns-then-branch-clause-new g c = λ none.
     absurd (true≢false (sym c.if-branch.true ∙ c.in_ok-update_row.ensures.there ∙ ap is_some none))
+
+pub add_row-requires-clause-absent : goal.add_row-requires-clause-absent
+unfolding row_at
+add_row-requires-clause-absent g c =
+    let gone = sym c.in_ok-update_row.ensures.there ∙ c.if-branch.false in
+    ap (λ t. row_at t c.args.key) (c.in_ok-update_row.ensures.changed
+    ∙ sym (nothing_changed c.args.key c.args.rows.now (λ _. Some c.args.row) gone))
+    ∙ absent c.args.key c.args.rows.now gone
 
 pub returns-clause-put : goal.returns-clause-put
 returns-clause-put g c =

@@ -4,8 +4,8 @@ use Rattle.pim_trie.proofs.Parts.{stands_at}
 use Rattle.pim_trie.proofs.Inserts.{puts_above, puts_fork}
 use Rattle.pim_trie.proofs.nodes.put_above.Goals as goal
 
-pub returns-then-shared-prefix : goal.returns-then-shared-prefix
-returns-then-shared-prefix g c = λ depth t held leaves.
+pub returns-then-shared-prefix-clause-built : goal.returns-then-shared-prefix-clause-built
+returns-then-shared-prefix-clause-built g c = λ depth t held leaves.
     let l = leaves c.index.result.now c.index.ensures in
     let a = stands_at c.args.prefix depth c.args.nodes.now c.args.key c.index.result.now t l.0 c.requires.whole
     c.index.ensures held in
@@ -15,8 +15,8 @@ returns-then-shared-prefix g c = λ depth t held leaves.
     (c.set_child.ensures ∙ ap (λ n. with_link c.next_bit-side.result n (Some c.args.key)) c.new-node.ensures)
     c.insert_reserved.ensures.was_vacant c.insert_reserved.ensures.updates c.insert_reserved.ensures.len
 
-pub returns : goal.returns
-returns g c = λ depth t held leaves.
+pub returns-clause-built : goal.returns-clause-built
+returns-clause-built g c = λ depth t held leaves.
     let l = leaves c.index.result.now c.index.ensures in
     let a = stands_at c.args.prefix depth c.args.nodes.now c.args.key c.index.result.now t l.0 c.requires.whole
     c.index.ensures held in

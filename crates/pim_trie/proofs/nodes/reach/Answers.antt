@@ -47,14 +47,14 @@ loop-link-smaller g c =
     let falls = step_falls (c.loop-link.invariant c.requires.held.0 c.requires.held.1) c.requires.whole range
     c.in-Some.is c.index-node.ensures (omega arith) on in
     let less : levels c.args.nodes.now c.child-link.result < levels c.args.nodes.now c.loop-link.link = rw
-    (c.child-link.ensures, c.next_bit.ensures) falls in
+    (c.child-link.ensures.link, c.next_bit.ensures) falls in
     less
 
 pub loop-link-preserved : goal.loop-link-preserved
 loop-link-preserved g c = λ t held.
     let range : c.args.prefix.address.bits < 2 ^ 32 = omega arith in
     let on = sym c.contains-in-Some.ensures ∙ c.if-not-contains-2.false in
-    rw (c.visit.ensures, c.child-link.ensures, c.next_bit.ensures)
+    rw (c.visit.ensures, c.child-link.ensures.link, c.next_bit.ensures)
     (step_past (c.loop-link.invariant t held) c.requires.whole range c.in-Some.is c.index-node.ensures
     (omega arith) on)
 
