@@ -1,4 +1,5 @@
 mod GroupKeys
+mod Judged
 mod Loops
 pub mod NamedSets
 pub mod OnInterface

@@ -1,6 +1,6 @@
 -- The keys that the entries of one group name, and rows that are set one after the other.
 use Rattle.std.specs.List.{list_all}
-use Rattle.std.specs.Prelude.{Bool, List, filter, fold, map, ℕ, ◌&&◌, ◌≡◌}
+use Rattle.std.specs.Prelude.{Bool, List, filter, fold, length, map, ℕ, ◌&&◌, ◌<◌, ◌≡◌}
 use Rattle.pim_types.specs.Keys.{group_in, is_on, star_key}
 use Rattle.pim_types.specs.declared.fact.Key.{Key}
 use Rattle.pim_wire.specs.declared.join_prune.Entry.{Entry}
@@ -41,7 +41,11 @@ change_after s i holdtime joined pruned k = record { key = k; row = row_after s 
 abbrev pub changes_after : State → ℕ → ℕ → List Key → List Key → List Change
 changes_after s i holdtime joined pruned = map (change_after s i holdtime joined pruned) (touched_keys s i joined pruned)
 
--- in these sets stand the keys that a message joins, and those that it prunes
+-- in the set stand the keys, where they are more than a few
+abbrev pub IsSetOf : (keys set : List Key) → Type 0
+IsSetOf keys set = 8 < length keys → (q : Key) → is_named set q ≡ is_named keys q
+
+-- in these sets stand the keys that a message joins, and those that it prunes, where they are more than a few
 pub record AreSets (named : NamedKeys) (joined pruned : List Key) : Type 0 where
-  pub joins : (q : Key) → is_named joined q ≡ is_named named.joined.items q
-  pub prunes : (q : Key) → is_named pruned q ≡ is_named named.pruned.items q
+  pub joins : IsSetOf named.joined.items joined
+  pub prunes : IsSetOf named.pruned.items pruned

@@ -5,7 +5,6 @@ ghost use Rattle.pim_locality.specs.JoinPrunes.{moved_among, moves_end};
 ghost use Rattle.pim_downstream.specs.Naming.{change_after, changes_after};
 ghost use Rattle.pim_model.specs.Rows.{same_both, same_downstream, same_end};
 ghost use Rattle.pim_model.specs.Sets.{is_loser};
-ghost use Rattle.pim_model.specs.Downstream.{touched_keys};
 
 use crate::indexed::Indexed;
 use crate::named::Named;
@@ -29,24 +28,6 @@ pub struct Change {
 pub struct Effect {
     pub changes: Vec<Change>,
     pub moved: Series<Key>,
-}
-
-// The keys whose rows the message can change.
-#[tactic(auto, unfolding(pim_model::specs::Downstream::touched_keys))]
-fn touched_keys(
-    alloc: Global,
-    world: &World,
-    iface: IfaceId,
-    named: &Named,
-) -> Result<Vec<Key>, AllocError>
-    ensures { IfOk result (λ keys. keys.items
-        ≡ touched_keys world.now iface.number named.now.joined.items named.now.pruned.items) }
-{
-    let mut keys = Vec::new(alloc);
-    keys.extend_from_slice(&named.joined)?;
-    keys.extend_from_slice(&named.pruned)?;
-    push_rpt_rows(alloc, world, iface, &named.joined, &mut keys)?;
-    Ok(keys)
 }
 
 // Both ends are there, or neither is.
@@ -121,10 +102,31 @@ fn judge_key(
     Ok(change)
 }
 
+// The rows of these keys after the message, behind others; of those of which it moves more than an end the keys.
+fn judge_keys(
+    world: &World,
+    iface: IfaceId,
+    holdtime: u16,
+    named: &Indexed<'_>,
+    keys: &[Key],
+    changes: &mut Vec<Change>,
+    moved: &mut Vec<Key>,
+) -> Result<(), AllocError>
+    ensures changes { OnOk result (changes.new.items ≡ changes.old.items ++ map (change_after world.now iface.number holdtime
+        named.now.joined.items named.now.pruned.items) keys.now) }
+    ensures moved { OnOk result (moved.new.items ≡ moved.old.items ++ filter (λ k. not (moves_end world.now iface.number
+        holdtime named.now.joined.items named.now.pruned.items k)) keys.now) }
+{
+    for key in keys {
+        let change = judge_key(world, iface, holdtime, named, *key, moved)?;
+        changes.push(change)?;
+    }
+    Ok(())
+}
+
 impl Effect {
     /// What a message on an interface comes to that names these keys and has a holdtime, in seconds: each key asks the whole
     /// message, and the state that it finds.
-    #[tactic(auto, unfolding(pim_locality::specs::JoinPrunes::moved_among))]
     pub fn of(
         world: &World,
         turn: &Turn,
@@ -137,14 +139,39 @@ impl Effect {
         ensures moved { IfOk result (λ effect. effect.moved
             ≡ moved_among world.now iface.number holdtime named.now.joined.items named.now.pruned.items) }
     {
-        let keys = touched_keys(turn.alloc, world, iface, named)?;
         let indexed = Indexed::of(turn.alloc, named)?;
         let mut changes = Vec::new(turn.alloc);
         let mut moved = Vec::new(turn.alloc);
-        for key in &keys {
-            let change = judge_key(world, iface, holdtime, &indexed, *key, &mut moved)?;
-            changes.push(change)?;
-        }
+        let (joined, pruned) = (&named.joined, &named.pruned);
+        judge_keys(
+            world,
+            iface,
+            holdtime,
+            &indexed,
+            joined,
+            &mut changes,
+            &mut moved,
+        )?;
+        judge_keys(
+            world,
+            iface,
+            holdtime,
+            &indexed,
+            pruned,
+            &mut changes,
+            &mut moved,
+        )?;
+        let mut others = Vec::new(turn.alloc);
+        push_rpt_rows(turn.alloc, world, iface, joined, &mut others)?;
+        judge_keys(
+            world,
+            iface,
+            holdtime,
+            &indexed,
+            &others,
+            &mut changes,
+            &mut moved,
+        )?;
         Ok(Effect {
             changes,
             moved: Series::from_vec(moved),

@@ -1,6 +1,6 @@
 //! The limit on facts.
-ghost use Rattle.std.specs.Prelude.{◌≡◌, ◌++◌, IfOk, OnOk, filter, length, not};
-ghost use Rattle.pim_model.specs.Full.{distinct, keys_are_full, makeable_keys, once_more};
+ghost use Rattle.std.specs.Prelude.{◌≡◌, ◌++◌, ◌+◌, ◌==◌, ◌&&◌, IfOk, OnOk, filter, length, not};
+ghost use Rattle.pim_model.specs.Full.{distinct, keys_are_full, makeable_keys, once_more, passes_limit};
 ghost use Rattle.pim_model.specs.Tables.{has_row, same_bool};
 
 use crate::named::Named;
@@ -65,12 +65,24 @@ fn missing(world: &World, keys: &[Key]) -> usize
         .count()
 }
 
-/// Whether the rows that a message with these keys and a holdtime, in seconds, would make pass the limit on facts.
+// Whether a row of each of the keys would pass the limit on facts, were none there.
+fn may_be_full(world: &World, holdtime: u16, named: &Named) -> bool
+    ensures { result ≡ (not (holdtime == 0)
+        && passes_limit world.now (length named.now.joined.items + length named.now.pruned.items)) }
+{
+    holdtime != 0 && world.passes_limit(named.joined.len() + named.pruned.len())
+}
+
+/// Whether the rows that a message with these keys and a holdtime, in seconds, would make pass the limit on facts. No key is
+/// looked up where there is room for all of them.
 #[tactic(auto, unfolding(pim_model::specs::Full::keys_are_full, pim_model::specs::Full::needed))]
 pub fn is_full(world: &World, turn: &Turn, holdtime: u16, named: &Named) -> Result<bool, AllocError>
     ensures { IfOk result (λ full. full
         ≡ keys_are_full world.now holdtime named.now.joined.items named.now.pruned.items) }
 {
+    if !may_be_full(world, holdtime, named) {
+        return Ok(false);
+    }
     let makeable = makeable(turn.alloc, named)?;
     let keys = distinct(turn.alloc, &makeable)?;
     Ok(holdtime != 0 && world.passes_limit(missing(world, &keys)))

@@ -1,5 +1,5 @@
 //! The interfaces of a router.
-ghost use Rattle.std.specs.Prelude.{◌≡◌, ◌<◌, ◌≤◌, [], length, slice_get, option_map, IfSome, IsTrue, IfOk, Ok, OnOk, OnErr, Some};
+ghost use Rattle.std.specs.Prelude.{◌≡◌, ◌<◌, ◌≤◌, [], length, slice_get, option_map, IfSome, IsTrue, Ok, OnOk, OnErr, Some};
 ghost use Rattle.pim_model.specs.Hellos.{hellos_triggered};
 ghost use Rattle.pim_model.specs.State.{is_own_among};
 ghost use Rattle.pim_model.specs.Clearing.{first_by};
@@ -48,15 +48,15 @@ impl Model for Interfaces {
 }
 
 impl Interfaces {
-    /// These interfaces, all down. An error is want of memory.
-    pub fn new(alloc: Global, configured: &[InterfaceConfig]) -> Result<Self, AllocError>
+    /// These interfaces, all down. It takes no memory.
+    pub fn new(alloc: Global, configured: &[InterfaceConfig]) -> Self
         requires { interfaces_test configured.now ≡ Ok tt }
-        ensures { IfOk result (λ made. made ≡ record { configured = configured.now; rows = [] }) }
+        ensures { result ≡ record { configured = configured.now; rows = [] } }
     {
-        Ok(Interfaces {
+        Interfaces {
             configured: Configured::new(configured),
             rows: Timed::new(alloc),
-        })
+        }
     }
 
     /// How many interfaces are configured.

@@ -82,7 +82,3 @@ module _ {R : Type 0} (test : Key → Bool) where
       go : (xs : Table R) → first_key xs ≡ None → raised count (nodes_to_each t (keys_in xs)) ≡ count
       go [] e = raised_no_further count
       go (x ∷ xs) e = cc e
-
--- so much at least, by way of another
-pub at_least_by : (first between whole new : ℕ) → first ≤ between → between ≤ whole → whole ≡ new → first ≤ new
-at_least_by first between whole new e f same = omega (arith, e, f, same)

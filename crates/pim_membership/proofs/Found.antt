@@ -20,13 +20,9 @@ use Rattle.pim_laws.proofs.ListLaws.{each_more, or_swapped}
 use Rattle.pim_laws.proofs.Numbers.{RisesFrom, any_ascending, rises_ascending, same_numbers}
 use Rattle.pim_laws.proofs.TableLaws.{any_in_filter, any_of_map}
 use Rattle.pim_membership.specs.MembershipTables.{MembershipTables, membership_keys}
-use Rattle.pim_membership.specs.Sources.{Gathers, NameNone, has_number, is_source}
+use Rattle.pim_membership.specs.Sources.{Gathers, NameNone, has_number, is_of_source}
 
 -- ---- the interfaces of rows whose keys rise
-
-last_of : {K : Type 0} (P : K → Type 0) (xs : List K) (x : K) → AllByRecursion P (xs ++ x ∷ []) → P x
-last_of P [] x all = all.0
-last_of P (y ∷ xs) x all = last_of P xs x all.1
 
 not_above : (m n : ℕ) (rest : Ordering) → ordering_then (nat_cmp m n) rest ≡ Less → m ≤ n
 not_above m n rest less = go (nat_cmp m n) refl less
@@ -107,7 +103,7 @@ any_alike p q same [] = refl
 any_alike p q same (x ∷ xs) = λ j. same x j || any_alike p q same xs j
 
 abbrev any_source : {R : Type 0} → ℕ → Table R → Bool
-any_source n t = list_any (λ e. is_source n e.0) t
+any_source n t = list_any (λ e. is_of_source n e.0) t
 
 module _ {R U : Type 0} (n : ℕ) where
   pub next_source : (xs t : Table R) (e : Key × R) (source : Addr) (u : U) (before after : List (Addr × U)) → xs ≡ e ∷ t
@@ -148,17 +144,17 @@ module _ (g n : ℕ) where
 
     one_interface : (k : ℕ) (t : Table R)
         → any_before (k + 1) g n t
-        ≡ (any_before k g n t || list_any (λ e. is_source n e.0) (filter (λ e. is_at_group k g e.0) t))
+        ≡ (any_before k g n t || list_any (λ e. is_of_source n e.0) (filter (λ e. is_at_group k g e.0) t))
     unfolding names_source
     one_interface k t =
         any_alike _ (λ (e : Key × R). (nat_lt (iface_in e.0) k && names_source g n e.0)
-        || (is_at_group k g e.0 && is_source n e.0)) (λ e.
+        || (is_at_group k g e.0 && is_of_source n e.0)) (λ e.
         ap (λ (b : Bool). b && names_source g n e.0) (next_lt (iface_in e.0) k)
         ∙ either_way (nat_lt (iface_in e.0) k) (is_on k e.0) (is_of_group g e.0) (is_some (e.0).source)
         (source_in e.0 == n)) t
         ∙ any_or _ _ t
         ∙ ap (λ (b : Bool). any_before k g n t || b)
-        (sym (any_in_filter (λ (e : Key × R). is_at_group k g e.0) (λ e. is_source n e.0) t))
+        (sym (any_in_filter (λ (e : Key × R). is_at_group k g e.0) (λ e. is_of_source n e.0) t))
 
     all_before : (k : ℕ) (t : Table R) → AllByRecursion (λ (e : Key × R). iface_in e.0 < k) t
         → any_before k g n t ≡ list_any (names_source g n) (keys_in t)
@@ -187,10 +183,10 @@ module _ (g n : ℕ) where
 
     -- the sources of one more interface
     pub next_interface : (k : ℕ) (t : Table R) (first before after : Bool) → before ≡ (first || any_before k g n t)
-        → after ≡ (before || list_any (λ e. is_source n e.0) (filter (λ e. is_at_group k g e.0) t))
+        → after ≡ (before || list_any (λ e. is_of_source n e.0) (filter (λ e. is_at_group k g e.0) t))
         → after ≡ (first || any_before (k + 1) g n t)
     next_interface k t first before after is one =
-        let more : Bool = list_any (λ (e : Key × R). is_source n e.0) (filter (λ e. is_at_group k g e.0) t) in
+        let more : Bool = list_any (λ (e : Key × R). is_of_source n e.0) (filter (λ e. is_at_group k g e.0) t) in
         one ∙ ap (λ (b : Bool). b || more) is ∙ or_assoc first (any_before k g n t) more
         ∙ ap (λ (b : Bool). first || b) (sym (one_interface k t))
 

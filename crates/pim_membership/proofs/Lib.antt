@@ -11,3 +11,4 @@ mod Walked
 mod Listings
 mod Each
 mod Summed
+mod Going

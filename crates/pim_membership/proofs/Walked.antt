@@ -21,7 +21,7 @@ use Rattle.pim_source_trie.specs.Entries.{nodes_visited}
 use Rattle.pim_trie.specs.Meter.{raised}
 use Rattle.pim_membership.specs.Visits.{nodes_to_sources}
 use Rattle.pim_membership.specs.Listing.{IsListed, in_entry, is_record_key, There}
-use Rattle.pim_membership.specs.Sources.{ArePlain, has_number, is_source}
+use Rattle.pim_membership.specs.Sources.{ArePlain, has_number, is_of_source}
 use Rattle.pim_membership.specs.declared.listed.Listed.{Listed}
 use Rattle.pim_membership.proofs.Found.{any_alike, number_put}
 use Rattle.pim_membership.proofs.Each.{raised_further, raised_no_further}
@@ -50,7 +50,7 @@ module _ {R : Type 0} (g n : ℕ) (rows : Table R) where
 
   -- whether the source has a record and is among the entries
   abbrev pub any_listed : Table Listed → Bool
-  any_listed entries = has_any && list_any (λ e. is_source n e.0) entries
+  any_listed entries = has_any && list_any (λ e. is_of_source n e.0) entries
 
   module _ (runs : R → Bool) (of_sources : Bool) (marks : Table Listed) (listed : IsListed runs of_sources marks rows)
       (sorted : IsStrictlySortedBy key_cmp (keys_in rows)) where
@@ -69,8 +69,8 @@ module _ {R : Type 0} (g n : ℕ) (rows : Table R) where
     unfolding keys_in names_source
     all_listed walked is =
         ap (λ (b : Bool). has_any && b)
-        (ap (λ (t : Table Listed). list_any (λ e. is_source n e.0) t) is
-        ∙ any_in_filter (λ (e : Key × Listed). is_of_group g e.0) (λ e. is_source n e.0) marks
+        (ap (λ (t : Table Listed). list_any (λ e. is_of_source n e.0) t) is
+        ∙ any_in_filter (λ (e : Key × Listed). is_of_group g e.0) (λ e. is_of_source n e.0) marks
         ∙ any_alike _ (λ (e : Key × Listed). names_source g n e.0)
         (λ e. grouped (is_of_group g e.0) (is_some (e.0).source) (source_in e.0 == n)) marks
         ∙ sym (any_of_map (names_source g n) (λ (e : Key × Listed). e.0) marks))
@@ -102,10 +102,10 @@ module _ {R : Type 0} (g n : ℕ) (rows : Table R) where
     put_there source u after of put there =
         ap (λ (b : Bool). b || any_listed t)
         (ap (λ (es : List (Addr × U)). has_number n es) put ∙ number_put n source u before)
-        ∙ go (source.bits == n) refl (has_number n before) (list_any (λ x. is_source n x.0) t)
+        ∙ go (source.bits == n) refl (has_number n before) (list_any (λ x. is_of_source n x.0) t)
         ∙ sym (ap (λ (ys : Table Listed). has_number n before || any_listed ys) is
         ∙ ap (λ (o : Option Addr). has_number n before || (has_any
-        && ((is_some o && (option_map_or (λ (a : Addr). a.bits) o 0 == n)) || list_any (λ x. is_source n x.0) t))) of)
+        && ((is_some o && (option_map_or (λ (a : Addr). a.bits) o 0 == n)) || list_any (λ x. is_of_source n x.0) t))) of)
       where
         yes_so : (a b : Bool) → true ≡ a → true ≡ (b || (a && true))
         yes_so true b e = sym (or-true b)
@@ -121,16 +121,16 @@ module _ {R : Type 0} (g n : ℕ) (rows : Table R) where
     no_source none =
         sym (ap (λ (ys : Table Listed). has_number n before || any_listed ys) is
         ∙ ap (λ (o : Option Addr). has_number n before || (has_any
-        && ((is_some o && (option_map_or (λ (a : Addr). a.bits) o 0 == n)) || list_any (λ x. is_source n x.0) t))) none)
+        && ((is_some o && (option_map_or (λ (a : Addr). a.bits) o 0 == n)) || list_any (λ x. is_of_source n x.0) t))) none)
 
     pub not_there : (source : Addr) → (e.0).source ≡ Some source
         → false ≡ list_any (names_source g source.bits) (keys_in rows)
         → (has_number n before || any_listed t) ≡ (has_number n before || any_listed xs)
     not_there source of absent =
-        go (source.bits == n) refl (has_number n before) (list_any (λ x. is_source n x.0) t)
+        go (source.bits == n) refl (has_number n before) (list_any (λ x. is_of_source n x.0) t)
         ∙ sym (ap (λ (ys : Table Listed). has_number n before || any_listed ys) is
         ∙ ap (λ (o : Option Addr). has_number n before || (has_any
-        && ((is_some o && (option_map_or (λ (a : Addr). a.bits) o 0 == n)) || list_any (λ x. is_source n x.0) t))) of)
+        && ((is_some o && (option_map_or (λ (a : Addr). a.bits) o 0 == n)) || list_any (λ x. is_of_source n x.0) t))) of)
       where
         go : (b : Bool) → (source.bits == n) ≡ b → (f c : Bool) → (f || (has_any && c)) ≡ (f || (has_any && (b || c)))
         go true same f c =
@@ -195,7 +195,7 @@ module _ {R : Type 0} (group : Addr) (rows : Table R) (runs : R → Bool) (of_so
   source_is_walked n there =
       any_of_map (λ m. m == n) (λ (e : Key × Listed). source_in e.0) (filter (λ e. is_some (e.0).source) walked)
       ∙ any_in_filter (λ (e : Key × Listed). is_some (e.0).source) (λ e. source_in e.0 == n) walked
-      ∙ second_so (has_any group.bits n rows) (list_any (λ e. is_source n e.0) walked)
+      ∙ second_so (has_any group.bits n rows) (list_any (λ e. is_of_source n e.0) walked)
       (all_listed group.bits n rows runs of_sources marks listed sorted walked is
       ∙ sym (any_ascending (λ m. m == n) _
       ∙ any_of_map (λ m. m == n) source_in _

@@ -12,14 +12,14 @@ use Rattle.pim_types.proofs.Keys.{equal_keys}
 use Rattle.pim_model.specs.Tables.{Table, drop_at, put, row_at}
 use Rattle.pim_tables.proofs.Lookups.{row_at-drop_at, row_at-put}
 use Rattle.pim_source_trie.specs.Entries.{entry_key}
-use Rattle.pim_membership.specs.Listing.{Lists, Side, Writes, in_entry, in_side, listed, record_key, source_bits, told_of, There, Running}
+use Rattle.pim_membership.specs.Listing.{Lists, Side, ListsAt, in_entry, in_side, listed, record_key, source_bits, told_of, There, Running}
 use Rattle.pim_membership.specs.declared.listed.Listed.{Listed}
 
 -- ---- entries
 
 module _ (t : Table Listed) (k : Key) (l : Listed) where
   pub drop_writes : (t' : Table Listed) → t' ≡ drop_at t k → ((x : Side) (i : ℕ) → in_side x l i ≡ false)
-      → Writes t t' k l
+      → ListsAt t t' k l
   drop_writes t' is empty x i g s =
       ap (λ (o : Option Listed). in_entry x o i)
       (ap (λ (u : Table Listed). row_at u (key_of 0 g s false)) is ∙ row_at-drop_at k (key_of 0 g s false) t)
@@ -30,7 +30,7 @@ module _ (t : Table Listed) (k : Key) (l : Listed) where
       go true = sym (empty x i)
       go false = refl
 
-  put_writes : (t' : Table Listed) → t' ≡ put t k l → Writes t t' k l
+  put_writes : (t' : Table Listed) → t' ≡ put t k l → ListsAt t t' k l
   put_writes t' is x i g s =
       ap (λ (o : Option Listed). in_entry x o i)
       (ap (λ (u : Table Listed). row_at u (key_of 0 g s false)) is ∙ row_at-put k (key_of 0 g s false) t l)
@@ -42,7 +42,7 @@ module _ (t : Table Listed) (k : Key) (l : Listed) where
       go false = refl
 
   pub writes_after : {T E : Type 0} (t' : Table Listed) (r : Result T E) → OnOk r (t' ≡ put t k l)
-      → OnOk r (Writes t t' k l)
+      → OnOk r (ListsAt t t' k l)
   writes_after t' (Ok x) put = put_writes t' put
   writes_after t' (Err e) put = tt
 
@@ -75,7 +75,7 @@ module _ (t t' : Table Listed) (n : ℕ) (group : Addr) (source : Option Addr) (
   set_step false true told here before same = refl
   set_step false false told here before same = refl
 
-  lists_written : Writes t t' (entry_key group source) new → Lists t t' (record_key n group source) timer
+  lists_written : ListsAt t t' (entry_key group source) new → Lists t t' (record_key n group source) timer
   lists_written writes x i g s =
       writes x i g s
       ∙ ap (λ (v : Bool). cond (same_key (key_of 0 g s false) (entry_key group source)) v (listed t x i g s)) (made x i)
@@ -84,7 +84,7 @@ module _ (t t' : Table Listed) (n : ℕ) (group : Addr) (source : Option Addr) (
       (λ same. got x i ∙ ap (λ (k : Key). in_entry x (row_at t k) i) (sym (equal_keys _ _ same)))
       ∙ ap (λ (b : Bool). cond b (told_of x timer) (listed t x i g s)) (sym (place_is i g s n group source))
 
-  pub lists_after : {T E : Type 0} (r : Result T E) → OnOk r (Writes t t' (entry_key group source) new)
+  pub lists_after : {T E : Type 0} (r : Result T E) → OnOk r (ListsAt t t' (entry_key group source) new)
       → OnOk r (Lists t t' (record_key n group source) timer)
   lists_after (Ok x) writes = lists_written writes
   lists_after (Err e) writes = tt
@@ -106,7 +106,7 @@ module _ (t t' : Table Listed) (n : ℕ) (group : Addr) (source : Option Addr) (
       go false other true = refl
       go false other false = refl
 
-  pub unlisted_after : {T E : Type 0} (r : Result T E) → OnOk r (Writes t t' (entry_key group source) new)
+  pub unlisted_after : {T E : Type 0} (r : Result T E) → OnOk r (ListsAt t t' (entry_key group source) new)
       → OnErr r (t' ≡ t) → OnErr r (row_at t (entry_key group source) ≡ None) → timer ≡ None
       → Lists t t' (record_key n group source) timer
   unlisted_after (Ok x) writes kept none is = lists_written writes

@@ -1,4 +1,5 @@
 pub mod Listing
 pub mod MembershipTables
 pub mod Sources
+pub mod Unrecorded
 pub mod Visits

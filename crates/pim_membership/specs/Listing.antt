@@ -39,8 +39,8 @@ abbrev pub listed : Table Listed → Side → ℕ → ℕ → Option ℕ → Boo
 listed t x i g s = in_entry x (row_at t (key_of 0 g s false)) i
 
 -- these are listed of a group, or of a source, and the others as before
-abbrev pub Writes : (before after : Table Listed) → Key → Listed → Type 0
-Writes before after k l =
+abbrev pub ListsAt : (before after : Table Listed) → Key → Listed → Type 0
+ListsAt before after k l =
     (x : Side) (i g : ℕ) (s : Option ℕ)
     → listed after x i g s ≡ cond (same_key (key_of 0 g s false) k) (in_side x l i) (listed before x i g s)
 

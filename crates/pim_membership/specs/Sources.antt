@@ -11,8 +11,8 @@ abbrev pub has_number : {U : Type 0} → ℕ → List (Addr × U) → Bool
 has_number n entries = list_any (λ e. (e.0).bits == n) entries
 
 -- the key is of this source
-abbrev pub is_source : ℕ → Key → Bool
-is_source n k = is_some k.source && (source_in k == n)
+abbrev pub is_of_source : ℕ → Key → Bool
+is_of_source n k = is_some k.source && (source_in k == n)
 
 -- a key that names no source
 abbrev pub NamesNone : Key → Type 0

@@ -3,7 +3,7 @@ ghost use Rattle.std.specs.Prelude.{◌≡◌, ◌<◌, ◌≤◌, ◌+◌, [], 
 ghost use Rattle.pim_model.specs.Tables.{keys_in, row_at};
 ghost use Rattle.pim_source_trie.specs.Entries.{entry_key, nodes_visited, raised};
 ghost use Rattle.pim_types.specs.Keys.{is_of_group};
-ghost use Rattle.pim_membership.specs.Listing.{Lists, Side, Writes, in_side, listed, record_key, source_bits};
+ghost use Rattle.pim_membership.specs.Listing.{Lists, ListsAt, Side, in_side, listed, record_key, source_bits};
 
 use crate::listed::Listed;
 use pim_ip::Addr;
@@ -59,7 +59,7 @@ impl Index {
     // Lists these of a group, or of a source. Where there are some and nothing was listed it may fail for want of
     // memory, and then nothing has changed.
     fn write(&mut self, group: Addr, source: Option<Addr>, listed: Listed) -> Result<(), AllocError>
-        ensures ok { OnOk result (Writes self.old self.new (entry_key group source) listed) }
+        ensures ok { OnOk result (ListsAt self.old self.new (entry_key group source) listed) }
         ensures err { OnErr result (self.new ≡ self.old) }
         ensures absent { OnErr result (row_at self.old (entry_key group source) ≡ None) }
     {

@@ -9,5 +9,6 @@ mod records;
 mod repeats;
 mod sendings;
 mod sources;
+mod unrecorded;
 
 pub use membership::Membership;

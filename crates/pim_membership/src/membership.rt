@@ -1,5 +1,5 @@
 //! The membership facts.
-ghost use Rattle.std.specs.Prelude.{◌≡◌, ◌<◌, ◌≤◌, ◌+◌, ◌^◌, ℕ, None, Some, IfOk, IfSome, IsTrue, OnErr, OnOk, Option, false, filter, is_some, length, map, nat_lt, option_map, true};
+ghost use Rattle.std.specs.Prelude.{◌≡◌, ◌<◌, ◌≤◌, ◌+◌, ◌^◌, ◌&&◌, ℕ, None, Some, IfOk, IfSome, IsTrue, OnErr, OnOk, Option, false, filter, is_some, length, not, map, nat_lt, option_map, true};
 ghost use Rattle.std.specs.List.{AllByRecursion, list_all, list_any};
 ghost use Rattle.std.specs.List.Sorted.{IsStrictlySortedBy};
 ghost use Rattle.std.specs.Ordering.{nat_cmp};
@@ -23,6 +23,7 @@ ghost use Rattle.pim_membership.specs.Visits.{IsLookedUp, Visits, changes_listed
 use crate::records::Records;
 use crate::repeats::Repeats;
 use crate::sendings::Sendings;
+use crate::unrecorded::{Unrecorded, would_lack};
 use pim_ifset::IfSet;
 use pim_ip::Addr;
 use pim_source_trie::Meter;
@@ -47,6 +48,8 @@ pub struct Membership {
     group_repeats: Repeats<GroupRepeatRow>,
     source_repeats: Repeats<SourceRepeatRow>,
     sendings: Sendings,
+    // Which of them may be of a source without a record.
+    unrecorded: Unrecorded,
 }
 
 // Written out, so that it is proved once (docs/PROOF_NOTES.md, Drops).
@@ -59,6 +62,7 @@ impl Drop for Membership {
             group_repeats: _,
             source_repeats: _,
             sendings: _,
+            unrecorded: _,
         } = self;
     }
 }
@@ -78,23 +82,25 @@ impl Model for Membership {
     } };
 
     ghost use Rattle.pim_membership.specs.MembershipTables.{AreRobust};
+    ghost use Rattle.pim_membership.specs.Unrecorded.{HaveRecords};
 
-    ghost invariant = { λ m. AreRobust m.queriers };
+    ghost invariant = { λ m. AreRobust m.queriers × HaveRecords m.unrecorded m.source_records m.sendings };
 }
 
 impl Membership {
-    /// No facts. An error is want of memory.
-    pub fn new(alloc: Global) -> Result<Membership, AllocError>
-        ensures { IfOk result (λ membership. membership ≡ no_membership) }
+    /// No facts. It takes no memory.
+    pub fn new(alloc: Global) -> Membership
+        ensures { result ≡ no_membership }
     {
-        Ok(Membership {
+        Membership {
             queriers: Timed::new(alloc),
-            group_records: Records::new(alloc)?,
-            source_records: Records::new(alloc)?,
-            group_repeats: Repeats::new(alloc)?,
-            source_repeats: Repeats::new(alloc)?,
+            group_records: Records::new(alloc),
+            source_records: Records::new(alloc),
+            group_repeats: Repeats::new(alloc),
+            source_repeats: Repeats::new(alloc),
             sendings: Sendings::new(alloc),
-        })
+            unrecorded: Unrecorded::Nowhere,
+        }
     }
 
     /// The querier of the interface.
@@ -142,11 +148,10 @@ impl Membership {
     }
 
     /// Whether there is a group record under the key.
-    #[tactic(auto, unfolding(pim_model::specs::Tables::has_row))]
     pub fn has_group_record(&self, key: Key) -> bool
         ensures { result ≡ has_row self.now.group_records key }
     {
-        self.group_records.get(key).is_some()
+        self.group_records.contains(key)
     }
 
     /// The group records, by rising key; each is of an interface below 120.
@@ -231,11 +236,10 @@ impl Membership {
     }
 
     /// Whether there is a source record under the key.
-    #[tactic(auto, unfolding(pim_model::specs::Tables::has_row))]
     pub fn has_source_record(&self, key: Key) -> bool
         ensures { result ≡ has_row self.now.source_records key }
     {
-        self.source_records.get(key).is_some()
+        self.source_records.contains(key)
     }
 
     /// The source records of the group on the interface, by rising key; where there is one, the interface is below 120.
@@ -270,8 +274,14 @@ impl Membership {
             (row_at self.old.source_records (source_key iface.number group.bits source.bits)))
             (keys_in self.old.source_records) group (Some source) meter.old meter.new) }
     {
+        let key = Key::source(iface, group, source);
+        let unrecorded = self.unrecorded.with_key(key, row.is_none());
+        // Where memory is wanting any record may be gone.
+        self.unrecorded = Unrecorded::Anywhere;
         self.source_records
-            .set(iface, group, Some(source), row, meter)
+            .set(iface, group, Some(source), row, meter)?;
+        self.unrecorded = unrecorded;
+        Ok(())
     }
 
     /// Takes the record of the source of the group on the interface away.
@@ -287,8 +297,10 @@ impl Membership {
         } }
         ensures visited { IsLookedUp (keys_in self.old.source_records) group (Some source) meter.old meter.new }
     {
+        let key = Key::source(iface, group, source);
         self.source_records
             .remove(iface, group, Some(source), meter);
+        self.unrecorded = self.unrecorded.with_key(key, true);
     }
 
     /// Changes the source record under the key, if there is one, to this one. An error is want of memory.
@@ -304,7 +316,12 @@ impl Membership {
         ensures visited { OnOk result (Visits (changes_listed (λ (r : SourceRecord). is_some r.end) row
             (row_at self.old.source_records key)) (keys_in self.old.source_records) key.group key.source meter.old meter.new) }
     {
-        self.source_records.change_at(key, row, meter)
+        let unrecorded = self.unrecorded;
+        // Where memory is wanting any record may be gone.
+        self.unrecorded = Unrecorded::Anywhere;
+        self.source_records.change_at(key, row, meter)?;
+        self.unrecorded = unrecorded;
+        Ok(())
     }
 
     /// Source records are under keys that rise.
@@ -330,6 +347,7 @@ impl Membership {
             (filter (λ e. is_at_group iface.number group.bits e.0) self.old.source_records))) ≤ meter.new }
     {
         self.source_records.drop_group(iface, group, meter);
+        self.unrecorded = self.unrecorded.with_group(iface, group);
     }
 
     /// The repeats of a group's query that are still to leave, under the key.
@@ -455,7 +473,14 @@ impl Membership {
           sendings = set_row self.old.sendings (source_key iface.number group.bits source.bits) row;
         }) }
     {
-        self.sendings.set(iface, group, source, row)
+        let key = Key::source(iface, group, source);
+        let is_lacking = would_lack(&self.source_records, key, row);
+        let unrecorded = self.unrecorded.with_key(key, is_lacking);
+        // Where memory is wanting any sending may be left.
+        self.unrecorded = Unrecorded::Anywhere;
+        self.sendings.set(iface, group, source, row)?;
+        self.unrecorded = unrecorded;
+        Ok(())
     }
 
     /// Changes the sending under the key, if there is one, to this, or ends it.
@@ -463,6 +488,31 @@ impl Membership {
         ensures { self.new ≡ record self.old { sendings = change_row (λ _. row) key self.old.sendings } }
     {
         self.sendings.change(key, row);
+    }
+
+    /// Takes away the sendings of those of the group's sources on the interface that have no record. Where since the last call
+    /// records went one at most, and none with the others of their group, no sending but that one's is looked at. An error is want of
+    /// memory.
+    pub fn drop_unrecorded(
+        &mut self,
+        alloc: Global,
+        iface: IfaceId,
+        group: Addr,
+    ) -> Result<(), AllocError>
+        ensures { OnOk result (self.new ≡ record self.old {
+          sendings = drop_where (λ k. is_at_group iface.number group.bits k && not (has_row self.old.source_records k))
+              self.old.sendings;
+        }) }
+    {
+        self.unrecorded.drop_of(
+            &self.source_records,
+            &mut self.sendings,
+            alloc,
+            iface,
+            group,
+        )?;
+        self.unrecorded = self.unrecorded.without(iface, group);
+        Ok(())
     }
 
     /// Sendings are under keys that rise.
@@ -489,7 +539,10 @@ impl Membership {
         self.queriers.drop_on(iface);
         self.group_records.drop_on(iface, meter);
         self.source_records.drop_on(iface, meter);
-        self.drop_repeats_on(iface);
+        // Not by a call of `drop_repeats_on`: the sendings are of sources without a record until they have gone too.
+        self.group_repeats.drop_on(iface);
+        self.source_repeats.drop_on(iface);
+        self.sendings.drop_on(iface);
     }
 
     /// Takes the repeats and the sendings of the interface away, where another router queries.

@@ -1,5 +1,5 @@
 //! The records of one kind, of groups or of their sources, with the interfaces that have them.
-ghost use Rattle.std.specs.Prelude.{◌≡◌, ◌<◌, ◌≤◌, ◌+◌, ◌∷◌, [], length, ℕ, Bool, None, Option, Some, IfOk, IfSome, IsTrue, OnErr, OnOk, false, true, filter, is_some, nat_lt, option_map};
+ghost use Rattle.std.specs.Prelude.{◌≡◌, ◌<◌, ◌≤◌, ◌+◌, ◌∷◌, [], length, ℕ, Bool, None, Option, Some, IfSome, IsTrue, OnErr, OnOk, false, true, filter, is_some, nat_lt, option_map};
 ghost use Rattle.std.specs.List.{AllByRecursion, list_all, list_any};
 ghost use Rattle.std.specs.List.Sorted.{IsStrictlySortedBy};
 ghost use Rattle.std.specs.Option.{option_map_or};
@@ -88,14 +88,14 @@ impl<R: Record> Model for Records<R> {
 }
 
 impl<R: Record> Records<R> {
-    // No records. An error is want of memory.
-    pub(crate) fn new(alloc: Global) -> Result<Records<R>, AllocError>
-        ensures { IfOk result (λ records. records ≡ []) }
+    // No records; it takes no memory.
+    pub(crate) fn new(alloc: Global) -> Records<R>
+        ensures { result ≡ [] }
     {
-        Ok(Records {
+        Records {
             rows: Timed::new(alloc),
             index: Index::new(alloc),
-        })
+        }
     }
 
     // How many there are.
@@ -141,6 +141,13 @@ impl<R: Record> Records<R> {
         ensures { result ≡ row_at self.now key }
     {
         self.rows.get(key)
+    }
+
+    // Whether there is a record under the key.
+    pub(crate) fn contains(&self, key: Key) -> bool
+        ensures { result ≡ has_row self.now key }
+    {
+        self.rows.contains(key)
     }
 
     // Which record's timer ends first, and when, in ms.

@@ -1,5 +1,5 @@
 //! Repeats of queries, group by group.
-ghost use Rattle.std.specs.Prelude.{◌≡◌, [], IfOk, OnOk, option_map};
+ghost use Rattle.std.specs.Prelude.{◌≡◌, [], OnOk, option_map};
 ghost use Rattle.pim_model.specs.Clearing.{first_by};
 ghost use Rattle.pim_model.specs.Tables.{change_row, drop_at, drop_where, row_at, set_row};
 ghost use Rattle.pim_model.specs.Timers.{is_ending_first};
@@ -38,13 +38,13 @@ impl<R: Ends> Model for Repeats<R> {
 }
 
 impl<R: Ends> Repeats<R> {
-    // No repeats. An error is want of memory.
-    pub(crate) fn new(alloc: Global) -> Result<Repeats<R>, AllocError>
-        ensures { IfOk result (λ repeats. repeats ≡ []) }
+    // No repeats; it takes no memory.
+    pub(crate) fn new(alloc: Global) -> Repeats<R>
+        ensures { result ≡ [] }
     {
-        Ok(Repeats {
+        Repeats {
             rows: Timed::new(alloc),
-        })
+        }
     }
 
     // They name no source.

@@ -3,7 +3,7 @@ ghost use Rattle.std.specs.List.{list_any};
 ghost use Rattle.std.specs.List.Sorted.{IsStrictlySortedBy};
 ghost use Rattle.std.specs.Prelude.{◌≡◌, [], OnOk, filter};
 ghost use Rattle.pim_model.specs.Records.{is_at_group};
-ghost use Rattle.pim_model.specs.Tables.{change_row, drop_where, keys_in, set_row};
+ghost use Rattle.pim_model.specs.Tables.{change_row, drop_at, drop_where, keys_in, set_row};
 ghost use Rattle.pim_types.specs.Keys.{is_on, key_cmp, names_source, source_key};
 ghost use Rattle.pim_membership.specs.Sources.{Gathers};
 
@@ -130,6 +130,13 @@ impl Sendings {
             Some(row) => self.rows.change(key, row),
             None => self.rows.remove(key),
         }
+    }
+
+    // Takes the sending under the key away.
+    pub(crate) fn remove(&mut self, key: Key)
+        ensures { self.new ≡ drop_at self.old key }
+    {
+        self.rows.remove(key);
     }
 
     // Takes the sendings on the interface away.

@@ -4,7 +4,7 @@ ghost use Rattle.std.specs.List.Sorted.{IsStrictlySortedBy};
 ghost use Rattle.std.specs.Prelude.{◌≡◌, ◌≤◌, ◌<◌, ◌^◌, ◌+◌, ◌||◌, ℕ, OnOk};
 ghost use Rattle.pim_model.specs.Tables.{keys_in};
 ghost use Rattle.pim_types.specs.Keys.{iface_in, key_cmp};
-ghost use Rattle.pim_membership.specs.Sources.{has_number, is_source};
+ghost use Rattle.pim_membership.specs.Sources.{has_number, is_of_source};
 
 use pim_ip::Addr;
 use pim_tables::RowsOf;
@@ -19,7 +19,7 @@ pub(crate) fn gather<R>(
     found: &mut BTreeMap<Addr, (), Global>,
 ) -> Result<(), AllocError>
     ensures { OnOk result ((n : ℕ) → has_number n found.new.entries
-        ≡ (has_number n found.old.entries || list_any (λ e. is_source n e.0) facts.entry)) }
+        ≡ (has_number n found.old.entries || list_any (λ e. is_of_source n e.0) facts.entry)) }
 {
     for (key, _) in facts {
         let Some(source) = key.source else {

@@ -1,5 +1,5 @@
 //! The table of neighbours, and what the router decides by it.
-ghost use Rattle.std.specs.Prelude.{◌≡◌, ◌↔◌, ◌+◌, ◌<◌, ◌≤◌, ◌^◌, [], length, option_map, IfOk, IsTrue, OnErr, OnOk};
+ghost use Rattle.std.specs.Prelude.{◌≡◌, ◌↔◌, ◌+◌, ◌<◌, ◌≤◌, ◌^◌, [], length, option_map, IsTrue, OnErr, OnOk};
 ghost use Rattle.std.specs.List.Sorted.{IsStrictlySortedBy};
 ghost use Rattle.pim_model.specs.Clearing.{first_by};
 ghost use Rattle.pim_model.specs.Downstream.{holdtime_end_from};
@@ -85,13 +85,13 @@ fn is_better_dr(by_priority: bool, own: &InterfaceConfig, key: &Key, row: &Neigh
 impl Neighbours {
     ghost use Rattle.pim_neighbours.specs.Delays.{announced_among};
 
-    /// No neighbours. An error is want of memory.
-    pub fn new(alloc: Global) -> Result<Neighbours, AllocError>
-        ensures { IfOk result (λ made. made ≡ []) }
+    /// No neighbours. It takes no memory.
+    pub fn new(alloc: Global) -> Neighbours
+        ensures { result ≡ [] }
     {
-        Ok(Neighbours {
+        Neighbours {
             rows: Timed::new(alloc),
-        })
+        }
     }
 
     /// How many neighbours there are on all interfaces.

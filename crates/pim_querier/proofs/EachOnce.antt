@@ -1,5 +1,5 @@
 -- The rows of a table that pass a test, changed key by key: each key stands once, so each row is changed once.
-use Rattle.std.proofs.Common.{◌≡◌, Bool, true, false, not, cond, ◌&&◌, List, [], ◌∷◌, map, Option, Some, None, option_map, refl, ap, ◌∙◌}
+use Rattle.std.proofs.Common.{◌≡◌, Bool, true, false, cond, [], ◌∷◌, map, Option, Some, None, option_map, refl, ap, ◌∙◌}
 use Rattle.std.specs.List.{AllByRecursion, cons_option, filter, filter_map}
 use Rattle.std.specs.List.Sorted.{IsStrictlySortedBy}
 use Rattle.std.specs.Ordering.{is_eq}
@@ -92,29 +92,3 @@ module _ {R : Type 0} where
           → each_changed change t (filter test t) ≡ filter_map left_of t
       unfolding keys_in
       each_is_changed_once t rise = all_changed t rise
-
--- where each goes, what is left is the rest
-module _ {R : Type 0} (test : Key × R → Bool) where
-  gone_step : (b : Bool) (e : Key × R) (t : Table R)
-      → filter_map (left_of (λ _. None) test) t ≡ filter (λ x. not (test x)) t
-      → cons_option (if b then None else Some e) (filter_map (left_of (λ _. None) test) t)
-      ≡ cond (not b) (e ∷ filter (λ x. not (test x)) t) (filter (λ x. not (test x)) t)
-  gone_step true e t rest = rest
-  gone_step false e t rest = ap (λ u. e ∷ u) rest
-
-  pub gone_is_filtered : (t : Table R) → filter_map (left_of (λ _. None) test) t ≡ filter (λ x. not (test x)) t
-  gone_is_filtered [] = refl
-  gone_is_filtered (e ∷ t) = gone_step (test e) e t (gone_is_filtered t)
-
-module _ {X : Type 0} (p q : X → Bool) where
-  abbrev pub both : X → Bool
-  both x = p x && q x
-
-  both_step : (b : Bool) (x : X) (xs : List X) → filter q (filter p xs) ≡ filter both xs
-      → filter q (cond b (x ∷ filter p xs) (filter p xs)) ≡ cond (b && q x) (x ∷ filter both xs) (filter both xs)
-  both_step true x xs rest = ap (λ (ys : List X). cond (q x) (x ∷ ys) ys) rest
-  both_step false x xs rest = rest
-
-  pub filter_both : (xs : List X) → filter q (filter p xs) ≡ filter both xs
-  filter_both [] = refl
-  filter_both (x ∷ xs) = both_step (p x) x xs (filter_both xs)

@@ -15,3 +15,4 @@ mod Sent
 mod Starting
 mod Visited
 pub mod OneSource
+mod Room

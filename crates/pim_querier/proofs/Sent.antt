@@ -17,7 +17,7 @@ use Rattle.pim_model.specs.State.{State}
 use Rattle.pim_model.specs.Tables.{Table, change_row, drop_where, has_row, keys_in, put, same_bool}
 use Rattle.pim_querier.specs.Changes.{beside, each_changed, member_put, members_put, one_less, sending_changed, sendings_changed, sources_in, without_empty, without_group_repeat, without_source_repeat}
 use Rattle.pim_querier.proofs.Starting.{said_twice}
-use Rattle.pim_querier.proofs.EachOnce.{both, each_is_changed_once, filter_both, gone_is_filtered, left_of}
+use Rattle.pim_querier.proofs.EachOnce.{each_is_changed_once, left_of}
 
 -- they change the one table
 sendings_in_table : (change : SendingRow → Option SendingRow) (es : Table SendingRow) (s : State)
@@ -114,30 +114,11 @@ module _ (i g : ℕ) where
   abbrev is_orphan : State → Key → Bool
   is_orphan s k = is_at_group i g k && not (has_row s.source_records k)
 
-  all_ended : (s : State) (es all : Table SendingRow) → all ≡ filter (is_sending i g) s.sendings
-      → es ≡ filter (λ e. not (has_row s.source_records e.0)) all
-      → IsStrictlySortedBy key_cmp (keys_in s.sendings)
-      → sendings_changed (λ _. None) s es ≡ record s { sendings = drop_where (is_orphan s) s.sendings }
-  unfolding drop_where
-  all_ended s es all are ended rise =
-      let with_sendings : Table SendingRow → State = λ t. record s { sendings = t } in
-      let gone : Key × SendingRow → Bool = λ e. not (has_row s.source_records e.0) in
-      sendings_in_table (λ _. None) es s
-      ∙ ap with_sendings
-      (ap (λ (xs : Table SendingRow). each_changed (λ _. None) s.sendings xs)
-      (ended ∙ ap (λ (xs : Table SendingRow). filter gone xs) are ∙ filter_both (is_sending i g) gone s.sendings)
-      ∙ each_is_changed_once (λ _. None) (both (is_sending i g) gone) s.sendings rise
-      ∙ gone_is_filtered (both (is_sending i g) gone) s.sendings)
-
-  pub repeats_left : (s s1 s2 s3 : State) (es all : Table SendingRow) → all ≡ filter (is_sending i g) s.sendings
-      → es ≡ filter (λ e. not (has_row s.source_records e.0)) all
-      → IsStrictlySortedBy key_cmp (keys_in s.sendings) → s1 ≡ sendings_changed (λ _. None) s es
+  pub repeats_left : (s s1 s2 s3 : State) → s1 ≡ record s { sendings = drop_where (is_orphan s) s.sendings }
       → s2 ≡ without_source_repeat i g s1 → s3 ≡ without_group_repeat i g s2 → s3 ≡ with_repeats_of_rows s i g
   unfolding with_repeats_of_rows
-  repeats_left s s1 s2 s3 es all are ended rise first second third =
-      third
-      ∙ ap (without_group_repeat i g)
-      (second ∙ ap (without_source_repeat i g) (first ∙ all_ended s es all are ended rise))
+  repeats_left s s1 s2 s3 first second third =
+      third ∙ ap (without_group_repeat i g) (second ∙ ap (without_source_repeat i g) first)
 
   -- ---- the rows of a record
 

@@ -2,7 +2,7 @@
 -- sources they move.
 use Rattle.std.specs.List.{filter_map, flat_map, list_all, list_any}
 use Rattle.std.specs.Option.{option_map_or}
-use Rattle.std.specs.Prelude.{Bool, List, Option, [], false, filter, if◌then◌else◌, is_some, map, not, option_map, true, ℕ, ◌&&◌, ◌++◌, ◌||◌}
+use Rattle.std.specs.Prelude.{Bool, List, Option, [], ◌∷◌, false, filter, if◌then◌else◌, is_some, length, map, not, option_map, true, ℕ, ◌&&◌, ◌++◌, ◌+◌, ◌||◌}
 use Rattle.igmp_wire.specs.Values.{Record}
 use Rattle.igmp_wire.specs.declared.report.RecordType.{RecordType}
 use Rattle.pim_types.specs.declared.fact.Key.{Key}
@@ -80,3 +80,8 @@ moved_by t i r = moved_named t i r ++ moved_others t i r
 -- those of a report
 unfoldable pub moved_sources : State → ℕ → List Record → List Key
 moved_sources s i records = flat_map (moved_by s.source_records i) (filter (λ r. not (is_skipped r)) records)
+
+-- how many keys records name, of groups and of sources, but for those that are skipped
+unfoldable pub named_count : List Record → ℕ
+named_count [] = 0
+named_count (r ∷ rs) = (if is_skipped r then 0 else length r.sources + 1) + named_count rs

@@ -1,6 +1,7 @@
 //! The keys that a report names, and whether there is room for its facts.
-ghost use Rattle.std.specs.Prelude.{◌≡◌, ◌++◌, ◌<◌, ◌^◌, [], ◌∷◌, IfOk, OnOk, map};
-ghost use Rattle.pim_model.specs.Full.{needed, report_is_full, reported_groups, reported_sources};
+ghost use Rattle.std.specs.Prelude.{◌≡◌, ◌++◌, ◌+◌, ◌<◌, ◌^◌, [], ◌∷◌, IfOk, IfSome, OnOk, false, map};
+ghost use Rattle.pim_model.specs.Full.{needed, passes_limit, report_is_full, reported_groups, reported_sources};
+ghost use Rattle.pim_querier.specs.Reports.{named_count};
 ghost use Rattle.pim_types.specs.Keys.{source_key};
 
 use crate::report::is_skipped;
@@ -112,7 +113,52 @@ fn missing_sources(world: &World, alloc: Global, keys: &[Key]) -> Result<usize, 
     Ok(missing.len())
 }
 
-/// Whether the records that a report would make on an interface pass the limit on facts.
+// How many keys a group record names, counted on from those that were named before it; none where that would pass the
+// limit.
+#[tactic(auto, unfolding(crate::specs::Reports::named_count))]
+fn count_named(group_record: &RecordView<'_>, before: u32, limit: u32) -> Option<u32>
+    ensures { IfSome result (λ named. named ≡ before + named_count (group_record.now ∷ [])) }
+{
+    if is_skipped(group_record) {
+        return Some(before);
+    }
+    let mut named = before;
+    for _source in group_record.sources() {
+        if named >= limit {
+            return None;
+        }
+        named += 1;
+    }
+    if named >= limit {
+        return None;
+    }
+    Some(named + 1)
+}
+
+// How many keys a report names; none where they pass the limit.
+#[tactic(auto, unfolding(crate::specs::Reports::named_count))]
+fn count_all_named(report: &ReportView<'_>, limit: u32) -> Option<u32>
+    ensures { IfSome result (λ named. named ≡ named_count report.now) }
+{
+    let mut named = 0;
+    for group_record in report.records() {
+        named = count_named(&group_record, named, limit)?;
+    }
+    Some(named)
+}
+
+// Whether a record for each key that the report names would pass the limit on facts, were none there.
+fn may_be_full(world: &World, report: &ReportView<'_>) -> bool
+    ensures { result ≡ false → passes_limit world.now (named_count report.now) ≡ false }
+{
+    match count_all_named(report, world.settings().limit) {
+        Some(named) => world.passes_limit(named as usize),
+        None => true,
+    }
+}
+
+/// Whether the records that a report would make on an interface pass the limit on facts. None is looked up where there is room
+/// for all that it names.
 #[tactic(auto, unfolding(pim_model::specs::Full::report_is_full))]
 pub fn is_full(
     world: &World,
@@ -122,6 +168,9 @@ pub fn is_full(
 ) -> Result<bool, AllocError>
     ensures { IfOk result (λ full. full ≡ report_is_full world.now iface.number report.now) }
 {
+    if !may_be_full(world, report) {
+        return Ok(false);
+    }
     let named = named(alloc, iface, report)?;
     let groups = missing_groups(world, alloc, &named.groups)?;
     let sources = missing_sources(world, alloc, &named.sources)?;

@@ -1,17 +1,16 @@
 //! The record of a group, and what the ends of its timers change (RFC 3376, sections 6.2, 6.3 and 6.5).
 ghost use Rattle.std.specs.List.{list_any};
-ghost use Rattle.std.specs.Prelude.{◌≡◌, ◌≤◌, ◌<◌, None, IfOk, OnOk, filter, length, not};
+ghost use Rattle.std.specs.Prelude.{◌≡◌, ◌≤◌, ◌<◌, IfOk, OnOk, length};
 ghost use Rattle.pim_filters.specs.Members.{IsAscending, entries_of};
 ghost use Rattle.pim_model.specs.Querier.{group_record_due, source_record_due};
 ghost use Rattle.pim_model.specs.Records.{is_at_group, record_of, with_members, with_record, with_repeats_of_rows};
-ghost use Rattle.pim_model.specs.Tables.{has_row};
-ghost use Rattle.pim_querier.specs.Changes.{members_put, sendings_changed, with_excluded, without_empty, without_group_repeat, without_source, without_source_repeat};
+ghost use Rattle.pim_querier.specs.Changes.{members_put, with_excluded, without_empty, without_group_repeat, without_source, without_source_repeat};
 ghost use Rattle.pim_querier.specs.Visits.{drop_source_nodes, empty_nodes, exclude_source_nodes, group_record_due_nodes, members_nodes, set_members_nodes, set_record_nodes, source_record_due_nodes};
 ghost use Rattle.pim_world.specs.Visits.{raised};
 
-use crate::sendings::{sendings_at, source_in};
+use crate::sendings::source_in;
 use pim_filters::{GroupRecord, Member};
-use pim_types::fact::{GroupRecordRow, SendingRow, SourceRecordRow};
+use pim_types::fact::{GroupRecordRow, SourceRecordRow};
 use pim_types::{Addr, IfaceId, Key};
 use pim_world::{Meter, World};
 use std::alloc::{AllocError, Global};
@@ -85,34 +84,6 @@ pub(crate) fn drop_empty(
     }
 }
 
-// Those of the sendings whose source has no record.
-fn without_record(
-    world: &World,
-    alloc: Global,
-    sendings: &[(Key, SendingRow)],
-) -> Result<Vec<(Key, SendingRow)>, AllocError>
-    ensures { IfOk result (λ found. found.items
-        ≡ filter (λ e. not (has_row world.now.source_records e.0)) sendings.now) }
-{
-    let mut found = Vec::new(alloc);
-    for (key, row) in sendings {
-        if !world.membership().has_source_record(*key) {
-            found.push((*key, *row))?;
-        }
-    }
-    Ok(found)
-}
-
-// Ends these sendings.
-#[tactic(auto, unfolding(crate::specs::Changes::sending_changed, crate::specs::Changes::sendings_changed))]
-fn end_sendings(world: &mut World, sendings: &[(Key, SendingRow)])
-    ensures { world.new ≡ sendings_changed (λ _. None) world.old sendings.now }
-{
-    for (key, _) in sendings {
-        world.membership_mut().change_sending(*key, None);
-    }
-}
-
 // Queries the group's sources no more, where none has sendings left.
 fn drop_source_repeat(world: &mut World, iface: IfaceId, group: Addr)
     ensures { world.new ≡ without_source_repeat iface.number group.bits world.old }
@@ -131,7 +102,8 @@ fn drop_group_repeat(world: &mut World, iface: IfaceId, group: Addr)
     }
 }
 
-// Ends what is repeated of sources and of the group, where they have no record any more.
+// Ends what is repeated of sources and of the group, where they have no record any more. Where one source alone may have
+// lost its record, no other is looked at.
 pub(crate) fn drop_repeats(
     world: &mut World,
     alloc: Global,
@@ -140,11 +112,7 @@ pub(crate) fn drop_repeats(
 ) -> Result<(), AllocError>
     ensures { OnOk result (world.new ≡ with_repeats_of_rows world.old iface.number group.bits) }
 {
-    let sendings = sendings_at(world, alloc, iface, group)?;
-    let orphans = without_record(world, alloc, &sendings)?;
-    // It tells that each key stands once.
-    world.membership().recall_rising_sendings();
-    end_sendings(world, &orphans);
+    world.membership_mut().drop_unrecorded(alloc, iface, group)?;
     drop_source_repeat(world, iface, group);
     drop_group_repeat(world, iface, group);
     Ok(())
@@ -303,7 +271,7 @@ fn end_source(
 }
 
 /// The source's timer ended: in INCLUDE the source goes, in EXCLUDE its packets are refused from now on (RFC 3376,
-/// section 6.3). The records of other sources aren't looked at. The meter rises by the nodes that its look-ups visit, at least
+/// section 6.3). Of other sources neither records nor queries are looked at. The meter rises by the nodes that its look-ups visit, at least
 /// those that lead to the source where it goes or its timer ends to run, and to a group that goes with it.
 pub fn source_record_due(
     world: &mut World,

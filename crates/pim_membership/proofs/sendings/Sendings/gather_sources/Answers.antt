@@ -3,7 +3,7 @@ use Rattle.std.proofs.Math.Bool.{or-false}
 use Rattle.std.specs.List.{filter, list_any}
 use Rattle.pim_model.specs.Records.{is_at_group}
 use Rattle.pim_membership.proofs.Found.{near_all, next_interface, none_before}
-use Rattle.pim_membership.specs.Sources.{has_number, is_source}
+use Rattle.pim_membership.specs.Sources.{has_number, is_of_source}
 use Rattle.pim_membership.proofs.sendings.Sendings.gather_sources.Goals as goal
 
 pub loop-number-init : goal.loop-number-init
@@ -16,7 +16,7 @@ loop-number-preserved c = λ n.
     next_interface c.args.group.bits n c.loop-number.number c.args.self.now (has_number n c.args.found.now.entries)
     (has_number n c.loop-number.found.entries) _ (c.loop-number.invariant n)
     (c.in_ok-gather.ensures n
-    ∙ ap (λ t. has_number n c.loop-number.found.entries || list_any (λ e. is_source n e.0) t)
+    ∙ ap (λ t. has_number n c.loop-number.found.entries || list_any (λ e. is_of_source n e.0) t)
     (c.rows_at.ensures
     ∙ ap (λ t. filter (λ e. is_at_group c.loop-number.number c.args.group.bits e.0) t) c.self.view_is))
 

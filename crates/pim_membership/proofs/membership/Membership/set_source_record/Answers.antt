@@ -1,0 +1,12 @@
+use Rattle.std.proofs.Common.{subst, sym}
+use Rattle.pim_membership.specs.Unrecorded.{HaveRecords}
+use Rattle.pim_membership.proofs.Going.{record_set}
+use Rattle.pim_membership.proofs.membership.Membership.set_source_record.Goals as goal
+
+pub invariant_of-self-2 : goal.invariant_of-self-2
+invariant_of-self-2 c = (
+  c.self.invariant.0,
+  subst (λ t. HaveRecords c.with_key-unrecorded.result t c.self.inside.sendings) (sym c.in_ok-set.ensures.set)
+      (record_set c.self.inside.unrecorded _ c.self.inside.source_records c.self.inside.sendings c.self.invariant.1
+      c.source-key.result _ c.source-key.ensures c.args.row c.is_none.result c.is_none.ensures c.with_key-unrecorded.ensures),
+)

@@ -1,0 +1,25 @@
+-- Which sendings may be of a source without a record. No public clause cites this module.
+use Rattle.std.specs.List.{AllByRecursion}
+use Rattle.std.specs.Prelude.{Bool, false, not, true, ℕ, ◌&&◌, ◌||◌, ◌≡◌}
+use Rattle.pim_types.specs.declared.fact.Key.{Key}
+use Rattle.pim_types.specs.declared.fact.SendingRow.{SendingRow}
+use Rattle.pim_types.specs.declared.fact.SourceRecordRow.{SourceRecordRow}
+use Rattle.pim_types.specs.Keys.{group_in, iface_in, same_key}
+use Rattle.pim_model.specs.Records.{is_at_group}
+use Rattle.pim_model.specs.Tables.{Table, has_row}
+use Rattle.pim_membership.specs.declared.unrecorded.Unrecorded.{Unrecorded}
+
+abbrev pub may_lack : Unrecorded → Key → Bool
+may_lack Unrecorded.Nowhere k = false
+may_lack (Unrecorded.At key) k = same_key key k
+may_lack (Unrecorded.Of key) k = is_at_group (iface_in key) (group_in key) k
+may_lack Unrecorded.Anywhere k = true
+
+-- all others have one
+abbrev pub HaveRecords : Unrecorded → Table SourceRecordRow → Table SendingRow → Type 0
+HaveRecords u records sendings =
+    AllByRecursion (λ (e : Key × SendingRow). (may_lack u e.0 || has_row records e.0) ≡ true) sendings
+
+-- of a source of the group on the interface, and without a record
+abbrev pub is_unrecorded : ℕ → ℕ → Table SourceRecordRow → Key → Bool
+is_unrecorded i g records k = is_at_group i g k && not (has_row records k)

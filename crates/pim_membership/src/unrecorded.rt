@@ -1,0 +1,149 @@
+//! Which sendings may be of a source without a record, and how they go.
+ghost use Rattle.std.specs.Prelude.{◌≡◌, ◌&&◌, ◌||◌, IfOk, OnErr, OnOk, filter, fold, is_some, map, not, true};
+ghost use Rattle.pim_model.specs.Records.{is_at_group};
+ghost use Rattle.pim_model.specs.Tables.{drop_at, drop_where, has_row};
+ghost use Rattle.pim_types.specs.Keys.{same_key};
+ghost use Rattle.pim_types.specs.declared.fact.Key.{Key as KeyValue};
+ghost use Rattle.pim_membership.specs.Unrecorded.{HaveRecords, is_unrecorded, may_lack};
+
+use crate::records::Records;
+use crate::sendings::Sendings;
+use pim_ip::Addr;
+use pim_types::fact::{SendingRow, SourceRecordRow};
+use pim_types::{IfaceId, Key};
+use std::alloc::{AllocError, Global};
+
+// Which sendings may be of a source without a record: none, the one under this key, those of the sources of this key's
+// group on its interface, or any. All others have one.
+#[derive(Clone, Copy)]
+pub(crate) enum Unrecorded {
+    Nowhere,
+    At(Key),
+    Of(Key),
+    Anywhere,
+}
+
+impl Unrecorded {
+    // With the one under the key, where that lacks a record.
+    pub(crate) fn with_key(self, key: Key, is_lacking: bool) -> Unrecorded
+        ensures { (k : KeyValue) → (may_lack self k || (is_lacking && same_key key k)) ≡ true → may_lack result k ≡ true }
+    {
+        if !is_lacking {
+            return self;
+        }
+        match self {
+            Unrecorded::Nowhere => Unrecorded::At(key),
+            Unrecorded::At(_) | Unrecorded::Of(_) | Unrecorded::Anywhere => Unrecorded::Anywhere,
+        }
+    }
+
+    // With those of the sources of a group on an interface.
+    pub(crate) fn with_group(self, iface: IfaceId, group: Addr) -> Unrecorded
+        ensures { (k : KeyValue) → (may_lack self k || is_at_group iface.number group.bits k) ≡ true
+            → may_lack result k ≡ true }
+    {
+        match self {
+            Unrecorded::Nowhere => Unrecorded::Of(Key::star(iface, group)),
+            Unrecorded::At(_) | Unrecorded::Of(_) | Unrecorded::Anywhere => Unrecorded::Anywhere,
+        }
+    }
+
+    // Where none of the group's on the interface is left.
+    pub(crate) fn without(self, iface: IfaceId, group: Addr) -> Unrecorded
+        ensures { (k : KeyValue) → (may_lack self k && not (is_at_group iface.number group.bits k)) ≡ true
+            → may_lack result k ≡ true }
+    {
+        match self {
+            Unrecorded::At(key) if is_at(key, iface, group) => Unrecorded::Nowhere,
+            Unrecorded::Of(key) if is_at(key, iface, group) => Unrecorded::Nowhere,
+            _ => self,
+        }
+    }
+
+    // Takes away the sendings of those of the group's sources on the interface that have no record. Where one alone may
+    // have none, no other is looked at. An error is want of memory, and then nothing has changed.
+    pub(crate) fn drop_of(
+        self,
+        records: &Records<SourceRecordRow>,
+        sendings: &mut Sendings,
+        alloc: Global,
+        iface: IfaceId,
+        group: Addr,
+    ) -> Result<(), AllocError>
+        requires { HaveRecords self records.now sendings.old }
+        ensures ok { OnOk result (sendings.new
+            ≡ drop_where (is_unrecorded iface.number group.bits records.now) sendings.old) }
+        ensures err { OnErr result (sendings.new ≡ sendings.old) }
+    {
+        match self {
+            Unrecorded::Nowhere => {}
+            Unrecorded::At(key) => {
+                if is_at(key, iface, group) {
+                    drop_one(records, sendings, key);
+                }
+            }
+            Unrecorded::Of(_) | Unrecorded::Anywhere => {
+                let keys = unrecorded_at(records, sendings, alloc, iface, group)?;
+                drop_each(sendings, &keys);
+            }
+        }
+        Ok(())
+    }
+}
+
+// Whether a sending with this row would be of a source without a record.
+pub(crate) fn would_lack(
+    records: &Records<SourceRecordRow>,
+    key: Key,
+    row: Option<SendingRow>,
+) -> bool
+    ensures { result ≡ (is_some row && not (has_row records.now key)) }
+{
+    row.is_some() && !records.contains(key)
+}
+
+// Whether the key is of the group, or of a source of it, on the interface.
+fn is_at(key: Key, iface: IfaceId, group: Addr) -> bool
+    ensures { result ≡ is_at_group iface.number group.bits key }
+{
+    key.iface == iface && key.group == group
+}
+
+// Takes the sending under the key away, where its source has no record.
+fn drop_one(records: &Records<SourceRecordRow>, sendings: &mut Sendings, key: Key)
+    ensures { sendings.new
+        ≡ drop_where (λ k. same_key key k && not (has_row records.now k)) sendings.old }
+{
+    if !records.contains(key) {
+        sendings.remove(key);
+    }
+}
+
+// The keys of the sendings of those of the group's sources on the interface that have no record.
+fn unrecorded_at(
+    records: &Records<SourceRecordRow>,
+    sendings: &Sendings,
+    alloc: Global,
+    iface: IfaceId,
+    group: Addr,
+) -> Result<Vec<Key>, AllocError>
+    ensures { IfOk result (λ keys. keys.items ≡ map (λ e. e.0) (filter (λ e. not (has_row records.now e.0))
+        (filter (λ e. is_at_group iface.number group.bits e.0) sendings.now))) }
+{
+    let mut keys = Vec::new(alloc);
+    for (key, _) in sendings.rows_at(iface, group) {
+        if !records.contains(*key) {
+            keys.push(*key)?;
+        }
+    }
+    Ok(keys)
+}
+
+// Takes the sendings under these keys away.
+fn drop_each(sendings: &mut Sendings, keys: &[Key])
+    ensures { sendings.new ≡ fold drop_at sendings.old keys.now }
+{
+    for key in keys {
+        sendings.remove(*key);
+    }
+}
