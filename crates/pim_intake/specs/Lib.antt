@@ -1,3 +1,4 @@
+pub mod Admitted
 pub mod Lent
 pub mod Memory
 pub mod Visits

@@ -1,5 +1,5 @@
 //! The unicast routes and the RP ranges of a router.
-ghost use Rattle.std.specs.Prelude.{◌≡◌, ◌<◌, ◌≤◌, ◌^◌, [], Ok, Err, IfOk, IfErr, IfSome, OnErr, if◌then◌else◌, option_map, ℕ, List};
+ghost use Rattle.std.specs.Prelude.{◌≡◌, ◌<◌, ◌≤◌, ◌^◌, ◌↔◌, [], Ok, Err, IfOk, IfErr, IfSome, IsTrue, OnErr, if◌then◌else◌, option_map, ℕ, List};
 ghost use Rattle.pim_ip.specs.declared.fault.Fault.{Fault};
 ghost use Rattle.pim_ip.specs.declared.refusal.Refusal.{Refusal};
 ghost use Rattle.pim_trie.specs.Meter.{raised};
@@ -24,6 +24,14 @@ impl Prefixed for Route {
     fn prefix(&self) -> Prefix {
         self.prefix
     }
+
+    fn is_same(&self, other: &Route) -> bool {
+        is_same_prefix(self.prefix, other.prefix)
+            && self.next_hop == other.next_hop
+            && self.iface == other.iface
+            && self.preference == other.preference
+            && self.metric == other.metric
+    }
 }
 
 impl Prefixed for RpRange {
@@ -31,6 +39,10 @@ impl Prefixed for RpRange {
 
     fn prefix(&self) -> Prefix {
         self.prefix
+    }
+
+    fn is_same(&self, other: &RpRange) -> bool {
+        is_same_prefix(self.prefix, other.prefix) && self.rp == other.rp
     }
 }
 
@@ -129,6 +141,28 @@ impl Mrib {
         Ok(Ok(()))
     }
 
+    /// Whether these are its routes, in their order.
+    pub fn has_routes(&self, routes: &[Route]) -> bool
+        ensures { IsTrue result ↔ (self.now.routes ≡ routes.now) }
+    {
+        self.routes.are(routes)
+    }
+
+    /// Whether these are its RP ranges, in their order.
+    pub fn has_ranges(&self, ranges: &[RpRange]) -> bool
+        ensures { IsTrue result ↔ (self.now.ranges ≡ ranges.now) }
+    {
+        self.ranges.are(ranges)
+    }
+
+    /// Takes the routes of another in the place of its own.
+    pub fn take_routes(&mut self, other: Mrib)
+        ensures { self.new ≡ record self.old { routes = other.routes } }
+    {
+        let Mrib { routes, ranges: _ } = other;
+        self.routes = routes;
+    }
+
     /// Takes the RP ranges of another in the place of its own.
     pub fn take_ranges(&mut self, other: Mrib)
         ensures { self.new ≡ record self.old { ranges = other.ranges } }
@@ -182,6 +216,13 @@ impl Mrib {
         let range = self.ranges.longest(group, meter)?;
         Some(range.rp)
     }
+}
+
+// Whether they are the same prefix.
+fn is_same_prefix(first: Prefix, second: Prefix) -> bool
+    ensures { IsTrue result ↔ (first ≡ second) }
+{
+    first.address == second.address && first.length == second.length
 }
 
 // The path to an address on a link.

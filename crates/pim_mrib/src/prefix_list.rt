@@ -1,5 +1,5 @@
 //! Values that stand under prefixes, found by longest match.
-ghost use Rattle.std.specs.Prelude.{◌≡◌, ◌≤◌, [], true, IsTrue, IfOk, OnErr, if◌then◌else◌, map};
+ghost use Rattle.std.specs.Prelude.{◌≡◌, ◌≤◌, ◌↔◌, [], true, IsTrue, IfOk, OnErr, if◌then◌else◌, map};
 ghost use Rattle.std.specs.List.{list_all};
 ghost use Rattle.pim_ip.specs.declared.addr.Prefix.{Prefix};
 ghost use Rattle.pim_ip.specs.Prefixes.{longest_match};
@@ -19,6 +19,9 @@ pub(crate) trait Prefixed: Copy {
 
     fn prefix(&self) -> Prefix
         ensures { result ≡ prefix_of self.now };
+
+    fn is_same(&self, other: &Self) -> bool
+        ensures { IsTrue result ↔ (self.now ≡ other.now) };
 }
 
 // Values under distinct prefixes in the order in which they were given, with a trie to find the
@@ -70,6 +73,13 @@ impl<T: Prefixed> PrefixList<T> {
         self.values.as_slice()
     }
 
+    // Whether they are these values, in this order.
+    pub(crate) fn are(&self, values: &[T]) -> bool
+        ensures { IsTrue result ↔ (self.now ≡ values.now) }
+    {
+        are_same(self.as_slice(), values)
+    }
+
     // Of the values whose prefix contains the address, the one with the longest prefix.
     pub(crate) fn longest(&self, address: Addr, meter: &mut Meter) -> Option<T>
         ensures value { result ≡ longest_match T.prefix_of self.now address.bits }
@@ -97,6 +107,21 @@ impl<T: Prefixed> PrefixList<T> {
         self.index = index;
         Ok(true)
     }
+}
+
+// Whether they are the same values in the same order.
+fn are_same<T: Prefixed>(first: &[T], second: &[T]) -> bool
+    ensures { IsTrue result ↔ (first.now ≡ second.now) }
+{
+    if first.len() != second.len() {
+        return false;
+    }
+    for index in 0..first.len() {
+        if !first[index].is_same(&second[index]) {
+            return false;
+        }
+    }
+    true
 }
 
 // Puts the values into the empty trie, and says whether their prefixes are distinct. Where they

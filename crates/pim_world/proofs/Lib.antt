@@ -12,3 +12,4 @@ mod Short
 pub mod Said
 pub mod Visits
 pub mod Written
+pub mod Room

@@ -18,7 +18,7 @@ pub mod unicast;
 pub mod world;
 
 pub use pim_trie::Meter;
-pub use routes::test_rps;
+pub use routes::table_of_ranges;
 pub use touched::Touched;
 pub use turn::Turn;
 pub use world::World;

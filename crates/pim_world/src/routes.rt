@@ -1,5 +1,6 @@
-//! Which routes and RP ranges the router takes, and that it takes them.
-ghost use Rattle.std.specs.Prelude.{◌≡◌, Ok, Err, IfErr, IfOk, OnOk, if◌then◌else◌};
+//! Which routes and RP ranges the router takes, and that it takes them: a table of them is made to test them, and it is the
+//! router's from then on.
+ghost use Rattle.std.specs.Prelude.{◌≡◌, ◌↔◌, IfErr, IfOk, IsTrue, false, true};
 ghost use Rattle.pim_ip.specs.declared.fault.Fault.{Fault};
 ghost use Rattle.pim_ip.specs.declared.refusal.Refusal.{Refusal};
 ghost use Rattle.pim_model.specs.Limits.{are_routes, are_rps};
@@ -7,27 +8,48 @@ ghost use Rattle.pim_model.specs.Limits.{are_routes, are_rps};
 use crate::world::World;
 use pim_mrib::Mrib;
 use pim_types::{Fault, Refusal, Route, RpRange};
-use std::alloc::{AllocError, Global};
+use std::alloc::Global;
 
 impl World {
-    /// Tests the routes that are to replace those there are: each is of the interfaces, and no prefix stands
-    /// twice.
-    pub fn test_routes(&self, alloc: Global, routes: &[Route]) -> Result<Result<(), Refusal>, Fault>
-        ensures answer { IfOk result (λ answer. answer ≡ (if are_routes self.now.configured routes.now then Ok tt else Err Refusal.BadRoutes)) }
+    /// A table of the routes that are to replace those there are, where they pass their test: each is of the interfaces, and
+    /// no prefix stands twice.
+    pub fn table_of_routes(
+        &self,
+        alloc: Global,
+        routes: &[Route],
+    ) -> Result<Result<Mrib, Refusal>, Fault>
+        ensures made { IfOk result (λ tested. IfOk tested (λ table.
+            (are_routes self.now.configured routes.now ≡ true) × (table.routes ≡ routes.now))) }
+        ensures refused { IfOk result (λ tested. IfErr tested (λ refusal.
+            (are_routes self.now.configured routes.now ≡ false) × (refusal ≡ Refusal.BadRoutes))) }
         ensures memory { IfErr result (λ fault. fault ≡ Fault.Memory) }
     {
-        Mrib::new(alloc).replace(&self.interfaces, routes)
+        let mut table = Mrib::new(alloc);
+        match table.replace(&self.interfaces, routes)? {
+            Ok(()) => Ok(Ok(table)),
+            Err(refusal) => Ok(Err(refusal)),
+        }
     }
 
-    /// Puts the routes in the place of those there are, where they pass their test. An error is want of memory.
-    pub fn replace_routes(&mut self, routes: &[Route]) -> Result<(), AllocError>
-        ensures { OnOk result (self.new
-            ≡ (if are_routes self.old.configured routes.now then record self.old { routes = routes.now } else self.old)) }
+    /// Whether these are the routes that there are, in their order.
+    pub fn has_routes(&self, routes: &[Route]) -> bool
+        ensures { IsTrue result ↔ (self.now.routes ≡ routes.now) }
     {
-        match self.mrib.replace(&self.interfaces, routes) {
-            Ok(_) => Ok(()),
-            Err(_) => Err(AllocError),
-        }
+        self.mrib.has_routes(routes)
+    }
+
+    /// Whether these are the RP ranges that there are, in their order.
+    pub fn has_ranges(&self, ranges: &[RpRange]) -> bool
+        ensures { IsTrue result ↔ (self.now.ranges ≡ ranges.now) }
+    {
+        self.mrib.has_ranges(ranges)
+    }
+
+    /// Takes the routes of another table in the place of its own.
+    pub fn take_routes(&mut self, other: Mrib)
+        ensures { self.new ≡ record self.old { routes = other.routes } }
+    {
+        self.mrib.take_routes(other);
     }
 
     /// Takes the RP ranges of another table in the place of its own.
@@ -38,10 +60,18 @@ impl World {
     }
 }
 
-/// Tests the RP ranges that are to replace those there are: each has an RP, and no prefix stands twice.
-pub fn test_rps(alloc: Global, ranges: &[RpRange]) -> Result<Result<(), Refusal>, Fault>
-    ensures answer { IfOk result (λ answer. answer ≡ (if are_rps ranges.now then Ok tt else Err Refusal.BadRps)) }
+/// A table of the RP ranges that are to replace those there are, where they pass their test: each has an RP, and no prefix
+/// stands twice.
+pub fn table_of_ranges(alloc: Global, ranges: &[RpRange]) -> Result<Result<Mrib, Refusal>, Fault>
+    ensures made { IfOk result (λ tested. IfOk tested (λ table.
+        (are_rps ranges.now ≡ true) × (table.ranges ≡ ranges.now))) }
+    ensures refused { IfOk result (λ tested. IfErr tested (λ refusal.
+        (are_rps ranges.now ≡ false) × (refusal ≡ Refusal.BadRps))) }
     ensures memory { IfErr result (λ fault. fault ≡ Fault.Memory) }
 {
-    Mrib::new(alloc).replace_rps(ranges)
+    let mut table = Mrib::new(alloc);
+    match table.replace_rps(ranges)? {
+        Ok(()) => Ok(Ok(table)),
+        Err(refusal) => Ok(Err(refusal)),
+    }
 }

@@ -101,7 +101,7 @@ impl World {
         if let Err(refusal) = test_settings(config) {
             return Ok(Err(refusal));
         }
-        let interfaces = Interfaces::new(alloc, config.interfaces.as_slice())?;
+        let interfaces = Interfaces::new(alloc, config.interfaces.as_slice());
         let mut mrib = Mrib::new(alloc);
         if mrib
             .replace(&interfaces, config.routes.as_slice())?
@@ -133,9 +133,9 @@ impl World {
             present: 0,
             interfaces,
             mrib,
-            neighbours: Neighbours::new(alloc)?,
+            neighbours: Neighbours::new(alloc),
             dr: IfSet::below(IfSet::LIMIT),
-            membership: Membership::new(alloc)?,
+            membership: Membership::new(alloc),
             store: Store::new(alloc)?,
         })
     }

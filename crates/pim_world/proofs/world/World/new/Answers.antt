@@ -10,30 +10,30 @@ pub returns-in-Err-clause-refused : goal.returns-in-Err-clause-refused
 returns-in-Err-clause-refused c =
     settings_refused c.args.config.now c.in-Err.refusal (sym c.test_settings.ensures ∙ c.in-Err.is)
 
-pub new-requires : goal.new-requires
-new-requires c =
+pub new-interfaces-requires : goal.new-interfaces-requires
+new-interfaces-requires c =
     subst (λ xs. interfaces_test xs ≡ Ok tt) (sym c.as_slice.ensures)
     (interfaces_tested c.args.config.now (sym c.test_settings.ensures ∙ c.in_default.is))
 
 pub returns-then-is_err-clause-refused : goal.returns-then-is_err-clause-refused
 returns-then-is_err-clause-refused c =
     let tested = sym c.test_settings.ensures ∙ c.in_default.is in
-    let listed : c.in_ok-interfaces.interfaces.configured
-    ≡ c.args.config.now.interfaces = ap (λ t. t.configured) c.in_ok-interfaces.ensures ∙ c.as_slice.ensures in
+    let listed : c.new-interfaces.result.configured
+    ≡ c.args.config.now.interfaces = ap (λ t. t.configured) c.new-interfaces.ensures ∙ c.as_slice.ensures in
     routes_refused c.args.config.now tested
     (subst (λ xs. are_routes xs c.args.config.now.routes ≡ false) listed
-    (subst (λ rs. are_routes c.in_ok-interfaces.interfaces.configured rs ≡ false) c.as_slice-2.ensures
+    (subst (λ rs. are_routes c.new-interfaces.result.configured rs ≡ false) c.as_slice-2.ensures
     (test_failed _ Refusal.BadRoutes c.in_ok-replace.field-0 c.in_ok-replace.ensures.answer (sym c.is_err.ensures.value
     ∙ c.if-is_err.true))))
 
 pub returns-then-is_err-2-clause-refused : goal.returns-then-is_err-2-clause-refused
 returns-then-is_err-2-clause-refused c =
     let tested = sym c.test_settings.ensures ∙ c.in_default.is in
-    let listed : c.in_ok-interfaces.interfaces.configured
-    ≡ c.args.config.now.interfaces = ap (λ t. t.configured) c.in_ok-interfaces.ensures ∙ c.as_slice.ensures in
+    let listed : c.new-interfaces.result.configured
+    ≡ c.args.config.now.interfaces = ap (λ t. t.configured) c.new-interfaces.ensures ∙ c.as_slice.ensures in
     rps_refused c.args.config.now tested
     (subst (λ xs. are_routes xs c.args.config.now.routes ≡ true) listed
-    (subst (λ rs. are_routes c.in_ok-interfaces.interfaces.configured rs ≡ true) c.as_slice-2.ensures
+    (subst (λ rs. are_routes c.new-interfaces.result.configured rs ≡ true) c.as_slice-2.ensures
     (test_held _ Refusal.BadRoutes c.in_ok-replace.field-0 c.in_ok-replace.ensures.answer (sym c.is_err.ensures.value
     ∙ c.if-is_err.false))))
     (subst (λ rs. are_rps rs ≡ false) c.as_slice-3.ensures
@@ -44,9 +44,9 @@ pub returns-clause-accepted : goal.returns-clause-accepted
 unfolding settings_of
 returns-clause-accepted c =
     let tested = sym c.test_settings.ensures ∙ c.in_default.is in
-    let listed : c.in_ok-interfaces.interfaces.configured
-    ≡ c.args.config.now.interfaces = ap (λ t. t.configured) c.in_ok-interfaces.ensures ∙ c.as_slice.ensures in
-    let routes = subst (λ rs. are_routes c.in_ok-interfaces.interfaces.configured rs ≡ true) c.as_slice-2.ensures
+    let listed : c.new-interfaces.result.configured
+    ≡ c.args.config.now.interfaces = ap (λ t. t.configured) c.new-interfaces.ensures ∙ c.as_slice.ensures in
+    let routes = subst (λ rs. are_routes c.new-interfaces.result.configured rs ≡ true) c.as_slice-2.ensures
     (test_held _ Refusal.BadRoutes c.in_ok-replace.field-0 c.in_ok-replace.ensures.answer (sym c.is_err.ensures.value
     ∙ c.if-is_err.false)) in
     let rps = subst (λ rs. are_rps rs ≡ true) c.as_slice-3.ensures
@@ -54,8 +54,8 @@ returns-clause-accepted c =
     (sym c.is_err-2.ensures.value ∙ c.if-is_err-2.false)) in (
       all_accepted c.args.config.now tested (subst (λ xs. are_routes xs c.args.config.now.routes ≡ true) listed routes) rps,
       c.in_ok-world.ensures
-          ∙ opens c.args.config.now c.settings_of.result c.in_ok-interfaces.interfaces c.replace_rps.new.self
-          c.settings_of.ensures (c.in_ok-interfaces.ensures
+          ∙ opens c.args.config.now c.settings_of.result c.new-interfaces.result c.replace_rps.new.self
+          c.settings_of.ensures (c.new-interfaces.ensures
           ∙ ap (λ xs. record { configured = xs; rows = [] }) c.as_slice.ensures)
           (chosen _ _ _ _ c.in_ok-replace_rps.ensures.new
           (test_held _ Refusal.BadRps c.in_ok-replace_rps.field-0 c.in_ok-replace_rps.ensures.answer

@@ -11,7 +11,7 @@ invariant_of-result c = (
   c.requires.least,
   c.requires.most,
   subst (λ (t : Table NeighbourRow). Shows c.below.result (is_dr_on c.args.interfaces.configured t))
-      (sym c.in_ok-new.ensures)
+      (sym c.new.ensures)
       (elected_alone c.args.interfaces.configured c.below.result c.below.ensures.interfaces),
   c.requires.interval,
 )
