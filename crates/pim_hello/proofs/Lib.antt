@@ -1,3 +1,5 @@
 mod Lowering
 mod StartedAnew
 mod Losses
+mod Ranked
+mod Led

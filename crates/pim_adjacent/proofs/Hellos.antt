@@ -1,0 +1,293 @@
+-- What a Hello that leaves the DR moves, and a neighbour's end.
+use Rattle.std.proofs.Common.{◌≡◌, ◌==◌, ◌||◌, ◌+◌, ℕ, Bool, true, false, not, cond, List, [], ◌∷◌, filter, map, min, Option, Some, None, refl, sym, ap, subst, ◌∙◌}
+use Rattle.std.proofs.lemmas.Bool.{or_left}
+use Rattle.std.specs.Cmp.{first_so, second_so}
+use Rattle.std.specs.Cmp.Derive.{both_true}
+use Rattle.std.specs.List.{list_all, list_any}
+use Rattle.std.specs.Prelude.{if◌then◌else◌}
+use Rattle.pim_types.specs.declared.fact.AssertRow.{AssertRow}
+use Rattle.pim_types.specs.declared.fact.InterfaceRow.{InterfaceRow}
+use Rattle.pim_types.specs.declared.fact.JoinTimerRow.{JoinTimerRow}
+use Rattle.pim_types.specs.declared.fact.Key.{Key}
+use Rattle.pim_types.specs.declared.fact.NeighbourRow.{NeighbourRow}
+use Rattle.pim_types.specs.declared.path.Path.{Path}
+use Rattle.pim_types.specs.declared.timer.TimerKind.{TimerKind}
+use Rattle.pim_types.specs.Keys.{iface_in, is_on, is_star, group_in, neighbour_key, same_key, source_in}
+use Rattle.pim_types.proofs.Keys.{equal_keys}
+use Rattle.pim_wire.specs.declared.hello.Hello.{Hello as HelloValue}
+use Rattle.pim_model.specs.Downstream.{holdtime_end_from}
+use Rattle.pim_model.specs.Firing.{fired}
+use Rattle.pim_model.specs.Hellos.{hello_holdtime_of, hello_received, hello_triggered, hellos_triggered, is_generation_changed, is_lost_to, neighbour_due, neighbour_replaced, neighbour_restarted, neighbours_replaced, triggered_hello_delay}
+use Rattle.pim_model.specs.Neighbours.{is_dr, is_neighbour}
+use Rattle.pim_model.specs.Reach.{own_firing}
+use Rattle.pim_model.specs.State.{State}
+use Rattle.pim_model.specs.Tables.{Table, delay_in, has_row, keys_in, rows_where, same_bool, set_row}
+use Rattle.pim_model.specs.Timers.{Ending}
+use Rattle.pim_model.specs.Unicast.{route, rp_route}
+use Rattle.pim_model.specs.Upstream.{fact_keys}
+use Rattle.pim_laws.proofs.FewerFacts.{IsFewer, fewer_both, fewer_so, no_other, rows_left, table_fewer}
+use Rattle.pim_laws.proofs.ListLaws.{each_of_all, list_of_each}
+use Rattle.pim_laws.proofs.Parts.{Asserts, JoinTimers}
+use Rattle.pim_laws.proofs.RowLaws.{has_row_put}
+use Rattle.pim_locality.specs.Locality.{AgreesBut, touching}
+use Rattle.pim_locality.specs.Scopes.{only_up, only_winner, reads, scope}
+use Rattle.pim_adjacent.specs.Adjacent.{AdjoinsAlone, end_keeps_dr, has_same_hop, hello_keeps_dr, is_still_neighbour, is_taken, keys_of_hello, keys_towards, lost_keys, with_neighbours}
+use Rattle.pim_adjacent.proofs.OneRow.{SetsOne, dr_kept, same_next_hop}
+use Rattle.pim_adjacent.proofs.Towards.{all_taken, all_winners, led_among, lost_among}
+
+-- ---- a neighbour's end
+
+pub end_adjoins : (s : State) (e : Ending) → e.timer.kind ≡ TimerKind.Neighbour → end_keeps_dr s e.timer.key ≡ true
+    → AdjoinsAlone (keys_towards s (iface_in e.timer.key) (source_in e.timer.key)) s (own_firing s e)
+unfolding own_firing fired neighbour_due end_keeps_dr set_row scope fact_keys is_dr
+end_adjoins s e is same =
+    let k : Key = e.timer.key in
+    let c : State = (fired (record s { present = e.end }) TimerKind.Neighbour k).0 in
+    let sets : SetsOne k s c = record { row = None; neighbours = refl; configured = refl } in
+    let keys : List Key = keys_towards s (iface_in k) (source_in k) in
+    subst (λ (kind : TimerKind). AdjoinsAlone keys s (fired (record s { present = e.end }) kind k).0) (sym is)
+    (record {
+      agrees = λ q out. refl;
+      dr = dr_kept s c k sets same;
+      winners = all_winners s c k sets keys (lost_among s (iface_in k) (source_in k));
+      taken = all_taken s c k sets keys (led_among s (iface_in k) (source_in k));
+      facts = λ p there. there;
+    })
+
+-- ---- the interfaces, on which a Hello is owed
+
+module _ (i end : ℕ) where
+  abbrev owed : Key × InterfaceRow → Key × InterfaceRow
+  owed e = if is_on i e.0 then (e.0, record e.1 { hello_end = min (e.1).hello_end end; is_hello_owed = true }) else e
+
+  owed_step : (e : Key × InterfaceRow) (b : Bool)
+      → only_up (if b then (e.0, record e.1 { hello_end = min (e.1).hello_end end; is_hello_owed = true }) else e) ≡ only_up e
+  owed_step e true = refl
+  owed_step e false = refl
+
+  all_up : (t : Table InterfaceRow) → map only_up (map owed t) ≡ map only_up t
+  all_up [] = refl
+  all_up (e ∷ t) = λ j. owed_step e (is_on i e.0) j ∷ all_up t j
+
+-- ---- the asserts that were lost to it
+
+module _ (sees : Key → Bool) (lost : Key × AssertRow → Bool) where
+  unread_step : (e : Key × AssertRow) (t : Table AssertRow) (b : Bool) → lost e ≡ b
+      → list_any sees (map (λ x. x.0) (cond b (e ∷ filter lost t) (filter lost t))) ≡ false
+      → (list_any sees (map (λ x. x.0) (filter lost t)) ≡ false
+      → filter (λ x. sees x.0) (filter (λ x. not (lost x)) t) ≡ filter (λ x. sees x.0) t)
+      → filter (λ x. sees x.0) (cond (not b) (e ∷ filter (λ x. not (lost x)) t) (filter (λ x. not (lost x)) t))
+      ≡ cond (sees e.0) (e ∷ filter (λ x. sees x.0) t) (filter (λ x. sees x.0) t)
+  unread_step e t true is out rest = go (sees e.0) refl out
+    where
+      go : (c : Bool) → sees e.0 ≡ c → (c || list_any sees (map (λ x. x.0) (filter lost t))) ≡ false
+          → filter (λ x. sees x.0) (filter (λ x. not (lost x)) t)
+          ≡ cond c (e ∷ filter (λ x. sees x.0) t) (filter (λ x. sees x.0) t)
+      go true seen none = cc
+      go false seen none = rest none
+  unread_step e t false is out rest =
+      ap (λ (u : Table AssertRow). cond (sees e.0) (e ∷ u) u) (rest out)
+
+  unread : (t : Table AssertRow) → list_any sees (map (λ x. x.0) (filter lost t)) ≡ false
+      → filter (λ x. sees x.0) (filter (λ x. not (lost x)) t) ≡ filter (λ x. sees x.0) t
+  unread [] out = refl
+  unread (e ∷ t) out = unread_step e t (lost e) refl out (unread t)
+
+-- ---- no facts come
+
+lowered_keys : (test : Key → Bool) (end : ℕ) (t : Table JoinTimerRow)
+    → keys_in (map (λ (e : Key × JoinTimerRow). if test e.0 then (e.0, record { end = min (e.1).end end }) else e) t)
+    ≡ keys_in t
+unfolding keys_in
+lowered_keys test end [] = refl
+lowered_keys test end (e ∷ t) = one (test e.0) e (keys_in t) _ (lowered_keys test end t) where
+  one : (b : Bool) (e : Key × JoinTimerRow) (ks : List Key) (later : List Key) → later ≡ ks
+      → (if b then (e.0, record { end = min (e.1).end end }) else e).0 ∷ later ≡ e.0 ∷ ks
+  one true e ks later is = ap (λ xs. e.0 ∷ xs) is
+  one false e ks later is = ap (λ xs. e.0 ∷ xs) is
+
+triggered : (s : State) (i w : ℕ) (b : Bool) → fact_keys (if b then hello_triggered s i w else s) ≡ fact_keys s
+unfolding hello_triggered fact_keys
+triggered s i w true = refl
+triggered s i w false = refl
+
+replaced : (t : State) (i a : ℕ) (h : HelloValue) → fact_keys (neighbour_replaced t i a h) ≡ fact_keys t
+unfolding neighbour_replaced fact_keys
+replaced t i a h = refl
+
+restarted : (o t : State) (i a w : ℕ) → IsFewer t (neighbour_restarted o i a w t)
+unfolding neighbour_restarted
+restarted o t i a w =
+    let forgotten : State = record t { asserts = filter (λ e. not (is_lost_to i a e)) t.asserts } in
+    fewer_both t forgotten (neighbour_restarted o i a w t)
+    (table_fewer Asserts t _ (rows_left (λ e. not (is_lost_to i a e)) t.asserts))
+    (table_fewer JoinTimers forgotten _
+    (λ p e. sym (ap (λ (ks : List Key). list_any p ks) (lowered_keys _ _ t.join_timers)) ∙ e))
+
+pub hello_leaves_facts : (s : State) (i a w : ℕ) (h : HelloValue) → IsFewer s (hello_received s i a h w)
+unfolding hello_received
+hello_leaves_facts s i a w h =
+    let after : State = neighbour_replaced (if _ then hello_triggered s i w else s) i a h in
+    let heard : IsFewer s after = no_other s after (replaced _ i a h ∙ triggered s i w _) in
+    fewer_so (is_generation_changed s i a h) s _ _ (fewer_both s after _ heard (restarted s after i a w)) heard
+
+-- ---- a Hello
+
+module _ (s : State) (i a w : ℕ) (h : HelloValue) where
+  abbrev changed : Bool
+  changed = is_generation_changed s i a h
+
+  -- the row that it leaves
+  abbrev lasting : NeighbourRow
+  lasting = record {
+    end = holdtime_end_from s.present (hello_holdtime_of h);
+    lan_delay = h.lan_delay;
+    priority = h.priority;
+    generation = h.generation;
+  }
+
+  abbrev new_row : Option NeighbourRow
+  new_row = if hello_holdtime_of h == 0 then None else Some lasting
+
+  -- after whether a Hello is owed and whether the neighbour started anew
+  abbrev after : Bool → Bool → State
+  after triggers restarts =
+      let replaced : State = neighbour_replaced (if triggers then hello_triggered s i w else s) i a h in
+      if restarts then neighbour_restarted s i a w replaced else replaced
+
+  neighbours_after : (triggers restarts : Bool)
+      → (after triggers restarts).neighbours ≡ set_row s.neighbours (neighbour_key i a) new_row
+  unfolding hello_triggered neighbour_replaced neighbours_replaced neighbour_restarted
+  neighbours_after true true = refl
+  neighbours_after true false = refl
+  neighbours_after false true = refl
+  neighbours_after false false = refl
+
+  configured_after : (triggers restarts : Bool) → s.configured ≡ (after triggers restarts).configured
+  unfolding hello_triggered neighbour_replaced neighbour_restarted
+  configured_after true true = refl
+  configured_after true false = refl
+  configured_after false true = refl
+  configured_after false false = refl
+
+  up_so : (end : ℕ) → map only_up (hellos_triggered i end s.interfaces) ≡ map only_up s.interfaces
+  unfolding hellos_triggered
+  up_so end = all_up i end s.interfaces
+
+  agrees : (triggers restarts : Bool) → AgreesBut (touching (lost_keys s i a)) s (with_neighbours (after triggers restarts) s.neighbours)
+  unfolding hello_triggered neighbour_replaced neighbour_restarted scope touching rows_where keys_in
+  agrees true true q out = sym (λ j. record (scope (reads q) s) {
+    interfaces = up_so (s.present + delay_in 1 triggered_hello_delay w) j;
+    asserts = map only_winner (unread (reads q) (is_lost_to i a) s.asserts out j);
+  })
+  agrees true false q out = sym (λ j. record (scope (reads q) s) {
+    interfaces = up_so (s.present + delay_in 1 triggered_hello_delay w) j;
+  })
+  agrees false true q out = sym (λ j. record (scope (reads q) s) {
+    asserts = map only_winner (unread (reads q) (is_lost_to i a) s.asserts out j);
+  })
+  agrees false false q out = refl
+
+  dr_there : (triggers restarts : Bool) → is_dr (neighbour_replaced s i a h) i ≡ is_dr (after triggers restarts) i
+  unfolding hello_triggered neighbour_replaced neighbour_restarted is_dr
+  dr_there true true = refl
+  dr_there true false = refl
+  dr_there false true = refl
+  dr_there false false = refl
+
+  module _ (triggers restarts : Bool) where
+    abbrev c : State
+    c = after triggers restarts
+
+    sets : SetsOne (neighbour_key i a) s c
+    sets = record {
+      row = new_row;
+      neighbours = neighbours_after triggers restarts;
+      configured = configured_after triggers restarts;
+    }
+
+    -- where it stays a neighbour all are neighbours as before
+    one_more : (b d : Bool) → (b ≡ true → d ≡ true) → (b || d) ≡ d
+    one_more true true f = refl
+    one_more true false f = sym (f refl)
+    one_more false d f = refl
+
+    row_stays : (row : NeighbourRow) (n b : ℕ) → is_neighbour s i a ≡ true
+        → has_row (set_row s.neighbours (neighbour_key i a) (Some row)) (neighbour_key n b) ≡ is_neighbour s n b
+    unfolding set_row
+    row_stays row n b known =
+        has_row_put (neighbour_key n b) (neighbour_key i a) row s.neighbours
+        ∙ one_more (same_key (neighbour_key n b) (neighbour_key i a)) (is_neighbour s n b)
+        (λ e. ap (has_row s.neighbours) (equal_keys (neighbour_key n b) (neighbour_key i a) e) ∙ known)
+
+    stays_there : is_neighbour s i a ≡ true → (hello_holdtime_of h == 0) ≡ false → (n b : ℕ)
+        → is_neighbour s n b ≡ is_neighbour c n b
+    stays_there known lasts n b =
+        sym (ap (λ (rows : Table NeighbourRow). has_row rows (neighbour_key n b))
+        (neighbours_after triggers restarts ∙ ap (λ (gone : Bool). set_row s.neighbours (neighbour_key i a) (if gone then None else Some lasting)) lasts)
+        ∙ row_stays lasting n b known)
+
+    keys_touch_lost : (q : Key) → touching (lost_keys s i a) q ≡ true → touching (keys_of_hello s i a h) q ≡ true
+    unfolding keys_of_hello
+    keys_touch_lost q e = go (is_still_neighbour s i a h)
+      where
+        go : (b : Bool) → touching (if b then lost_keys s i a else keys_towards s i a) q ≡ true
+        go true = e
+        go false = lost_among s i a q e
+
+    fewer_touched : (xs ys : List Key) → ((q : Key) → touching xs q ≡ true → touching ys q ≡ true) → (q : Key)
+        → touching ys q ≡ false → touching xs q ≡ false
+    fewer_touched xs ys more q out = go (touching xs q) refl
+      where
+        go : (b : Bool) → touching xs q ≡ b → b ≡ false
+        go true e = sym (more q e) ∙ out
+        go false e = refl
+
+    -- with the same next hops all is taken, whatever is touched
+    with_hops : ((path : Option Path) → has_same_hop s c path ≡ true) → (keys : List Key)
+        → list_all (is_taken keys s c) (fact_keys s) ≡ true
+    with_hops same keys =
+        list_of_each (is_taken keys s c) (fact_keys s)
+        (each_of_all (λ k. is_taken keys s c k ≡ true) (λ k.
+        both_true
+        (or_left (has_same_hop s c (rp_route s (group_in k))) _ (same (rp_route s (group_in k))))
+        (in_middle (is_star k) (has_same_hop s c (route s (source_in k))) _ (same (route s (source_in k)))))
+        (fact_keys s))
+      where
+        in_middle : (n b d : Bool) → b ≡ true → (n || b || d) ≡ true
+        in_middle true b d e = refl
+        in_middle false true d e = refl
+        in_middle false false d e = cc
+
+    taken_by : (still : Bool) → is_still_neighbour s i a h ≡ still
+        → list_all (is_taken (keys_of_hello s i a h) s c) (fact_keys s) ≡ true
+    unfolding keys_of_hello
+    taken_by true is =
+        with_hops (λ path. same_next_hop s c path
+        (λ p e. stays_there (first_so (is_neighbour s i a) _ is)
+        (lasting_so (hello_holdtime_of h == 0) (second_so (is_neighbour s i a) _ is)) p.iface.number p.next_hop.bits))
+        (keys_of_hello s i a h)
+      where
+        lasting_so : (b : Bool) → not b ≡ true → b ≡ false
+        lasting_so true e = cc
+        lasting_so false e = refl
+    taken_by false isnt =
+        all_taken s c (neighbour_key i a) sets (keys_of_hello s i a h)
+        (λ q e. ap (λ (still : Bool). touching (if still then lost_keys s i a else keys_towards s i a) q) isnt
+        ∙ led_among s i a q e)
+
+    adjoins : IsFewer s c → hello_keeps_dr s i a h ≡ true → AdjoinsAlone (keys_of_hello s i a h) s c
+    unfolding hello_keeps_dr
+    adjoins fewer same = record {
+      agrees = λ q out. agrees triggers restarts q (fewer_touched _ _ keys_touch_lost q out);
+      dr = dr_kept s c (neighbour_key i a) sets
+          (ap (same_bool (is_dr s i)) (sym (dr_there triggers restarts)) ∙ same);
+      winners = all_winners s c (neighbour_key i a) sets (keys_of_hello s i a h) keys_touch_lost;
+      taken = taken_by (is_still_neighbour s i a h) refl;
+      facts = fewer.passed;
+    }
+
+  pub hello_adjoins : hello_keeps_dr s i a h ≡ true → AdjoinsAlone (keys_of_hello s i a h) s (hello_received s i a h w)
+  unfolding hello_received
+  hello_adjoins same =
+      adjoins (changed || not (is_neighbour s i a)) changed (hello_leaves_facts s i a w h) same

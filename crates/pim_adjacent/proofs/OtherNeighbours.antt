@@ -1,0 +1,315 @@
+-- The macros of a state with other neighbours: all are as they were where the router is the DR of the same interfaces, but
+-- for the upstream neighbours, which are where the next hops are.
+use Rattle.std.proofs.Common.{◌≡◌, ℕ, Bool, false, not, ◌||◌, ◌&&◌, cond, refl, ap, ◌∙◌}
+use Rattle.std.specs.Option.{option_map_or, option_or}
+use Rattle.pim_types.specs.declared.fact.Key.{Key}
+use Rattle.pim_types.specs.declared.fact.NeighbourRow.{NeighbourRow}
+use Rattle.pim_types.specs.declared.path.Path.{Path}
+use Rattle.pim_types.specs.declared.upstream.TreeState.{TreeState}
+use Rattle.pim_types.specs.Keys.{group_in, iface_in, is_star, source_in}
+use Rattle.pim_model.specs.AssertMacros.{could_assert, could_assert_star, forwarding_set, infinite, is_tracking_desired, is_tracking_desired_star, my_metric, my_metric_star}
+use Rattle.pim_model.specs.Asserts.{could_assert_at, is_tracking_at, my_metric_at}
+use Rattle.pim_model.specs.Cache.{may_register}
+use Rattle.pim_model.specs.Clearing.{is_rpf_at}
+use Rattle.pim_model.specs.Desires.{is_immediate_empty, is_inherited_empty, join_desired, join_desired_star, prune_desired, rpf_rpt, rpf_source, rpf_star, tree_state, winner_hop}
+use Rattle.pim_model.specs.Forwarding.{has_local_receivers}
+use Rattle.pim_model.specs.Neighbours.{is_dr, nbr}
+use Rattle.pim_model.specs.Receivers.{is_exclude, local_receiver_exclude, local_receiver_include}
+use Rattle.pim_model.specs.Registers.{could_register, has_other_rp}
+use Rattle.pim_model.specs.Sets.{assert_source, assert_star, immediate_olist, immediate_olist_star, inherited_olist, inherited_olist_rpt, is_beaten, is_empty, is_kept_alive, is_winner, joins, joins_star, lost_assert, lost_assert_rpt, lost_assert_star, pim_exclude, pim_include, pim_include_star, prunes, rpt_metric, serves, serves_star, spt_bit, spt_metric, tunnel, ◌∖◌, ◌∪◌}
+use Rattle.pim_model.specs.State.{State}
+use Rattle.pim_model.specs.Tables.{Table, same_hop}
+use Rattle.pim_model.specs.Unicast.{is_connected, is_rpf_interface, is_rpf_interface_rp, route, rp_of, rp_route, rpf_interface, rpf_interface_rp}
+use Rattle.pim_adjacent.specs.Adjacent.{with_neighbours}
+
+module _ (t : State) (rows : Table NeighbourRow) where
+  abbrev u : State
+  u = with_neighbours t rows
+
+  -- ---- what reads no neighbours
+
+  pub rp_as : (g : ℕ) → rp_of t g ≡ rp_of u g
+  unfolding rp_of
+  rp_as g = refl
+
+  pub rp_route_as : (g : ℕ) → rp_route t g ≡ rp_route u g
+  unfolding rp_route rp_of route
+  rp_route_as g = refl
+
+  pub route_as : (src : ℕ) → route t src ≡ route u src
+  unfolding route
+  route_as src = refl
+
+  pub rpf_interface_rp_as : (g : ℕ) → rpf_interface_rp t g ≡ rpf_interface_rp u g
+  unfolding rpf_interface_rp rp_route rp_of route
+  rpf_interface_rp_as g = refl
+
+  pub rpf_interface_as : (src : ℕ) → rpf_interface t src ≡ rpf_interface u src
+  unfolding rpf_interface route
+  rpf_interface_as src = refl
+
+  rpf_rp_as : (g i : ℕ) → is_rpf_interface_rp t g i ≡ is_rpf_interface_rp u g i
+  unfolding rpf_interface_rp rp_route rp_of route
+  rpf_rp_as g i = refl
+
+  pub rpf_as : (src i : ℕ) → is_rpf_interface t src i ≡ is_rpf_interface u src i
+  unfolding rpf_interface route
+  rpf_as src i = refl
+
+  lost_star_as : (g : ℕ) → lost_assert_star t g ≡ lost_assert_star u g
+  unfolding lost_assert_star rpf_interface_rp rp_route rp_of route
+  lost_star_as g = refl
+
+  lost_as : (g src : ℕ) → lost_assert t g src ≡ lost_assert u g src
+  unfolding lost_assert is_beaten spt_metric rpf_interface route
+  lost_as g src = refl
+
+  lost_rpt_as : (g src : ℕ) → lost_assert_rpt t g src ≡ lost_assert_rpt u g src
+  unfolding lost_assert_rpt rpf_interface_rp rpf_interface rp_route rp_of route spt_bit
+  lost_rpt_as g src = refl
+
+  pub joins_star_as : (g : ℕ) → joins_star t g ≡ joins_star u g
+  unfolding joins_star
+  joins_star_as g = refl
+
+  pub joins_as : (g src : ℕ) → joins t g src ≡ joins u g src
+  unfolding joins
+  joins_as g src = refl
+
+  pub prunes_as : (g src : ℕ) → prunes t g src ≡ prunes u g src
+  unfolding prunes
+  prunes_as g src = refl
+
+  pub exclude_as : (g : ℕ) → is_exclude t g ≡ is_exclude u g
+  unfolding is_exclude
+  exclude_as g = refl
+
+  pub local_include_as : (g src : ℕ) → local_receiver_include t g src ≡ local_receiver_include u g src
+  unfolding local_receiver_include
+  local_include_as g src = refl
+
+  pub local_exclude_as : (g src : ℕ) → local_receiver_exclude t g src ≡ local_receiver_exclude u g src
+  unfolding local_receiver_exclude
+  local_exclude_as g src = refl
+
+  pub spt_as : (g src : ℕ) → spt_bit t g src ≡ spt_bit u g src
+  unfolding spt_bit
+  spt_as g src = refl
+
+  kept_alive_as : (g src : ℕ) → is_kept_alive t g src ≡ is_kept_alive u g src
+  unfolding is_kept_alive
+  kept_alive_as g src = refl
+
+  pub tunnel_as : (g src : ℕ) → tunnel t g src ≡ tunnel u g src
+  unfolding tunnel
+  tunnel_as g src = refl
+
+  pub beaten_as : (g src : ℕ) → is_beaten t g src ≡ is_beaten u g src
+  unfolding is_beaten spt_metric route
+  beaten_as g src = refl
+
+  rpt_metric_as : (g i : ℕ) → rpt_metric t g i ≡ rpt_metric u g i
+  unfolding rpt_metric rp_route rp_of route
+  rpt_metric_as g i = refl
+
+  spt_metric_as : (src i : ℕ) → spt_metric t src i ≡ spt_metric u src i
+  unfolding spt_metric route
+  spt_metric_as src i = refl
+
+  other_rp_as : (g : ℕ) → has_other_rp t g ≡ has_other_rp u g
+  unfolding has_other_rp rp_of
+  other_rp_as g = refl
+
+  pub connected_as : (src : ℕ) → is_connected t src ≡ is_connected u src
+  unfolding is_connected route
+  connected_as src = refl
+
+  empty_as : (a : ℕ → Bool) → is_empty t a ≡ is_empty u a
+  unfolding is_empty
+  empty_as a = refl
+
+  empty_so : (a b : ℕ → Bool) → a ≡ b → is_empty t a ≡ is_empty u b
+  empty_so a b e = empty_as a ∙ ap (is_empty u) e
+
+  -- ---- what reads where the router is the DR
+
+  module _ (dr : (i : ℕ) → is_dr t i ≡ is_dr u i) where
+    pub dr_so : is_dr t ≡ is_dr u
+    dr_so = λ j i. dr i j
+
+    module _ (g : ℕ) where
+      serves_star_so : serves_star t g ≡ serves_star u g
+      unfolding serves_star
+      serves_star_so = λ j i. (dr i j && not (lost_star_as g j i)) || is_winner (assert_star t g i)
+
+      pub include_star_so : pim_include_star t g ≡ pim_include_star u g
+      unfolding pim_include_star
+      include_star_so = λ j i. serves_star_so j i && exclude_as g j i
+
+      immediate_star_so : immediate_olist_star t g ≡ immediate_olist_star u g
+      unfolding immediate_olist_star
+      immediate_star_so = λ j. joins_star_as g j ∪ include_star_so j ∖ lost_star_as g j
+
+      pub desired_star_so : join_desired_star t g ≡ join_desired_star u g
+      unfolding join_desired_star
+      desired_star_so = ap not (empty_so _ _ immediate_star_so)
+
+      pub could_star_so : (i : ℕ) → could_assert_star t g i ≡ could_assert_star u g i
+      unfolding could_assert_star
+      could_star_so i = λ j. (joins_star_as g j ∪ include_star_so j) i && not (rpf_rp_as g i j)
+
+      tracking_star_so : (i : ℕ) → is_tracking_desired_star t g i ≡ is_tracking_desired_star u g i
+      unfolding is_tracking_desired_star
+      tracking_star_so i = λ j.
+          could_star_so i j
+          || (exclude_as g j i && (dr i j || is_winner (assert_star t g i)))
+          || (rpf_rp_as g i j && desired_star_so j)
+
+      metric_star_so : (i : ℕ) → my_metric_star t g i ≡ my_metric_star u g i
+      unfolding my_metric_star
+      metric_star_so i = λ j. cond (could_star_so i j) (rpt_metric_as g i j) infinite
+
+    module _ (g src : ℕ) where
+      serves_so : serves t g src ≡ serves u g src
+      unfolding serves
+      serves_so = λ j i. (dr i j && not (lost_as g src j i)) || is_winner (assert_source t g src i)
+
+      pub include_so : pim_include t g src ≡ pim_include u g src
+      unfolding pim_include
+      include_so = λ j i. serves_so j i && local_include_as g src j i
+
+      pub exclude_so : pim_exclude t g src ≡ pim_exclude u g src
+      unfolding pim_exclude
+      exclude_so = λ j i. serves_star_so g j i && local_exclude_as g src j i
+
+      pub immediate_so : immediate_olist t g src ≡ immediate_olist u g src
+      unfolding immediate_olist
+      immediate_so = λ j. joins_as g src j ∪ include_so j ∖ lost_as g src j
+
+      pub inherited_rpt_so : inherited_olist_rpt t g src ≡ inherited_olist_rpt u g src
+      unfolding inherited_olist_rpt
+      inherited_rpt_so = λ j.
+          (joins_star_as g j ∖ prunes_as g src j) ∪ (include_star_so g j ∖ exclude_so j)
+          ∖ (lost_star_as g j ∪ lost_rpt_as g src j)
+
+      pub inherited_so : inherited_olist t g src ≡ inherited_olist u g src
+      unfolding inherited_olist
+      inherited_so = λ j. inherited_rpt_so j ∪ joins_as g src j ∪ include_so j ∖ lost_as g src j
+
+      immediate_empty_so : is_immediate_empty t g src ≡ is_immediate_empty u g src
+      unfolding is_immediate_empty
+      immediate_empty_so = λ j. empty_so _ _ immediate_so j && not (tunnel_as g src j)
+
+      pub inherited_empty_so : is_inherited_empty t g src ≡ is_inherited_empty u g src
+      unfolding is_inherited_empty
+      inherited_empty_so = λ j. empty_so _ _ inherited_so j && not (tunnel_as g src j)
+
+      pub inherited_rpt_empty_so : is_empty t (inherited_olist_rpt t g src) ≡ is_empty u (inherited_olist_rpt u g src)
+      inherited_rpt_empty_so = empty_so _ _ inherited_rpt_so
+
+      pub desired_so : join_desired t g src ≡ join_desired u g src
+      unfolding join_desired
+      desired_so = λ j. not (immediate_empty_so j) || (kept_alive_as g src j && not (inherited_empty_so j))
+
+      forwarding_so : forwarding_set t g src ≡ forwarding_set u g src
+      unfolding forwarding_set
+      forwarding_so = λ j.
+          (joins_star_as g j ∖ prunes_as g src j) ∪ (include_star_so g j ∖ exclude_so j)
+          ∖ lost_star_as g j ∪ joins_as g src j
+
+      pub could_so : (i : ℕ) → could_assert t g src i ≡ could_assert u g src i
+      unfolding could_assert
+      could_so i = λ j. spt_as g src j && not (rpf_as src i j) && (forwarding_so j ∪ include_so j) i
+
+      tracking_so : (i : ℕ) → is_tracking_desired t g src i ≡ is_tracking_desired u g src i
+      unfolding is_tracking_desired
+      tracking_so i = λ j.
+          forwarding_so j i
+          || (local_include_as g src j i && (dr i j || is_winner (assert_source t g src i)))
+          || (rpf_as src i j && desired_so j)
+          || (rpf_rp_as g i j && desired_star_so g j && not (spt_as g src j))
+
+      metric_so : (i : ℕ) → my_metric t g src i ≡ my_metric u g src i
+      unfolding my_metric
+      metric_so i = λ j. cond (could_so i j) (spt_metric_as src i j) (metric_star_so g i j)
+
+      pub may_register_so : may_register t g src ≡ may_register u g src
+      unfolding may_register
+      may_register_so = λ j.
+          option_map_or (λ (p : Path). p.is_connected && dr p.iface.number j) (route_as src j) false && other_rp_as g j
+
+      pub could_register_so : could_register t g src ≡ could_register u g src
+      unfolding could_register
+      could_register_so = λ j.
+          option_map_or (λ (p : Path). p.is_connected && dr p.iface.number j) (route_as src j) false
+          && kept_alive_as g src j && other_rp_as g j
+
+      pub has_receivers_so : has_local_receivers t g src ≡ has_local_receivers u g src
+      unfolding has_local_receivers
+      has_receivers_so =
+          ap not (empty_so _ _ (λ j. (include_star_so g j ∖ exclude_so j) ∪ include_so j))
+
+    -- ---- by the key of an assert
+
+    pub could_at_so : (k : Key) → could_assert_at t k ≡ could_assert_at u k
+    could_at_so k = λ j.
+        cond (is_star k) (could_star_so (group_in k) (iface_in k) j) (could_so (group_in k) (source_in k) (iface_in k) j)
+
+    pub tracking_at_so : (k : Key) → is_tracking_at t k ≡ is_tracking_at u k
+    tracking_at_so k = λ j.
+        cond (is_star k) (tracking_star_so (group_in k) (iface_in k) j)
+        (tracking_so (group_in k) (source_in k) (iface_in k) j)
+
+    pub metric_at_so : (k : Key) → my_metric_at t k ≡ my_metric_at u k
+    metric_at_so k = λ j.
+        cond (is_star k) (metric_star_so (group_in k) (iface_in k) j)
+        (metric_so (group_in k) (source_in k) (iface_in k) j)
+
+    pub rpf_at_so : (k : Key) → is_rpf_at t k ≡ is_rpf_at u k
+    rpf_at_so k = λ j. cond (is_star k) (rpf_rp_as (group_in k) (iface_in k) j) (rpf_as (source_in k) (iface_in k) j)
+
+    -- ---- upstream neighbours
+
+    pub star_winner_as : (g : ℕ) → winner_hop (rpf_interface_rp t g) (assert_star t g) ≡ winner_hop (rpf_interface_rp u g) (assert_star u g)
+    unfolding rpf_interface_rp rp_route rp_of route
+    star_winner_as g = refl
+
+    pub rpt_winner_as : (g src : ℕ)
+        → winner_hop (rpf_interface_rp t g) (assert_source t g src)
+        ≡ winner_hop (rpf_interface_rp u g) (assert_source u g src)
+    unfolding rpf_interface_rp rp_route rp_of route
+    rpt_winner_as g src = refl
+
+    pub source_winner_as : (g src : ℕ)
+        → winner_hop (rpf_interface t src) (assert_source t g src)
+        ≡ winner_hop (rpf_interface u src) (assert_source u g src)
+    unfolding rpf_interface route
+    source_winner_as g src = refl
+
+    module _ (g : ℕ) (rp_hop : nbr t (rp_route t g) ≡ nbr u (rp_route u g)) where
+      pub rpf_star_so : rpf_star t g ≡ rpf_star u g
+      unfolding rpf_star
+      rpf_star_so = λ j. option_or (star_winner_as g j) (rp_hop j)
+
+      module _ (src : ℕ) where
+        pub rpf_rpt_so : rpf_rpt t g src ≡ rpf_rpt u g src
+        unfolding rpf_rpt
+        rpf_rpt_so = λ j. option_or (rpt_winner_as g src j) (rpf_star_so j)
+
+        module _ (hop : nbr t (route t src) ≡ nbr u (route u src)) where
+          pub rpf_source_so : rpf_source t g src ≡ rpf_source u g src
+          unfolding rpf_source
+          rpf_source_so = λ j. option_or (source_winner_as g src j) (hop j)
+
+          prune_desired_so : prune_desired t g src ≡ prune_desired u g src
+          unfolding prune_desired
+          prune_desired_so = λ j.
+              desired_star_so g j
+              && (inherited_rpt_empty_so g src j
+              || (spt_as g src j && not (same_hop (rpf_star_so j) (rpf_source_so j))))
+
+          pub tree_state_so : tree_state t g src ≡ tree_state u g src
+          unfolding tree_state
+          tree_state_so = λ j.
+              cond (desired_star_so g j) (cond (prune_desired_so j) TreeState.Pruned TreeState.NotPruned)
+              TreeState.NotJoined

@@ -1,0 +1,220 @@
+-- All that follows of a change of neighbours follows of the keys that take what it moves: the views of what isn't touched are as
+-- they were. So is what is asked of sources that aren't touched.
+use Rattle.std.proofs.Common.{◌≡◌, ◌==◌, ◌&&◌, ◌||◌, ℕ, Bool, true, false, not, List, [], ◌++◌, Option, Some, None, option_map, refl, sym, ap, ◌∙◌, eq-eqb, eqb-true}
+use Rattle.std.specs.Cmp.{first_so, second_so}
+use Rattle.std.specs.List.{AllByRecursion, list_all, list_any}
+use Rattle.pim_ip.specs.Addr.{addr}
+use Rattle.pim_types.specs.declared.fact.Key.{Key}
+use Rattle.pim_types.specs.declared.fact.NeighbourRow.{NeighbourRow}
+use Rattle.pim_types.specs.declared.path.Hop.{Hop}
+use Rattle.pim_types.specs.declared.path.Path.{Path}
+use Rattle.pim_types.specs.declared.upstream.StarView.{StarView}
+use Rattle.pim_types.specs.Keys.{group_in, is_star, source_in, source_key, star_key}
+use Rattle.pim_model.specs.Clearing.{clear}
+use Rattle.pim_model.specs.Firing.{settled}
+use Rattle.pim_model.specs.Messages.{Message}
+use Rattle.pim_model.specs.Neighbours.{is_dr, nbr, nbr_among}
+use Rattle.pim_model.specs.State.{State}
+use Rattle.pim_model.specs.Tables.{Table, same_hop}
+use Rattle.pim_model.specs.Unicast.{route, rp_route}
+use Rattle.pim_model.specs.Upstream.{fact_keys, nothing_told, source_upstream, source_view, star_told, star_view, upstream}
+use Rattle.pim_model.specs.Writing.{write_all}
+use Rattle.pim_laws.proofs.ListLaws.{each_append, each_more, each_of_list}
+use Rattle.pim_locality.specs.Locality.{AgreesOn, IsQuiet, own_settled, own_upstream, touching}
+use Rattle.pim_locality.specs.Scopes.{reads}
+use Rattle.pim_locality.proofs.SharedMacros.{route_local, rp_route_local}
+use Rattle.pim_locality.proofs.Touches.{touching_is_closed}
+use Rattle.pim_locality.proofs.TouchedUpstream.{reads_star}
+use Rattle.pim_locality.proofs.UntoldKeys.{same_by_scope, source_untold_where_agreed, source_view_at, star_untold_where_agreed, star_view_at}
+use Rattle.pim_reach.proofs.Taken.{isnt_star}
+use Rattle.pim_adjacent.specs.Adjacent.{AdjoinsAlone, has_same_hop, is_taken, with_neighbours}
+use Rattle.pim_adjacent.proofs.Fewer.{clearing_fewer}
+use Rattle.pim_adjacent.proofs.Goes.{OnTheWay, adjoins_goes, dr_now, end_is_on_the_way}
+use Rattle.pim_adjacent.proofs.OtherNeighbours.{desired_so, desired_star_so, rpf_rpt_so, rpf_source_so, route_as, rp_as, rp_route_as, rpf_star_so, tree_state_so}
+use Rattle.pim_adjacent.proofs.Told.{IsTaken, all_pass, any_fails, own_told}
+
+-- ---- next hops
+
+hops : (a b : Option Hop) → same_hop a b ≡ true → a ≡ b
+hops None None e = refl
+hops None (Some h) e = cc
+hops (Some h) None e = cc
+hops (Some h) (Some k) e =
+    let number : h.iface.number ≡ k.iface.number =
+    eqb-true h.iface.number k.iface.number (first_so (h.iface.number == k.iface.number) (h.address.bits == k.address.bits) e) in
+    let bits : h.address.bits ≡ k.address.bits =
+    eqb-true h.address.bits k.address.bits (second_so (h.iface.number == k.iface.number) (h.address.bits == k.address.bits) e) in
+    λ j. Some (record { iface = record { number = number j }; address = record { bits = bits j } })
+
+-- where no more fails, all pass
+all_stay : {X : Type 0} (p : X → Bool) (xs ys : List X)
+    → (list_any (λ x. not (p x)) ys ≡ true → list_any (λ x. not (p x)) xs ≡ true) → list_all p xs ≡ true
+    → list_all p ys ≡ true
+all_stay p xs ys less all = all_pass p ys (none (list_any (λ x. not (p x)) ys) refl)
+  where
+    none : (b : Bool) → list_any (λ x. not (p x)) ys ≡ b → b ≡ false
+    none true e = sym (less e) ∙ any_fails p xs all
+    none false e = refl
+
+module _ (keys : List Key) (o c : State) (quiet : IsQuiet o) (adjoins : AdjoinsAlone keys o c) where
+  -- ---- a state on the way
+
+  module _ (t : State) (way : OnTheWay keys o c quiet adjoins t) where
+    abbrev back : State
+    back = with_neighbours t o.neighbours
+
+    dr : (i : ℕ) → is_dr t i ≡ is_dr back i
+    dr i = dr_now keys o c quiet adjoins t way i
+
+    -- the same next hop with both tables of neighbours
+    hop_now : (path : Option Path) → has_same_hop o c path ≡ true → nbr t path ≡ nbr back path
+    unfolding nbr
+    hop_now path same =
+        ap (λ (rows : Table NeighbourRow). nbr_among rows path) (sym way.neighbours)
+        ∙ sym (hops (nbr_among o.neighbours path) (nbr_among c.neighbours path) same)
+
+    -- ---- what isn't touched reads the same
+
+    module _ (k : Key) (out : touching keys k ≡ false) where
+      agreed : AgreesOn k o back
+      agreed = way.agrees k out
+
+      rp_route_now : (g : ℕ) → rp_route o g ≡ rp_route t g
+      rp_route_now g =
+          same_by_scope k (λ u. rp_route u g) (λ u. rp_route_local (reads k) u g) o back agreed
+          ∙ sym (rp_route_as t o.neighbours g)
+
+      route_now : (src : ℕ) → route o src ≡ route t src
+      route_now src =
+          same_by_scope k (λ u. route u src) (λ u. route_local (reads k) u src) o back agreed
+          ∙ sym (route_as t o.neighbours src)
+
+      pub rp_hop_now : (g : ℕ) → has_same_hop o c (rp_route o g) ≡ true
+          → nbr t (rp_route t g) ≡ nbr back (rp_route back g)
+      rp_hop_now g same =
+          hop_now (rp_route t g) (ap (has_same_hop o c) (sym (rp_route_now g)) ∙ same)
+          ∙ ap (nbr back) (rp_route_as t o.neighbours g)
+
+      pub source_hop_now : (src : ℕ) → has_same_hop o c (route o src) ≡ true
+          → nbr t (route t src) ≡ nbr back (route back src)
+      source_hop_now src same =
+          hop_now (route t src) (ap (has_same_hop o c) (sym (route_now src)) ∙ same)
+          ∙ ap (nbr back) (route_as t o.neighbours src)
+
+    star_view_so : (g : ℕ) → nbr t (rp_route t g) ≡ nbr back (rp_route back g) → star_view t g ≡ star_view back g
+    unfolding star_view
+    star_view_so g rp_hop = λ j. record {
+      is_desired = desired_star_so t o.neighbours dr g j;
+      rp = option_map addr (rp_as t o.neighbours g j);
+      iface = option_map (λ (p : Path). p.iface) (rp_route_as t o.neighbours g j);
+      next_hop = rp_hop j;
+      upstream = rpf_star_so t o.neighbours dr g rp_hop j;
+    }
+
+    source_view_so : (g src : ℕ) → nbr t (rp_route t g) ≡ nbr back (rp_route back g)
+        → nbr t (route t src) ≡ nbr back (route back src) → source_view t g src ≡ source_view back g src
+    unfolding source_view
+    source_view_so g src rp_hop hop = λ j. record {
+      is_desired = desired_so t o.neighbours dr g src j;
+      iface = option_map (λ (p : Path). p.iface) (route_as t o.neighbours src j);
+      next_hop = hop j;
+      upstream = rpf_source_so t o.neighbours dr g rp_hop src hop j;
+      star_upstream = rpf_star_so t o.neighbours dr g rp_hop j;
+      tree_upstream = rpf_rpt_so t o.neighbours dr g rp_hop src j;
+      tree = tree_state_so t o.neighbours dr g rp_hop src hop j;
+    }
+
+    star_same : (g : ℕ) → touching keys (star_key 0 g) ≡ false → has_same_hop o c (rp_route o g) ≡ true
+        → star_view o g ≡ star_view t g
+    star_same g out same =
+        same_by_scope (star_key 0 g) (λ u. star_view u g) (star_view_at g) o back (way.agrees (star_key 0 g) out)
+        ∙ sym (star_view_so g (rp_hop_now (star_key 0 g) out g same))
+
+    source_same : (g src : ℕ) → touching keys (source_key 0 g src) ≡ false → has_same_hop o c (rp_route o g) ≡ true
+        → has_same_hop o c (route o src) ≡ true → source_view o g src ≡ source_view t g src
+    source_same g src out rp_same same =
+        let k : Key = source_key 0 g src in
+        same_by_scope k (λ u. source_view u g src) (λ u. source_view_at g u src) o back (way.agrees k out)
+        ∙ sym (source_view_so g src (rp_hop_now k out g rp_same) (source_hop_now k out src same))
+
+  -- ---- what is told
+
+  abbrev pub end : State
+  end = (clear o c).0
+
+  abbrev pub way_end : OnTheWay keys o c quiet adjoins end
+  way_end = end_is_on_the_way keys o c quiet adjoins
+
+  -- the same next hops
+  abbrev pub calm_star : ℕ → Bool
+  calm_star g = has_same_hop o c (rp_route o g)
+
+  abbrev pub calm : ℕ → ℕ → Bool
+  calm g src = calm_star g && has_same_hop o c (route o src)
+
+  module _ (w : ℕ) where
+    pub star_idle : (g : ℕ) → touching keys (star_key 0 g) ≡ false → calm_star g ≡ true
+        → star_told end w g (star_view o g) (star_view end g) ≡ nothing_told
+    star_idle g out same =
+        ap (λ (v : StarView). star_told end w g v (star_view end g)) (star_same end way_end g out same)
+        ∙ star_untold_where_agreed g end end w refl
+
+    pub source_idle : (g src : ℕ) → touching keys (source_key 0 g src) ≡ false → calm g src ≡ true → (s : State)
+        → source_upstream o end w g s src ≡ (s, [])
+    unfolding source_upstream
+    source_idle g src out same s =
+        rw (source_same end way_end g src out (first_so (calm_star g) _ same) (second_so (calm_star g) _ same))
+        (source_untold_where_agreed g src end end w refl s)
+
+    abbrev pub TakenHere : Key → Type 0
+    TakenHere = IsTaken keys o end w calm_star calm star_idle source_idle
+
+    swap : (a b : Bool) → (a || b) ≡ true → (b || a) ≡ true
+    swap true true e = refl
+    swap true false e = refl
+    swap false true e = refl
+    swap false false e = cc
+
+    -- a touched (*,G) touches its sources
+    of_source : (st so a b n : Bool) → (st ≡ true → so ≡ true) → (a || st) ≡ true → (n || b || so) ≡ true → n ≡ false
+        → (so || (a && b)) ≡ true
+    of_source st true a b n up e f g = refl
+    of_source true false a b n up e f g = cc (up refl)
+    of_source false false true true n up e f g = refl
+    of_source false false true false true up e f g = cc
+    of_source false false true false false up e f g = cc
+    of_source false false false b n up e f g = cc
+
+    pub taken_so : (k : Key) → is_taken keys o c k ≡ true → TakenHere k
+    taken_so k is = record {
+      star = swap (calm_star (group_in k)) (touching keys (star_key 0 (group_in k))) (first_so _ _ is);
+      source = λ there. of_source (touching keys (star_key 0 (group_in k)))
+          (touching keys (source_key 0 (group_in k) (source_in k))) (calm_star (group_in k))
+          (has_same_hop o c (route o (source_in k))) (is_star k)
+          (λ e. touching_is_closed keys (star_key 0 (group_in k)) (source_key 0 (group_in k) (source_in k)) e
+          (reads_star (group_in k) (source_key 0 (group_in k) (source_in k)) (eq-eqb (group_in k) (group_in k) refl)))
+          (first_so _ _ is) (second_so _ _ is) (isnt_star k.source there);
+    }
+
+    -- what isn't taken had no facts, and has none
+    facts_taken : AllByRecursion TakenHere (fact_keys o ++ fact_keys end)
+    facts_taken =
+        each_append TakenHere (fact_keys o) (fact_keys end)
+        (each_more (λ k. is_taken keys o c k ≡ true) TakenHere taken_so (fact_keys o)
+        (each_of_list (is_taken keys o c) (fact_keys o) adjoins.taken))
+        (each_more (λ k. is_taken keys o c k ≡ true) TakenHere taken_so (fact_keys end)
+        (each_of_list (is_taken keys o c) (fact_keys end)
+        (all_stay (is_taken keys o c) (fact_keys o) (fact_keys end)
+        (λ e. adjoins.facts (λ k. not (is_taken keys o c k))
+        ((clearing_fewer o c).passed (λ k. not (is_taken keys o c k)) e)) adjoins.taken)))
+
+    told : upstream o end w ≡ own_upstream keys o end w
+    told = own_told keys o end w calm_star calm star_idle source_idle facts_taken
+
+  pub adjoins_settles : (messages : List Message) (w : ℕ)
+      → settled o (c, messages) w ≡ own_settled keys o (c, messages) w
+  unfolding settled own_settled
+  adjoins_settles messages w =
+      ap (λ (told : State × List Message). write_all told.0 (messages ++ (clear o c).1 ++ told.1)) (told w)
+      ∙ ap (λ (after : State × List Message). write_all (own_upstream keys o after.0 w).0
+      (messages ++ after.1 ++ (own_upstream keys o after.0 w).1)) (adjoins_goes keys o c quiet adjoins)

@@ -1,0 +1,155 @@
+-- A source that isn't touched: with a fact it isn't named, and with a fact or without it is answered in the end as it was.
+use Rattle.std.proofs.Common.{◌≡◌, ◌==◌, ◌&&◌, ◌||◌, ℕ, Bool, true, false, List, [], is_some, map, refl, sym, ap, ◌∙◌, eqb-true}
+use Rattle.std.specs.Cmp.{first_so, second_so}
+use Rattle.std.specs.List.{list_any}
+use Rattle.pim_types.specs.declared.fact.Key.{Key}
+use Rattle.pim_types.specs.Keys.{group_in, names_source, source_in, source_key}
+use Rattle.pim_model.specs.Cache.{answers}
+use Rattle.pim_model.specs.Clearing.{clear}
+use Rattle.pim_model.specs.Desires.{join_desired}
+use Rattle.pim_model.specs.Firing.{settled}
+use Rattle.pim_model.specs.Messages.{Message}
+use Rattle.pim_model.specs.Neighbours.{is_dr, nbr}
+use Rattle.pim_model.specs.State.{State}
+use Rattle.pim_model.specs.Unicast.{route, rp_route}
+use Rattle.pim_model.specs.Upstream.{fact_keys, upstream}
+use Rattle.pim_laws.proofs.ListLaws.{any_among_all, each_of_list}
+use Rattle.pim_locality.specs.Locality.{AgreesBut, IsQuiet, touching}
+use Rattle.pim_locality.specs.Scopes.{only_priority, scope}
+use Rattle.pim_locality.proofs.QuietStates.{frame_packets, frame_upstream}
+use Rattle.pim_locality.proofs.Touches.{agrees_then}
+use Rattle.pim_locality.proofs.UntoldKeys.{join_desired_at, same_by_scope}
+use Rattle.pim_reach.specs.Named.{is_named}
+use Rattle.pim_reach.proofs.Agreed.{agreed_is_unnamed}
+use Rattle.pim_reach.proofs.Calm.{settled_same}
+use Rattle.pim_reach.proofs.Configured.{configured_beside}
+use Rattle.pim_adjacent.specs.Adjacent.{AdjoinsAlone, is_taken, with_neighbours}
+use Rattle.pim_adjacent.proofs.Answers.{answers_so, hops_reach, named_so, reaches, unwanted_reaches}
+use Rattle.pim_adjacent.proofs.Fewer.{absent_unwanted, clearing_fewer}
+use Rattle.pim_adjacent.proofs.Goes.{OnTheWay, dr_now}
+use Rattle.pim_adjacent.proofs.Settles.{calm, calm_star, rp_hop_now, source_hop_now, taken_so, way_end}
+
+second_left : (b d : Bool) → (b || d) ≡ true → b ≡ false → d ≡ true
+second_left true d e f = cc
+second_left false d e f = e
+
+module _ (keys : List Key) (o c : State) (quiet : IsQuiet o) (adjoins : AdjoinsAlone keys o c) where
+  -- what has a fact and isn't touched has the same next hops
+  abbrev calm_here : ℕ → ℕ → Bool
+  calm_here = calm keys o c quiet adjoins
+
+  calm_fact : (g src : ℕ) → list_any (names_source g src) (fact_keys o) ≡ true
+      → touching keys (source_key 0 g src) ≡ false → calm_here g src ≡ true
+  unfolding names_source
+  calm_fact g src there out =
+      any_among_all (λ k. is_taken keys o c k ≡ true) (names_source g src) of_key (fact_keys o)
+      (each_of_list (is_taken keys o c) (fact_keys o) adjoins.taken) there
+    where
+      same : (k : Key) → (group_in k ≡ g) → (source_in k ≡ src)
+          → (touching keys (source_key 0 (group_in k) (source_in k)) || calm_here (group_in k) (source_in k)) ≡ true
+          → calm_here g src ≡ true
+      same k group source e =
+          second_left (touching keys (source_key 0 g src)) (calm_here g src)
+          (sym (λ j. touching keys (source_key 0 (group j) (source j)) || calm_here (group j) (source j)) ∙ e) out
+
+      of_key : (k : Key) → is_taken keys o c k ≡ true → names_source g src k ≡ true → calm_here g src ≡ true
+      of_key k is e =
+          let both : ((group_in k == g) && is_some k.source) ≡ true =
+          first_so ((group_in k == g) && is_some k.source) (source_in k == src) e in
+          same k (eqb-true (group_in k) g (first_so (group_in k == g) (is_some k.source) both))
+          (eqb-true (source_in k) src (second_so ((group_in k == g) && is_some k.source) (source_in k == src) e))
+          ((taken_so keys o c quiet adjoins 0 k is).source (second_so (group_in k == g) (is_some k.source) both))
+
+  -- ---- a state on the way
+
+  module _ (t : State) (way : OnTheWay keys o c quiet adjoins t) (g src : ℕ)
+      (out : touching keys (source_key 0 g src) ≡ false) where
+    abbrev back : State
+    back = with_neighbours t o.neighbours
+
+    dr : (i : ℕ) → is_dr t i ≡ is_dr back i
+    dr i = dr_now keys o c quiet adjoins t way i
+
+    unnamed_before : is_named g src o back ≡ false
+    unnamed_before = agreed_is_unnamed g src o back (way.agrees (source_key 0 g src) out)
+
+    module _ (same : calm_here g src ≡ true) where
+      rp_hop : nbr t (rp_route t g) ≡ nbr back (rp_route back g)
+      rp_hop =
+          rp_hop_now keys o c quiet adjoins t way (source_key 0 g src) out g
+          (first_so (calm_star keys o c quiet adjoins g) _ same)
+
+      hop : nbr t (route t src) ≡ nbr back (route back src)
+      hop =
+          source_hop_now keys o c quiet adjoins t way (source_key 0 g src) out src
+          (second_so (calm_star keys o c quiet adjoins g) _ same)
+
+      unnamed : is_named g src o t ≡ false
+      unnamed = named_so t o.neighbours dr g src rp_hop hop o ∙ unnamed_before
+
+      reached : reaches t o.neighbours dr g src t ≡ reaches t o.neighbours dr g src back
+      reached = hops_reach t o.neighbours dr g src rp_hop hop
+
+  pub adjoins_names : (g src : ℕ) → list_any (names_source g src) (fact_keys o) ≡ true
+      → touching keys (source_key 0 g src) ≡ false → is_named g src o (clear o c).0 ≡ false
+  adjoins_names g src there out =
+      unnamed (clear o c).0 (way_end keys o c quiet adjoins) g src out (calm_fact g src there out)
+
+  -- ---- the end
+
+  module _ (messages : List Message) (w : ℕ) where
+    abbrev after : State
+    after = (clear o c).0
+
+    abbrev last : State
+    last = (settled o (c, messages) w).0
+
+    last_agrees : AgreesBut (touching []) after last
+    unfolding settled
+    last_agrees =
+        agrees_then (touching []) after (upstream o after w).0 last (frame_upstream o after w)
+        (frame_packets (upstream o after w).0 _)
+
+    way_after : OnTheWay keys o c quiet adjoins after
+    way_after = way_end keys o c quiet adjoins
+
+    way_last : OnTheWay keys o c quiet adjoins last
+    unfolding scope touching
+    way_last = record {
+      agrees = λ k out. way_after.agrees k out
+          ∙ ap (λ (s : State). record s { neighbours = map only_priority o.neighbours }) (last_agrees k refl);
+      configured = way_after.configured ∙ (configured_beside [] after last last_agrees).configured;
+      neighbours = way_after.neighbours ∙ (settled_same o (c, messages) w).around.neighbours_same;
+    }
+
+    module _ (g src : ℕ) (out : touching keys (source_key 0 g src) ≡ false) where
+      absent_after : list_any (names_source g src) (fact_keys o) ≡ false
+          → list_any (names_source g src) (fact_keys after) ≡ false
+      absent_after none = go (list_any (names_source g src) (fact_keys after)) refl
+        where
+          go : (b : Bool) → list_any (names_source g src) (fact_keys after) ≡ b → b ≡ false
+          go true e =
+              sym (adjoins.facts (names_source g src) ((clearing_fewer o c).passed (names_source g src) e)) ∙ none
+          go false e = refl
+
+      unwanted : list_any (names_source g src) (fact_keys o) ≡ false → join_desired last g src ≡ false
+      unfolding touching
+      unwanted none =
+          sym (same_by_scope (source_key 0 g src) (λ s. join_desired s g src) (λ s. join_desired_at g s src) after last
+          (last_agrees (source_key 0 g src) refl))
+          ∙ absent_unwanted g src after (absent_after none)
+
+      same_reaches : (b : Bool) → list_any (names_source g src) (fact_keys o) ≡ b
+          → reaches last o.neighbours (dr last way_last g src out) g src last
+          ≡ reaches last o.neighbours (dr last way_last g src out) g src (with_neighbours last o.neighbours)
+      same_reaches true there = reached last way_last g src out (calm_fact g src there out)
+      same_reaches false none =
+          unwanted_reaches last o.neighbours (dr last way_last g src out) g src (unwanted none)
+
+      pub adjoins_stays : (is_named g src o (with_neighbours last o.neighbours) ≡ false)
+          × (answers (with_neighbours last o.neighbours) g src ≡ answers last g src)
+      adjoins_stays = (
+        unnamed_before last way_last g src out,
+        sym (answers_so last o.neighbours (dr last way_last g src out) g src
+            (same_reaches (list_any (names_source g src) (fact_keys o)) refl)),
+      )

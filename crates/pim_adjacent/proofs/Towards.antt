@@ -1,0 +1,221 @@
+-- The keys of what looks to a neighbour take all that its coming and going moves.
+use Rattle.std.proofs.Common.{◌≡◌, ◌==◌, ◌&&◌, ◌||◌, ℕ, Bool, true, false, List, [], ◌∷◌, filter, map, Option, Some, None, is_none, is_some, refl, sym, subst, ◌∙◌, eq-eqb, eqb-true}
+use Rattle.std.proofs.lemmas.Bool.{or_left, or_right}
+use Rattle.std.proofs.lemmas.List.Folds.{list_any-append}
+use Rattle.std.specs.Cmp.{first_so, second_so}
+use Rattle.std.specs.Cmp.Derive.{both_true}
+use Rattle.std.specs.List.{AllByRecursion, flat_map, list_all, list_any}
+use Rattle.pim_ip.specs.declared.addr.Addr.{Addr}
+use Rattle.pim_types.specs.declared.fact.AssertRole.{AssertRole}
+use Rattle.pim_types.specs.declared.fact.AssertRow.{AssertRow}
+use Rattle.pim_types.specs.declared.fact.Key.{Key}
+use Rattle.pim_types.specs.Keys.{group_in, iface_in, is_of_group, is_star, source_in, source_key, star_key}
+use Rattle.pim_model.specs.Hellos.{is_lost_to}
+use Rattle.pim_model.specs.Sets.{is_loser, is_winner}
+use Rattle.pim_model.specs.State.{State}
+use Rattle.pim_model.specs.Tables.{keys_in}
+use Rattle.pim_model.specs.Unicast.{route, rp_route}
+use Rattle.pim_model.specs.Upstream.{fact_keys, groups_of, sources_of}
+use Rattle.pim_laws.proofs.ListLaws.{any_more, each_more, either, list_of_each}
+use Rattle.pim_laws.proofs.Numbers.{any_ascending}
+use Rattle.pim_laws.proofs.TableLaws.{any_in_filter, any_of_map}
+use Rattle.pim_locality.specs.Locality.{touching}
+use Rattle.pim_locality.specs.Scopes.{reads}
+use Rattle.pim_locality.proofs.Asserts.{reads_itself}
+use Rattle.pim_locality.proofs.TouchedUpstream.{reads_star}
+use Rattle.pim_reach.proofs.Sights.{bools_same}
+use Rattle.pim_adjacent.specs.Adjacent.{is_taken, keeps_winner, keys_towards, leads_to, led_keys, led_of_group, led_sources, lost_keys}
+use Rattle.pim_adjacent.proofs.OneRow.{SetsOne, others, unled}
+
+-- ---- lists
+
+-- what passes any test says that one of the list does
+each_is_there : {X : Type 0} (xs : List X) → AllByRecursion (λ x. (p : X → Bool) → p x ≡ true → list_any p xs ≡ true) xs
+each_is_there [] = tt
+each_is_there (x ∷ xs) = (
+  λ p e. or_left (p x) (list_any p xs) e,
+  each_more _ _ (λ y f p e. or_right (p x) (list_any p xs) (f p e)) xs (each_is_there xs),
+)
+
+in_each : (p : Key → Bool) (f : ℕ → List Key) (g : ℕ) (gs : List ℕ) → list_any (λ m. m == g) gs ≡ true
+    → list_any p (f g) ≡ true → list_any p (flat_map f gs) ≡ true
+in_each p f g [] there e = cc
+in_each p f g (h ∷ hs) there e =
+    list_any-append p (f h) (flat_map f hs)
+    ∙ either (h == g) (list_any (λ m. m == g) hs)
+    (λ same. or_left (list_any p (f h)) (list_any p (flat_map f hs))
+    ((λ j. list_any p (f (eqb-true h g same j))) ∙ e))
+    (λ later. or_right (list_any p (f h)) (list_any p (flat_map f hs)) (in_each p f g hs later e)) there
+
+-- there is such a key
+abbrev IsThere : List Key → Key → Type 0
+IsThere ks k = (p : Key → Bool) → p k ≡ true → list_any p ks ≡ true
+
+group_there : (ks : List Key) (k : Key) → IsThere ks k → list_any (λ m. m == group_in k) (groups_of ks) ≡ true
+unfolding groups_of
+group_there ks k there =
+    any_ascending (λ m. m == group_in k) (map group_in ks)
+    ∙ any_of_map (λ m. m == group_in k) group_in ks
+    ∙ there (λ q. group_in q == group_in k) (eq-eqb (group_in k) (group_in k) refl)
+
+source_there : (ks : List Key) (k : Key) → IsThere ks k → is_some k.source ≡ true
+    → list_any (λ m. m == source_in k) (sources_of (group_in k) ks) ≡ true
+unfolding sources_of
+source_there ks k there some =
+    let of_it : Key → Bool = λ q. is_of_group (group_in k) q && is_some q.source in
+    any_ascending (λ m. m == source_in k) (map source_in (filter of_it ks))
+    ∙ any_of_map (λ m. m == source_in k) source_in (filter of_it ks)
+    ∙ any_in_filter of_it (λ q. source_in q == source_in k) ks
+    ∙ there (λ q. of_it q && (source_in q == source_in k))
+    (both_true (both_true (eq-eqb (group_in k) (group_in k) refl) some) (eq-eqb (source_in k) (source_in k) refl))
+
+if_led : (b x y : Bool) → (b ≡ false → x ≡ true) → (b ≡ true → y ≡ true) → (x || y) ≡ true
+if_led true x true f h = last x
+  where
+    last : (b : Bool) → (b || true) ≡ true
+    last true = refl
+    last false = refl
+if_led true x false f h = cc (h refl)
+if_led false true y f h = refl
+if_led false false y f h = cc (f refl)
+
+unless_star : (n x y : Bool) → (n ≡ false → (x || y) ≡ true) → (n || x || y) ≡ true
+unless_star true x y f = refl
+unless_star false x y f = f refl
+
+some_source : (o : Option Addr) → is_none o ≡ false → is_some o ≡ true
+some_source None e = cc
+some_source (Some a) e = refl
+
+by_role : (r : AssertRole) → elim r [ AssertRole.Loser ↦ true | AssertRole.Winner ↦ false ] ≡ false
+    → elim r [ AssertRole.Winner ↦ true | AssertRole.Loser ↦ false ] ≡ true
+by_role AssertRole.Loser e = cc
+by_role AssertRole.Winner e = refl
+
+-- ---- what is led
+
+module _ (s : State) (i a : ℕ) where
+  abbrev facts : List Key
+  facts = fact_keys s
+
+  star_led : (k : Key) → IsThere facts k → leads_to i a (rp_route s (group_in k)) ≡ true → (q : Key)
+      → group_in q ≡ group_in k → touching (led_keys s i a) q ≡ true
+  unfolding touching led_keys led_of_group
+  star_led k there led q same =
+      in_each (reads q) (led_of_group s i a) (group_in k) (groups_of facts) (group_there facts k there)
+      (rw led (or_left (reads q (star_key 0 (group_in k))) false
+      (reads_star (group_in k) q (eq-eqb (group_in q) (group_in k) same))))
+
+  source_led_alone : (k : Key) → IsThere facts k → is_some k.source ≡ true → leads_to i a (route s (source_in k)) ≡ true
+      → leads_to i a (rp_route s (group_in k)) ≡ false
+      → touching (led_keys s i a) (source_key 0 (group_in k) (source_in k)) ≡ true
+  unfolding touching led_keys led_of_group led_sources
+  source_led_alone k there some led unled =
+      let here : Key = source_key 0 (group_in k) (source_in k) in
+      let leads : ℕ → Bool = λ src. leads_to i a (route s src) in
+      let all : List ℕ = sources_of (group_in k) facts in
+      in_each (reads here) (led_of_group s i a) (group_in k) (groups_of facts) (group_there facts k there)
+      (rw unled (any_of_map (reads here) (source_key 0 (group_in k)) (filter leads all)
+      ∙ any_in_filter leads (λ src. reads here (source_key 0 (group_in k) src)) all
+      ∙ any_more (λ m. m == source_in k) (λ m. leads m && reads here (source_key 0 (group_in k) m))
+      (λ m e. subst (λ n. (leads n && reads here (source_key 0 (group_in k) n)) ≡ true)
+      (sym (eqb-true m (source_in k) e)) (both_true led (reads_itself here)))
+      all (source_there facts k there some)))
+
+  source_led : (k : Key) → IsThere facts k → is_some k.source ≡ true → leads_to i a (route s (source_in k)) ≡ true
+      → touching (led_keys s i a) (source_key 0 (group_in k) (source_in k)) ≡ true
+  source_led k there some led = go (leads_to i a (rp_route s (group_in k))) refl
+    where
+      go : (b : Bool) → leads_to i a (rp_route s (group_in k)) ≡ b
+          → touching (led_keys s i a) (source_key 0 (group_in k) (source_in k)) ≡ true
+      go true e = star_led k there e (source_key 0 (group_in k) (source_in k)) refl
+      go false e = source_led_alone k there some led e
+
+  -- ---- what was lost
+
+  lost_is_touched : (e : Key × AssertRow) → ((p : Key × AssertRow → Bool) → p e ≡ true → list_any p s.asserts ≡ true)
+      → is_lost_to i a e ≡ true → touching (lost_keys s i a) e.0 ≡ true
+  unfolding touching keys_in
+  lost_is_touched e there lost =
+      any_of_map (reads e.0) (λ (x : Key × AssertRow). x.0) (filter (is_lost_to i a) s.asserts)
+      ∙ any_in_filter (is_lost_to i a) (λ (x : Key × AssertRow). reads e.0 x.0) s.asserts
+      ∙ there (λ x. is_lost_to i a x && reads e.0 x.0) (both_true lost (reads_itself e.0))
+
+  -- both among all that looks to it
+  pub led_among : (q : Key) → touching (led_keys s i a) q ≡ true → touching (keys_towards s i a) q ≡ true
+  unfolding touching keys_towards
+  led_among q e =
+      list_any-append (reads q) (led_keys s i a) (lost_keys s i a)
+      ∙ or_left (list_any (reads q) (led_keys s i a)) (list_any (reads q) (lost_keys s i a)) e
+
+  pub lost_among : (q : Key) → touching (lost_keys s i a) q ≡ true → touching (keys_towards s i a) q ≡ true
+  unfolding touching keys_towards
+  lost_among q e =
+      list_any-append (reads q) (led_keys s i a) (lost_keys s i a)
+      ∙ or_right (list_any (reads q) (led_keys s i a)) (list_any (reads q) (lost_keys s i a)) e
+
+-- ---- all is taken
+
+-- any keys that touch these
+module _ (s c : State) (k : Key) (sets : SetsOne k s c) (keys : List Key) where
+  abbrev i : ℕ
+  i = iface_in k
+
+  abbrev a : ℕ
+  a = source_in k
+
+  one_taken : ((q : Key) → touching (led_keys s i a) q ≡ true → touching keys q ≡ true) → (q : Key)
+      → IsThere (fact_keys s) q → is_taken keys s c q ≡ true
+  one_taken within q there =
+      both_true
+      (if_led (leads_to i a (rp_route s (group_in q))) _ _ (unled s c k sets (rp_route s (group_in q)))
+      (λ led. within (star_key 0 (group_in q)) (star_led s i a q there led (star_key 0 (group_in q)) refl)))
+      (unless_star (is_star q) _ _
+      (λ e. if_led (leads_to i a (route s (source_in q))) _ _ (unled s c k sets (route s (source_in q)))
+      (λ led. within (source_key 0 (group_in q) (source_in q))
+      (source_led s i a q there (some_source q.source e) led))))
+
+  pub all_taken : ((q : Key) → touching (led_keys s i a) q ≡ true → touching keys q ≡ true)
+      → list_all (is_taken keys s c) (fact_keys s) ≡ true
+  all_taken within =
+      list_of_each (is_taken keys s c) (fact_keys s)
+      (each_more (IsThere (fact_keys s)) (λ q. is_taken keys s c q ≡ true) (one_taken within) (fact_keys s)
+      (each_is_there (fact_keys s)))
+
+  -- a winner that is another neighbour is one as before
+  module _ (within : (q : Key) → touching (lost_keys s i a) q ≡ true → touching keys q ≡ true) (e : Key × AssertRow)
+      (there : (p : Key × AssertRow → Bool) → p e ≡ true → list_any p s.asserts ≡ true) where
+    abbrev winner_at : ℕ
+    winner_at = (e.1).winner.address.bits
+
+    abbrev is_its : Bool
+    is_its = (iface_in e.0 == i) && (winner_at == a)
+
+    lost_to_it : is_loser (Some e.1) ≡ true → is_its ≡ true → is_lost_to i a e ≡ true
+    lost_to_it lost its =
+        both_true (both_true (first_so (iface_in e.0 == i) (winner_at == a) its) lost)
+        (second_so (iface_in e.0 == i) (winner_at == a) its)
+
+    of_loser : (b : Bool) → is_its ≡ b → is_loser (Some e.1) ≡ true → keeps_winner keys s c e ≡ true
+    of_loser true its lost =
+        or_left (touching keys e.0 || is_winner (Some e.1)) _
+        (or_left (touching keys e.0) (is_winner (Some e.1))
+        (within e.0 (lost_is_touched s i a e there (lost_to_it lost its))))
+    of_loser false apart lost =
+        or_right (touching keys e.0 || is_winner (Some e.1)) _
+        (bools_same _ _ (others s c k sets (iface_in e.0) winner_at apart))
+
+    of_either : (b : Bool) → is_loser (Some e.1) ≡ b → keeps_winner keys s c e ≡ true
+    of_either true lost = of_loser is_its refl lost
+    of_either false won =
+        or_left (touching keys e.0 || is_winner (Some e.1)) _
+        (or_right (touching keys e.0) (is_winner (Some e.1)) (by_role (e.1).role won))
+
+    keeps_it : keeps_winner keys s c e ≡ true
+    keeps_it = of_either (is_loser (Some e.1)) refl
+
+  pub all_winners : ((q : Key) → touching (lost_keys s i a) q ≡ true → touching keys q ≡ true)
+      → list_all (keeps_winner keys s c) s.asserts ≡ true
+  all_winners within =
+      list_of_each (keeps_winner keys s c) s.asserts
+      (each_more _ (λ e. keeps_winner keys s c e ≡ true) (keeps_it within) s.asserts (each_is_there s.asserts))

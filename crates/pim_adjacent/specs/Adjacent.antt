@@ -1,0 +1,141 @@
+-- A change of neighbours that leaves on which interfaces the router is the DR. It moves what looks to another upstream
+-- neighbour after it, and no more: all that follows of it follows of keys that touch that, of which there are facts.
+use Rattle.std.specs.List.{flat_map, list_all, list_any}
+use Rattle.std.specs.Prelude.{Bool, List, None, Option, Some, [], false, filter, if◌then◌else◌, map, not, true, ℕ, ◌&&◌, ◌++◌, ◌==◌, ◌||◌, ◌≡◌, ◌∷◌}
+use Rattle.pim_types.specs.declared.fact.AssertRow.{AssertRow}
+use Rattle.pim_types.specs.declared.fact.Key.{Key}
+use Rattle.pim_types.specs.declared.fact.NeighbourRow.{NeighbourRow}
+use Rattle.pim_types.specs.declared.path.Path.{Path}
+use Rattle.pim_types.specs.declared.timer.TimerKind.{TimerKind}
+use Rattle.pim_types.specs.Keys.{group_in, iface_in, is_star, names_source, source_in, source_key, star_key}
+use Rattle.pim_wire.specs.declared.hello.Hello.{Hello as HelloValue}
+use Rattle.pim_model.specs.Cache.{answers}
+use Rattle.pim_model.specs.Clearing.{clear}
+use Rattle.pim_model.specs.Firing.{settled}
+use Rattle.pim_model.specs.Hellos.{hello_holdtime_of, hello_received, is_lost_to, neighbour_due, neighbour_replaced}
+use Rattle.pim_model.specs.Messages.{Message}
+use Rattle.pim_model.specs.Neighbours.{is_dr, is_neighbour, nbr}
+use Rattle.pim_model.specs.Reach.{own_firing}
+use Rattle.pim_model.specs.Sets.{is_winner}
+use Rattle.pim_model.specs.State.{State}
+use Rattle.pim_model.specs.Tables.{Table, keys_in, same_bool, same_hop}
+use Rattle.pim_model.specs.Timers.{Ending}
+use Rattle.pim_model.specs.Unicast.{route, rp_route}
+use Rattle.pim_model.specs.Upstream.{fact_keys, groups_of, sources_of}
+use Rattle.pim_locality.specs.Locality.{AgreesBut, IsQuiet, own_settled, touched_clear, touched_registers, touching}
+use Rattle.pim_reach.specs.Named.{is_named}
+
+-- ---- any such change
+
+-- with these neighbours
+abbrev pub with_neighbours : State → Table NeighbourRow → State
+with_neighbours s rows = record s { neighbours = rows }
+
+-- the next hop of the path is a neighbour in both states, or in neither
+abbrev pub has_same_hop : State → State → Option Path → Bool
+has_same_hop o c path = same_hop (nbr o path) (nbr c path)
+
+-- the keys touch the machines of (*,G) where another neighbour leads to RP(G), and those of a source where another leads
+-- to it
+abbrev pub is_taken : List Key → State → State → Key → Bool
+is_taken keys o c k =
+    (has_same_hop o c (rp_route o (group_in k)) || touching keys (star_key 0 (group_in k)))
+    && (is_star k || has_same_hop o c (route o (source_in k))
+    || touching keys (source_key 0 (group_in k) (source_in k)))
+
+-- they touch a lost assert whose winner is a neighbour in one state alone
+abbrev pub keeps_winner : List Key → State → State → Key × AssertRow → Bool
+keeps_winner keys o c e =
+    touching keys e.0 || is_winner (Some e.1)
+    || same_bool (is_neighbour o (iface_in e.0) (e.1).winner.address.bits)
+    (is_neighbour c (iface_in e.0) (e.1).winner.address.bits)
+
+-- a change of neighbours, and keys that touch all else that it changes, and all that it moves of which there are facts
+pub record AdjoinsAlone (keys : List Key) (o c : State) : Type 0 where
+  pub agrees : AgreesBut (touching keys) o (with_neighbours c o.neighbours)
+  pub dr : (i : ℕ) → is_dr o i ≡ is_dr c i
+  pub winners : list_all (keeps_winner keys o c) o.asserts ≡ true
+  pub taken : list_all (is_taken keys o c) (fact_keys o) ≡ true
+  pub facts : (p : Key → Bool) → list_any p (fact_keys c) ≡ true → list_any p (fact_keys o) ≡ true
+
+-- from a quiet state what goes, and which registers are settled, is of the touched keys
+abbrev pub AdjoinsGoes : Type 0
+AdjoinsGoes = (keys : List Key) (o c : State) → IsQuiet o → AdjoinsAlone keys o c
+    → clear o c ≡ touched_clear (touching keys) o (touched_registers (touching keys) c)
+
+-- and all that follows
+abbrev pub AdjoinsSettles : Type 0
+AdjoinsSettles = (keys : List Key) (o c : State) → IsQuiet o → AdjoinsAlone keys o c → (messages : List Message) (w : ℕ)
+    → settled o (c, messages) w ≡ own_settled keys o (c, messages) w
+
+-- a source with a fact that isn't touched isn't named
+abbrev pub AdjoinsNames : Type 0
+AdjoinsNames = (keys : List Key) (o c : State) → IsQuiet o → AdjoinsAlone keys o c → (g src : ℕ)
+    → list_any (names_source g src) (fact_keys o) ≡ true → touching keys (source_key 0 g src) ≡ false
+    → is_named g src o (clear o c).0 ≡ false
+
+-- one that isn't touched, with a fact or without, is answered in the end as with the neighbours that there were, with
+-- which it isn't named
+abbrev pub AdjoinsStays : Type 0
+AdjoinsStays = (keys : List Key) (o c : State) → IsQuiet o → AdjoinsAlone keys o c → (messages : List Message)
+    (w g src : ℕ) → touching keys (source_key 0 g src) ≡ false
+    → (let end : State = (settled o (c, messages) w).0 in
+    (is_named g src o (with_neighbours end o.neighbours) ≡ false)
+    × (answers (with_neighbours end o.neighbours) g src ≡ answers end g src))
+
+-- ---- one neighbour
+
+-- the next hop of the path is this address on this interface
+abbrev pub leads_to : ℕ → ℕ → Option Path → Bool
+leads_to i address None = false
+leads_to i address (Some p) = (p.iface.number == i) && (p.next_hop.bits == address)
+
+-- the sources of a group with any fact to which it leads
+unfoldable pub led_sources : State → ℕ → ℕ → ℕ → List ℕ
+led_sources s i address g = filter (λ src. leads_to i address (route s src)) (sources_of g (fact_keys s))
+
+-- the group, where it leads to its RP, or else those sources
+unfoldable pub led_of_group : State → ℕ → ℕ → ℕ → List Key
+led_of_group s i address g =
+    if leads_to i address (rp_route s g) then star_key 0 g ∷ [] else map (source_key 0 g) (led_sources s i address g)
+
+-- of each group with any fact
+unfoldable pub led_keys : State → ℕ → ℕ → List Key
+led_keys s i address = flat_map (led_of_group s i address) (groups_of (fact_keys s))
+
+-- the asserts that the router lost to it
+abbrev pub lost_keys : State → ℕ → ℕ → List Key
+lost_keys s i address = keys_in (filter (is_lost_to i address) s.asserts)
+
+-- all that looks to it
+unfoldable pub keys_towards : State → ℕ → ℕ → List Key
+keys_towards s i address = led_keys s i address ++ lost_keys s i address
+
+-- ---- a Hello
+
+-- it leaves whether the router is the DR of its interface
+unfoldable pub hello_keeps_dr : State → ℕ → ℕ → HelloValue → Bool
+hello_keeps_dr s i address h = same_bool (is_dr s i) (is_dr (neighbour_replaced s i address h) i)
+
+-- its neighbour was known, and stays
+abbrev pub is_still_neighbour : State → ℕ → ℕ → HelloValue → Bool
+is_still_neighbour s i address h = is_neighbour s i address && not (hello_holdtime_of h == 0)
+
+-- what looks to a neighbour that comes or goes; of one that stays the asserts that were lost to it, which end where it
+-- started anew
+unfoldable pub keys_of_hello : State → ℕ → ℕ → HelloValue → List Key
+keys_of_hello s i address h =
+    if is_still_neighbour s i address h then lost_keys s i address else keys_towards s i address
+
+abbrev pub HelloAdjoins : Type 0
+HelloAdjoins = (s : State) (i address w : ℕ) (h : HelloValue) → hello_keeps_dr s i address h ≡ true
+    → AdjoinsAlone (keys_of_hello s i address h) s (hello_received s i address h w)
+
+-- ---- a neighbour's end
+
+unfoldable pub end_keeps_dr : State → Key → Bool
+end_keeps_dr s k = same_bool (is_dr s (iface_in k)) (is_dr (neighbour_due s k) (iface_in k))
+
+abbrev pub EndAdjoins : Type 0
+EndAdjoins = (s : State) (e : Ending) → e.timer.kind ≡ TimerKind.Neighbour → end_keeps_dr s e.timer.key ≡ true
+    → AdjoinsAlone (keys_towards s (iface_in e.timer.key) (source_in e.timer.key)) s (own_firing s e)

@@ -1,0 +1,40 @@
+-- Whether the router is the DR of an interface where the row of one neighbour there is another, or there is none.
+use Rattle.std.specs.List.{list_any}
+use Rattle.std.specs.Prelude.{Bool, None, Option, Some, if◌then◌else◌, is_none, not, ℕ, ◌&&◌, ◌==◌}
+use Rattle.pim_types.specs.Keys.{iface_in, same_key}
+use Rattle.pim_types.specs.declared.fact.Key.{Key}
+use Rattle.pim_types.specs.declared.fact.NeighbourRow.{NeighbourRow}
+use Rattle.pim_wire.specs.declared.hello.Hello.{Hello as HelloValue}
+use Rattle.pim_model.specs.Downstream.{holdtime_end_from}
+use Rattle.pim_model.specs.Hellos.{hello_holdtime_of}
+use Rattle.pim_model.specs.Neighbours.{is_dr_among}
+use Rattle.pim_model.specs.State.{State, my_address, my_priority}
+use Rattle.pim_model.specs.Tables.{Table, rows_on, set_row}
+
+-- another neighbour passes
+abbrev pub is_other : Key → (Key × NeighbourRow → Bool) → Key × NeighbourRow → Bool
+is_other k test e = not (same_key k e.0) && test e
+
+-- another on the interface of the key does
+abbrev pub some_other : Key → (Key × NeighbourRow → Bool) → Table NeighbourRow → Bool
+some_other k test rows = list_any (is_other k test) (rows_on (iface_in k) rows)
+
+-- it announced no priority
+abbrev pub is_unranked : Key × NeighbourRow → Bool
+is_unranked e = is_none (e.1).priority
+
+abbrev pub is_dr_with : State → Key → Option NeighbourRow → Bool
+is_dr_with s k row =
+    is_dr_among (my_priority s (iface_in k)) (my_address s (iface_in k))
+    (rows_on (iface_in k) (set_row s.neighbours k row))
+
+-- the row that a Hello leaves
+abbrev pub row_of_hello : ℕ → HelloValue → Option NeighbourRow
+row_of_hello present h =
+    if hello_holdtime_of h == 0 then None
+    else Some (record {
+      end = holdtime_end_from present (hello_holdtime_of h);
+      lan_delay = h.lan_delay;
+      priority = h.priority;
+      generation = h.generation;
+    })

@@ -1,0 +1,161 @@
+//! What looks to a neighbour: each group to whose RP it leads, of the other groups the sources to which it leads, and the
+//! asserts that the router lost to it.
+ghost use Rattle.std.specs.List.{flat_map};
+ghost use Rattle.std.specs.Prelude.{◌≡◌, ◌≤◌, ◌++◌, IfOk, OnOk, filter, map, sum_by};
+ghost use Rattle.pim_adjacent.specs.Adjacent.{keys_of_hello, keys_towards, leads_to, led_of_group};
+ghost use Rattle.pim_hello.specs.Visits.{hello_keys_nodes, led_nodes, rp_path_nodes, source_path_nodes, towards_nodes};
+ghost use Rattle.pim_model.specs.Unicast.{route, rp_route};
+ghost use Rattle.pim_types.specs.Keys.{source_key};
+ghost use Rattle.pim_world.specs.Groups.{numbers_of};
+ghost use Rattle.pim_world.specs.Visits.{raised};
+
+use crate::restarted::asserts_lost_to;
+use pim_types::{Addr, Hop, IfaceId, Key, Path};
+use pim_wire::{DEFAULT_HOLDTIME, Hello};
+use pim_world::{Meter, Turn, World};
+use std::alloc::{AllocError, Global};
+use std::collections::BTreeMap;
+
+// Whether the next hop of the path is the neighbour.
+fn leads_to(neighbour: Hop, path: Option<Path>) -> bool
+    ensures { result ≡ leads_to neighbour.iface.number neighbour.address.bits path }
+{
+    match path {
+        Some(path) => path.iface == neighbour.iface && path.next_hop == neighbour.address,
+        None => false,
+    }
+}
+
+// Whether it leads to the RP of the group.
+fn is_group_led(world: &World, meter: &mut Meter, neighbour: Hop, group: Addr) -> bool
+    ensures led { result
+        ≡ leads_to neighbour.iface.number neighbour.address.bits (rp_route world.now group.bits) }
+    ensures at_least { raised meter.old (rp_path_nodes world.now group.bits) ≤ meter.new }
+{
+    let rp = world.rp(group, meter);
+    leads_to(neighbour, world.rp_route(group, rp, meter))
+}
+
+// Whether it leads to the source.
+fn is_source_led(world: &World, meter: &mut Meter, neighbour: Hop, source: Addr) -> bool
+    ensures led { result
+        ≡ leads_to neighbour.iface.number neighbour.address.bits (route world.now source.bits) }
+    ensures at_least { raised meter.old (source_path_nodes world.now source.bits) ≤ meter.new }
+{
+    leads_to(neighbour, world.route(source, meter))
+}
+
+// Puts those of the sources of a group to which it leads behind other keys.
+fn put_sources(
+    world: &World,
+    meter: &mut Meter,
+    neighbour: Hop,
+    group: Addr,
+    sources: &BTreeMap<Addr, (), Global>,
+    keys: &mut Vec<Key>,
+) -> Result<(), AllocError>
+    ensures keys { OnOk result (keys.new.items ≡ keys.old.items ++ map (source_key 0 group.bits)
+        (filter (λ src. leads_to neighbour.iface.number neighbour.address.bits (route world.now src))
+        (numbers_of sources.now.entries))) }
+    ensures at_least { OnOk result (raised meter.old
+        (sum_by (source_path_nodes world.now) (numbers_of sources.now.entries)) ≤ meter.new) }
+{
+    for (source, ()) in sources.iter() {
+        if is_source_led(world, meter, neighbour, *source) {
+            keys.push(Key::source(IfaceId::NONE, group, *source))?;
+        }
+    }
+    Ok(())
+}
+
+// Puts what looks to it of a group behind other keys: all of it where it leads to the RP, or else the sources with any
+// fact to which it leads.
+fn put_group(
+    world: &World,
+    alloc: Global,
+    meter: &mut Meter,
+    neighbour: Hop,
+    group: Addr,
+    keys: &mut Vec<Key>,
+) -> Result<(), AllocError>
+    ensures keys { OnOk result (keys.new.items ≡ keys.old.items
+        ++ led_of_group world.now neighbour.iface.number neighbour.address.bits group.bits) }
+    ensures at_least { OnOk result (raised meter.old
+        (led_nodes world.now neighbour.iface.number neighbour.address.bits group.bits) ≤ meter.new) }
+{
+    if is_group_led(world, meter, neighbour, group) {
+        keys.push(Key::group(group))?;
+        return Ok(());
+    }
+    let sources = world.sources(alloc, group, meter)?;
+    put_sources(world, meter, neighbour, group, &sources, keys)
+}
+
+// Of these groups.
+fn keys_of_groups(
+    world: &World,
+    alloc: Global,
+    meter: &mut Meter,
+    neighbour: Hop,
+    groups: &BTreeMap<Addr, (), Global>,
+) -> Result<Vec<Key>, AllocError>
+    ensures keys { IfOk result (λ keys. keys.items
+        ≡ flat_map (led_of_group world.now neighbour.iface.number neighbour.address.bits) (numbers_of groups.now.entries)) }
+    ensures at_least { OnOk result (raised meter.old
+        (sum_by (led_nodes world.now neighbour.iface.number neighbour.address.bits) (numbers_of groups.now.entries)) ≤ meter.new) }
+{
+    let mut keys = Vec::new(alloc);
+    for (group, ()) in groups.iter() {
+        put_group(world, alloc, meter, neighbour, *group, &mut keys)?;
+    }
+    Ok(keys)
+}
+
+/// The keys of what looks to the neighbour, of which there are facts. The meter rises by the nodes that the look-ups visit, at
+/// least those of the RP of each group and of the routes that are asked for.
+#[tactic(auto, unfolding(pim_adjacent::specs::Adjacent::keys_towards))]
+pub fn keys_towards(
+    world: &World,
+    turn: &Turn,
+    meter: &mut Meter,
+    neighbour: Hop,
+) -> Result<Vec<Key>, AllocError>
+    ensures keys { IfOk result (λ keys. keys.items
+        ≡ keys_towards world.now neighbour.iface.number neighbour.address.bits) }
+    ensures at_least { OnOk result (raised meter.old
+        (towards_nodes world.now neighbour.iface.number neighbour.address.bits) ≤ meter.new) }
+{
+    let groups = world.groups(turn.alloc)?;
+    let mut keys = keys_of_groups(world, turn.alloc, meter, neighbour, &groups)?;
+    let lost = asserts_lost_to(world, turn, neighbour)?;
+    keys.extend_from_slice(&lost)?;
+    Ok(keys)
+}
+
+/// The keys of what a Hello moves that leaves whether the router is the DR: of a neighbour that stays, the asserts that the
+/// router lost to it, which end where it started anew; of one that comes or goes, all that looks to it. The meter rises by the
+/// nodes that the look-ups visit.
+#[tactic(auto, unfolding(pim_adjacent::specs::Adjacent::keys_of_hello))]
+pub fn keys_of_hello(
+    world: &World,
+    turn: &Turn,
+    meter: &mut Meter,
+    iface: IfaceId,
+    from: Addr,
+    hello: &Hello,
+) -> Result<Vec<Key>, AllocError>
+    ensures keys { IfOk result (λ keys. keys.items
+        ≡ keys_of_hello world.now iface.number from.bits hello.now) }
+    ensures at_least { OnOk result (raised meter.old
+        (hello_keys_nodes world.now iface.number from.bits hello.now) ≤ meter.new) }
+{
+    let neighbour = Hop {
+        iface,
+        address: from,
+    };
+    let lasts = hello.holdtime.unwrap_or(DEFAULT_HOLDTIME) != 0;
+    if world.neighbours().contains(iface, from) && lasts {
+        return asserts_lost_to(world, turn, neighbour);
+    }
+    keys_towards(world, turn, meter, neighbour)
+}
