@@ -1,5 +1,5 @@
 -- What changes none of the rows by which packets are asked for: what follows from a change, and most events and timers.
-use Rattle.std.proofs.Common.{◌≡◌, ◌∙◌, ℕ, not, List, fold, filter, refl, arith}
+use Rattle.std.proofs.Common.{◌≡◌, ◌∙◌, ℕ, List, refl, arith}
 use Rattle.pim_types.specs.declared.fact.AssertMetric.{AssertMetric}
 use Rattle.pim_types.specs.declared.fact.AssertRow.{AssertRow}
 use Rattle.pim_types.specs.declared.fact.DownstreamRow.{DownstreamRow}
@@ -7,24 +7,23 @@ use Rattle.pim_types.specs.declared.fact.GroupRecordRow.{GroupRecordRow}
 use Rattle.pim_types.specs.declared.fact.Key.{Key}
 use Rattle.pim_types.specs.declared.fact.RegisterState.{RegisterState}
 use Rattle.pim_types.specs.declared.fact.SourceRecordRow.{SourceRecordRow}
-use Rattle.pim_types.specs.declared.path.Hop.{Hop}
 use Rattle.pim_wire.specs.Values.{JoinPrune}
 use Rattle.pim_wire.specs.declared.assert.Assert.{Assert as AssertMessage}
 use Rattle.pim_wire.specs.declared.hello.Hello.{Hello as HelloValue}
 use Rattle.pim_model.specs.Asserts.{assert_as_loser, assert_as_winner, assert_at, assert_due, assert_forgotten, assert_in_no_info, assert_received, data_seen, loses, loses_first, wins, wins_again, with_spt_bit, without_spt_bit}
-use Rattle.pim_model.specs.Clearing.{Cleared, clear, clear_all, clearable_count, cleared, to_clear}
-use Rattle.pim_model.specs.Downstream.{Named, accepted_joins, accepted_prunes}
+use Rattle.pim_model.specs.Clearing.{clear}
 use Rattle.pim_model.specs.Firing.{settled}
 use Rattle.pim_model.specs.Forwarding.{source_here, source_joined, spt_updated, watched}
 use Rattle.pim_model.specs.Hellos.{hello_received, hello_triggered, neighbour_replaced, neighbour_restarted}
 use Rattle.pim_model.specs.Messages.{Message}
 use Rattle.pim_model.specs.Registers.{register_due, register_stop_seen, settle_register, settle_registers, with_keepalive}
-use Rattle.pim_model.specs.Seen.{cancel_override_timer, is_star_entry, join_seen, lower_join_timer, lower_override_timer, lower_source_timer, lower_star_timer, lower_tree_timer, prune_seen, raise_join_timer, seen}
+use Rattle.pim_model.specs.Seen.{cancel_override_timer, lower_join_timer, lower_override_timer, raise_join_timer, seen}
 use Rattle.pim_model.specs.State.{State}
-use Rattle.pim_model.specs.Tables.{Table, hop_at}
-use Rattle.pim_model.specs.Upstream.{TimerChange, group_upstream, moved_join_timer, moved_override_timer, source_upstream, upstream, with_join_timer, with_override_timer}
+use Rattle.pim_model.specs.Tables.{Table}
+use Rattle.pim_model.specs.Upstream.{moved_join_timer, moved_override_timer, upstream}
 use Rattle.pim_model.specs.Writing.{write_all}
-use Rattle.pim_laws.proofs.TurnLaws.{kept_by_fold, kept_in_turn, kept_to_the_end}
+use Rattle.pim_laws.proofs.SettlingLaws.{kept_by_clearing, kept_by_telling}
+use Rattle.pim_ready.proofs.SeenLaws.{kept_by_seen}
 
 -- the rows by which packets are asked for
 pub record Rows : Type 0 where
@@ -40,39 +39,14 @@ Same s t = rows_of t ≡ rows_of s
 
 -- ---- what follows from a change
 
-cleared_same : (s : State) (c : Cleared) → Same s (cleared s c).0
-unfolding cleared assert_forgotten without_spt_bit
-cleared_same s c = grind arith
-
 clear_same : (o s : State) → Same s (clear o s).0
-unfolding clear clear_all settle_registers
-clear_same o s =
-    kept_to_the_end (to_clear o) cleared (λ t. Same s t) (λ t c f e. cleared_same t c ∙ f)
-    (clearable_count (settle_registers s)) (settle_registers s) refl
+unfolding settle_registers assert_forgotten without_spt_bit
+clear_same o s = kept_by_clearing (Same s) (λ t k f. f) (λ t k f. f) o s refl
 
-join_timer_same : (s : State) (k : Key) (change : TimerChange) → Same s (with_join_timer s k change)
-unfolding with_join_timer moved_join_timer
-join_timer_same s k change = grind arith
-
-override_timer_same : (s : State) (k : Key) (change : TimerChange) → Same s (with_override_timer s k change)
-unfolding with_override_timer moved_override_timer
-override_timer_same s k change = grind arith
-
-module _ (o a : State) (w : ℕ) where
-  source_upstream_same : (g : ℕ) (s : State) (src : ℕ) → Same s (source_upstream o a w g s src).0
-  unfolding source_upstream
-  source_upstream_same g s src = override_timer_same _ _ _ ∙ join_timer_same s _ _
-
-  group_upstream_same : (keys : List Key) (s : State) (g : ℕ) → Same s (group_upstream o a w keys s g).0
-  unfolding group_upstream
-  group_upstream_same keys s g =
-      kept_in_turn (source_upstream o a w g) (λ t. Same s t) (λ t src f. source_upstream_same g t src ∙ f) _ _
-      (join_timer_same s _ _)
-
-  upstream_same : Same a (upstream o a w).0
-  unfolding upstream
-  upstream_same =
-      kept_in_turn (group_upstream o a w _) (λ t. Same a t) (λ t g f. group_upstream_same _ t g ∙ f) _ a refl
+upstream_same : (o a : State) (w : ℕ) → Same a (upstream o a w).0
+unfolding moved_join_timer moved_override_timer
+upstream_same o a w =
+    kept_by_telling (λ n. Unit {0}) a w (λ d some. tt) (Same a) (λ s k change fair f. f) (λ s k change fair f. f) o refl
 
 writing_same : (s : State) (messages : List Message) → Same s (write_all s messages).0
 unfolding write_all
@@ -134,41 +108,6 @@ pub hello_same : (s : State) (i address : ℕ) (h : HelloValue) (w : ℕ) → Sa
 unfolding hello_received hello_triggered neighbour_replaced neighbour_restarted
 hello_same s i address h w = grind arith
 
-module _ (o : State) (w : ℕ) (hop : Hop) where
-  join_seen_same : (holdtime : ℕ) (s : State) (n : Named) → Same s (join_seen o holdtime w hop s n)
-  unfolding join_seen raise_join_timer cancel_override_timer
-  join_seen_same holdtime s n = grind arith
-
-  joins_seen_same : (holdtime : ℕ) (ns : List Named) (s : State) → Same s (fold (join_seen o holdtime w hop) s ns)
-  joins_seen_same holdtime ns s =
-      kept_by_fold (join_seen o holdtime w hop) (λ t. Same s t) (λ t n f. join_seen_same holdtime t n ∙ f) ns s refl
-
-  source_timer_same : (g src : ℕ) (s : State) → Same s (lower_source_timer o w hop g src s)
-  unfolding lower_join_timer
-  source_timer_same g src s = grind arith
-
-  source_timers_same : (g : ℕ) (sources : List ℕ) (s t : State) → Same s t
-      → Same s (fold (λ t src. lower_source_timer o w hop g src t) t sources)
-  source_timers_same g sources s t f =
-      kept_by_fold (λ t src. lower_source_timer o w hop g src t) (λ u. Same s u)
-      (λ u src h. source_timer_same g src u ∙ h) sources t f
-
-  star_timer_same : (g : ℕ) (s : State) → Same s (lower_star_timer o w hop g s)
-  unfolding lower_join_timer
-  star_timer_same g s = grind arith
-
-  tree_timer_same : (g src : ℕ) (s : State) → Same s (lower_tree_timer o w hop g src s)
-  unfolding lower_override_timer
-  tree_timer_same g src s = grind arith
-
-  prune_seen_same : (s : State) (n : Named) → Same s (prune_seen o w hop s n)
-  unfolding prune_seen
-  prune_seen_same s n = grind (arith, source_timers_same, source_timer_same, star_timer_same, tree_timer_same)
-
 pub seen_same : (s : State) (w i : ℕ) (m : JoinPrune) → Same s (seen s w i m)
-unfolding seen
-seen_same s w i m =
-    let hop : Hop = hop_at i m.upstream in
-    kept_by_fold (prune_seen s w hop) (λ t. Same s t) (λ t n f. prune_seen_same s w hop t n ∙ f) (accepted_prunes m) _
-    (joins_seen_same s w hop m.holdtime (filter (λ n. not (is_star_entry n)) (accepted_joins s m)) _
-    ∙ joins_seen_same s w hop m.holdtime (filter is_star_entry (accepted_joins s m)) s)
+unfolding raise_join_timer lower_join_timer cancel_override_timer lower_override_timer
+seen_same s w i m = kept_by_seen (Same s) s w i m (λ t k end f. f) (λ t k f. f) (λ t k f. f) (λ t k f. f) refl

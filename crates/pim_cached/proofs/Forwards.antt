@@ -17,7 +17,7 @@ use Rattle.pim_model.specs.Tables.{has_row}
 use Rattle.pim_model.specs.Unicast.{is_connected, is_rpf_interface, is_rpf_interface_rp, route}
 use Rattle.pim_locality.specs.Rest.{IsAtRest}
 use Rattle.pim_cached.proofs.KeptAlive.{its_key, register_is_settled, row_passes, with_its_row}
-use Rattle.pim_cached.proofs.PlainSteps.{at, first_two, listed_at, opens, reached_there, stray_at, stray_key, updated_at}
+use Rattle.pim_cached.proofs.PlainSteps.{at, first_two, listed_at, opens, reached_on_link, stray_at, stray_key, updated_at}
 
 module _ (s : State) (g src : ℕ) where
   -- who may register is the source's DR
@@ -90,7 +90,7 @@ module _ (g src i : ℕ) (s : State) (rests : IsAtRest s) (there : has_row s.sou
   -- where it sets SPTbit
   pub reaches_is : sets_spt asked i ≡ (is_spt_reached s g src i && not (spt_bit s g src))
   unfolding answers
-  reaches_is = ap (λ c. c && not (spt_bit s g src)) (reached_there g src s rests there i false)
+  reaches_is = ap (λ c. c && not (spt_bit s g src)) (reached_on_link g src s i)
 
   -- ---- while the tunnel doesn't open, nor the bit is set
 

@@ -9,13 +9,10 @@ use Rattle.pim_types.proofs.Keys.{equal_keys, same_key_same}
 use Rattle.pim_model.specs.Cache.{answers, cached}
 use Rattle.pim_model.specs.Clearing.{spt_must_go}
 use Rattle.pim_model.specs.Desires.{is_immediate_empty, is_inherited_empty, join_desired}
-use Rattle.pim_model.specs.Neighbours.{is_dr, nbr}
-use Rattle.pim_model.specs.Receivers.{is_exclude}
 use Rattle.pim_model.specs.Registers.{could_register, keepalive_period, with_keepalive}
-use Rattle.pim_model.specs.Sets.{is_kept_alive, joins, joins_star, prunes, spt_bit, tunnel}
+use Rattle.pim_model.specs.Sets.{is_kept_alive, spt_bit}
 use Rattle.pim_model.specs.State.{State}
-use Rattle.pim_model.specs.Tables.{has_row, row_at}
-use Rattle.pim_model.specs.Unicast.{route, rp_of, rp_route}
+use Rattle.pim_model.specs.Tables.{has_row, put, row_at}
 use Rattle.pim_laws.proofs.ListLaws.{each_of_list}
 use Rattle.pim_laws.proofs.RowLaws.{row_put, row_put_away}
 use Rattle.pim_laws.proofs.TableLaws.{row_of_each}
@@ -23,6 +20,7 @@ use Rattle.pim_locality.specs.Locality.{is_register_settled}
 use Rattle.pim_locality.specs.Rest.{IsAtRest}
 use Rattle.pim_locality.specs.Sees.{SeesSource}
 use Rattle.pim_locality.proofs.SameMacros.{is_immediate_empty_same, is_inherited_empty_same, join_desired_same}
+use Rattle.pim_locality.proofs.SameSights.{source_at}
 use Rattle.pim_reach.proofs.SameRows.{flags}
 use Rattle.pim_cached.proofs.SameAnswers.{answers_same}
 
@@ -82,36 +80,9 @@ module _ (g src : ℕ) (s : State) where
       (sym (row_put_away its_key (source_key 0 h x) (λ f. apart e f) kept_row s.sources))
 
   pub sees_kept : (h x : ℕ) → SeesSource h x s kept
-  unfolding with_keepalive tunnel is_dr nbr route rp_of rp_route joins_star joins prunes is_exclude
-  sees_kept h x = record {
-    star = record {
-      settings = refl;
-      configured = refl;
-      dr = refl;
-      neighbour = refl;
-      rp = refl;
-      rp_path = refl;
-      joined = refl;
-      losers = λ i. refl;
-      winners = λ i. refl;
-      won_by = λ i. refl;
-      excluding = refl;
-      including = refl;
-      rp_nbr = refl;
-    };
-    path = refl;
-    nbr = refl;
-    joined = refl;
-    pruned = refl;
-    losers = λ i. refl;
-    winners = λ i. refl;
-    won_by = λ i. refl;
-    metrics = λ i. refl;
-    listed = λ i. refl;
-    excluded = λ i. refl;
-    spt = spt_as_it_was h x (same_key its_key (source_key 0 h x)) refl;
-    to_rp = refl;
-  }
+  unfolding with_keepalive
+  sees_kept h x =
+      source_at s s.present (put s.sources its_key kept_row) h x (spt_as_it_was h x (same_key its_key (source_key 0 h x)) refl)
 
   module _ (rests : IsAtRest s) (there : has_row s.sources its_key ≡ true) where
     -- where the timer doesn't run SPTbit is set, so the source is desired by its own list

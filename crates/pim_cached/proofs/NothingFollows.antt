@@ -55,7 +55,7 @@ none_left p (x ∷ xs) e =
     go true f ih = cc
     go false f ih = ih
 
-none_there : {X : Type 0} (p : X → Bool) (xs : List X) → list_all (λ x. not (p x)) xs ≡ true → find p xs ≡ None
+pub none_there : {X : Type 0} (p : X → Bool) (xs : List X) → list_all (λ x. not (p x)) xs ≡ true → find p xs ≡ None
 none_there p [] e = refl
 none_there p (x ∷ xs) e =
     go (p x) (first_so (not (p x)) (list_all (λ y. not (p y)) xs) e)
@@ -66,7 +66,7 @@ none_there p (x ∷ xs) e =
     go false f ih = ih
 
 -- turns that do nothing
-idle_turns : {S A M : Type 0} (change : S → A → S × List M) (s : S)
+pub idle_turns : {S A M : Type 0} (change : S → A → S × List M) (s : S)
     → ((x : A) → change s x ≡ (let p : S × List M = (s, []) in p)) → (xs : List A)
     → each_in_turn change s xs ≡ (let p : S × List M = (s, []) in p)
 unfolding each_in_turn

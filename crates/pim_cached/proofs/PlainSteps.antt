@@ -23,40 +23,25 @@ use Rattle.pim_locality.specs.Rest.{IsAtRest}
 use Rattle.pim_locality.specs.Sees.{SeesSource}
 use Rattle.pim_locality.proofs.Registers.{nothing_dropped}
 use Rattle.pim_locality.proofs.SameMacros.{could_assert_same, could_assert_star_same, inherited_olist_rpt_same, inherited_olist_same, is_inherited_empty_same, rpf_at_same, rpf_rp_at_same}
+use Rattle.pim_locality.proofs.SameSights.{source_at}
 use Rattle.pim_cached.proofs.KeptAlive.{desired_kept, found, its_key, kept, kept_row, now_kept, register_is_settled, sees_kept}
 use Rattle.pim_cached.proofs.Puts.{put_same, put_twice}
 use Rattle.pim_cached.proofs.SameAnswers.{reached_same, watches_same}
 
-sees_itself : (h x : ℕ) (s : State) → SeesSource h x s s
-sees_itself h x s = record {
-  star = record {
-    settings = refl;
-    configured = refl;
-    dr = refl;
-    neighbour = refl;
-    rp = refl;
-    rp_path = refl;
-    joined = refl;
-    losers = λ i. refl;
-    winners = λ i. refl;
-    won_by = λ i. refl;
-    excluding = refl;
-    including = refl;
-    rp_nbr = refl;
-  };
-  path = refl;
-  nbr = refl;
-  joined = refl;
-  pruned = refl;
-  losers = λ i. refl;
-  winners = λ i. refl;
-  won_by = λ i. refl;
-  metrics = λ i. refl;
-  listed = λ i. refl;
-  excluded = λ i. refl;
-  spt = refl;
-  to_rp = refl;
-}
+-- on the source's link it is one of the answers
+pub reached_on_link : (g src : ℕ) (s : State) (i : ℕ)
+    → (is_rpf_interface s src i && option_map_or (is_spt_reached s g src) (rpf_interface s src) false) ≡ is_spt_reached s g src i
+unfolding is_spt_reached
+reached_on_link g src s i = go (rpf_interface s src) refl
+  where
+    go : (o : Option ℕ) → rpf_interface s src ≡ o
+        → (same_option o (Some i) && option_map_or (is_spt_reached s g src) o false) ≡ is_spt_reached s g src i
+    go None e = rw e refl
+    go (Some q) e = at_link (q == i) refl
+      where
+        at_link : (c : Bool) → (q == i) ≡ c → (c && is_spt_reached s g src q) ≡ is_spt_reached s g src i
+        at_link true f = let same : q ≡ i = grind (arith, f) in ap (λ n. is_spt_reached s g src n) same
+        at_link false f = rw (e, f) refl
 
 module _ (g src : ℕ) (s : State) (rests : IsAtRest s) (there : has_row s.sources (its_key g src s) ≡ true) where
   abbrev pub key : Key
@@ -68,7 +53,7 @@ module _ (g src : ℕ) (s : State) (rests : IsAtRest s) (there : has_row s.sourc
 
   pub sees_at : (b : Bool) (h x : ℕ) → SeesSource h x s (at b)
   sees_at true h x = sees_kept g src s h x
-  sees_at false h x = sees_itself h x s
+  sees_at false h x = source_at s s.present s.sources h x refl
 
   pub desired_at : (b : Bool) (h x : ℕ) → join_desired s h x ≡ join_desired (at b) h x
   desired_at true h x = desired_kept g src s rests there h x
@@ -201,21 +186,6 @@ module _ (g src : ℕ) (s : State) (rests : IsAtRest s) (there : has_row s.sourc
 
     pub reached_at : is_spt_reached s g src i ≡ is_spt_reached now g src i
     reached_at = λ j. reached_same g src s now sees (desired_at b g src) j i
-
-    -- on the source's link it is one of the answers
-    pub reached_there : (is_rpf_interface s src i && option_map_or (is_spt_reached s g src) (rpf_interface s src) false)
-        ≡ is_spt_reached s g src i
-    unfolding is_spt_reached
-    reached_there = go (rpf_interface s src) refl
-      where
-        go : (o : Option ℕ) → rpf_interface s src ≡ o
-            → (same_option o (Some i) && option_map_or (is_spt_reached s g src) o false) ≡ is_spt_reached s g src i
-        go None e = rw e refl
-        go (Some q) e = at_link (q == i) refl
-          where
-            at_link : (c : Bool) → (q == i) ≡ c → (c && is_spt_reached s g src q) ≡ is_spt_reached s g src i
-            at_link true f = let same : q ≡ i = grind (arith, f) in ap (λ n. is_spt_reached s g src n) same
-            at_link false f = rw (e, f) refl
 
     pub updated_at : (is_spt_reached s g src i && not (spt_bit s g src)) ≡ false → spt_updated now g src i ≡ now
     unfolding spt_updated

@@ -7,7 +7,7 @@ use Rattle.std.specs.declared.cmp.Ordering.TheVariants.{Less}
 use Rattle.std.proofs.lemmas.List.Folds.{list_any-append}
 use Rattle.igmp_wire.specs.declared.report.RecordType.{RecordType}
 use Rattle.pim_filters.specs.Asking.{asked_in_order}
-use Rattle.pim_filters.specs.Cases.{CaseValue, cases_in, member_case, new_case, value_of, with_member}
+use Rattle.pim_filters.specs.Cases.{CaseValue, cases_in, cases_with, member_case, new_case, value_of}
 use Rattle.pim_filters.specs.Changes.{asked_after, entry_after}
 use Rattle.pim_filters.specs.Members.{IsAscending, bits_of, entries_of, entry_of, fate_at, fate_of}
 use Rattle.pim_filters.specs.Rules.{asks_group, asks_sources, fate_after, is_asked, kept_or, timer_after}
@@ -121,7 +121,7 @@ stays_step : (m : Member) (ms : List Member) (n : ℕ) (ns : List ℕ) (b c : Bo
     → filter_map (λ c. entry_before (value_of c)) (cases_in (m ∷ ms) ns) ≡ entries_of (m ∷ ms)
     → filter_map (λ c. entry_before (value_of c)) (cases_in ms ns) ≡ entries_of ms
     → filter_map (λ c. entry_before (value_of c)) (cases_in ms (n ∷ ns)) ≡ entries_of ms
-    → filter_map (λ c. entry_before (value_of c)) (cond b (new_case n ∷ with_member m (cases_in ms) ns) (cond c (member_case true m ∷ cases_in ms ns) (member_case false m ∷ cases_in ms (n ∷ ns)))) ≡ entries_of (m ∷ ms)
+    → filter_map (λ c. entry_before (value_of c)) (cond b (new_case n ∷ cases_with m (cases_in ms) ns) (cond c (member_case true m ∷ cases_in ms ns) (member_case false m ∷ cases_in ms (n ∷ ns)))) ≡ entries_of (m ∷ ms)
 stays_step m ms n ns true c earlier both later = earlier
 stays_step m ms n ns false true earlier both later = λ i. cons_option (entry_of_member true m i) (both i)
 stays_step m ms n ns false false earlier both later = λ i. cons_option (entry_of_member false m i) (later i)

@@ -4,7 +4,7 @@ use Rattle.std.proofs.Common.{◌≡◌, ℕ, suc, ◌<◌, ◌≤◌, Bool, tru
 use Rattle.std.specs.List.{find}
 use Rattle.std.specs.Option.{option_map_or}
 use Rattle.std.proofs.lemmas.Bool.Decides.{nat_tests}
-use Rattle.pim_filters.specs.Cases.{CaseValue, cases_in, member_case, new_case, value_of, with_member}
+use Rattle.pim_filters.specs.Cases.{CaseValue, cases_in, cases_with, member_case, new_case, value_of}
 use Rattle.pim_filters.specs.Members.{entries_of, fate_at, fate_of}
 use Rattle.pim_filters.specs.declared.case.Case.{Case}
 use Rattle.pim_filters.specs.declared.member.Member.{Member}
@@ -25,10 +25,6 @@ keys_new : (ns : List ℕ) → keys (map new_case ns) ≡ ns
 keys_new [] = refl
 keys_new (n ∷ ns) = ap (λ rest. n ∷ rest) (keys_new ns)
 
-or_false : (b : Bool) → b ≡ (b || false)
-or_false true = refl
-or_false false = refl
-
 swapped : (a b c : Bool) → (a || (b || c)) ≡ (b || (a || c))
 swapped true true c = refl
 swapped true false c = refl
@@ -47,7 +43,7 @@ module _ (k : ℕ) where
       → is_among k (keys (cases_in (m ∷ ms) ns)) ≡ (is_among k (sources_in (m ∷ ms)) || is_among k ns)
       → is_among k (keys (cases_in ms ns)) ≡ (is_among k (sources_in ms) || is_among k ns)
       → is_among k (keys (cases_in ms (n ∷ ns))) ≡ (is_among k (sources_in ms) || is_among k (n ∷ ns))
-      → is_among k (keys (cond b (new_case n ∷ with_member m (cases_in ms) ns) (cond c (member_case true m ∷ cases_in ms ns) (member_case false m ∷ cases_in ms (n ∷ ns)))))
+      → is_among k (keys (cond b (new_case n ∷ cases_with m (cases_in ms) ns) (cond c (member_case true m ∷ cases_in ms ns) (member_case false m ∷ cases_in ms (n ∷ ns)))))
       ≡ (is_among k (sources_in (m ∷ ms)) || is_among k (n ∷ ns))
   unfolding is_among
   among_step m ms n ns true c same earlier both later =
@@ -72,7 +68,7 @@ module _ (k : ℕ) where
 below_step : (low : ℕ) (m : Member) (ms : List Member) (n : ℕ) (ns : List ℕ) (b c : Bool)
     → low < m.source.bits → low < n
     → Below low (keys (cases_in (m ∷ ms) ns)) → Below low (keys (cases_in ms ns)) → Below low (keys (cases_in ms (n ∷ ns)))
-    → Below low (keys (cond b (new_case n ∷ with_member m (cases_in ms) ns) (cond c (member_case true m ∷ cases_in ms ns) (member_case false m ∷ cases_in ms (n ∷ ns)))))
+    → Below low (keys (cond b (new_case n ∷ cases_with m (cases_in ms) ns) (cond c (member_case true m ∷ cases_in ms ns) (member_case false m ∷ cases_in ms (n ∷ ns)))))
 below_step low m ms n ns true c first second earlier both later = (second, earlier)
 below_step low m ms n ns false true first second earlier both later = (first, both)
 below_step low m ms n ns false false first second earlier both later = (first, later)
@@ -87,7 +83,7 @@ Below-cases low (m ∷ ms) (n ∷ ns) first second =
 rises_step : (m : Member) (ms : List Member) (n : ℕ) (ns : List ℕ) (b c : Bool) → nat_lt n m.source.bits ≡ b → (n == m.source.bits) ≡ c
     → Rises (sources_in (m ∷ ms)) → Rises (n ∷ ns)
     → Rises (keys (cases_in (m ∷ ms) ns)) → Rises (keys (cases_in ms ns)) → Rises (keys (cases_in ms (n ∷ ns)))
-    → Rises (keys (cond b (new_case n ∷ with_member m (cases_in ms) ns) (cond c (member_case true m ∷ cases_in ms ns) (member_case false m ∷ cases_in ms (n ∷ ns)))))
+    → Rises (keys (cond b (new_case n ∷ cases_with m (cases_in ms) ns) (cond c (member_case true m ∷ cases_in ms ns) (member_case false m ∷ cases_in ms (n ∷ ns)))))
 rises_step m ms n ns true c less same first second earlier both later =
     let before : n < m.source.bits = grind (arith, nat_tests) in
     (Below-cases n (m ∷ ms) ns (before, Below-lower n m.source.bits (sources_in ms) before first.0) second.0, earlier)
@@ -184,7 +180,7 @@ module _ (f : ℕ → records.Fate) (g : ℕ → Bool) where
       → (n < m.source.bits → map value_of (cases_in (m ∷ ms) ns) ≡ told (keys (cases_in (m ∷ ms) ns)))
       → (n ≡ m.source.bits → map value_of (cases_in ms ns) ≡ told (keys (cases_in ms ns)))
       → (m.source.bits < n → map value_of (cases_in ms (n ∷ ns)) ≡ told (keys (cases_in ms (n ∷ ns))))
-      → (let cs = cond b (new_case n ∷ with_member m (cases_in ms) ns) (cond c (member_case true m ∷ cases_in ms ns) (member_case false m ∷ cases_in ms (n ∷ ns))) in map value_of cs ≡ told (keys cs))
+      → (let cs = cond b (new_case n ∷ cases_with m (cases_in ms) ns) (cond c (member_case true m ∷ cases_in ms ns) (member_case false m ∷ cases_in ms (n ∷ ns))) in map value_of cs ≡ told (keys cs))
   values_step low m ms n ns true c less same first second below_ms below_ns tells earlier both later =
       let before : n < m.source.bits = grind (arith, nat_tests) in
       let gone : f n ≡ records.Gone = tells.fates n second ∙ fate_none n (m ∷ ms) (before, Below-lower n m.source.bits (sources_in ms) before below_ms) in

@@ -14,16 +14,16 @@ abbrev pub member_case : Bool → Member → Case
 member_case named m = record { source = m.source; before = fate_at m.end; named = named }
 
 -- the cases from a member on, where `rest` has those of the later members
-abbrev pub with_member : Member → (List ℕ → List Case) → List ℕ → List Case
-with_member m rest [] = member_case false m ∷ rest []
-with_member m rest (n ∷ ns) =
-    if nat_lt n m.source.bits then new_case n ∷ with_member m rest ns
+abbrev pub cases_with : Member → (List ℕ → List Case) → List ℕ → List Case
+cases_with m rest [] = member_case false m ∷ rest []
+cases_with m rest (n ∷ ns) =
+    if nat_lt n m.source.bits then new_case n ∷ cases_with m rest ns
     else (if n == m.source.bits then member_case true m ∷ rest ns else member_case false m ∷ rest (n ∷ ns))
 
 -- the cases of members and named sources, both ascending
 abbrev pub cases_in : List Member → List ℕ → List Case
 cases_in [] ns = map new_case ns
-cases_in (m ∷ ms) ns = with_member m (cases_in ms) ns
+cases_in (m ∷ ms) ns = cases_with m (cases_in ms) ns
 
 -- a source, what it was, and whether it is named
 abbrev pub CaseValue : Type 0

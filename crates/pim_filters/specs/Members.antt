@@ -7,6 +7,7 @@ use Rattle.pim_filters.specs.declared.member.Fate.{Fate}
 use Rattle.pim_filters.specs.declared.member.Fate.TheVariants.{Gone, Excluded, Until}
 use Rattle.pim_filters.specs.declared.member.Member.{Member}
 use Rattle.pim_ip.specs.declared.addr.Addr.{Addr}
+pub use Rattle.igmp_wire.specs.Written.{bits_of}
 use Rattle.pim_model.specs.Querier.{lowered}
 use Rattle.pim_model.specs.Records as records
 
@@ -25,9 +26,6 @@ fate_of (Until end) = records.Until end
 abbrev pub fate_at : Option ℕ → Fate
 fate_at None = Excluded
 fate_at (Some end) = Until end
-
-abbrev pub bits_of : List Addr → List ℕ
-bits_of addresses = map (λ (a : Addr). a.bits) addresses
 
 -- the sources ascend, and each is there once
 abbrev pub IsAscending : List records.Member → Type 0

@@ -155,9 +155,6 @@ module _ (m : ℕ) (s : State) (now : s.present ≡ m) (i g : ℕ) where
 
 -- ---- a source timer ends
 
-abbrev is_source_of : ℕ → Member → Bool
-is_source_of src p = p.0 == src
-
 -- a row of the group shows as the member that it is, unless it is under a key of another kind
 module _ (i g : ℕ) where
   pub equal_forms : (e : Key × SourceRecordRow) → is_at_group i g e.0 ≡ true → is_under_source e ≡ true

@@ -21,6 +21,7 @@ pub mod OtherEvents
 pub mod QuietStates
 pub mod SettledRegisters
 pub mod SameMacros
+pub mod SameSights
 pub mod EventLaws
 pub mod Rest
 pub mod SameRows

@@ -9,7 +9,7 @@ use Rattle.pim_types.specs.declared.fact.Key.{Key}
 use Rattle.pim_types.specs.declared.fact.SendingRow.{SendingRow}
 use Rattle.pim_types.specs.declared.fact.SourceRecordRow.{SourceRecordRow}
 use Rattle.pim_types.specs.Keys.{group_in, is_of_group, is_on, same_key, source_in, source_key, star_key}
-use Rattle.pim_types.proofs.Keys.{equal_keys, same_key_same}
+use Rattle.pim_types.proofs.Keys.{same_key_same}
 use Rattle.igmp_wire.specs.Values.{Record}
 use Rattle.pim_model.specs.Messages.{Message}
 use Rattle.pim_model.specs.Querier.{each_in_turn, exceeds, group_membership_interval, robustness, group_record_due, is_skipped, is_querier, lower_group, lower_sources, lowered, query_asked, query_end, query_group, query_sources, record_seen, report_seen, send_sources, source_end, source_record_due, sources_sent}
@@ -114,11 +114,6 @@ module _ (i g : ℕ) where
 
   star_unread : (q : Key) → touching (star_key 0 g ∷ []) q ≡ false → reads q (star_key i g) ≡ false
   star_unread q e = unread_here q e (star_key i g) (eq-eqb g g refl)
-
-  star_away : (q : Key) → touching (star_key 0 g ∷ []) q ≡ false → (k : Key) → same_key (star_key i g) k ≡ true
-      → reads q k ≡ false
-  star_away q e k same =
-      unread_here q e k (eq-eqb (group_in k) g (ap (λ (x : Key). group_in x) (sym (equal_keys (star_key i g) k same))))
 
   at_group_away : (q : Key) → touching (star_key 0 g ∷ []) q ≡ false → (k : Key) → is_at_group i g k ≡ true
       → reads q k ≡ false

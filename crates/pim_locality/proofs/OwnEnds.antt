@@ -17,7 +17,7 @@ use Rattle.pim_ready.specs.Ready.{IsLawful, IsOrdered, IsSettled, IsTimeless}
 use Rattle.pim_ready.proofs.Changes.{change_fine}
 use Rattle.pim_ready.proofs.FineStates.{Anyhow}
 use Rattle.pim_ready.proofs.Firing.{any, any_late, at_moment, fired_fine}
-use Rattle.pim_ready.proofs.Judgements.{IsJudged, kind_is_judged}
+use Rattle.pim_ready.proofs.Judgements.{IsHere, IsJudged, kind_is_judged}
 use Rattle.pim_ready.proofs.LawfulFiring.{lawful_is_sound}
 use Rattle.pim_ready.proofs.LawfulStates.{its_order}
 use Rattle.pim_ready.proofs.SettledStates.{settled_is_lawful}
@@ -95,7 +95,7 @@ shared_but keys s t agree =
 judged_here : (s : State) → IsSettled s → (kind : EventKind) (a : Accepted) → IsTimeless kind → judged s kind ≡ Ok a
     → (w : ℕ) → IsOrdered (change s w a).state
 judged_here s f kind a none e w =
-    let here : IsJudged (is_up s) (Ok a) = subst (IsJudged (is_up s)) e (kind_is_judged s kind none) in
+    let here : IsJudged (IsHere (is_up s)) (Ok a) = subst (IsJudged (IsHere (is_up s))) e (kind_is_judged s kind none) in
     let after : Anyhow s.present any (change s w a).state =
     change_fine s.present any (is_up s) (any_late s.present) s (lawful_is_sound s (settled_is_lawful s f)) w a
     here.accepts in

@@ -7,37 +7,37 @@ use Rattle.pim_types.specs.declared.event.Event.{Event}
 use Rattle.pim_types.specs.declared.outcome.Outcome.{Outcome}
 use Rattle.pim_model.specs.Network.{Network, Sent, Station, bad_move, event_of, frame_at, is_on_frame_link, moved, moved_at, station_at}
 use Rattle.pim_model.specs.Network as written
-use Rattle.pim_net.specs.Carried.{IsCarried, IsMove, IsMoveOf, MovesTo, bytes_in, moved_with, packet_of, port_of}
+use Rattle.pim_net.specs.Carried.{IsCarried, IsMove, IsMoveOf, MovesTo, bytes_of_kind, carried_packet, moved_with, port_of}
 use Rattle.pim_net.specs.Showing.{brought_on, brought_to, move_of}
 use Rattle.pim_net.specs.Wires.{failures_after}
 use Rattle.pim_net.specs.declared.moves.Move.{Move}
 use Rattle.pim_net.proofs.Events.{moved_event, moved_none, moved_some}
 
 abbrev event_bytes : ℕ × Event → List ℕ
-event_bytes e = bytes_in (e.1).kind
+event_bytes e = bytes_of_kind (e.1).kind
 
 -- ---- the packet of a move
 
-no_packet : (n : Network) (m : Move) → event_of n (move_of m) ≡ None → packet_of n m ≡ None
-unfolding packet_of
+no_packet : (n : Network) (m : Move) → event_of n (move_of m) ≡ None → carried_packet n m ≡ None
+unfolding carried_packet
 no_packet n (Move.Event r e) is = refl
 no_packet n (Move.Deliver r i k w) is = ap (option_map event_bytes) is
 no_packet n (Move.DeliverUnicast r k w) is = ap (option_map event_bytes) is
 
-event_packet : (n : Network) (r : ℕ) (e : Event) → packet_of n (Move.Event r e) ≡ None
-unfolding packet_of
+event_packet : (n : Network) (r : ℕ) (e : Event) → carried_packet n (Move.Event r e) ≡ None
+unfolding carried_packet
 event_packet n r e = refl
 
 pub packet_on : (n : Network) (r : ℕ) (i : IfaceId) (k w : ℕ) (bytes : List ℕ)
     → event_of n (written.Deliver r i.number k w) ≡ Some (r, brought_on i.number w bytes)
-    → packet_of n (Move.Deliver r i k w) ≡ Some bytes
-unfolding packet_of
+    → carried_packet n (Move.Deliver r i k w) ≡ Some bytes
+unfolding carried_packet
 packet_on n r i k w bytes is = ap (option_map event_bytes) is
 
 pub packet_to : (n : Network) (r k w : ℕ) (bytes : List ℕ)
     → event_of n (written.DeliverUnicast r k w) ≡ Some (r, brought_to w bytes)
-    → packet_of n (Move.DeliverUnicast r k w) ≡ Some bytes
-unfolding packet_of
+    → carried_packet n (Move.DeliverUnicast r k w) ≡ Some bytes
+unfolding carried_packet
 packet_to n r k w bytes is = ap (option_map event_bytes) is
 
 pub is_there : {A : Type 0} (o : Option A) (x : A) → o ≡ Some x → IsSome o
@@ -86,9 +86,9 @@ to_event : (n : Network) (r k w : ℕ) (e : ℕ × Event) → event_of n (writte
 unfolding event_of
 to_event n r k w e is = is ∙ to_shape r 0 w e (station_at n r) (frame_at n k) is
 
-as_written : (n : Network) (m : Move) (packet : List ℕ) → packet_of n m ≡ Some packet
+as_written : (n : Network) (m : Move) (packet : List ℕ) → carried_packet n m ≡ Some packet
     → moved_with n m packet ≡ moved n (move_of m)
-unfolding packet_of
+unfolding carried_packet
 as_written n (Move.Event r e) packet is = cc is
 as_written n (Move.Deliver r i k w) packet is = go (event_of n (written.Deliver r i.number k w)) refl is
   where
@@ -113,9 +113,9 @@ module _ {W : Type 0} (is_faithful : Bool) (sends : W → ℕ → List ℕ → W
     (ports : List ℕ) where
   pub is_written : (n : Network) (before : W) (m : Move) (o : Outcome) (next : Network) (after : W) → is_faithful ≡ true
       → IsMove is_faithful sends gives ports n before m o next after → (o, next) ≡ moved n (move_of m)
-  is_written n before m o next after f move = go (packet_of n m) refl move
+  is_written n before m o next after f move = go (carried_packet n m) refl move
     where
-      go : (p : Option (List ℕ)) → packet_of n m ≡ p → IsMoveOf is_faithful sends gives ports p n before m o next after
+      go : (p : Option (List ℕ)) → carried_packet n m ≡ p → IsMoveOf is_faithful sends gives ports p n before m o next after
           → (o, next) ≡ moved n (move_of m)
       go None is move = move.0
       go (Some packet) is move =
@@ -124,7 +124,7 @@ module _ {W : Type 0} (is_faithful : Bool) (sends : W → ℕ → List ℕ → W
   -- ---- what was done is a move
 
   module _ (n : Network) (before : W) (m : Move) (next : Option Network) (after : W) where
-    unmoved : (o : Outcome) (network : Network) → packet_of n m ≡ None → (o, network) ≡ moved n (move_of m)
+    unmoved : (o : Outcome) (network : Network) → carried_packet n m ≡ None → (o, network) ≡ moved n (move_of m)
         → next ≡ Some network → after ≡ before → MovesTo is_faithful sends gives ports n before m o next after
     unmoved o network none is left same =
         record {
@@ -144,11 +144,11 @@ module _ {W : Type 0} (is_faithful : Bool) (sends : W → ℕ → List ℕ → W
         → IfOk r (λ o. MovesTo is_faithful sends gives ports n before m o next after)
     happened (Err fault) router e is outcome network same = tt
     happened (Ok o) router e is outcome network same =
-        unmoved o (moved_at n (router, e)).1 (ap (packet_of n) is ∙ event_packet n router e)
+        unmoved o (moved_at n (router, e)).1 (ap (carried_packet n) is ∙ event_packet n router e)
         (ap (λ (x : Outcome). (x, (moved_at n (router, e)).1)) outcome ∙ sym (moved_event n router e)
         ∙ ap (λ (x : Move). moved n (move_of x)) (sym is)) network same
 
-    pub delivered : (r : Result Outcome Fault) (packet given : List ℕ) → packet_of n m ≡ Some packet
+    pub delivered : (r : Result Outcome Fault) (packet given : List ℕ) → carried_packet n m ≡ Some packet
         → IsCarried is_faithful sends gives before (port_of ports n m) packet given after
         → IfOk r (λ o. o ≡ (moved_with n m given).0) → OnOk r (next ≡ Some (moved_with n m given).1)
         → IfOk r (λ o. MovesTo is_faithful sends gives ports n before m o next after)

@@ -5,7 +5,7 @@ use Rattle.std.proofs.lemmas.Option.{slice_get_read}
 use Rattle.std.specs.Prelude.{IfSome, IsSome, option_and_then}
 use Rattle.pim_types.specs.declared.outcome.Outcome.{Outcome}
 use Rattle.pim_model.specs.Network.{Network, network_ran}
-use Rattle.pim_net.specs.Carried.{AreMoves, HasMoved, IsMove, IsPartWay, MovesTo, packet_of}
+use Rattle.pim_net.specs.Carried.{AreMoves, HasMoved, IsMove, IsPartWay, MovesTo, carried_packet}
 use Rattle.pim_net.specs.Showing.{move_of}
 use Rattle.pim_net.specs.declared.moves.Move.{Move}
 use Rattle.pim_net.proofs.Carries.{is_written}
@@ -109,17 +109,17 @@ module _ {W : Type 0} (is_faithful : Bool) (sends : W → ℕ → List ℕ → W
     runs_written le f = ran_is first before moves told now wire f (runs_end le)
 
     pub stops_part_way : (m : Move) (after : Option Network) → i < length moves → m ≡ get_or moves i m
-        → IfSome now (λ n. (after ≡ Some n) × IsSome (packet_of n m))
+        → IfSome now (λ n. (after ≡ Some n) × IsSome (carried_packet n m))
         → IsPartWay is_faithful sends gives ports first before moves after
     stops_part_way m after lt is kept =
-        let left : (after ≡ Some runs.network) × IsSome (packet_of runs.network m) =
-        of_some now (λ n. (after ≡ Some n) × IsSome (packet_of n m)) runs.network runs.is kept in
+        let left : (after ≡ Some runs.network) × IsSome (carried_packet runs.network m) =
+        of_some now (λ n. (after ≡ Some n) × IsSome (carried_packet n m)) runs.network runs.is kept in
         record {
           count = i;
           below = lt;
           outcomes = told;
           wire = wire;
           done = record { network = runs.network; is = left.0; moves = runs.moves };
-          next = subst (λ (x : Option Move). IsSome (option_and_then (packet_of runs.network) x))
+          next = subst (λ (x : Option Move). IsSome (option_and_then (carried_packet runs.network) x))
               (sym (slice_get_read moves _ i m refl lt is)) left.1;
         }

@@ -8,18 +8,18 @@ use Rattle.pim_model.specs.Network.{Network, Station, event_of, moved, moved_at,
 use Rattle.pim_net.specs.Showing.{brought_on, brought_to, move_of}
 use Rattle.pim_net.specs.declared.moves.Move.{Move}
 
-abbrev pub bytes_in : EventKind → List ℕ
-bytes_in (EventKind.Frame iface bytes) = bytes
-bytes_in (EventKind.Unicast bytes) = bytes
-bytes_in _ = []
+abbrev pub bytes_of_kind : EventKind → List ℕ
+bytes_of_kind (EventKind.Frame iface bytes) = bytes
+bytes_of_kind (EventKind.Unicast bytes) = bytes
+bytes_of_kind _ = []
 
 -- the frame's bytes, where the move is a delivery that isn't refused
-unfoldable pub packet_of : Network → Move → Option (List ℕ)
-packet_of n (Move.Event router event) = None
-packet_of n (Move.Deliver router iface frame draw) =
-    option_map (λ (e : ℕ × Event). bytes_in (e.1).kind) (event_of n (move_of (Move.Deliver router iface frame draw)))
-packet_of n (Move.DeliverUnicast router frame draw) =
-    option_map (λ (e : ℕ × Event). bytes_in (e.1).kind) (event_of n (move_of (Move.DeliverUnicast router frame draw)))
+unfoldable pub carried_packet : Network → Move → Option (List ℕ)
+carried_packet n (Move.Event router event) = None
+carried_packet n (Move.Deliver router iface frame draw) =
+    option_map (λ (e : ℕ × Event). bytes_of_kind (e.1).kind) (event_of n (move_of (Move.Deliver router iface frame draw)))
+carried_packet n (Move.DeliverUnicast router frame draw) =
+    option_map (λ (e : ℕ × Event). bytes_of_kind (e.1).kind) (event_of n (move_of (Move.DeliverUnicast router frame draw)))
 
 -- the outcome and the network where these bytes come to the router
 abbrev pub moved_with : Network → Move → List ℕ → Outcome × Network
@@ -65,7 +65,7 @@ module _ {W : Type 0} (is_faithful : Bool) (sends : W → ℕ → List ℕ → W
     IsMoveOf (Some packet) n before m o next after = IsDelivery n before m packet o next after
 
     abbrev pub IsMove : Network → W → Move → Outcome → Network → W → Type 0
-    IsMove n before m o next after = IsMoveOf (packet_of n m) n before m o next after
+    IsMove n before m o next after = IsMoveOf (carried_packet n m) n before m o next after
 
     -- move after move
     unfoldable pub AreMoves : Network → W → List Move → List Outcome → Network → W → Type 0
@@ -94,4 +94,4 @@ module _ {W : Type 0} (is_faithful : Bool) (sends : W → ℕ → List ℕ → W
       pub outcomes : List Outcome
       pub wire : W
       pub done : HasMoved n before (take count ms) outcomes last wire
-      pub next : IsSome (option_and_then (packet_of done.network) (slice_get ms count))
+      pub next : IsSome (option_and_then (carried_packet done.network) (slice_get ms count))

@@ -36,5 +36,5 @@ pub record Wired (W : Type 0) : Type 0 where
   pub wire : W
 
 -- the state of a router, if there is such a router
-abbrev pub state_of : Option Network → ℕ → Option State
-state_of shown r = option_and_then (λ n. option_map (λ (s : Station). s.state) (station_at n r)) shown
+abbrev pub shown_state : Option Network → ℕ → Option State
+shown_state shown r = option_and_then (λ n. option_map (λ (s : Station). s.state) (station_at n r)) shown

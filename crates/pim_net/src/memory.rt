@@ -1,5 +1,5 @@
 //! A wire in memory.
-ghost use Rattle.std.specs.Prelude.{◌≡◌, []};
+ghost use Rattle.std.specs.Prelude.{[], ◌≡◌};
 
 use crate::wire::Wire;
 use pim_types::Fault;
@@ -14,9 +14,9 @@ pub struct MemoryWire {
 }
 
 impl Model for MemoryWire {
-    ghost use Rattle.pim_net.specs.Keeping.{Kept};
+    ghost use Rattle.pim_net.specs.Keeping.{KeptPacket};
 
-    ghost Value = { Kept };
+    ghost Value = { KeptPacket };
 
     ghost view = { λ wire. record { port = wire.port; packet = wire.packet.items } };
 }

@@ -1,11 +1,11 @@
 //! A network over a wire: moves in, outcomes out.
-ghost use Rattle.std.specs.Prelude.{◌≡◌, ◌↔◌, [], Err, IfErr, IfNone, IfOk, IfSome, IsOk, IsSome, List, None, Ok, OnOk, Some, get_or, is_some, map, option_map, true, ℕ};
+ghost use Rattle.std.specs.Prelude.{Err, IfErr, IfNone, IfOk, IfSome, IsOk, IsSome, List, None, Ok, OnOk, Some, [], get_or, is_some, map, option_map, true, ℕ, ◌↔◌, ◌≡◌};
 ghost use Rattle.pim_ip.specs.declared.fault.Fault.{Fault};
 ghost use Rattle.pim_asked.specs.Networks.{MovesAreAsked};
 ghost use Rattle.pim_model.specs.Network.{network, network_ran, nodes_test};
-ghost use Rattle.pim_net.specs.Carried.{HasMoved, IsCarried, IsPartWay, MovesTo, packet_of};
+ghost use Rattle.pim_net.specs.Carried.{HasMoved, IsCarried, IsPartWay, MovesTo, carried_packet};
 ghost use Rattle.pim_net.specs.Ports.{first_ports};
-ghost use Rattle.pim_net.specs.Showing.{move_of, node_of, state_of};
+ghost use Rattle.pim_net.specs.Showing.{move_of, node_of, shown_state};
 ghost use Rattle.pim_net.specs.Wires.{IsFaultOver, failures_after};
 ghost use Rattle.pim_net.specs.declared.moves.Move.{Move};
 ghost use Rattle.pim_types.specs.declared.config.Config.{Config as ConfigValue};
@@ -116,9 +116,9 @@ impl<W: Wire> Net<W> {
 
     /// Router `n`, counted from 0. None for an unknown one, and once memory was refused to a run. No memory is taken.
     pub fn router(&self, n: usize) -> Option<&Router>
-        ensures some { IfSome result (λ router. (option_map (λ r. r.state) router.now.standing ≡ state_of self.now.network n)
+        ensures some { IfSome result (λ router. (option_map (λ r. r.state) router.now.standing ≡ shown_state self.now.network n)
             × IsSome router.now.standing) }
-        ensures none { IfNone result (state_of self.now.network n ≡ None) }
+        ensures none { IfNone result (shown_state self.now.network n ≡ None) }
     {
         if self.failed {
             return None;
@@ -167,7 +167,7 @@ fn make<W: Wire>(
     ensures moves { IfSome network.old (λ n. IfOk result (λ outcome. MovesTo W.is_faithful W.sends W.gives
         ports.now n wire.old one.now outcome network.new wire.new)) }
     ensures kept { IfSome network.old (λ n. IfErr result (λ fault. fault ≡ Fault.Wire
-        → (network.new ≡ Some n) × IsSome (packet_of n one.now))) }
+        → (network.new ≡ Some n) × IsSome (carried_packet n one.now))) }
     ensures counted { IfSome network.old (λ n. W.failures wire.new ≡ failures_after (W.failures wire.old) result) }
     ensures fault { IfSome network.old (λ n. IfErr result (IsFaultOver (W.failures wire.old) (W.failures wire.new))) }
 {
@@ -206,7 +206,7 @@ fn deliver<W: Wire>(
     ensures moves { IfSome network.old (λ n. IfOk result (λ outcome. MovesTo W.is_faithful W.sends W.gives
         ports.now n wire.old (Move.Deliver place.0 place.1 place.2 draw) outcome network.new wire.new)) }
     ensures kept { IfSome network.old (λ n. IfErr result (λ fault. fault ≡ Fault.Wire
-        → (network.new ≡ Some n) × IsSome (packet_of n (Move.Deliver place.0 place.1 place.2 draw)))) }
+        → (network.new ≡ Some n) × IsSome (carried_packet n (Move.Deliver place.0 place.1 place.2 draw)))) }
     ensures counted { IfSome network.old (λ n. W.failures wire.new ≡ failures_after (W.failures wire.old) result) }
     ensures fault { IfSome network.old (λ n. IfErr result (IsFaultOver (W.failures wire.old) (W.failures wire.new))) }
 {
@@ -231,7 +231,7 @@ fn deliver_unicast<W: Wire>(
     ensures moves { IfSome network.old (λ n. IfOk result (λ outcome. MovesTo W.is_faithful W.sends W.gives
         ports.now n wire.old (Move.DeliverUnicast place.0 place.1 draw) outcome network.new wire.new)) }
     ensures kept { IfSome network.old (λ n. IfErr result (λ fault. fault ≡ Fault.Wire
-        → (network.new ≡ Some n) × IsSome (packet_of n (Move.DeliverUnicast place.0 place.1 draw)))) }
+        → (network.new ≡ Some n) × IsSome (carried_packet n (Move.DeliverUnicast place.0 place.1 draw)))) }
     ensures counted { IfSome network.old (λ n. W.failures wire.new ≡ failures_after (W.failures wire.old) result) }
     ensures fault { IfSome network.old (λ n. IfErr result (IsFaultOver (W.failures wire.old) (W.failures wire.new))) }
 {

@@ -1,6 +1,6 @@
 //! The routers of a network and every frame that they ever sent, without the wire.
 ghost use Rattle.std.specs.List.{list_all};
-ghost use Rattle.std.specs.Prelude.{◌≡◌, ◌&&◌, ◌++◌, ◌≤◌, ℕ, Err, IfErr, IfNone, IfOk, IfSome, IsOkUnless, IsSome, None, Ok, OnOk, Some, length, map, nat_le, option_copied, option_map, true};
+ghost use Rattle.std.specs.Prelude.{Err, IfErr, IfNone, IfOk, IfSome, IsOkUnless, IsSome, None, Ok, OnOk, Some, length, map, nat_le, option_copied, option_map, true, ℕ, ◌&&◌, ◌++◌, ◌≡◌, ◌≤◌};
 ghost use Rattle.pim_ip.specs.declared.fault.Fault.{Fault};
 ghost use Rattle.pim_model.specs.Limits.{most_ifaces};
 ghost use Rattle.pim_model.specs.Network.{Deliver, DeliverUnicast, configs_test, event_of, frame_at, is_node, most_routers, moved_at, network, nodes_test, sent_by, station_at, station_of};
@@ -8,7 +8,7 @@ ghost use Rattle.pim_model.specs.Network as written;
 ghost use Rattle.pim_model.specs.Step.{outcome_of, step};
 ghost use Rattle.pim_net.specs.Carried.{link_count};
 ghost use Rattle.pim_net.specs.Ports.{first_ports};
-ghost use Rattle.pim_net.specs.Showing.{brought_on, brought_to, node_of, state_of};
+ghost use Rattle.pim_net.specs.Showing.{brought_on, brought_to, node_of, shown_state};
 ghost use Rattle.pim_net.specs.declared.node.Node.{Node};
 
 use crate::node::Node;
@@ -87,8 +87,8 @@ impl Network {
     /// A router, to be read.
     pub(crate) fn router(&self, n: usize) -> Option<&Router>
         ensures some { IfSome self.now (λ net. IfSome result (λ router.
-            (option_map (λ r. r.state) router.now.standing ≡ state_of (Some net) n) × IsSome router.now.standing)) }
-        ensures none { IfSome self.now (λ net. IfNone result (state_of (Some net) n ≡ None)) }
+            (option_map (λ r. r.state) router.now.standing ≡ shown_state (Some net) n) × IsSome router.now.standing)) }
+        ensures none { IfSome self.now (λ net. IfNone result (shown_state (Some net) n ≡ None)) }
     {
         match self.station(n) {
             Some(station) => Some(station.router()),

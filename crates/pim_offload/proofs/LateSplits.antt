@@ -11,11 +11,11 @@ use Rattle.pim_model.specs.Step.{outcome_of, state_after, step}
 use Rattle.pim_locality.proofs.Rest.{opening_is_at_rest, step_is_at_rest}
 use Rattle.pim_reach.specs.Named.{event_named}
 use Rattle.pim_cached.proofs.RowsOfSteps.{step_stays_configured}
-use Rattle.pim_offload.specs.Late.{LateRouterIsSound, LateSplitIsSound, is_the_cores, late_ran, late_step, once_more, repeated_ran}
+use Rattle.pim_offload.specs.Late.{LateRouterIsSound, LateSplitIsSound, is_the_cores, late_ran, late_step, owed_again, repeated_ran}
 use Rattle.pim_offload.specs.Offload.{offload}
 use Rattle.pim_offload.specs.Split.{Split, split_step, whole}
 use Rattle.pim_offload.specs.SplitLaws.{caught_late, packets_of}
-use Rattle.pim_offload.specs.ToldLaws.{AreTold, DecideAlike, no_rows, told_anew}
+use Rattle.pim_offload.specs.ToldLaws.{AreTold, DecideAlike, no_plane_rows, told_anew}
 use Rattle.pim_offload.proofs.Ends.{no_ends}
 use Rattle.pim_offload.proofs.Orders.{ended_at, heard_at, late_follows}
 use Rattle.pim_offload.proofs.Passes.{Passed, ended_by}
@@ -59,8 +59,8 @@ module _ (x : Split) (r : State) (f : Follows x r) where
     by_whom true = core_goes
     by_whom false = step_goes x r f e
 
-    late_goes : Goes (once_more x r e) e (late_step x e)
-    unfolding once_more late_step
+    late_goes : Goes (owed_again x r e) e (late_step x e)
+    unfolding owed_again late_step
     late_goes = by_whom (is_the_cores x e)
 
 late_run_goes : (events : List Event) (x : Split) (r : State) → Follows x r
@@ -68,8 +68,8 @@ late_run_goes : (events : List Event) (x : Split) (r : State) → Follows x r
 unfolding late_ran repeated_ran
 late_run_goes [] x r f = (refl, f)
 late_run_goes (e ∷ es) x r f =
-    let first : Goes (once_more x r e) e (late_step x e) = late_goes x r f e in
-    let later : _ = late_run_goes es (late_step x e).0 (step (once_more x r e) e).state first.0 in
+    let first : Goes (owed_again x r e) e (late_step x e) = late_goes x r f e in
+    let later : _ = late_run_goes es (late_step x e).0 (step (owed_again x r e) e).state first.0 in
     ((λ j. first.1 j ∷ later.0 j), later.1)
 
 pub late_split_is_sound : LateSplitIsSound
@@ -79,5 +79,5 @@ late_split_is_sound s rows events rests early few told =
 
 pub late_router_is_sound : LateRouterIsSound
 late_router_is_sound c events e =
-    late_split_is_sound (opening c) no_rows events (opening_is_at_rest c e) (opening_is_early c) (few_opening c e)
+    late_split_is_sound (opening c) no_plane_rows events (opening_is_at_rest c e) (opening_is_early c) (few_opening c e)
     (opening_is_told c)

@@ -20,7 +20,7 @@ use Rattle.pim_model.specs.Sets.{Set}
 use Rattle.pim_model.specs.State.{State}
 use Rattle.pim_model.specs.Step.{Answered, change, concluded, done, packet_forwarded, step, stopped, taken, taken_unless_full}
 use Rattle.pim_model.specs.Writing.{copies_of, leaves, tunnel_of}
-use Rattle.pim_offload.specs.OffloadLaws.{Brings, IsData}
+use Rattle.pim_offload.specs.OffloadLaws.{BringsData, IsData}
 use Rattle.pim_offload.specs.Seen.{IsAllBut, SeenIsStepped, bare_text, last_time_to_live, protocol_udp, seen_event}
 use Rattle.pim_offload.proofs.Planes.{data_is_heard, none_leave}
 
@@ -84,7 +84,7 @@ module _ (s : State) (e : Event) (i : IfaceId) (bytes : List ℕ) (p : Packet) (
   abbrev tells : Event
   tells = seen_event e.draw i p.destination p.source
 
-  heard : Brings s tells i (bare p.destination p.source)
+  heard : BringsData s tells i (bare p.destination p.source)
   heard =
       data_is_heard s tells i (bare_text p.destination p.source) (bare p.destination p.source) refl
       (record {
@@ -170,8 +170,8 @@ module _ (s : State) (w : ℕ) (i : IfaceId) (p q : Packet) (group : q.destinati
 pub seen_is_stepped : SeenIsStepped
 unfolding step
 seen_is_stepped s e i bytes p frame is =
-    let first : Brings s e i p = data_is_heard s e i bytes p frame is in
-    let again : Brings s (tells s e i bytes p is) i (bare p.destination p.source) = heard s e i bytes p is in
+    let first : BringsData s e i p = data_is_heard s e i bytes p frame is in
+    let again : BringsData s (tells s e i bytes p is) i (bare p.destination p.source) = heard s e i bytes p is in
     subst (λ (j : Judged). IsAllBut p (concluded s (taken_unless_full s e.draw) (judged s (tells s e i bytes p is).kind))
     (concluded s (taken_unless_full s e.draw) j)) (sym first)
     (subst (λ (j : Judged). IsAllBut p (concluded s (taken_unless_full s e.draw) j)

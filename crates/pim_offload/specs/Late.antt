@@ -15,7 +15,7 @@ use Rattle.pim_reach.specs.Named.{event_named}
 use Rattle.pim_offload.specs.Offload.{is_to_core}
 use Rattle.pim_offload.specs.Split.{Split, caught_up, handled_by, passes_quietly, split_step, whole}
 use Rattle.pim_offload.specs.SplitLaws.{caught_late, packets_of}
-use Rattle.pim_offload.specs.ToldLaws.{AreTold, Rows, no_rows, told_anew}
+use Rattle.pim_offload.specs.ToldLaws.{AreTold, PlaneRows, no_plane_rows, told_anew}
 
 -- ---- which events are the core's
 
@@ -49,24 +49,24 @@ late_ran x (e ∷ es) =
 -- ---- what it is as good as
 
 -- a router to which, before each event of the core's, what is owed comes once more
-unfoldable pub once_more : Split → State → Event → State
-once_more x r e = if is_the_cores x e then state_after r (packets_of x.owed) else r
+unfoldable pub owed_again : Split → State → Event → State
+owed_again x r e = if is_the_cores x e then state_after r (packets_of x.owed) else r
 
 unfoldable pub repeated_ran : Split → State → List Event → List Outcome × State
 repeated_ran x r [] = ([], r)
 repeated_ran x r (e ∷ es) =
-    let a : Answered = step (once_more x r e) e in
+    let a : Answered = step (owed_again x r e) e in
     let later : List Outcome × State = repeated_ran (late_step x e).0 a.state es in
     (outcome_of a ∷ later.0, later.1)
 
 abbrev pub LateSplitIsSound : Type 0
-LateSplitIsSound = (s : State) (rows : Rows) (events : List Event) → IsAtRest s → s.present ≤ last_moment
+LateSplitIsSound = (s : State) (rows : PlaneRows) (events : List Event) → IsAtRest s → s.present ≤ last_moment
     → length s.configured ≤ most_ifaces → AreTold rows s
     → ((late_ran (whole s rows) events).0 ≡ (repeated_ran (whole s rows) s events).0)
     × (caught_up (late_ran (whole s rows) events).1 ≡ (repeated_ran (whole s rows) s events).1)
 
 abbrev pub LateRouterIsSound : Type 0
 LateRouterIsSound = (c : Config) (events : List Event) → config_test c ≡ Ok tt
-    → ((late_ran (whole (opening c) no_rows) events).0 ≡ (repeated_ran (whole (opening c) no_rows) (opening c) events).0)
-    × (caught_up (late_ran (whole (opening c) no_rows) events).1
-    ≡ (repeated_ran (whole (opening c) no_rows) (opening c) events).1)
+    → ((late_ran (whole (opening c) no_plane_rows) events).0 ≡ (repeated_ran (whole (opening c) no_plane_rows) (opening c) events).0)
+    × (caught_up (late_ran (whole (opening c) no_plane_rows) events).1
+    ≡ (repeated_ran (whole (opening c) no_plane_rows) (opening c) events).1)

@@ -22,7 +22,7 @@ use Rattle.pim_model.specs.Unicast.{is_rpf_interface}
 use Rattle.pim_model.specs.Writing.{copies_of}
 use Rattle.pim_locality.specs.Rest.{IsAtRest}
 use Rattle.pim_cached.specs.Kept.{SameAnswers, SameDecision}
-use Rattle.pim_offload.specs.Offload.{Entry, Handling, Row, decision, dropped, entry, handling, handling_of, handling_unknown, is_incoming, is_to_core, offload, taken_by_plane}
+use Rattle.pim_offload.specs.Offload.{Entry, Handling, Row, cache_entry, decision, dropped, handling, handling_of, handling_unknown, is_incoming, is_to_core, offload, taken_by_plane}
 
 -- ---- by the answers
 
@@ -38,7 +38,7 @@ RowDecidesAnyTtl = (r : Answers) (i ttl : ℕ) (how : Plain) → decision (handl
 -- an entry is there exactly where packets on the incoming interface are decided, and has their list
 abbrev pub EntryDecides : Type 0
 EntryDecides = (row : Row) (i : ℕ) → row.incoming ≡ Some i
-    → decision (handling row i) ≡ option_map (λ (e : Entry). record { keeps = row.alive i; list = e.outgoing }) (entry row)
+    → decision (handling row i) ≡ option_map (λ (e : Entry). record { keeps = row.alive i; list = e.outgoing }) (cache_entry row)
 
 -- on the incoming interface and on RPF_interface(S) packets may be the core's for several reasons; beside them for an
 -- assert alone, on outgoing interfaces
@@ -50,8 +50,8 @@ StrayIsOutgoing = (s : State) (g src i : ℕ) → is_to_core (handling (offload 
 -- ---- by the step
 
 -- an event brings a packet on an interface
-abbrev pub Brings : State → Event → IfaceId → Packet → Type 0
-Brings s e i p = judged s e.kind ≡ Ok (Accepted.Data i p)
+abbrev pub BringsData : State → Event → IfaceId → Packet → Type 0
+BringsData s e i p = judged s e.kind ≡ Ok (Accepted.Data i p)
 
 -- what a plane has to look at before it asks a row
 pub record IsData (s : State) (i : IfaceId) (bytes : List ℕ) (p : Packet) : Type 0 where
@@ -67,22 +67,22 @@ pub record IsData (s : State) (i : IfaceId) (bytes : List ℕ) (p : Packet) : Ty
 
 abbrev pub DataIsHeard : Type 0
 DataIsHeard = (s : State) (e : Event) (i : IfaceId) (bytes : List ℕ) (p : Packet) → e.kind ≡ EventKind.Frame i bytes
-    → IsData s i bytes p → Brings s e i p
+    → IsData s i bytes p → BringsData s e i p
 
 -- what the plane forwards or drops, the step forwards or drops
 abbrev pub PlaneIsStepped : Type 0
-PlaneIsStepped = (s : State) (e : Event) (i : IfaceId) (p : Packet) (a : Answered) → IsAtRest s → Brings s e i p
+PlaneIsStepped = (s : State) (e : Event) (i : IfaceId) (p : Packet) (a : Answered) → IsAtRest s → BringsData s e i p
     → taken_by_plane s p (handling_of s i p) ≡ Some a → step s e ≡ a
 
 -- what the plane forwards or drops is plain
 abbrev pub PlaneIsPlain : Type 0
-PlaneIsPlain = (s : State) (e : Event) (i : IfaceId) (p : Packet) → IsAtRest s → Brings s e i p
+PlaneIsPlain = (s : State) (e : Event) (i : IfaceId) (p : Packet) → IsAtRest s → BringsData s e i p
     → is_to_core (handling_of s i p) ≡ false → IsPlainEvent s e
 
 -- One of the same source and group on the same interface whose TTL has run out leaves the same state, and sends nothing: so
 -- it tells the core of the others.
 abbrev pub SpentPacketTells : Type 0
-SpentPacketTells = (s : State) (e f : Event) (i : IfaceId) (p q : Packet) → IsAtRest s → Brings s e i p → Brings s f i q
+SpentPacketTells = (s : State) (e f : Event) (i : IfaceId) (p q : Packet) → IsAtRest s → BringsData s e i p → BringsData s f i q
     → q.destination ≡ p.destination → q.source ≡ p.source → nat_lt 1 q.time_to_live ≡ false
     → is_to_core (handling_of s i p) ≡ false → step s f ≡ dropped (step s e).state
 
@@ -104,7 +104,7 @@ IsSilent s Handling.ToCore = ⊥
 
 -- what changes nothing at all the plane drops, if the keepalive timer wasn't set at this moment anyway
 abbrev pub UnchangedIsSilent : Type 0
-UnchangedIsSilent = (s : State) (e : Event) (i : IfaceId) (p : Packet) (fact : SourceRow) → IsAtRest s → Brings s e i p
+UnchangedIsSilent = (s : State) (e : Event) (i : IfaceId) (p : Packet) (fact : SourceRow) → IsAtRest s → BringsData s e i p
     → nat_lt 1 p.time_to_live ≡ true → row_at s.sources (fact_key p) ≡ Some fact
     → (fact.keepalive ≡ Some (s.present + keepalive_period) → ⊥) → step s e ≡ dropped s → IsSilent s (handling_of s i p)
 
@@ -116,19 +116,19 @@ UnknownNeedsRoom = (s : State) (i : IfaceId) (p : Packet) → has_row s.sources 
     → is_full s (Accepted.Data i p) ≡ nat_lt s.settings.limit (counted s + 1)
 
 abbrev pub UnknownIsRefused : Type 0
-UnknownIsRefused = (s : State) (e : Event) (i : IfaceId) (p : Packet) → Brings s e i p
+UnknownIsRefused = (s : State) (e : Event) (i : IfaceId) (p : Packet) → BringsData s e i p
     → is_full s (Accepted.Data i p) ≡ true → step s e ≡ stopped s (Stop.Refuse Refusal.Full)
 
 -- where there is room, what the row decides is what a step does, and nothing changes
 abbrev pub UnknownIsStepped : Type 0
-UnknownIsStepped = (s : State) (e : Event) (i : IfaceId) (p : Packet) (a : Answered) → IsAtRest s → Brings s e i p
+UnknownIsStepped = (s : State) (e : Event) (i : IfaceId) (p : Packet) (a : Answered) → IsAtRest s → BringsData s e i p
     → has_row s.sources (fact_key p) ≡ false → is_full s (Accepted.Data i p) ≡ false
     → taken_by_plane s p (handling_unknown (offload (answers s p.destination p.source)) i.number) ≡ Some a
     → (step s e ≡ a) × (a.state ≡ s)
 
 -- and what changes nothing at all isn't the core's
 abbrev pub UnchangedUnknownIsPlane : Type 0
-UnchangedUnknownIsPlane = (s : State) (e : Event) (i : IfaceId) (p : Packet) → IsAtRest s → Brings s e i p
+UnchangedUnknownIsPlane = (s : State) (e : Event) (i : IfaceId) (p : Packet) → IsAtRest s → BringsData s e i p
     → has_row s.sources (fact_key p) ≡ false → is_full s (Accepted.Data i p) ≡ false → (step s e).state ≡ s
     → is_to_core (handling_unknown (offload (answers s p.destination p.source)) i.number) ≡ false
 

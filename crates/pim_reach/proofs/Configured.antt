@@ -1,14 +1,17 @@
--- No event and no firing changes the settings or what is configured.
-use Rattle.std.proofs.Common.{◌≡◌, ◌==◌, ℕ, suc, ◌≤◌, Bool, true, false, not, ◌&&◌, ◌||◌, cond, List, [], ◌∷◌, Some, max, refl, ap, arith}
+-- No event and no firing changes the settings or what is configured, and none but new routes and RP ranges changes these.
+use Rattle.std.proofs.Common.{◌≡◌, ◌==◌, ℕ, suc, ◌≤◌, Bool, true, false, ◌&&◌, ◌||◌, List, [], ◌∷◌, Some, max, refl, sym, ap, arith}
 use Rattle.std.specs.List.{list_any}
+use Rattle.pim_types.specs.declared.config.InterfaceConfig.{InterfaceConfig}
+use Rattle.pim_types.specs.declared.config.Route.{Route}
+use Rattle.pim_types.specs.declared.config.RpRange.{RpRange}
+use Rattle.pim_types.specs.declared.config.Settings.{Settings}
 use Rattle.pim_types.specs.declared.fact.Key.{Key}
 use Rattle.pim_types.specs.declared.timer.TimerKind.{TimerKind}
 use Rattle.pim_types.specs.Keys.{group_in, source_in, star_key}
 use Rattle.pim_wire.specs.declared.hello.Hello.{Hello as HelloValue}
 use Rattle.pim_model.specs.declared.accepted.Accepted.{Accepted}
 use Rattle.pim_model.specs.Firing.{fired}
-use Rattle.pim_model.specs.Hellos.{hello_received, hello_triggered, is_generation_changed, neighbour_due, neighbour_replaced, neighbour_restarted}
-use Rattle.pim_model.specs.Neighbours.{is_neighbour}
+use Rattle.pim_model.specs.Hellos.{hello_received, hello_triggered, neighbour_due, neighbour_replaced, neighbour_restarted}
 use Rattle.pim_model.specs.Querier.{querier_up, querying}
 use Rattle.pim_model.specs.Reach.{own_firing}
 use Rattle.pim_model.specs.State.{State}
@@ -46,77 +49,73 @@ pub untouched : (keys : List Key) → touching keys (star_key 0 (beyond keys)) �
 unfolding touching
 untouched keys = none_read (beyond keys) keys (omega arith)
 
-pub configured_beside : (keys : List Key) (s t : State) → AgreesBut (touching keys) s t → IsConfigured s t
+-- what an event leaves, but for new routes and RP ranges
+pub record Ground : Type 0 where
+  pub settings : Settings
+  pub configured : List InterfaceConfig
+  pub routes : List Route
+  pub ranges : List RpRange
+
+abbrev pub ground : State → Ground
+ground s = record { settings = s.settings; configured = s.configured; routes = s.routes; ranges = s.ranges }
+
+beside : (keys : List Key) (s t : State) → AgreesBut (touching keys) s t → ground t ≡ ground s
 unfolding scope
-configured_beside keys s t agree =
-    let same : scope (reads (star_key 0 (beyond keys))) s ≡ scope (reads (star_key 0 (beyond keys))) t =
-    agree (star_key 0 (beyond keys)) (untouched keys) in
-    record { settings = ap (λ (u : State). u.settings) same; configured = ap (λ (u : State). u.configured) same }
+beside keys s t agree = sym (ap ground (agree (star_key 0 (beyond keys)) (untouched keys)))
 
--- ---- events for all groups
+is_configured : (s t : State) → ground t ≡ ground s → IsConfigured s t
+is_configured s t e = record {
+  settings = sym (ap (λ (g : Ground). g.settings) e);
+  configured = sym (ap (λ (g : Ground). g.configured) e);
+}
 
-abbrev as_it_was : (s : State) → IsConfigured s s
-as_it_was s = record { settings = refl; configured = refl }
+pub configured_beside : (keys : List Key) (s t : State) → AgreesBut (touching keys) s t → IsConfigured s t
+configured_beside keys s t agree = is_configured s t (beside keys s t agree)
 
-either : (s t u : State) (b : Bool) → IsConfigured s t → IsConfigured s u → IsConfigured s (cond b t u)
-either s t u true f g = f
-either s t u false f g = g
+-- ---- events
 
-module _ (s : State) where
-  replaced_after : (t : State) (i address : ℕ) (h : HelloValue) → IsConfigured s t
-      → IsConfigured s (neighbour_replaced t i address h)
-  unfolding neighbour_replaced
-  replaced_after t i address h f = record { settings = f.settings; configured = f.configured }
-
-  restarted_after : (t : State) (i address w : ℕ) → IsConfigured s t → IsConfigured s (neighbour_restarted s i address w t)
-  unfolding neighbour_restarted
-  restarted_after t i address w f = record { settings = f.settings; configured = f.configured }
-
-  triggered_after : (i w : ℕ) → IsConfigured s (hello_triggered s i w)
-  unfolding hello_triggered
-  triggered_after i w = record { settings = refl; configured = refl }
-
-  hello_after : (i address : ℕ) (h : HelloValue) (w : ℕ) → IsConfigured s (hello_received s i address h w)
-  unfolding hello_received
-  hello_after i address h w =
-      let changed : Bool = is_generation_changed s i address h in
-      let triggered : State = cond (changed || not (is_neighbour s i address)) (hello_triggered s i w) s in
-      let found : IsConfigured s triggered =
-      either s (hello_triggered s i w) s (changed || not (is_neighbour s i address)) (triggered_after i w)
-      (as_it_was s) in
-      let replaced : State = neighbour_replaced triggered i address h in
-      let kept : IsConfigured s replaced = replaced_after triggered i address h found in
-      either s (neighbour_restarted s i address w replaced) replaced changed
-      (restarted_after replaced i address w kept) kept
+hello_ground : (s : State) (i address : ℕ) (h : HelloValue) (w : ℕ) → ground (hello_received s i address h w) ≡ ground s
+unfolding hello_received hello_triggered neighbour_replaced neighbour_restarted
+hello_ground s i address h w = grind arith
 
 by_keys : (s : State) (w : ℕ) (a : Accepted) (keys : List Key) → touched_by_event s a ≡ Some keys
-    → IsConfigured s (change s w a).state
-by_keys s w a keys e = configured_beside keys s (change s w a).state (change_touches s w a keys e)
+    → ground (change s w a).state ≡ ground s
+by_keys s w a keys e = beside keys s (change s w a).state (change_touches s w a keys e)
+
+abbrev pub ground_after : State → Accepted → Ground
+ground_after s (Accepted.Routes routes) = record (ground s) { routes = routes }
+ground_after s (Accepted.Rps ranges) = record (ground s) { ranges = ranges }
+ground_after s a = ground s
+
+pub change_ground : (s : State) (w : ℕ) (a : Accepted) → ground (change s w a).state ≡ ground_after s a
+unfolding change iface_up iface_down querier_up querying rps_replaced touched_by_event
+change_ground s w (Accepted.Advance moment) = refl
+change_ground s w (Accepted.Up i) = refl
+change_ground s w (Accepted.Down i) = refl
+change_ground s w (Accepted.Routes routes) = refl
+change_ground s w (Accepted.Rps ranges) = refl
+change_ground s w (Accepted.Hello i from h) = hello_ground s i.number from.bits h w
+change_ground s w a = by_keys s w a _ refl
 
 pub change_configured : (s : State) (w : ℕ) (a : Accepted) → IsConfigured s (change s w a).state
-unfolding change iface_up iface_down querier_up querying rps_replaced touched_by_event
-change_configured s w (Accepted.Advance moment) = record { settings = refl; configured = refl }
-change_configured s w (Accepted.Up i) = record { settings = refl; configured = refl }
-change_configured s w (Accepted.Down i) = record { settings = refl; configured = refl }
+unfolding change rps_replaced
 change_configured s w (Accepted.Routes routes) = record { settings = refl; configured = refl }
 change_configured s w (Accepted.Rps ranges) = record { settings = refl; configured = refl }
-change_configured s w (Accepted.Hello i from h) = hello_after s i.number from.bits h w
-change_configured s w a = by_keys s w a _ refl
+change_configured s w a = is_configured s _ (change_ground s w a)
 
 -- ---- firings
 
-opened_configured : (s : State) (m : ℕ) (t : State) → IsConfigured (record s { present = m }) t → IsConfigured s t
-opened_configured s m t f = record { settings = f.settings; configured = f.configured }
-
-fired_configured : (s : State) (kind : TimerKind) (k : Key) (b : Bool) → isnt_neighbour kind ≡ b
-    → IsConfigured s (fired s kind k).0
+fired_ground : (s : State) (kind : TimerKind) (k : Key) (b : Bool) → isnt_neighbour kind ≡ b
+    → ground (fired s kind k).0 ≡ ground s
 unfolding fired neighbour_due
-fired_configured s TimerKind.Neighbour k b e = record { settings = refl; configured = refl }
-fired_configured s kind k true e = configured_beside (touched_by kind k) s (fired s kind k).0 (timer_touches s k kind e)
-fired_configured s kind k false e = cc
+fired_ground s TimerKind.Neighbour k b e = refl
+fired_ground s kind k true e = beside (touched_by kind k) s (fired s kind k).0 (timer_touches s k kind e)
+fired_ground s kind k false e = cc
+
+pub firing_ground : (s : State) (e : Ending) → ground (own_firing s e) ≡ ground s
+unfolding own_firing
+firing_ground s e =
+    fired_ground (record s { present = e.end }) e.timer.kind e.timer.key (isnt_neighbour e.timer.kind) refl
 
 pub firing_configured : (s : State) (e : Ending) → IsConfigured s (own_firing s e)
-unfolding own_firing
-firing_configured s e =
-    opened_configured s e.end (own_firing s e)
-    (fired_configured (record s { present = e.end }) e.timer.kind e.timer.key (isnt_neighbour e.timer.kind) refl)
+firing_configured s e = is_configured s (own_firing s e) (firing_ground s e)

@@ -1,45 +1,41 @@
--- What is accepted of a frame came on an interface that is up, and time moves by Advance alone.
-use Rattle.std.proofs.Common.{ℕ, ◌==◌, Bool, true, false, not, Ok, Err, Result, ◌≡◌, refl}
+-- What is accepted of a frame came on a configured interface that is up, and time moves by Advance alone.
+use Rattle.std.proofs.Common.{ℕ, ◌<◌, ◌==◌, Bool, true, false, nat_le, not, List, Ok, Err, Result, ◌≡◌, refl, subst, arith}
+use Rattle.std.proofs.lemmas.Bool.Decides.{nat_tests}
+use Rattle.pim_ip.specs.declared.addr.Addr.{Addr}
 use Rattle.pim_ip.specs.declared.refusal.Refusal.{Refusal}
 use Rattle.pim_ip.specs.Ipv4.{Packet, ipv4_reading}
 use Rattle.pim_types.specs.declared.config.IfaceId.{IfaceId}
+use Rattle.pim_types.specs.declared.config.Route.{Route}
+use Rattle.pim_types.specs.declared.config.RpRange.{RpRange}
 use Rattle.pim_types.specs.declared.event.EventKind.{EventKind}
 use Rattle.pim_types.specs.declared.outcome.Ignored.{Ignored}
 use Rattle.pim_types.specs.declared.outcome.Stop.{Stop}
 use Rattle.pim_wire.specs.Messages.{pim_reading}
-use Rattle.pim_wire.specs.Values.{JoinPrune}
+use Rattle.pim_wire.specs.Values.{JoinPrune, Register}
 use Rattle.pim_wire.specs.declared.assert.Assert.{Assert as AssertMessage}
 use Rattle.pim_wire.specs.declared.hello.Hello.{Hello as HelloValue}
+use Rattle.pim_wire.specs.declared.register.RegisterStop.{RegisterStop}
 use Rattle.pim_wire.specs.declared.view.PimView.{PimView}
 use Rattle.igmp_wire.specs.Messages.{igmp_reading}
+use Rattle.igmp_wire.specs.Values.{Query, Record}
 use Rattle.igmp_wire.specs.declared.view.IgmpView.{IgmpView}
 use Rattle.pim_model.specs.declared.accepted.Accepted.{Accepted}
-use Rattle.pim_model.specs.Judging.{Judged, assert_judged, data_judged, down_judged, frame_judged, hello_judged, igmp_accepted, igmp_judged, igmp_message_judged, ignore_if, join_prune_judged, judged, of_read, packet_judged, pim_judged, pim_message_judged, pim_to_me_judged, refuse_if, register_judged, register_stop_judged, routes_judged, rps_judged, unicast_judged, unicast_packet_judged, up_judged, ◌>>◌}
-use Rattle.pim_model.specs.State.{State, is_up, my_address}
+use Rattle.pim_model.specs.Judging.{Judged, advance_judged, assert_judged, data_judged, down_judged, frame_judged, hello_judged, igmp_accepted, igmp_judged, igmp_message_judged, ignore_if, join_prune_judged, judged, of_read, packet_judged, pim_judged, pim_message_judged, pim_to_me_judged, refuse_if, register_judged, register_stop_judged, routes_judged, rps_judged, unicast_judged, unicast_packet_judged, up_judged, ◌>>◌}
+use Rattle.pim_model.specs.State.{State, iface_count, is_up, my_address}
 use Rattle.pim_laws.proofs.ListLaws.{by_cond}
 use Rattle.pim_ready.specs.Ready.{IsTimeless}
 
-module _ (up : ℕ → Bool) where
-  abbrev pub IsHere : Accepted → Type 0
-  IsHere (Accepted.Advance moment) = ⊥
-  IsHere (Accepted.Hello i from h) = up i.number ≡ true
-  IsHere (Accepted.JoinPruneToMe i m) = up i.number ≡ true
-  IsHere (Accepted.JoinPruneSeen i m) = up i.number ≡ true
-  IsHere (Accepted.Assert i from a) = up i.number ≡ true
-  IsHere (Accepted.Query i from q) = up i.number ≡ true
-  IsHere (Accepted.Report i records) = up i.number ≡ true
-  IsHere (Accepted.Data i p) = up i.number ≡ true
-  IsHere _ = Unit {0}
-
+-- what is accepted passes a test that each kind of message passes
+module _ (P : Accepted → Type 0) where
   abbrev Accepts : Judged → Type 0
   Accepts (Err stop) = Unit {0}
-  Accepts (Ok a) = IsHere a
+  Accepts (Ok a) = P a
 
   pub record IsJudged (r : Judged) : Type 0 where
     pub accepts : Accepts r
 
-  accepted : (a : Accepted) → IsHere a → IsJudged (Ok a)
-  accepted a here = record { accepts = here }
+  accepted : (a : Accepted) → P a → IsJudged (Ok a)
+  accepted a passes = record { accepts = passes }
 
   stops : (stop : Stop) → IsJudged (Err stop)
   stops stop = record { accepts = tt }
@@ -49,6 +45,11 @@ module _ (up : ℕ → Bool) where
   refuse_then : (b : Bool) (refusal : Refusal) (next : Judged) → IsJudged next → IsJudged (refuse_if b refusal >> next)
   refuse_then true refusal next f = stops (Stop.Refuse refusal)
   refuse_then false refusal next f = f
+
+  held_then : (b : Bool) (refusal : Refusal) (next : Judged) → (b ≡ false → IsJudged next)
+      → IsJudged (refuse_if b refusal >> next)
+  held_then true refusal next f = stops (Stop.Refuse refusal)
+  held_then false refusal next f = f refl
 
   up_then : (b : Bool) (refusal : Refusal) (next : Judged) → (b ≡ true → IsJudged next)
       → IsJudged (refuse_if (not b) refusal >> next)
@@ -66,23 +67,33 @@ module _ (up : ℕ → Bool) where
 
   -- ---- a frame
 
-  module _ (s : State) (i : IfaceId) (here : up i.number ≡ true) where
+  -- each message on an interface
+  pub record OnFrame (i : IfaceId) : Type 0 where
+    pub hellos : (from : Addr) (h : HelloValue) → P (Accepted.Hello i from h)
+    pub joins_to_me : (m : JoinPrune) → P (Accepted.JoinPruneToMe i m)
+    pub joins_seen : (m : JoinPrune) → P (Accepted.JoinPruneSeen i m)
+    pub asserts : (from : Addr) (a : AssertMessage) → P (Accepted.Assert i from a)
+    pub queries : (from : Addr) (q : Query) → P (Accepted.Query i from q)
+    pub reports : (records : List Record) → P (Accepted.Report i records)
+    pub packets : (p : Packet) → P (Accepted.Data i p)
+
+  module _ (s : State) (i : IfaceId) (on : OnFrame i) where
     hello_is_judged : (from : ℕ) (h : HelloValue) → IsJudged (hello_judged s i from h)
     unfolding hello_judged
-    hello_is_judged from h = ignore_then _ Ignored.NoNeighbour _ (accepted _ here)
+    hello_is_judged from h = ignore_then _ Ignored.NoNeighbour _ (accepted _ (on.hellos _ h))
 
     join_prune_is_judged : (from : ℕ) (m : JoinPrune) → IsJudged (join_prune_judged s i from m)
     unfolding join_prune_judged
     join_prune_is_judged from m =
         ignore_then _ Ignored.NoNeighbour _
-        (accepted _ (by_cond IsHere (m.upstream == my_address s i.number) (Accepted.JoinPruneToMe i m)
-        (Accepted.JoinPruneSeen i m) here here))
+        (accepted _ (by_cond P (m.upstream == my_address s i.number) (Accepted.JoinPruneToMe i m)
+        (Accepted.JoinPruneSeen i m) (on.joins_to_me m) (on.joins_seen m)))
 
     assert_is_judged : (from : ℕ) (a : AssertMessage) → IsJudged (assert_judged s i from a)
     unfolding assert_judged
     assert_is_judged from a =
         ignore_then _ Ignored.Mask _ (ignore_then _ Ignored.LinkLocal _
-        (ignore_then _ Ignored.NoNeighbour _ (accepted _ here)))
+        (ignore_then _ Ignored.NoNeighbour _ (accepted _ (on.asserts _ a))))
 
     pim_is_judged : (from : ℕ) (view : PimView) → IsJudged (pim_judged s i from view)
     unfolding pim_judged
@@ -98,22 +109,22 @@ module _ (up : ℕ → Bool) where
     pim_message_is_judged p =
         read_then (pim_reading p.payload) _ (λ view. ignore_then _ Ignored.Own _ (pim_is_judged p.source view))
 
-    igmp_is_here : (from : ℕ) (view : IgmpView) → IsHere (igmp_accepted i from view)
-    igmp_is_here from (IgmpView.Query q) = here
-    igmp_is_here from (IgmpView.Report records) = here
+    igmp_is_judged : (from : ℕ) (view : IgmpView) → P (igmp_accepted i from view)
+    igmp_is_judged from (IgmpView.Query q) = on.queries _ q
+    igmp_is_judged from (IgmpView.Report records) = on.reports records
 
     igmp_message_is_judged : (p : Packet) → IsJudged (igmp_message_judged s i p)
     unfolding igmp_message_judged igmp_judged
     igmp_message_is_judged p =
         read_then (igmp_reading p.payload) _
         (λ view. ignore_then _ Ignored.Own _
-        (ignore_then _ Ignored.NotForMe _ (accepted _ (igmp_is_here p.source view))))
+        (ignore_then _ Ignored.NotForMe _ (accepted _ (igmp_is_judged p.source view))))
 
     data_is_judged : (p : Packet) → IsJudged (data_judged s i p)
     unfolding data_judged
     data_is_judged p =
         ignore_then _ Ignored.Own _ (ignore_then _ Ignored.NotForMe _
-        (ignore_then _ Ignored.LinkLocal _ (accepted _ here)))
+        (ignore_then _ Ignored.LinkLocal _ (accepted _ (on.packets p))))
 
     packet_is_judged : (p : Packet) → IsJudged (packet_judged s i p)
     unfolding packet_judged
@@ -123,12 +134,13 @@ module _ (up : ℕ → Bool) where
 
   -- ---- a packet to the router's own address
 
-  module _ (s : State) where
+  module _ (s : State) (registers : (p : Packet) (r : Register) → P (Accepted.Register p r))
+      (register_stops : (from : Addr) (r : RegisterStop) → P (Accepted.RegisterStop from r)) where
     pim_to_me_is_judged : (p : Packet) (view : PimView) → IsJudged (pim_to_me_judged s p view)
     unfolding pim_to_me_judged register_judged register_stop_judged
-    pim_to_me_is_judged p (PimView.Register r) = ignore_then _ Ignored.LinkLocal _ (accepted _ tt)
+    pim_to_me_is_judged p (PimView.Register r) = ignore_then _ Ignored.LinkLocal _ (accepted _ (registers p r))
     pim_to_me_is_judged p (PimView.RegisterStop r) =
-        ignore_then _ Ignored.Mask _ (ignore_then _ Ignored.NotRp _ (accepted _ tt))
+        ignore_then _ Ignored.Mask _ (ignore_then _ Ignored.NotRp _ (accepted _ (register_stops _ r)))
     pim_to_me_is_judged p (PimView.Hello h) = stops _
     pim_to_me_is_judged p (PimView.JoinPrune m) = stops _
     pim_to_me_is_judged p (PimView.Assert a) = stops _
@@ -141,23 +153,70 @@ module _ (up : ℕ → Bool) where
         (read_then (pim_reading p.payload) _ (λ view. ignore_then _ Ignored.NotForMe _ (pim_to_me_is_judged p view)))
         (stops _)
 
-pub kind_is_judged : (s : State) (kind : EventKind) → IsTimeless kind → IsJudged (is_up s) (judged s kind)
-unfolding judged frame_judged unicast_judged up_judged down_judged routes_judged rps_judged
-kind_is_judged s (EventKind.Advance moment) none = absurd none
-kind_is_judged s (EventKind.Frame i bytes) none =
-    refuse_then (is_up s) _ Refusal.NoInterface _
-    (up_then (is_up s) (is_up s i.number) Refusal.InterfaceDown _
-    (λ here. refuse_then (is_up s) _ Refusal.BadLength _
-    (read_then (is_up s) (ipv4_reading bytes) _ (packet_is_judged (is_up s) s i here))))
-kind_is_judged s (EventKind.Unicast bytes) none =
-    read_then (is_up s) (ipv4_reading bytes) _ (unicast_packet_is_judged (is_up s) s)
-kind_is_judged s (EventKind.Up i) none =
-    refuse_then (is_up s) _ Refusal.NoInterface _
-    (ignore_then (is_up s) _ Ignored.Already _ (accepted (is_up s) (Accepted.Up i) tt))
-kind_is_judged s (EventKind.Down i) none =
-    refuse_then (is_up s) _ Refusal.NoInterface _
-    (ignore_then (is_up s) _ Ignored.Already _ (accepted (is_up s) (Accepted.Down i) tt))
-kind_is_judged s (EventKind.Routes routes) none =
-    refuse_then (is_up s) _ Refusal.BadRoutes _ (accepted (is_up s) (Accepted.Routes routes) tt)
-kind_is_judged s (EventKind.Rps rps) none =
-    refuse_then (is_up s) _ Refusal.BadRps _ (accepted (is_up s) (Accepted.Rps rps) tt)
+  -- ---- every kind of event
+
+  pub record Admits (s : State) (kind : EventKind) : Type 0 where
+    pub frames : (i : IfaceId) → i.number < iface_count s → is_up s i.number ≡ true → OnFrame i
+    pub registers : (p : Packet) (r : Register) → P (Accepted.Register p r)
+    pub register_stops : (from : Addr) (r : RegisterStop) → P (Accepted.RegisterStop from r)
+    pub ups : (i : IfaceId) → i.number < iface_count s → P (Accepted.Up i)
+    pub downs : (i : IfaceId) → P (Accepted.Down i)
+    pub moments : (m : ℕ) → kind ≡ EventKind.Advance m → P (Accepted.Advance m)
+    pub routes : (routes : List Route) → P (Accepted.Routes routes)
+    pub ranges : (ranges : List RpRange) → P (Accepted.Rps ranges)
+
+  within : (n i : ℕ) → nat_le n i ≡ false → i < n
+  within n i e = grind (arith, nat_tests, e)
+
+  pub kind_by : (s : State) (kind : EventKind) → Admits s kind → IsJudged (judged s kind)
+  unfolding judged frame_judged unicast_judged up_judged down_judged routes_judged rps_judged advance_judged
+  kind_by s (EventKind.Advance moment) f =
+      refuse_then _ Refusal.MomentBack _ (refuse_then _ Refusal.MomentFar _ (accepted _ (f.moments moment refl)))
+  kind_by s (EventKind.Frame i bytes) f =
+      held_then (nat_le (iface_count s) i.number) Refusal.NoInterface _
+      (λ e. up_then (is_up s i.number) Refusal.InterfaceDown _
+      (λ here. refuse_then _ Refusal.BadLength _
+      (read_then (ipv4_reading bytes) _ (packet_is_judged s i (f.frames i (within (iface_count s) i.number e) here)))))
+  kind_by s (EventKind.Unicast bytes) f =
+      read_then (ipv4_reading bytes) _ (unicast_packet_is_judged s f.registers f.register_stops)
+  kind_by s (EventKind.Up i) f =
+      held_then (nat_le (iface_count s) i.number) Refusal.NoInterface _
+      (λ e. ignore_then _ Ignored.Already _ (accepted _ (f.ups i (within (iface_count s) i.number e))))
+  kind_by s (EventKind.Down i) f =
+      refuse_then _ Refusal.NoInterface _ (ignore_then _ Ignored.Already _ (accepted _ (f.downs i)))
+  kind_by s (EventKind.Routes routes) f = refuse_then _ Refusal.BadRoutes _ (accepted _ (f.routes routes))
+  kind_by s (EventKind.Rps ranges) f = refuse_then _ Refusal.BadRps _ (accepted _ (f.ranges ranges))
+
+-- ---- it came on an interface that is up
+
+abbrev pub IsHere : (ℕ → Bool) → Accepted → Type 0
+IsHere up (Accepted.Advance moment) = ⊥
+IsHere up (Accepted.Hello i from h) = up i.number ≡ true
+IsHere up (Accepted.JoinPruneToMe i m) = up i.number ≡ true
+IsHere up (Accepted.JoinPruneSeen i m) = up i.number ≡ true
+IsHere up (Accepted.Assert i from a) = up i.number ≡ true
+IsHere up (Accepted.Query i from q) = up i.number ≡ true
+IsHere up (Accepted.Report i records) = up i.number ≡ true
+IsHere up (Accepted.Data i p) = up i.number ≡ true
+IsHere up _ = Unit {0}
+
+pub kind_is_judged : (s : State) (kind : EventKind) → IsTimeless kind → IsJudged (IsHere (is_up s)) (judged s kind)
+kind_is_judged s kind timeless =
+    kind_by (IsHere (is_up s)) s kind (record {
+      frames = λ i within here. record {
+        hellos = λ from h. here;
+        joins_to_me = λ m. here;
+        joins_seen = λ m. here;
+        asserts = λ from a. here;
+        queries = λ from q. here;
+        reports = λ records. here;
+        packets = λ p. here;
+      };
+      registers = λ p r. tt;
+      register_stops = λ from r. tt;
+      ups = λ i within. tt;
+      downs = λ i. tt;
+      moments = λ m e. subst IsTimeless e timeless;
+      routes = λ routes. tt;
+      ranges = λ ranges. tt;
+    })

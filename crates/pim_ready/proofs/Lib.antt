@@ -6,6 +6,7 @@ pub mod Clearing
 pub mod Upstream
 pub mod Hellos
 pub mod Downstream
+pub mod SeenLaws
 pub mod SeenMessages
 pub mod Asserts
 pub mod Forwarding

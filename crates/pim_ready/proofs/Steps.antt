@@ -54,7 +54,7 @@ module _ (P : State → Type 0) (s : State) (w : ℕ) (stays : P s)
   unless_full true a next = stays
   unless_full false a next = next
 
-  concluded_holds : (r : Judged) → IsJudged (is_up s) r → Holds (concluded s (taken_unless_full s w) r)
+  concluded_holds : (r : Judged) → IsJudged (IsHere (is_up s)) r → Holds (concluded s (taken_unless_full s w) r)
   unfolding taken_unless_full
   concluded_holds (Err stop) here = stopped_holds stop
   concluded_holds (Ok a) here = unless_full (is_full s a) (taken s w a) (taken_holds a here.accepts)

@@ -3,12 +3,12 @@ ghost use Rattle.std.specs.Prelude.{◌≡◌, IfOk, OnOk};
 ghost use Rattle.pim_model.specs.Upstream.{becomes_star, rpt_told};
 ghost use Rattle.pim_macros.specs.Sights.{IsStarSight};
 ghost use Rattle.pim_world.specs.Turns.{saying};
-ghost use Rattle.pim_telling.specs.Changes.{change_of};
+ghost use Rattle.pim_rpt.specs.Changes.{change_of};
 
+use crate::change::Change;
+use crate::message::{override_end, say};
 use pim_macros::StarSight;
 use pim_macros::desires::is_same_hop;
-use pim_telling::Change;
-use pim_telling::message::{override_end, say};
 use pim_types::{Addr, SourceView, TreeState};
 use pim_wire::{Entry, EntryKind};
 use pim_world::{Turn, World};
@@ -36,7 +36,7 @@ fn becomes_star(old: SourceView, new: SourceView) -> bool
 
 /// Sends what follows of the views of a source before and after a change, and tells what becomes of the override timer
 /// of (S,G,rpt).
-#[tactic(auto, unfolding(pim_model::specs::Upstream::rpt_told, pim_model::specs::Upstream::rpt_told_from, pim_telling::specs::Changes::change_of))]
+#[tactic(auto, unfolding(pim_model::specs::Upstream::rpt_told, pim_model::specs::Upstream::rpt_told_from, crate::specs::Changes::change_of))]
 pub fn changed(
     world: &World,
     turn: &mut Turn,

@@ -8,8 +8,8 @@ ghost use Rattle.pim_world.specs.Turns.{saying};
 ghost use Rattle.pim_world.specs.Visits.{raised, sight_nodes};
 
 use crate::machine::entry;
+use crate::message::say;
 use pim_macros::{SourceSight, StarSight};
-use pim_telling::message::say;
 use pim_types::{Addr, Hop, Key};
 use pim_world::{Meter, Turn, World};
 use std::alloc::AllocError;

@@ -8,15 +8,15 @@ use Rattle.pim_model.specs.State.{State}
 use Rattle.pim_model.specs.Step.{run, state_after}
 use Rattle.pim_model.specs.Tables.{below}
 use Rattle.pim_runs.specs.Base.{after, group, host, opened_with, source}
-use Rattle.pim_runs.specs.Data.{active, joined_and_sent, stopped}
-use Rattle.pim_runs.specs.Packets.{allow_source, copy_on_1, hello_of_10_0_2_9, host_packet, join_host_forever, join_source, join_source_200, join_source_forever, packet, packet_of, prune_source_up, to_exclude}
+use Rattle.pim_runs.specs.Data.{active, joined_and_sent, register_stopped}
+use Rattle.pim_runs.specs.Packets.{allow_source, copy_on_1, data_from, hello_of_10_0_2_9, host_packet, join_host_forever, join_source, join_source_200, join_source_forever, packet, prune_source_up, to_exclude}
 use Rattle.pim_runs.specs.Routes.{rp_on_1, with_longer_route}
 use Rattle.pim_runs.specs.Words.{advance, done_with_copies, down, frame, join_prunes, routes_to}
 
 -- ---- what is looked at
 
 -- of a row: immediate, inherited and inherited (S,G,rpt), the tunnel, the interface of the source's route, SPTbit
-pub record Seen : Type 0 where
+pub record SeenRow : Type 0 where
   pub immediate : List ℕ
   pub inherited : List ℕ
   pub inherited_rpt : List ℕ
@@ -25,8 +25,8 @@ pub record Seen : Type 0 where
   pub spt : Bool
 
 -- the same list twice, no (S,G,rpt), no tunnel
-abbrev pub seen : List ℕ → ℕ → Bool → Option Seen
-seen list rpf spt = Some (record {
+abbrev pub seen_row : List ℕ → ℕ → Bool → Option SeenRow
+seen_row list rpf spt = Some (record {
   immediate = list;
   inherited = list;
   inherited_rpt = [];
@@ -35,8 +35,8 @@ seen list rpf spt = Some (record {
   spt = spt;
 })
 
-abbrev pub seen_in : State → Answers → Seen
-seen_in s r = record {
+abbrev pub row_seen_in : State → Answers → SeenRow
+row_seen_in s r = record {
   immediate = members s r.immediate;
   inherited = members s r.inherited;
   inherited_rpt = members s r.inherited_rpt;
@@ -45,8 +45,8 @@ seen_in s r = record {
   spt = r.spt;
 }
 
-abbrev pub seen_of : State → ℕ → Option Seen
-seen_of s src = option_map (seen_in s) (cached s group src)
+abbrev pub seen_of : State → ℕ → Option SeenRow
+seen_of s src = option_map (row_seen_in s) (cached s group src)
 
 -- a packet's way: whether it sets the keepalive timer, and the interfaces that it leaves on
 abbrev pub Way : Type 0
@@ -74,7 +74,7 @@ no_row = None
 abbrev pub JoinedSourceIsCached : Type 0
 JoinedSourceIsCached =
     (seen_of (after (frame 1 join_source ∷ [])) source ≡ None)
-    × (seen_of joined_and_sent source ≡ seen (1 ∷ []) 0 true)
+    × (seen_of joined_and_sent source ≡ seen_row (1 ∷ []) 0 true)
     × (decided_of joined_and_sent source 0 64 ≡ goes true (1 ∷ []))
     × (run joined_and_sent (frame 0 packet ∷ []) ≡ done_with_copies 1 (copy_on_1 ∷ []) ∷ [])
     × (seen_of joined_and_sent (source + 1) ≡ None)
@@ -97,33 +97,33 @@ joined_and_silent = after (frame 1 join_source_forever ∷ frame 0 packet ∷ ad
 abbrev pub PlainPacketStartsTheTimer : Type 0
 PlainPacketStartsTheTimer =
     (rows joined_and_silent Table.Active ≡ active source None true None ∷ [])
-    × (seen_of joined_and_silent source ≡ seen (1 ∷ []) 0 true)
+    × (seen_of joined_and_silent source ≡ seen_row (1 ∷ []) 0 true)
     × (decided_of joined_and_silent source 0 64 ≡ goes true (1 ∷ []))
     × (rows (state_after joined_and_silent (frame 0 packet ∷ [])) Table.Active
     ≡ active source (Some 420000) true None ∷ [])
 
 -- packets of 10.0.3.6 to 10.0.3.205, which nobody joined
 abbrev pub flooded : State
-flooded = state_after joined_and_sent (map (λ n. frame 0 (packet_of (n + 6))) (below 200))
+flooded = state_after joined_and_sent (map (λ n. frame 0 (data_from (n + 6))) (below 200))
 
 -- They make no row, and the one row is as it was.
 abbrev pub OthersMakeNoRow : Type 0
 OthersMakeNoRow =
     (rows flooded Table.Active ≡ active source (Some 210000) true None ∷ [])
-    × (seen_of flooded source ≡ seen (1 ∷ []) 0 true)
+    × (seen_of flooded source ≡ seen_row (1 ∷ []) 0 true)
     × (decided_of flooded source 0 64 ≡ goes true (1 ∷ []))
 
 -- two sources are joined on 1 and send, and 10.0.2.9 is a neighbour on 2
 abbrev pub two_sent : State
 two_sent = after
-    (frame 2 hello_of_10_0_2_9 ∷ frame 1 join_source ∷ frame 1 join_source_200 ∷ frame 0 packet ∷ frame 0 (packet_of 200) ∷ [])
+    (frame 2 hello_of_10_0_2_9 ∷ frame 1 join_source ∷ frame 1 join_source_200 ∷ frame 0 packet ∷ frame 0 (data_from 200) ∷ [])
 
 -- A longer route moves one of two rows to 2.
 abbrev pub LongerRouteMovesOneRow : Type 0
 LongerRouteMovesOneRow =
-    (seen_of two_sent (source + 195) ≡ seen (1 ∷ []) 0 true)
-    × (seen_of (state_after two_sent (routes_to with_longer_route ∷ [])) (source + 195) ≡ seen (1 ∷ []) 2 true)
-    × (seen_of (state_after two_sent (routes_to with_longer_route ∷ [])) source ≡ seen (1 ∷ []) 0 true)
+    (seen_of two_sent (source + 195) ≡ seen_row (1 ∷ []) 0 true)
+    × (seen_of (state_after two_sent (routes_to with_longer_route ∷ [])) (source + 195) ≡ seen_row (1 ∷ []) 2 true)
+    × (seen_of (state_after two_sent (routes_to with_longer_route ∷ [])) source ≡ seen_row (1 ∷ []) 0 true)
 
 -- a receiver on 2 asked for the source, which sends
 abbrev pub asked_and_sent : State
@@ -132,16 +132,16 @@ asked_and_sent = after (frame 2 allow_source ∷ frame 0 packet ∷ [])
 -- A better DR comes on 2, and all that the router did there for the receiver ends.
 abbrev pub BetterDrEmptiesTheRow : Type 0
 BetterDrEmptiesTheRow =
-    (seen_of asked_and_sent source ≡ seen (2 ∷ []) 0 true)
-    × (seen_of (state_after asked_and_sent (frame 2 hello_of_10_0_2_9 ∷ [])) source ≡ seen [] 0 false)
+    (seen_of asked_and_sent source ≡ seen_row (2 ∷ []) 0 true)
+    × (seen_of (state_after asked_and_sent (frame 2 hello_of_10_0_2_9 ∷ [])) source ≡ seen_row [] 0 false)
     × (map join_prunes (run asked_and_sent (frame 2 hello_of_10_0_2_9 ∷ [])) ≡ (prune_source_up ∷ []) ∷ [])
 
 -- The link that joined goes down: the row is empty while the keepalive timer runs, and gone with it.
 abbrev pub DownEmptiesTheRow : Type 0
 DownEmptiesTheRow =
-    (seen_of (state_after joined_and_sent (down 1 ∷ [])) source ≡ seen [] 0 false)
+    (seen_of (state_after joined_and_sent (down 1 ∷ [])) source ≡ seen_row [] 0 false)
     × (map join_prunes (run joined_and_sent (down 1 ∷ [])) ≡ (prune_source_up ∷ []) ∷ [])
-    × (seen_of (state_after joined_and_sent (down 1 ∷ advance 209999 ∷ [])) source ≡ seen [] 0 false)
+    × (seen_of (state_after joined_and_sent (down 1 ∷ advance 209999 ∷ [])) source ≡ seen_row [] 0 false)
     × (seen_of (state_after joined_and_sent (down 1 ∷ advance 210000 ∷ [])) source ≡ None)
 
 -- ---- packets of each kind that aren't plain
@@ -151,33 +151,33 @@ abbrev pub UnknownIsNotPlain : Type 0
 UnknownIsNotPlain = decided_of joined_and_sent (source + 1) 0 64 ≡ no_row
 
 -- receivers on 2, and the source sent once
-abbrev pub watched : State
-watched = after (frame 2 to_exclude ∷ frame 0 packet ∷ [])
+abbrev pub watched_source : State
+watched_source = after (frame 2 to_exclude ∷ frame 0 packet ∷ [])
 
 -- The packet that sets SPTbit isn't plain, and the next is.
 abbrev pub SptBitIsSetOnce : Type 0
 SptBitIsSetOnce =
-    (decided_of watched source 0 64 ≡ not_plain)
-    × (decided_of (state_after watched (frame 0 packet ∷ [])) source 0 64 ≡ goes true (2 ∷ []))
+    (decided_of watched_source source 0 64 ≡ not_plain)
+    × (decided_of (state_after watched_source (frame 0 packet ∷ [])) source 0 64 ≡ goes true (2 ∷ []))
 
 -- A registered packet isn't plain, but where its TTL has run out, or the RP stopped the Registers.
 abbrev pub RegisteredIsNotPlain : Type 0
 RegisteredIsNotPlain =
     (decided_of (after (frame 2 host_packet ∷ [])) host 2 64 ≡ not_plain)
     × (decided_of (after (frame 2 host_packet ∷ [])) host 2 1 ≡ goes true [])
-    × (decided_of stopped host 2 64 ≡ goes true [])
+    × (decided_of register_stopped host 2 64 ≡ goes true [])
 
 -- a host that is joined on 1 sent, and was silent until its keepalive timer ended
-abbrev pub silent : State
-silent = after (frame 1 join_host_forever ∷ frame 2 host_packet ∷ advance 210000 ∷ [])
+abbrev pub silent_host : State
+silent_host = after (frame 1 join_host_forever ∷ frame 2 host_packet ∷ advance 210000 ∷ [])
 
 -- The packet that opens the register tunnel isn't plain: the source has a row by its SPTbit alone.
 abbrev pub OpeningIsNotPlain : Type 0
 OpeningIsNotPlain =
-    (rows silent Table.Active ≡ active host None true None ∷ [])
-    × (seen_of silent host ≡ seen (1 ∷ []) 2 true)
-    × (decided_of silent host 2 64 ≡ not_plain)
-    × (decided_of silent host 2 1 ≡ not_plain)
+    (rows silent_host Table.Active ≡ active host None true None ∷ [])
+    × (seen_of silent_host host ≡ seen_row (1 ∷ []) 2 true)
+    × (decided_of silent_host host 2 64 ≡ not_plain)
+    × (decided_of silent_host host 2 1 ≡ not_plain)
 
 -- Off its tree, where the router forwards the source, a packet makes it the winner of an assert, and isn't plain. The next one
 -- there is dropped, as it is where the router doesn't forward.
@@ -190,9 +190,9 @@ StrayOfTheSourceIsNotPlain =
 -- Likewise where it forwards the group, while the source has no SPTbit.
 abbrev pub StrayOfTheGroupIsNotPlain : Type 0
 StrayOfTheGroupIsNotPlain =
-    (decided_of watched source 2 64 ≡ not_plain)
-    × (decided_of (state_after watched (frame 2 packet ∷ [])) source 2 64 ≡ goes false [])
-    × (decided_of watched source 1 64 ≡ goes false [])
+    (decided_of watched_source source 2 64 ≡ not_plain)
+    × (decided_of (state_after watched_source (frame 2 packet ∷ [])) source 2 64 ≡ goes false [])
+    × (decided_of watched_source source 1 64 ≡ goes false [])
 
 -- the RP is over 1, receivers are on 2, and a packet came by the RP
 abbrev pub shared : State

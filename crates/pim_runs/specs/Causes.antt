@@ -14,22 +14,22 @@ abbrev pub past_of : List Event → Past
 past_of events = past_after [] (opening base) (opening_events ++ events)
 
 -- after further events a source is asked for on an interface, beyond a moment
-abbrev pub is_asked : List Event → ℕ → ℕ → ℕ → Bool
-is_asked events now i src = has_cause (past_of events) now i group src
+abbrev pub is_caused : List Event → ℕ → ℕ → ℕ → Bool
+is_caused events now i src = has_cause (past_of events) now i group src
 
 -- the source is joined on 1 for a second
-abbrev pub joined : List Event
-joined = frame 1 join_source_for_1_s ∷ advance 999 ∷ []
+abbrev pub joined_for_1_s : List Event
+joined_for_1_s = frame 1 join_source_for_1_s ∷ advance 999 ∷ []
 
 -- The Join asks for a copy in its last millisecond; were it a millisecond older, it wouldn't. It asks for no other
 -- source, and on no other interface.
 abbrev pub JoinIsTheCause : Type 0
 JoinIsTheCause =
-    (run (after joined) (frame 0 packet ∷ []) ≡ done_with_copies 1 (copy_on_1 ∷ []) ∷ [])
-    × (is_asked joined 999 1 source ≡ true)
-    × (is_asked joined 1000 1 source ≡ false)
-    × (is_asked joined 999 1 host ≡ false)
-    × (is_asked joined 999 2 source ≡ false)
+    (run (after joined_for_1_s) (frame 0 packet ∷ []) ≡ done_with_copies 1 (copy_on_1 ∷ []) ∷ [])
+    × (is_caused joined_for_1_s 999 1 source ≡ true)
+    × (is_caused joined_for_1_s 1000 1 source ≡ false)
+    × (is_caused joined_for_1_s 999 1 host ≡ false)
+    × (is_caused joined_for_1_s 999 2 source ≡ false)
 
 -- an ALLOW of the source on 2
 abbrev pub allowed : List Event
@@ -39,27 +39,27 @@ allowed = frame 2 allow_source ∷ advance 259999 ∷ []
 abbrev pub ReportIsTheCause : Type 0
 ReportIsTheCause =
     (run (after allowed) (frame 0 packet ∷ []) ≡ done_with_copies 1 (copy_on_2 ∷ []) ∷ [])
-    × (is_asked allowed 259999 2 source ≡ true)
-    × (is_asked allowed 260000 2 source ≡ false)
-    × (is_asked allowed 259999 2 host ≡ false)
-    × (is_asked (frame 2 to_exclude ∷ []) 259999 2 host ≡ true)
-    × (is_asked (frame 2 to_exclude ∷ []) 260000 2 host ≡ false)
+    × (is_caused allowed 259999 2 source ≡ true)
+    × (is_caused allowed 260000 2 source ≡ false)
+    × (is_caused allowed 259999 2 host ≡ false)
+    × (is_caused (frame 2 to_exclude ∷ []) 259999 2 host ≡ true)
+    × (is_caused (frame 2 to_exclude ∷ []) 260000 2 host ≡ false)
 
 -- A Join(*,G) asks for any source where it names the RP, a Join with holdtime 65535 for ever; a Prune asks for nothing,
 -- nor does a Join to another router.
 abbrev pub OtherJoinsAsk : Type 0
 OtherJoinsAsk =
-    (is_asked (frame 1 join_star ∷ []) 0 1 host ≡ true)
-    × (is_asked (frame 1 join_star_of_other_rp ∷ []) 0 1 host ≡ false)
-    × (is_asked (frame 1 join_source_forever ∷ []) last_moment 1 source ≡ true)
-    × (is_asked (frame 1 prune_star ∷ []) 0 1 host ≡ false)
-    × (is_asked (frame 0 hello_of_10_0_0_9 ∷ frame 0 join_star_beside ∷ []) 0 0 host ≡ false)
+    (is_caused (frame 1 join_star ∷ []) 0 1 host ≡ true)
+    × (is_caused (frame 1 join_star_of_other_rp ∷ []) 0 1 host ≡ false)
+    × (is_caused (frame 1 join_source_forever ∷ []) last_moment 1 source ≡ true)
+    × (is_caused (frame 1 prune_star ∷ []) 0 1 host ≡ false)
+    × (is_caused (frame 0 hello_of_10_0_0_9 ∷ frame 0 join_star_beside ∷ []) 0 0 host ≡ false)
 
 -- What was asked on an interface is forgotten when it goes down, also where it goes up again.
 abbrev pub DownEndsTheCause : Type 0
 DownEndsTheCause =
-    (is_asked (frame 1 join_source ∷ down 1 ∷ up 7 1 ∷ []) 0 1 source ≡ false)
-    × (is_asked (frame 1 join_source ∷ down 2 ∷ []) 0 1 source ≡ true)
+    (is_caused (frame 1 join_source ∷ down 1 ∷ up 7 1 ∷ []) 0 1 source ≡ false)
+    × (is_caused (frame 1 join_source ∷ down 2 ∷ []) 0 1 source ≡ true)
 
 -- The copies of an outcome stand behind its messages.
 abbrev pub CopiesStandLast : Type 0

@@ -30,8 +30,8 @@ abbrev pub endless_hello : Hello
 endless_hello = record { holdtime = Some 65535; lan_delay = None; priority = None; generation = None }
 
 -- interfaces 0, 1 and 2 are up, 10.0.0.1 is a neighbour on 0 and 10.0.1.2 on 1
-abbrev pub standing : Config → State
-standing c =
+abbrev pub with_neighbours : Config → State
+with_neighbours c =
     let up : State = record (opening c) {
       interfaces = put (put (put [] (iface_key 0) up_at_0) (iface_key 1) up_at_0) (iface_key 2) up_at_0;
     } in
@@ -46,40 +46,40 @@ abbrev pub in_a_minute : JoinTimerRow
 in_a_minute = record { end = 60000 }
 
 -- lost to 10.0.1.2, with preference 100 and metric 10
-abbrev pub lost : AssertRow
-lost = record { role = AssertRole.Loser; winner = metric_of false 100 10 (address 10 0 1 2); end = 180000 }
+abbrev pub lost_row : AssertRow
+lost_row = record { role = AssertRole.Loser; winner = metric_of false 100 10 (address 10 0 1 2); end = 180000 }
 
 -- a change of o into a, settled with draw 7
 abbrev pub after_change : State → State → State
 after_change o a = (settled o (a, []) 7).0
 
-abbrev pub sent_by : State → State → List Emission
-sent_by o a = (settled o (a, []) 7).1
+abbrev pub settled_sends : State → State → List Emission
+settled_sends o a = (settled o (a, []) 7).1
 
 -- ---- (S,G,rpt)
 
 -- one message on 1 joined (*,G) and pruned (10.0.3.5,G,rpt)
 abbrev pub pruned : State
-pruned = record (standing base) {
+pruned = record (with_neighbours base) {
   downstream = put (put [] (star_key 1 group) endless) (rpt_key 1 group source) endless;
 }
 
 -- that prune is gone again
 abbrev pub unpruned : State
 unpruned =
-    let before : State = after_change (standing base) pruned in
+    let before : State = after_change (with_neighbours base) pruned in
     record before { downstream = drop_at before.downstream (rpt_key 1 group source) }
 
 abbrev pub PruneOfASourceLeavesWithTheJoin : Type 0
 PruneOfASourceLeavesWithTheJoin =
-    (sent_by (standing base) pruned ≡ join_star_prune_rpt_up ∷ [])
-    × (sent_by (after_change (standing base) pruned) unpruned ≡ join_rpt_up ∷ [])
+    (settled_sends (with_neighbours base) pruned ≡ join_star_prune_rpt_up ∷ [])
+    × (settled_sends (after_change (with_neighbours base) pruned) unpruned ≡ join_rpt_up ∷ [])
 
 -- ---- an assert of (S,G) that is lost, and goes
 
 -- (10.0.3.5,G) is joined on 1, and its packets come on its own tree
 abbrev pub on_its_tree : State
-on_its_tree = record (standing base) {
+on_its_tree = record (with_neighbours base) {
   downstream = put [] (source_key 1 group source) endless;
   sources = put [] (source_key 0 group source) (record { keepalive = Some 210000; spt = true });
   join_timers = put [] (source_key 0 group source) in_a_minute;
@@ -87,7 +87,7 @@ on_its_tree = record (standing base) {
 
 -- its assert on 1 is lost
 abbrev pub source_lost : State
-source_lost = record on_its_tree { asserts = put [] (source_key 1 group source) lost }
+source_lost = record on_its_tree { asserts = put [] (source_key 1 group source) lost_row }
 
 -- that assert is gone again
 abbrev pub source_found : State
@@ -95,18 +95,18 @@ source_found = record (after_change on_its_tree source_lost) { asserts = [] }
 
 abbrev pub LostAssertPrunesASource : Type 0
 LostAssertPrunesASource =
-    (sent_by on_its_tree source_lost ≡ prune_source_up ∷ [])
+    (settled_sends on_its_tree source_lost ≡ prune_source_up ∷ [])
     × (spt_bit (after_change on_its_tree source_lost) group source ≡ false)
     × (keys_in (after_change on_its_tree source_lost).asserts ≡ source_key 1 group source ∷ [])
-    × (sent_by (after_change on_its_tree source_lost) source_found ≡ join_source_up ∷ [])
+    × (settled_sends (after_change on_its_tree source_lost) source_found ≡ join_source_up ∷ [])
 
 -- ---- the order of clearing
 
 -- (*,G) is joined on 1; the asserts of (*,G) and of (10.0.3.5,G) are lost there
 abbrev pub both_lost : Config → State
-both_lost c = record (standing c) {
+both_lost c = record (with_neighbours c) {
   downstream = put [] (star_key 1 group) endless;
-  asserts = put (put [] (star_key 1 group) lost) (source_key 1 group source) lost;
+  asserts = put (put [] (star_key 1 group) lost_row) (source_key 1 group source) lost_row;
   join_timers = put [] (star_key 0 group) in_a_minute;
 }
 
@@ -115,7 +115,7 @@ both_lost c = record (standing c) {
 -- first, it would go too, and no Prune(10.0.3.5,G,rpt) would leave, neither with the Join(*,G) nor alone.
 abbrev pub GroupsAssertGoesBeforeItsSources : Type 0
 GroupsAssertGoesBeforeItsSources =
-    (sent_by (both_lost rp_on_1) (both_lost base)
+    (settled_sends (both_lost rp_on_1) (both_lost base)
     ≡ join_star_prune_rpt_up ∷ prune_star_of_10_0_1_2_on_1 ∷ prune_rpt_up ∷ [])
     × (keys_in (after_change (both_lost rp_on_1) (both_lost base)).asserts ≡ source_key 1 group source ∷ [])
 
@@ -133,7 +133,7 @@ source_by i next_hop = record base {
 
 -- both sources are joined on 2
 abbrev pub two_joined : Config → State
-two_joined c = record (standing c) {
+two_joined c = record (with_neighbours c) {
   downstream = put (put [] (source_key 2 group source) endless) (source_key 2 group other_source) endless;
   join_timers = put (put [] (source_key 0 group source) in_a_minute) (source_key 0 group other_source) in_a_minute;
 }
@@ -141,5 +141,5 @@ two_joined c = record (standing c) {
 -- The route to 10.0.3.5 moves from 10.0.0.1 to 10.0.1.2 on 1.
 abbrev pub MovedRouteMovesOneSource : Type 0
 MovedRouteMovesOneSource =
-    sent_by (two_joined (source_by 0 (address 10 0 0 1))) (two_joined (source_by 1 (address 10 0 1 2)))
+    settled_sends (two_joined (source_by 0 (address 10 0 0 1))) (two_joined (source_by 1 (address 10 0 1 2)))
     ≡ join_source_on_1 ∷ prune_source_up ∷ []

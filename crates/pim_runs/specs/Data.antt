@@ -11,8 +11,8 @@ use Rattle.pim_model.specs.State.{State}
 use Rattle.pim_model.specs.Step.{run, state_after}
 use Rattle.pim_model.specs.Unicast.{rpf_interface}
 use Rattle.pim_runs.specs.Base.{after, group, host, opened, source}
-use Rattle.pim_runs.specs.Packets.{allow_source, copy_on_1, copy_on_2, hello_on_0, hello_on_1, hello_on_2, host_packet, host_packet_of_ttl_1, join_source, join_source_for_1_s, join_source_up, join_star_up, null_register_sent, packet, prune_source_up, register_received, register_sent, register_stop_received, register_stop_sent, to_exclude}
-use Rattle.pim_runs.specs.Words.{advance, done, done_with_copies, frame, unicast, unicast_drawn, unicasts}
+use Rattle.pim_runs.specs.Packets.{allow_source, copy_on_1, copy_on_2, hello_on_0, hello_on_1, hello_on_2, host_packet, host_packet_of_ttl_1, join_source, join_source_for_1_s, join_source_up, join_star_up, null_register_sent, packet, prune_source_up, register_of_host, register_sent, register_stop_received, register_stop_sent, to_exclude}
+use Rattle.pim_runs.specs.Words.{advance, done_with, done_with_copies, frame, unicast, unicast_drawn, unicasts}
 
 -- the printed row of a source: keepalive end, SPTbit, register state
 abbrev pub active : ℕ → Option ℕ → Bool → Option RegisterName → Row
@@ -21,41 +21,41 @@ active src keepalive spt register = Row.Active (addr group) (addr src) keepalive
 -- A packet of a host on 2 goes to the RP in a Register, with its TTL one lower.
 abbrev pub HostIsRegistered : Type 0
 HostIsRegistered =
-    (run opened (frame 2 host_packet ∷ []) ≡ done (register_sent ∷ []) ∷ [])
+    (run opened (frame 2 host_packet ∷ []) ≡ done_with (register_sent ∷ []) ∷ [])
     × (rows (after (frame 2 host_packet ∷ [])) Table.Active
     ≡ active host (Some 210000) true (Some RegisterName.Join) ∷ [])
 
 -- With TTL 1 nothing leaves, but the source is kept alive.
 abbrev pub LastHopIsNotRegistered : Type 0
 LastHopIsNotRegistered =
-    (run opened (frame 2 host_packet_of_ttl_1 ∷ []) ≡ done [] ∷ [])
+    (run opened (frame 2 host_packet_of_ttl_1 ∷ []) ≡ done_with [] ∷ [])
     × (rows (after (frame 2 host_packet_of_ttl_1 ∷ [])) Table.Active
     ≡ active host (Some 210000) true (Some RegisterName.Join) ∷ [])
 
 -- a host was registered, and the RP stopped that
-abbrev pub stopped : State
-stopped = after (frame 2 host_packet ∷ unicast_drawn 60000 register_stop_received ∷ [])
+abbrev pub register_stopped : State
+register_stopped = after (frame 2 host_packet ∷ unicast_drawn 60000 register_stop_received ∷ [])
 
 -- A Register-Stop stops the Registers for 85 s, as drawn. Then a Null-Register asks the RP, and 5 s later
 -- the tunnel is open again.
 abbrev pub RegisterStopLastsAsDrawn : Type 0
 RegisterStopLastsAsDrawn =
-    (register_state stopped group host ≡ Some (RegisterState.Prune 85000))
-    × (map unicasts (run stopped (advance 84999 ∷ advance 85000 ∷ advance 89999 ∷ advance 90000 ∷ []))
+    (register_state register_stopped group host ≡ Some (RegisterState.Prune 85000))
+    × (map unicasts (run register_stopped (advance 84999 ∷ advance 85000 ∷ advance 89999 ∷ advance 90000 ∷ []))
     ≡ [] ∷ (null_register_sent ∷ []) ∷ [] ∷ [] ∷ [])
-    × (register_state (state_after stopped (advance 85000 ∷ [])) group host ≡ Some (RegisterState.JoinPending 90000))
-    × (register_state (state_after stopped (advance 90000 ∷ [])) group host ≡ Some RegisterState.Join)
+    × (register_state (state_after register_stopped (advance 85000 ∷ [])) group host ≡ Some (RegisterState.JoinPending 90000))
+    × (register_state (state_after register_stopped (advance 90000 ∷ [])) group host ≡ Some RegisterState.Join)
 
 -- A Register that comes to a router that isn't the RP is answered by a Register-Stop.
 abbrev pub RegisterToAnotherRouterIsStopped : Type 0
-RegisterToAnotherRouterIsStopped = run opened (unicast register_received ∷ []) ≡ done (register_stop_sent ∷ []) ∷ []
+RegisterToAnotherRouterIsStopped = run opened (unicast register_of_host ∷ []) ≡ done_with (register_stop_sent ∷ []) ∷ []
 
 -- Receivers on 2 get the first packet over the shared tree, and the router joins the source. The second
 -- packet sets SPTbit, and no Prune leaves, since both trees come by the same neighbour.
 abbrev pub LastHopMovesToTheSourceTree : Type 0
 LastHopMovesToTheSourceTree =
     (run opened (frame 2 to_exclude ∷ frame 0 packet ∷ frame 0 packet ∷ [])
-    ≡ done (hello_on_0 ∷ join_star_up ∷ []) ∷ done_with_copies 1 (join_source_up ∷ copy_on_2 ∷ [])
+    ≡ done_with (hello_on_0 ∷ join_star_up ∷ []) ∷ done_with_copies 1 (join_source_up ∷ copy_on_2 ∷ [])
     ∷ done_with_copies 1 (copy_on_2 ∷ []) ∷ [])
     × (rows (after (frame 2 to_exclude ∷ frame 0 packet ∷ [])) Table.Active ≡ active source (Some 210000) false None ∷ [])
     × (rows (after (frame 2 to_exclude ∷ frame 0 packet ∷ frame 0 packet ∷ [])) Table.Active
@@ -69,7 +69,7 @@ joined_and_sent = after (frame 1 join_source ∷ frame 0 packet ∷ [])
 abbrev pub JoinedSourceIsForwarded : Type 0
 JoinedSourceIsForwarded =
     (run opened (frame 1 join_source ∷ frame 0 packet ∷ frame 0 packet ∷ [])
-    ≡ done (hello_on_0 ∷ join_source_up ∷ []) ∷ done_with_copies 1 (copy_on_1 ∷ [])
+    ≡ done_with (hello_on_0 ∷ join_source_up ∷ []) ∷ done_with_copies 1 (copy_on_1 ∷ [])
     ∷ done_with_copies 1 (copy_on_1 ∷ []) ∷ [])
     × (members joined_and_sent (immediate_olist joined_and_sent group source) ≡ 1 ∷ [])
     × (members joined_and_sent (inherited_olist joined_and_sent group source) ≡ 1 ∷ [])
@@ -81,12 +81,12 @@ JoinedSourceIsForwarded =
 abbrev pub NothingPassesAfterTheJoinEnds : Type 0
 NothingPassesAfterTheJoinEnds =
     run opened (frame 1 join_source_for_1_s ∷ advance 999 ∷ frame 0 packet ∷ advance 1000 ∷ frame 0 packet ∷ [])
-    ≡ done (hello_on_0 ∷ join_source_up ∷ []) ∷ done (hello_on_0 ∷ hello_on_1 ∷ hello_on_2 ∷ [])
-    ∷ done_with_copies 1 (copy_on_1 ∷ []) ∷ done (prune_source_up ∷ []) ∷ done [] ∷ []
+    ≡ done_with (hello_on_0 ∷ join_source_up ∷ []) ∷ done_with (hello_on_0 ∷ hello_on_1 ∷ hello_on_2 ∷ [])
+    ∷ done_with_copies 1 (copy_on_1 ∷ []) ∷ done_with (prune_source_up ∷ []) ∷ done_with [] ∷ []
 
 -- So does a membership, which ends after 260 s.
 abbrev pub NothingPassesAfterTheMembershipEnds : Type 0
 NothingPassesAfterTheMembershipEnds =
     (run (after (frame 2 allow_source ∷ advance 259999 ∷ [])) (frame 0 packet ∷ []) ≡ done_with_copies 1 (copy_on_2 ∷ []) ∷ [])
     × (run (after (frame 2 allow_source ∷ advance 259999 ∷ frame 0 packet ∷ advance 260000 ∷ [])) (frame 0 packet ∷ [])
-    ≡ done [] ∷ [])
+    ≡ done_with [] ∷ [])

@@ -12,7 +12,7 @@ use Rattle.pim_model.specs.Step.{run, state_after}
 use Rattle.pim_types.specs.Keys.{source_key}
 use Rattle.pim_runs.specs.Base.{after, all_up, base, group, opened, opening_events, source}
 use Rattle.pim_runs.specs.Packets.{general_query_on_0, general_query_on_1, general_query_on_2, hello_of_10_0_0_9, hello_of_10_0_1_2, hello_of_10_0_1_3, hello_of_generation_1, hello_of_generation_2, hello_on_0, join_rpt_up, join_source, join_source_for_0_s, join_source_for_1_s, join_source_forever, join_source_up, join_star, join_star_beside, join_star_of_other_rp, join_star_prune_rpt, join_star_prune_rpt_up, join_star_up, prune_echo_on_1, prune_star, prune_star_beside, prune_star_up}
-use Rattle.pim_runs.specs.Words.{advance, done, frame, frame_drawn, join_prunes}
+use Rattle.pim_runs.specs.Words.{advance, done_with, frame, frame_drawn, join_prunes}
 
 -- a row of (10.0.3.5,G) joined on 1 until an end, and the next Join(*,G) to be sent
 abbrev pub joined_source : Option ℕ → Row
@@ -32,20 +32,20 @@ one_join = opening_events ++ frame 1 join_star ∷ []
 
 abbrev pub outcomes_of_one_join : List Outcome
 outcomes_of_one_join =
-    done (general_query_on_0 ∷ []) ∷ done (general_query_on_1 ∷ []) ∷ done (general_query_on_2 ∷ [])
-    ∷ done [] ∷ done [] ∷ done (hello_on_0 ∷ join_star_up ∷ []) ∷ []
+    done_with (general_query_on_0 ∷ []) ∷ done_with (general_query_on_1 ∷ []) ∷ done_with (general_query_on_2 ∷ [])
+    ∷ done_with [] ∷ done_with [] ∷ done_with (hello_on_0 ∷ join_star_up ∷ []) ∷ []
 
 abbrev pub OneJoinBringsOneJoin : Type 0
 OneJoinBringsOneJoin = run (opening base) one_join ≡ outcomes_of_one_join
 
 -- The same Join once more brings nothing.
 abbrev pub SecondJoinBringsNothing : Type 0
-SecondJoinBringsNothing = run (after (frame 1 join_star ∷ [])) (frame 1 join_star ∷ []) ≡ done [] ∷ []
+SecondJoinBringsNothing = run (after (frame 1 join_star ∷ [])) (frame 1 join_star ∷ []) ≡ done_with [] ∷ []
 
 -- A Join(*,G) that names another RP brings nothing and makes no entry.
 abbrev pub JoinForAnotherRpBringsNothing : Type 0
 JoinForAnotherRpBringsNothing =
-    (run opened (frame 1 join_star_of_other_rp ∷ []) ≡ done [] ∷ [])
+    (run opened (frame 1 join_star_of_other_rp ∷ []) ≡ done_with [] ∷ [])
     × (rows (after (frame 1 join_star_of_other_rp ∷ [])) Table.Downstream ≡ [])
 
 -- The Join goes up every minute. When the entry expires after 210 s, a Prune does.
@@ -58,7 +58,7 @@ JoinIsRepeatedUntilItExpires =
 
 -- A Join(10.0.3.5,G) goes on to the neighbour towards the source.
 abbrev pub JoinOfSourceGoesUp : Type 0
-JoinOfSourceGoesUp = run opened (frame 1 join_source ∷ []) ≡ done (hello_on_0 ∷ join_source_up ∷ []) ∷ []
+JoinOfSourceGoesUp = run opened (frame 1 join_source ∷ []) ≡ done_with (hello_on_0 ∷ join_source_up ∷ []) ∷ []
 
 -- With holdtime 0 a Join makes no entry. With 1 it ends after a second, with 65535 never; a later 1 doesn't
 -- shorten that.
@@ -86,7 +86,7 @@ PruneWaitsForAnOverride =
 abbrev pub PrunedSourceLeavesTheSharedTree : Type 0
 PrunedSourceLeavesTheSharedTree =
     run opened (frame 1 join_star_prune_rpt ∷ frame 1 join_star ∷ [])
-    ≡ done (hello_on_0 ∷ join_star_prune_rpt_up ∷ []) ∷ done (join_rpt_up ∷ []) ∷ []
+    ≡ done_with (hello_on_0 ∷ join_star_prune_rpt_up ∷ []) ∷ done_with (join_rpt_up ∷ []) ∷ []
 
 -- 10.0.0.9 joins the group beside the router
 abbrev pub joined_beside : List Event

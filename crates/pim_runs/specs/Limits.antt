@@ -14,7 +14,7 @@ use Rattle.pim_model.specs.Step.{run, state_after}
 use Rattle.pim_types.specs.Keys.{source_key}
 use Rattle.pim_runs.specs.Base.{base, group, opened_with, source}
 use Rattle.pim_runs.specs.Packets.{assert_source_equal, assert_source_infinite, assert_source_on_1, copy_on_1, hello_on_0, hello_on_1, hello_on_2, join_source, join_source_6, join_star, join_star_of_group_3_up, packet, packet_6, prune_source_up, to_exclude_group_2, to_exclude_group_3, to_exclude_groups_3_and_4}
-use Rattle.pim_runs.specs.Words.{address, advance, done, done_with_copies, frame, refused}
+use Rattle.pim_runs.specs.Words.{address, advance, done_with, done_with_copies, frame, refused}
 
 -- the base after its opening, under a limit on facts
 abbrev pub limited_to : ℕ → State
@@ -31,8 +31,8 @@ FullRouterServesWhatItKnows =
     (counted (state_after (limited_to 4) joined_and_sent) ≡ 4)
     × (run (state_after (limited_to 4) joined_and_sent)
     (frame 1 join_star ∷ frame 0 packet ∷ frame 1 join_source ∷ advance 10 ∷ advance 9 ∷ [])
-    ≡ refused Refusal.Full ∷ done_with_copies 1 (copy_on_1 ∷ []) ∷ done []
-    ∷ done (hello_on_0 ∷ hello_on_1 ∷ hello_on_2 ∷ []) ∷ refused Refusal.MomentBack ∷ [])
+    ≡ refused Refusal.Full ∷ done_with_copies 1 (copy_on_1 ∷ []) ∷ done_with []
+    ∷ done_with (hello_on_0 ∷ hello_on_1 ∷ hello_on_2 ∷ []) ∷ refused Refusal.MomentBack ∷ [])
     × (rows (state_after (limited_to 4) (joined_and_sent ++ frame 1 join_star ∷ [])) Table.Downstream
     ≡ Row.Downstream (source_key 1 group source) DownstreamState.Join (Some 210000) None ∷ [])
 
@@ -47,14 +47,14 @@ RoomComesBack =
     (counted (state_after (limited_to 6) member_too) ≡ 5)
     × (run (state_after (limited_to 6) member_too)
     (frame 2 to_exclude_groups_3_and_4 ∷ frame 2 to_exclude_group_3 ∷ frame 0 packet_6 ∷ frame 0 packet ∷ [])
-    ≡ refused Refusal.Full ∷ done (join_star_of_group_3_up ∷ []) ∷ refused Refusal.Full
+    ≡ refused Refusal.Full ∷ done_with (join_star_of_group_3_up ∷ []) ∷ refused Refusal.Full
     ∷ done_with_copies 1 (copy_on_1 ∷ []) ∷ [])
     × (counted (state_after (limited_to 6) (member_too ++ frame 2 to_exclude_group_3 ∷ [])) ≡ 6)
     × (counted (state_after (limited_to 6) (member_too ++ frame 2 to_exclude_group_3 ∷ frame 0 packet ∷ advance 260000 ∷ []))
     ≡ 2)
     × (run (state_after (limited_to 6) (member_too ++ frame 2 to_exclude_group_3 ∷ frame 0 packet ∷ advance 260000 ∷ []))
     (frame 0 packet_6 ∷ [])
-    ≡ done [] ∷ [])
+    ≡ done_with [] ∷ [])
 
 -- besides, a packet of the source on 1, to which it is forwarded
 abbrev pub looped : List Event
@@ -66,7 +66,7 @@ abbrev pub AssertOfDataPassesTheLimit : Type 0
 AssertOfDataPassesTheLimit =
     (run (state_after (limited_to 4) joined_and_sent)
     (frame 1 packet ∷ frame 1 join_source_6 ∷ frame 1 assert_source_equal ∷ [])
-    ≡ done (hello_on_1 ∷ assert_source_on_1 ∷ []) ∷ refused Refusal.Full ∷ done (prune_source_up ∷ []) ∷ [])
+    ≡ done_with (hello_on_1 ∷ assert_source_on_1 ∷ []) ∷ refused Refusal.Full ∷ done_with (prune_source_up ∷ []) ∷ [])
     × (counted (state_after (limited_to 4) looped) ≡ 5)
     × (rows (state_after (limited_to 4) (looped ++ frame 1 assert_source_equal ∷ [])) Table.Asserts
     ≡ Row.Assert (source_key 1 group source) AssertRole.Loser (addr (address 10 0 1 2)) 180000 ∷ [])
@@ -77,7 +77,7 @@ abbrev pub InfiniteAssertPassesTheLimit : Type 0
 InfiniteAssertPassesTheLimit =
     (run (state_after (limited_to 4) joined_and_sent)
     (frame 1 assert_source_infinite ∷ frame 1 join_source_6 ∷ frame 1 assert_source_equal ∷ [])
-    ≡ done (hello_on_1 ∷ assert_source_on_1 ∷ []) ∷ refused Refusal.Full ∷ done (prune_source_up ∷ []) ∷ [])
+    ≡ done_with (hello_on_1 ∷ assert_source_on_1 ∷ []) ∷ refused Refusal.Full ∷ done_with (prune_source_up ∷ []) ∷ [])
     × (counted (state_after (limited_to 4) (joined_and_sent ++ frame 1 assert_source_infinite ∷ [])) ≡ 5)
     × (rows (state_after (limited_to 4) (joined_and_sent ++ frame 1 assert_source_infinite ∷ [])) Table.Asserts
     ≡ Row.Assert (source_key 1 group source) AssertRole.Winner (addr (address 10 0 1 1)) 177000 ∷ [])

@@ -15,11 +15,11 @@ use Rattle.pim_model.specs.Tables.{row_at}
 use Rattle.pim_types.specs.Keys.{iface_key, source_key, star_key}
 use Rattle.pim_runs.specs.Base.{after, base, group, host, opened, source}
 use Rattle.pim_runs.specs.Packets.{allow_host, allow_source, block_host, general_query_on_0, group_query_on_2, hello_on_0, hello_on_1, hello_on_2, is_exclude_source, join_star_up, prune_star_up, query_of_robustness_2, query_of_robustness_3, short_report, source_query_on_2, suppressed_group_query_on_2, to_exclude, to_exclude_two, to_include}
-use Rattle.pim_runs.specs.Words.{address, advance, done, frame, join_prunes, queries_on, refused, up}
+use Rattle.pim_runs.specs.Words.{address, advance, done_with, frame, join_prunes, queries_on, refused, up}
 
 -- An interface that comes up sends a general query at once.
 abbrev pub UpSendsAGeneralQuery : Type 0
-UpSendsAGeneralQuery = run (opening base) (up 7 0 ∷ []) ≡ done (general_query_on_0 ∷ []) ∷ []
+UpSendsAGeneralQuery = run (opening base) (up 7 0 ∷ []) ≡ done_with (general_query_on_0 ∷ []) ∷ []
 
 -- rows of the group on 2: EXCLUDE until an end, a source until an end, an excluded source
 abbrev pub excluding_until : ℕ → Row
@@ -66,9 +66,9 @@ LeftGroupIsAskedFor =
     (run opened
     (frame 2 to_exclude ∷ advance 5000 ∷ frame 2 to_include
     ∷ advance 5999 ∷ advance 6000 ∷ advance 6999 ∷ advance 7000 ∷ [])
-    ≡ done (hello_on_0 ∷ join_star_up ∷ []) ∷ done (hello_on_0 ∷ hello_on_1 ∷ hello_on_2 ∷ [])
-    ∷ done (group_query_on_2 ∷ [])
-    ∷ done [] ∷ done (group_query_on_2 ∷ []) ∷ done [] ∷ done (prune_star_up ∷ []) ∷ [])
+    ≡ done_with (hello_on_0 ∷ join_star_up ∷ []) ∷ done_with (hello_on_0 ∷ hello_on_1 ∷ hello_on_2 ∷ [])
+    ∷ done_with (group_query_on_2 ∷ [])
+    ∷ done_with [] ∷ done_with (group_query_on_2 ∷ []) ∷ done_with [] ∷ done_with (prune_star_up ∷ []) ∷ [])
     × (rows (after (frame 2 to_exclude ∷ advance 5000 ∷ frame 2 to_include ∷ advance 6999 ∷ [])) Table.Groups
     ≡ excluding_until 7000 ∷ [])
     × (rows (after (frame 2 to_exclude ∷ advance 5000 ∷ frame 2 to_include ∷ advance 7000 ∷ [])) Table.Groups ≡ [])
@@ -79,7 +79,7 @@ abbrev pub AnswerKeepsTheGroup : Type 0
 AnswerKeepsTheGroup =
     (run (after (frame 2 to_exclude ∷ advance 5000 ∷ frame 2 to_include ∷ []))
     (advance 5500 ∷ frame 2 to_exclude ∷ advance 5999 ∷ advance 6000 ∷ [])
-    ≡ done [] ∷ done [] ∷ done [] ∷ done (suppressed_group_query_on_2 ∷ []) ∷ [])
+    ≡ done_with [] ∷ done_with [] ∷ done_with [] ∷ done_with (suppressed_group_query_on_2 ∷ []) ∷ [])
     × (rows (after (frame 2 to_exclude ∷ advance 5000 ∷ frame 2 to_include ∷ advance 5500 ∷ frame 2 to_exclude ∷ []))
     Table.Groups
     ≡ excluding_until 265500 ∷ [])
@@ -90,8 +90,8 @@ BlockedSourceIsAskedFor =
     (run opened
     (frame 2 allow_host ∷ advance 10000 ∷ frame 2 block_host
     ∷ advance 10999 ∷ advance 11000 ∷ advance 11999 ∷ advance 12000 ∷ [])
-    ≡ done [] ∷ done (hello_on_0 ∷ hello_on_1 ∷ hello_on_2 ∷ []) ∷ done (source_query_on_2 ∷ [])
-    ∷ done [] ∷ done (source_query_on_2 ∷ []) ∷ done [] ∷ done [] ∷ [])
+    ≡ done_with [] ∷ done_with (hello_on_0 ∷ hello_on_1 ∷ hello_on_2 ∷ []) ∷ done_with (source_query_on_2 ∷ [])
+    ∷ done_with [] ∷ done_with (source_query_on_2 ∷ []) ∷ done_with [] ∷ done_with [] ∷ [])
     × (rows (after (frame 2 allow_host ∷ advance 10000 ∷ frame 2 block_host ∷ advance 11999 ∷ [])) Table.Sources
     ≡ source_until 12000 host ∷ [])
     × (rows (after (frame 2 allow_host ∷ advance 10000 ∷ frame 2 block_host ∷ advance 12000 ∷ [])) Table.Groups

@@ -8,7 +8,7 @@ use Rattle.pim_model.specs.Step.{run, state_after}
 use Rattle.pim_model.specs.Timers.{Ending, next_ending}
 use Rattle.pim_runs.specs.Base.{base, interface, opened, opened_with}
 use Rattle.pim_runs.specs.Packets.{hello_for_105_s, hello_on_0, hello_on_1, hello_on_2}
-use Rattle.pim_runs.specs.Words.{address, advance, done, frame}
+use Rattle.pim_runs.specs.Words.{address, advance, done_with, frame}
 
 -- After the opening the next timer ends at 1. A Hello leaves on 0 and on 1 then, since a new neighbour
 -- triggers it, and on 2 at 8.
@@ -16,7 +16,7 @@ abbrev pub HellosFollowTheOpening : Type 0
 HellosFollowTheOpening =
     (option_map (λ (e : Ending). e.end) (next_ending opened) ≡ Some 1)
     × (run opened (advance 1 ∷ advance 7 ∷ advance 8 ∷ [])
-    ≡ done (hello_on_0 ∷ hello_on_1 ∷ []) ∷ done [] ∷ done (hello_on_2 ∷ []) ∷ [])
+    ≡ done_with (hello_on_0 ∷ hello_on_1 ∷ []) ∷ done_with [] ∷ done_with (hello_on_2 ∷ []) ∷ [])
 
 -- the base with priority 100 on 0
 abbrev pub with_priority_100 : Config

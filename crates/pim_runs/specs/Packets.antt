@@ -487,8 +487,8 @@ packet_6 =
     ++ hex "00 01 00 02 00 03 00 04"
 
 -- from 10.0.3.k to G, on 0, for k up to 207
-abbrev pub packet_of : ℕ → List ℕ
-packet_of k =
+abbrev pub data_from : ℕ → List ℕ
+data_from k =
     hex "45 00 00 1c 00 00 00 00 40 11 8b" ++ (0xcf - k) ∷ hex "0a 00 03" ++ k ∷ hex "e1 01 01 01"
     ++ hex "00 01 00 02 00 03 00 04"
 
@@ -521,8 +521,8 @@ copy_on_2 = on 2 (
 -- ---- Registers and Register-Stops
 
 -- a Register of 10.0.2.5's packet from 10.0.3.1 to 10.0.1.1
-abbrev pub register_received : List ℕ
-register_received =
+abbrev pub register_of_host : List ℕ
+register_of_host =
     hex "45 c0 00 38 00 00 00 00 40 67 61 9e 0a 00 03 01 0a 00 01 01"
     ++ hex "21 00 de ff 00 00 00 00 45 00 00 1c 00 00 00 00 40 11 8c ca 0a 00 02 05 e1 01 01 01 00 01 00 02 00 03 00 04"
 

@@ -8,9 +8,9 @@ use Rattle.pim_model.specs.State.{State}
 use Rattle.pim_model.specs.Step.{state_after, step}
 use Rattle.pim_model.specs.Tables.{below}
 use Rattle.pim_runs.specs.Base.{after, base_routes, group, source}
-use Rattle.pim_runs.specs.Cached.{asked_and_sent, two_sent, watched}
+use Rattle.pim_runs.specs.Cached.{asked_and_sent, two_sent, watched_source}
 use Rattle.pim_runs.specs.Data.{joined_and_sent}
-use Rattle.pim_runs.specs.Packets.{hello_for_105_s, hello_of_10_0_2_9, join_source, join_source_of, packet, packet_of, prune_source, to_exclude}
+use Rattle.pim_runs.specs.Packets.{data_from, hello_for_105_s, hello_of_10_0_2_9, join_source, join_source_of, packet, prune_source, to_exclude}
 use Rattle.pim_runs.specs.Routes.{other_rp, with_longer_route}
 use Rattle.pim_runs.specs.Words.{advance, down, frame, routes_to}
 
@@ -47,7 +47,7 @@ EndsReachNone =
     × (event_reach (state_after joined_and_sent (advance 1000 ∷ [])) (frame 0 packet) ≡ [])
     × (event_reach greeted (frame 0 hello_for_105_s) ≡ [])
     × (stays_around greeted (frame 0 hello_for_105_s) ≡ true)
-    × (event_reach (state_after watched (advance 1000 ∷ [])) (frame 2 to_exclude) ≡ [])
+    × (event_reach (state_after watched_source (advance 1000 ∷ [])) (frame 2 to_exclude) ≡ [])
 
 -- The first packet of a joined source reaches it, and so does the last Prune.
 abbrev pub FirstAndLastReachIt : Type 0
@@ -59,7 +59,7 @@ FirstAndLastReachIt =
 -- 10.0.3.5 to 10.0.3.12 are joined on 1, and send
 abbrev pub eight_sent : State
 eight_sent = after
-    (map (λ n. frame 1 (join_source_of (n + 5))) (below 8) ++ map (λ n. frame 0 (packet_of (n + 5))) (below 8))
+    (map (λ n. frame 1 (join_source_of (n + 5))) (below 8) ++ map (λ n. frame 0 (data_from (n + 5))) (below 8))
 
 -- Of eight rows a Join again touches none, and a Prune at most three times one.
 abbrev pub OneOfEightIsReached : Type 0

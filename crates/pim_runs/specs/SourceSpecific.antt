@@ -11,7 +11,7 @@ use Rattle.pim_model.specs.Printed.{all_rows, rows}
 use Rattle.pim_model.specs.Step.{run}
 use Rattle.pim_runs.specs.Base.{after, base, host, interface, opened, source}
 use Rattle.pim_runs.specs.Packets.{hello_on_0, join_star_above_up, join_star_below_up, ssm_allow_source, ssm_copy_on_2, ssm_host_packet, ssm_join_source_up, ssm_join_star, ssm_packet, ssm_register, ssm_register_stop_sent, ssm_to_exclude, to_exclude_above, to_exclude_below}
-use Rattle.pim_runs.specs.Words.{address, done, done_with_copies, frame, unicast}
+use Rattle.pim_runs.specs.Words.{address, done_with, done_with_copies, frame, unicast}
 
 abbrev pub ssm_group : ℕ
 ssm_group = address 232 1 1 1
@@ -24,13 +24,13 @@ active src spt = Row.Active (addr ssm_group) (addr src) (Some 210000) spt None
 abbrev pub SourceIsJoinedWithoutAnRp : Type 0
 SourceIsJoinedWithoutAnRp =
     (run opened (frame 2 ssm_allow_source ∷ frame 0 ssm_packet ∷ [])
-    ≡ done (hello_on_0 ∷ ssm_join_source_up ∷ []) ∷ done_with_copies 1 (ssm_copy_on_2 ∷ []) ∷ [])
+    ≡ done_with (hello_on_0 ∷ ssm_join_source_up ∷ []) ∷ done_with_copies 1 (ssm_copy_on_2 ∷ []) ∷ [])
     × (rows (after (frame 2 ssm_allow_source ∷ frame 0 ssm_packet ∷ [])) Table.Active ≡ active source true ∷ [])
 
 -- Receivers of all sources, and a Join(*,G), are skipped: beyond the two neighbours no fact is made.
 abbrev pub GroupAsAWholeIsSkipped : Type 0
 GroupAsAWholeIsSkipped =
-    (run opened (frame 2 ssm_to_exclude ∷ frame 1 ssm_join_star ∷ []) ≡ done [] ∷ done [] ∷ [])
+    (run opened (frame 2 ssm_to_exclude ∷ frame 1 ssm_join_star ∷ []) ≡ done_with [] ∷ done_with [] ∷ [])
     × (all_rows (after (frame 2 ssm_to_exclude ∷ frame 1 ssm_join_star ∷ []))
     ≡ Row.Neighbour (record { number = 0 }) (addr (address 10 0 0 1)) None
     ∷ Row.Neighbour (record { number = 1 }) (addr (address 10 0 1 2)) None ∷ [])
@@ -38,15 +38,15 @@ GroupAsAWholeIsSkipped =
 -- A host's packet is not registered, and a Register is answered by a Register-Stop.
 abbrev pub NoRegisterWithoutAnRp : Type 0
 NoRegisterWithoutAnRp =
-    (run opened (frame 2 ssm_host_packet ∷ []) ≡ done [] ∷ [])
+    (run opened (frame 2 ssm_host_packet ∷ []) ≡ done_with [] ∷ [])
     × (rows (after (frame 2 ssm_host_packet ∷ [])) Table.Active ≡ active host false ∷ [])
-    × (run opened (unicast ssm_register ∷ []) ≡ done (ssm_register_stop_sent ∷ []) ∷ [])
+    × (run opened (unicast ssm_register ∷ []) ≡ done_with (ssm_register_stop_sent ∷ []) ∷ [])
 
 -- The groups on either side have an RP, which is joined.
 abbrev pub GroupsBesideHaveAnRp : Type 0
 GroupsBesideHaveAnRp =
-    (run opened (frame 2 to_exclude_below ∷ []) ≡ done (hello_on_0 ∷ join_star_below_up ∷ []) ∷ [])
-    × (run opened (frame 2 to_exclude_above ∷ []) ≡ done (hello_on_0 ∷ join_star_above_up ∷ []) ∷ [])
+    (run opened (frame 2 to_exclude_below ∷ []) ≡ done_with (hello_on_0 ∷ join_star_below_up ∷ []) ∷ [])
+    × (run opened (frame 2 to_exclude_above ∷ []) ≡ done_with (hello_on_0 ∷ join_star_above_up ∷ []) ∷ [])
 
 -- the base with so many interfaces
 abbrev pub with_interfaces : ℕ → Config

@@ -8,7 +8,7 @@ use Rattle.pim_model.specs.Network.{At, Deliver, Move, Network, network, network
 use Rattle.pim_model.specs.Printed.{all_rows}
 use Rattle.pim_runs.specs.Base.{base, interface}
 use Rattle.pim_runs.specs.Packets.{hello_of_router_0, hello_of_router_1, query_of_router_0, query_of_router_1}
-use Rattle.pim_runs.specs.Words.{address, advance, done, refused, up}
+use Rattle.pim_runs.specs.Words.{address, advance, done_with, refused, up}
 
 -- Router 0 is 10.0.0.1 and router 1 is 10.0.0.2, each with one interface on the link.
 abbrev pub alone_at : ℕ → Config
@@ -35,8 +35,8 @@ known moves = map (λ (st : Station). all_rows st.state) ((network_ran two_route
 abbrev pub TwoRoutersMeet : Type 0
 TwoRoutersMeet =
     ((network_ran two_routers meeting).0
-    ≡ done (query_of_router_0 ∷ []) ∷ done (query_of_router_1 ∷ []) ∷ done [] ∷ done []
-    ∷ done (hello_of_router_0 ∷ []) ∷ done (hello_of_router_1 ∷ []) ∷ done [] ∷ done [] ∷ [])
+    ≡ done_with (query_of_router_0 ∷ []) ∷ done_with (query_of_router_1 ∷ []) ∷ done_with [] ∷ done_with []
+    ∷ done_with (hello_of_router_0 ∷ []) ∷ done_with (hello_of_router_1 ∷ []) ∷ done_with [] ∷ done_with [] ∷ [])
     × (known meeting
     ≡ neighbour_until_105001 (address 10 0 0 2) ∷ neighbour_until_105001 (address 10 0 0 1) ∷ [])
 
@@ -44,4 +44,4 @@ TwoRoutersMeet =
 abbrev pub FramesAreDeliveredAtWill : Type 0
 FramesAreDeliveredAtWill =
     drop 8 (network_ran two_routers (meeting ++ Deliver 0 0 9 0 ∷ Deliver 1 0 3 0 ∷ [])).0
-    ≡ refused Refusal.BadMove ∷ done [] ∷ []
+    ≡ refused Refusal.BadMove ∷ done_with [] ∷ []

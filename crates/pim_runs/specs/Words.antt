@@ -62,8 +62,8 @@ to destination packet = Emission.Unicast (addr destination) packet
 abbrev pub done_with_copies : ℕ → List Emission → Outcome
 done_with_copies copies emissions = record { answer = Ok Verdict.Done; emissions = emissions; copies = copies }
 
-abbrev pub done : List Emission → Outcome
-done emissions = done_with_copies 0 emissions
+abbrev pub done_with : List Emission → Outcome
+done_with emissions = done_with_copies 0 emissions
 
 abbrev pub refused : Refusal → Outcome
 refused refusal = record { answer = Err refusal; emissions = []; copies = 0 }
@@ -88,9 +88,9 @@ is_igmp_on i (Emission.Unicast destination packet) = false
 abbrev pub queries_on : ℕ → Outcome → List Emission
 queries_on i o = filter (is_igmp_on i) o.emissions
 
-abbrev pub is_unicast : Emission → Bool
-is_unicast (Emission.Link i packet) = false
-is_unicast (Emission.Unicast destination packet) = true
+abbrev pub is_sent_to : Emission → Bool
+is_sent_to (Emission.Link i packet) = false
+is_sent_to (Emission.Unicast destination packet) = true
 
 abbrev pub unicasts : Outcome → List Emission
-unicasts o = filter is_unicast o.emissions
+unicasts o = filter is_sent_to o.emissions

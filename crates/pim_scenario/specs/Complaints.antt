@@ -24,16 +24,16 @@ fault_text Memory = codes "pimlab: no memory"
 fault_text Failed = codes "pimlab: no memory"
 fault_text Wire = codes "pimlab: wire fault"
 
-abbrev pub text_of : Complaint → List ℕ
-text_of complaint.CommandLine = codes "pimlab: command line refused"
-text_of (complaint.File name) = codes "pimlab: cannot read " ++ name.now
-text_of (complaint.Scenario refusal) =
+abbrev pub complaint_text : Complaint → List ℕ
+complaint_text complaint.CommandLine = codes "pimlab: command line refused"
+complaint_text (complaint.File name) = codes "pimlab: cannot read " ++ name.now
+complaint_text (complaint.Scenario refusal) =
     codes "pimlab: scenario refused: " ++ decimal (refusal_number refusal)
-text_of (complaint.Fault fault) = fault_text fault
+complaint_text (complaint.Fault fault) = fault_text fault
 
 -- the line, with its end
 abbrev pub line_of : Complaint → List ℕ
-line_of c = text_of c ++ codes "\n"
+line_of c = complaint_text c ++ codes "\n"
 
 -- the writer's bytes grew by the complaint's line, and the status is the complaint's; or the line couldn't be
 -- written, as after a fault of the wire

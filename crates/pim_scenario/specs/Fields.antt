@@ -9,8 +9,8 @@ abbrev pub number_of_integer : ℤ → Option ℕ
 number_of_integer (pos n) = if nat_lt n (2 ^ 32) then Some n else None
 number_of_integer (negsuc n) = None
 
-abbrev pub number_of : Data → Option ℕ
-number_of d = option_and_then number_of_integer (as_integer d)
+abbrev pub number_in : Data → Option ℕ
+number_in d = option_and_then number_of_integer (as_integer d)
 
 -- a moment, in ms
 abbrev pub moment_of_integer : ℤ → Option ℕ
@@ -33,7 +33,7 @@ abbrev pub text_at : List ℕ → Members → Option (List ℕ)
 text_at key ms = option_and_then as_str (get_member key ms)
 
 abbrev pub number_at : List ℕ → Members → Option ℕ
-number_at key ms = option_and_then number_of (get_member key ms)
+number_at key ms = option_and_then number_in (get_member key ms)
 
 abbrev pub moment_at : List ℕ → Members → Option ℕ
 moment_at key ms = option_and_then moment_of (get_member key ms)
@@ -42,27 +42,27 @@ abbrev pub list_at : List ℕ → Members → Option (List Data)
 list_at key ms = option_and_then list_of (get_member key ms)
 
 -- what stands at a key that may be missing
-abbrev pub given_or : {X : Type 0} → (Data → Option X) → X → Option Data → Option X
-given_or read default None = Some default
-given_or read default (Some d) = read d
+abbrev pub read_or : {X : Type 0} → (Data → Option X) → X → Option Data → Option X
+read_or read default None = Some default
+read_or read default (Some d) = read d
 
 abbrev pub number_or : ℕ → List ℕ → Members → Option ℕ
-number_or default key ms = given_or number_of default (get_member key ms)
+number_or default key ms = read_or number_in default (get_member key ms)
 
 abbrev pub list_or_empty : List ℕ → Members → Option (List Data)
-list_or_empty key ms = given_or list_of [] (get_member key ms)
+list_or_empty key ms = read_or list_of [] (get_member key ms)
 
 abbrev pub optional_text : List ℕ → Members → Option (Option (List ℕ))
-optional_text key ms = given_or (λ d. option_map (λ t. Some t) (as_str d)) None (get_member key ms)
+optional_text key ms = read_or (λ d. option_map (λ t. Some t) (as_str d)) None (get_member key ms)
 
 -- the keys, in their order
-abbrev pub keys_of : Members → List (List ℕ)
-keys_of no_members = []
-keys_of (member key d ms) = key ∷ keys_of ms
+abbrev pub member_names : Members → List (List ℕ)
+member_names no_members = []
+member_names (member key d ms) = key ∷ member_names ms
 
 abbrev pub is_known : List (List ℕ) → List ℕ → Bool
 is_known known key = list_any (λ k. bytes_eq k key) known
 
 -- no other keys than these
 abbrev pub has_only : List (List ℕ) → Members → Bool
-has_only known ms = list_all (is_known known) (keys_of ms)
+has_only known ms = list_all (is_known known) (member_names ms)

@@ -53,9 +53,9 @@ impl Complaint<'_> {
 }
 
 impl fmt::Display for Complaint<'_> {
-    ghost use Rattle.pim_scenario.specs.Complaints.{text_of};
+    ghost use Rattle.pim_scenario.specs.Complaints.{complaint_text};
 
-    ghost output = { λ complaint. Some (text_of complaint) };
+    ghost output = { λ complaint. Some (complaint_text complaint) };
 
     fn fmt<W: fmt::Write>(&self, f: &mut fmt::Formatter<W>) -> fmt::Result {
         match self {

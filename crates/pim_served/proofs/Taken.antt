@@ -37,8 +37,8 @@ use Rattle.pim_locality.proofs.SourceMacros.{spt_bit_local}
 use Rattle.pim_locality.proofs.StarMacros.{cut_assert, loser_cut}
 use Rattle.pim_locality.proofs.UntoldKeys.{same_by_scope}
 use Rattle.pim_asked.proofs.Same.{Rows, settled_same}
-use Rattle.pim_words.proofs.Links.{is_below}
-use Rattle.pim_words.proofs.Made.{step_taken}
+use Rattle.pim_promises.proofs.Links.{is_below}
+use Rattle.pim_promises.proofs.Made.{step_taken}
 use Rattle.pim_served.specs.Joins.{JoinsSource, JoinsStar, JoinsTree, SourceJoinIsTaken, StarJoinIsTaken, TakesSource, TakesStar}
 use Rattle.pim_served.proofs.Leaves.{ends_configured, rest_agrees, taken_is_done, untouched}
 

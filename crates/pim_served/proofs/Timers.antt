@@ -1,26 +1,23 @@
 -- Which Join timers run: no event's own change, and no timer's end, starts or stops one.
-use Rattle.std.proofs.Common.{◌≡◌, ◌∙◌, ℕ, ◌+◌, ◌&&◌, ◌||◌, min, Bool, true, false, not, cond, List, [], filter, fold, Option, Some, None, is_some, refl, sym, ap, arith}
+use Rattle.std.proofs.Common.{◌≡◌, ◌∙◌, ℕ, ◌+◌, ◌&&◌, ◌||◌, min, Bool, true, false, not, cond, List, [], filter, Option, Some, None, is_some, refl, sym, ap, arith}
 use Rattle.std.specs.Option.{option_map_or}
 use Rattle.pim_ip.specs.Ipv4.{Packet}
-use Rattle.pim_types.specs.Keys.{group_in, iface_in, rpt_key, same_key, source_in, source_key, star_key}
+use Rattle.pim_types.specs.Keys.{group_in, iface_in, same_key, source_in}
 use Rattle.pim_types.specs.declared.fact.AssertMetric.{AssertMetric}
 use Rattle.pim_types.specs.declared.fact.AssertRow.{AssertRow}
 use Rattle.pim_types.specs.declared.fact.DownstreamRow.{DownstreamRow}
 use Rattle.pim_types.specs.declared.fact.JoinTimerRow.{JoinTimerRow}
 use Rattle.pim_types.specs.declared.fact.Key.{Key}
 use Rattle.pim_types.specs.declared.fact.RegisterState.{RegisterState}
-use Rattle.pim_types.specs.declared.path.Hop.{Hop}
 use Rattle.pim_types.specs.declared.timer.TimerKind.{TimerKind}
 use Rattle.pim_types.proofs.Keys.{equal_keys}
 use Rattle.pim_wire.specs.Values.{Encapsulated, JoinPrune, Null}
 use Rattle.pim_wire.specs.declared.assert.Assert.{Assert as AssertMessage}
 use Rattle.pim_wire.specs.declared.hello.Hello.{Hello as HelloValue}
-use Rattle.pim_wire.specs.declared.join_prune.EntryKind.{EntryKind}
 use Rattle.igmp_wire.specs.Values.{Query as QueryValue, Record}
 use Rattle.pim_model.specs.declared.accepted.Accepted.{Accepted}
 use Rattle.pim_model.specs.Asserts.{assert_as_loser, assert_as_winner, assert_at, assert_due, assert_forgotten, assert_in_no_info, assert_received, data_seen, loses, loses_first, wins, wins_again, with_spt_bit}
-use Rattle.pim_model.specs.Desires.{rpf_source, rpf_star}
-use Rattle.pim_model.specs.Downstream.{Named, accepted_joins, accepted_prunes, downstream_expired, keys_taken, prune_echo, prune_pending_due, to_me}
+use Rattle.pim_model.specs.Downstream.{downstream_expired, keys_taken, prune_echo, prune_pending_due, to_me}
 use Rattle.pim_model.specs.Firing.{fire_row, fired, keepalive_due}
 use Rattle.pim_model.specs.Forwarding.{forwarded, list_chosen, register_at_rp, register_received, source_here, source_joined, spt_updated, stray, watched}
 use Rattle.pim_model.specs.Hellos.{hello_due, hello_received, hello_triggered, is_generation_changed, neighbour_due, neighbour_replaced, neighbour_restarted, upstream_of}
@@ -29,13 +26,14 @@ use Rattle.pim_model.specs.Neighbours.{is_neighbour, t_override}
 use Rattle.pim_model.specs.Querier.{each_in_turn, general_query_due, group_membership_interval, group_record_due, group_repeat_due, is_querier, is_skipped, lower_group, lower_queried, lower_sources, other_querier_gone, querier_elected, querier_up, query_asked, query_group, query_seen, query_sources, querying, querying_on, record_seen, report_seen, send_sources, source_record_due, source_repeat_due, sources_sent}
 use Rattle.pim_model.specs.Records.{AskGroup, AskSources, Asked, GroupRecord, apply_record, group_expired, record_of, source_expired, with_members, with_record, with_repeats_of_rows}
 use Rattle.pim_model.specs.Registers.{register_due, register_stop_seen, settle_register, with_keepalive}
-use Rattle.pim_model.specs.Seen.{cancel_override_timer, is_star_entry, is_unpruned_towards, join_seen, lower_join_timer, lower_override_timer, lower_source_timer, lower_star_timer, lower_tree_timer, lowered_row, override_end, prune_seen, raise_join_timer, raised_row, seen, sources_joined_towards, suppressed_end}
+use Rattle.pim_model.specs.Seen.{cancel_override_timer, lower_join_timer, lower_override_timer, lowered_row, override_end, raise_join_timer, raised_row, seen}
 use Rattle.pim_model.specs.State.{State}
 use Rattle.pim_model.specs.Step.{change, iface_down, iface_up, rps_replaced}
 use Rattle.pim_model.specs.Tables.{Table, change_row, drop_at, has_row, hop_at, row_at, same_hop, set_row}
 use Rattle.pim_model.specs.Upstream.{join_timer_due, override_timer_due, periodic_end}
 use Rattle.pim_laws.proofs.RowLaws.{has_row_map, has_row_put, has_row_replaced, has_row_without}
-use Rattle.pim_laws.proofs.TurnLaws.{kept_by_fold, kept_in_turn}
+use Rattle.pim_laws.proofs.TurnLaws.{kept_in_turn}
+use Rattle.pim_ready.proofs.SeenLaws.{kept_by_seen}
 
 -- the same timers run
 abbrev pub SameTimers : State → State → Type 0
@@ -219,71 +217,11 @@ lowered_keeps s k end q = still_there s.join_timers k q _ (go (row_at s.join_tim
     go None = refl
     go (Some r) = refl
 
--- where a change may happen
-either_keeps : (s t : State) (b : Bool) → SameTimers s t → SameTimers s (cond b t s)
-either_keeps s t true f = f
-either_keeps s t false f = λ k. refl
-
-module _ (o : State) (w : ℕ) (hop : Hop) where
-  join_seen_keeps : (holdtime : ℕ) (s : State) (n : Named) → SameTimers s (join_seen o holdtime w hop s n)
-  unfolding join_seen cancel_override_timer
-  join_seen_keeps holdtime s n = go (n.1).kind (n.1).address.bits (suppressed_end o hop.iface.number w holdtime)
-    where
-      go : (kind : EntryKind) (src end : ℕ) → SameTimers s (elim kind [
-        | EntryKind.Star ↦ cond (same_hop (rpf_star o n.0) (Some hop)) (raise_join_timer s (star_key 0 n.0) end) s
-        | EntryKind.Source ↦ cond (same_hop (rpf_source o n.0 src) (Some hop)) (raise_join_timer s (source_key 0 n.0 src) end) s
-        | EntryKind.SourceRpt ↦ cond (is_unpruned_towards o hop n.0 src) (cancel_override_timer s (rpt_key 0 n.0 src)) s
-      ])
-      go EntryKind.Star src end = either_keeps s _ _ (raised_keeps s (star_key 0 n.0) end)
-      go EntryKind.Source src end = either_keeps s _ _ (raised_keeps s (source_key 0 n.0 src) end)
-      go EntryKind.SourceRpt src end = either_keeps s _ _ (λ k. refl)
-
-  source_timer_keeps : (g src : ℕ) (s : State) → SameTimers s (lower_source_timer o w hop g src s)
-  source_timer_keeps g src s = either_keeps s _ _ (lowered_keeps s (source_key 0 g src) (override_end o hop.iface.number w))
-
-  star_timer_keeps : (g : ℕ) (s : State) → SameTimers s (lower_star_timer o w hop g s)
-  star_timer_keeps g s = either_keeps s _ _ (lowered_keeps s (star_key 0 g) (override_end o hop.iface.number w))
-
-  tree_timer_keeps : (g src : ℕ) (s : State) → SameTimers s (lower_tree_timer o w hop g src s)
-  unfolding lower_override_timer
-  tree_timer_keeps g src s = either_keeps s _ _ (λ k. refl)
-
-  alone_keeps : (g src : ℕ) (s : State) → SameTimers s (lower_tree_timer o w hop g src (lower_source_timer o w hop g src s))
-  alone_keeps g src s k = tree_timer_keeps g src (lower_source_timer o w hop g src s) k ∙ source_timer_keeps g src s k
-
-  prune_seen_keeps : (s : State) (n : Named) → SameTimers s (prune_seen o w hop s n)
-  unfolding prune_seen
-  prune_seen_keeps s n = go (n.1).kind (n.1).address.bits
-    where
-      go : (kind : EntryKind) (src : ℕ) → SameTimers s (elim kind [
-        | EntryKind.Star ↦
-            fold (λ t x. lower_source_timer o w hop n.0 x t) (lower_star_timer o w hop n.0 s) (sources_joined_towards o hop n.0)
-        | EntryKind.Source ↦ lower_tree_timer o w hop n.0 src (lower_source_timer o w hop n.0 src s)
-        | EntryKind.SourceRpt ↦ lower_tree_timer o w hop n.0 src (lower_source_timer o w hop n.0 src s)
-      ])
-      go EntryKind.Star src =
-          kept_by_fold (λ t x. lower_source_timer o w hop n.0 x t) (SameTimers s)
-          (λ t x f k. source_timer_keeps n.0 x t k ∙ f k) (sources_joined_towards o hop n.0) (lower_star_timer o w hop n.0 s)
-          (star_timer_keeps n.0 s)
-      go EntryKind.Source src = alone_keeps n.0 src s
-      go EntryKind.SourceRpt src = alone_keeps n.0 src s
-
-module _ (s : State) (w i : ℕ) (m : JoinPrune) where
-  abbrev towards : Hop
-  towards = hop_at i m.upstream
-
-  joins_keep : (ns : List Named) (t : State) → SameTimers s t → SameTimers s (fold (join_seen s m.holdtime w towards) t ns)
-  joins_keep ns t f =
-      kept_by_fold (join_seen s m.holdtime w towards) (SameTimers s)
-      (λ u n g k. join_seen_keeps s w towards m.holdtime u n k ∙ g k) ns t f
-
-  seen_keeps : SameTimers s (seen s w i m)
-  unfolding seen
-  seen_keeps =
-      kept_by_fold (prune_seen s w towards) (SameTimers s) (λ t n f k. prune_seen_keeps s w towards t n k ∙ f k)
-      (accepted_prunes m) _
-      (joins_keep (filter (λ n. not (is_star_entry n)) (accepted_joins s m)) _
-      (joins_keep (filter is_star_entry (accepted_joins s m)) s (λ k. refl)))
+seen_keeps : (s : State) (w i : ℕ) (m : JoinPrune) → SameTimers s (seen s w i m)
+unfolding cancel_override_timer lower_override_timer
+seen_keeps s w i m =
+    kept_by_seen (SameTimers s) s w i m (λ t k end f q. raised_keeps t k end q ∙ f q)
+    (λ t k f q. lowered_keeps t k (override_end s i w) q ∙ f q) (λ t k f. f) (λ t k f. f) (λ q. refl)
 
 -- ---- every event, and every timer
 

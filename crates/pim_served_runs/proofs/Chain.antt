@@ -8,33 +8,33 @@ use Rattle.pim_model.specs.Network.{At, network_ran}
 use Rattle.igmp_wire.specs.declared.report.RecordType.{RecordType}
 use Rattle.pim_ready.proofs.Steps.{run_is_settled}
 use Rattle.pim_runs.proofs.OnLiterals.{machine_on_literals}
-use Rattle.pim_words.specs.Copies.{happens}
+use Rattle.pim_promises.specs.Copies.{happens}
 use Rattle.pim_runs.specs.Words.{unicast}
 use Rattle.pim_served.specs.Roots.{CanRegister, IsRegister}
-use Rattle.pim_served.specs.Served.{Asks, CanAnswer, CanCarry}
+use Rattle.pim_served.specs.Served.{Asks, CanCarry, CanServeHost}
 use Rattle.pim_served.specs.Ways.{CanGoOn, CanTake, IsGroup, IsNew, state_of, up_address}
 use Rattle.pim_served.proofs.Hosts.{host_asks}
 use Rattle.pim_served.proofs.Registered.{register_is_brought}
 use Rattle.pim_served.proofs.Whole.{each_packet_is_served}
-use Rattle.pim_served_runs.specs.Chain.{ChainIsServed, PacketIsServed, chain, content, first, first_meets, first_place, group, register, report, request, rp, second, second_meets, second_place, sent, source, third, third_meets, third_place}
+use Rattle.pim_served_runs.specs.Chain.{ChainIsServed, PacketIsServed, asked_group, chain, content, first, first_meets, first_place, register, report, request, root, second, second_meets, second_place, sender, sent_packet, third, third_meets, third_place}
 
-is_group : IsGroup group rp
+is_group : IsGroup asked_group root
 unfolding machine_on_literals
 is_group = record { multicast = refl; goes_far = refl; rp_host = refl }
 
-first_is_new : IsNew (state_of first_place) group
+first_is_new : IsNew (state_of first_place) asked_group
 unfolding machine_on_literals
 first_is_new = record { unwanted = refl; sourceless = λ src. refl; unlost = λ i. refl; unlost_source = λ src i. refl }
 
-second_is_new : IsNew (state_of second_place) group
+second_is_new : IsNew (state_of second_place) asked_group
 unfolding machine_on_literals
 second_is_new = record { unwanted = refl; sourceless = λ src. refl; unlost = λ i. refl; unlost_source = λ src i. refl }
 
-first_goes_on : CanGoOn group first_place
+first_goes_on : CanGoOn asked_group first_place
 unfolding machine_on_literals
 first_goes_on = record { new = first_is_new; next = refl; linked = refl }
 
-second_goes_on : CanGoOn group second_place
+second_goes_on : CanGoOn asked_group second_place
 unfolding machine_on_literals
 second_goes_on = record { new = second_is_new; next = refl; linked = refl }
 
@@ -50,7 +50,7 @@ accepted_third : config_test third ≡ Ok tt
 unfolding machine_on_literals
 accepted_third = refl
 
-first_carries : CanCarry source first_place
+first_carries : CanCarry sender first_place
 unfolding machine_on_literals
 first_carries = record {
   settled = run_is_settled first first_meets accepted_first;
@@ -61,7 +61,7 @@ first_carries = record {
   on = refl;
 }
 
-second_carries : CanCarry source second_place
+second_carries : CanCarry sender second_place
 unfolding machine_on_literals
 second_carries = record {
   settled = run_is_settled second second_meets accepted_second;
@@ -76,7 +76,7 @@ is_report : done_as (happens (state_of first_place) report) ≡ Some (Accepted.R
 unfolding machine_on_literals
 is_report = refl
 
-answers : CanAnswer group rp source 3 first_place
+answers : CanServeHost asked_group root sender 3 first_place
 unfolding machine_on_literals
 answers = record {
   can_go_on = first_goes_on;
@@ -87,12 +87,12 @@ answers = record {
   down_linked = refl;
 }
 
-asks : Asks group rp source 3 first_place report
+asks : Asks asked_group root sender 3 first_place report
 asks =
-    host_asks group rp source 3 first_place report (request ∷ [])
+    host_asks asked_group root sender 3 first_place report (request ∷ [])
     (record { record_type = RecordType.ToExclude; excluding = refl; is = refl }) is_report answers
 
-second_takes : CanTake group rp (up_address first_place) (first_place.next).address.bits first_place.next_link second_place
+second_takes : CanTake asked_group root (up_address first_place) (first_place.next).address.bits first_place.next_link second_place
 unfolding machine_on_literals
 second_takes = record {
   hears = record { configured = lit≤ tt; up = refl; neighbour = refl; other = refl };
@@ -104,7 +104,7 @@ second_takes = record {
   room = refl;
 }
 
-third_takes : CanTake group rp (up_address second_place) (second_place.next).address.bits second_place.next_link third_place
+third_takes : CanTake asked_group root (up_address second_place) (second_place.next).address.bits second_place.next_link third_place
 unfolding machine_on_literals
 third_takes = record {
   hears = record { configured = lit≤ tt; up = refl; neighbour = refl; other = refl };
@@ -119,12 +119,12 @@ third_takes = record {
 pub chain_is_served : ChainIsServed
 unfolding machine_on_literals
 chain_is_served =
-    each_packet_is_served chain group rp source 3 first_place second_place report (third_place ∷ []) is_group asks
+    each_packet_is_served chain asked_group root sender 3 first_place second_place report (third_place ∷ []) is_group asks
     (second_takes, second_goes_on, third_takes) (second_carries, tt) refl (refl, (refl, (refl, tt))) ((refl, (refl, tt)), ((refl, tt), (tt, tt)))
 
 -- ---- a packet in a Register
 
-third_registers : CanRegister group rp source (state_of third_place)
+third_registers : CanRegister asked_group root sender (state_of third_place)
 unfolding machine_on_literals
 third_registers = record {
   settled = run_is_settled third third_meets accepted_third;
@@ -135,15 +135,15 @@ third_registers = record {
 }
 
 -- it needs a TTL of one more than the routers that pass it on
-is_register : IsRegister group source rp register content (1 + length (first_place ∷ second_place ∷ []))
+is_register : IsRegister asked_group sender root register content (1 + length (first_place ∷ second_place ∷ []))
 unfolding machine_on_literals
 is_register = record {
   outer = packet_of register;
   reads = refl;
   of_pim = refl;
   destination = refl;
-  inner = sent;
-  packet = packet_of sent;
+  inner = sent_packet;
+  packet = packet_of sent_packet;
   is = refl;
   inner_reads = refl;
   fits = lit≤ tt;
@@ -158,5 +158,5 @@ pub packet_is_served : PacketIsServed
 unfolding machine_on_literals
 packet_is_served f =
     f.served (unicast register) content 1 (lit≤ tt)
-    (register_is_brought (network_ran chain (At 0 report ∷ f.joins)).1 group rp source 0
+    (register_is_brought (network_ran chain (At 0 report ∷ f.joins)).1 asked_group root sender 0
     (1 + length (first_place ∷ second_place ∷ [])) register content third_place f.root refl third_registers is_register)

@@ -11,7 +11,7 @@ use Rattle.pim_types.specs.Keys.{source_key}
 use Rattle.pim_runs.specs.Base.{after, base, group, host, opened_with, source}
 use Rattle.pim_runs.specs.Data.{joined_and_sent}
 use Rattle.pim_runs.specs.Packets.{copy_on_1, copy_on_2, hello_of_10_0_2_9, host_packet, packet, to_exclude}
-use Rattle.pim_runs.specs.Words.{advance, done, done_with_copies, down, frame}
+use Rattle.pim_runs.specs.Words.{advance, done_with, done_with_copies, down, frame}
 use Rattle.pim_offload.specs.Offload.{Handling, Row, handled, told}
 use Rattle.pim_offload.specs.Split.{Notice, Split, caught_up, split_ran, whole}
 
@@ -47,7 +47,7 @@ later = (split_ran split packets).1
 abbrev pub LastPacketIsOwed : Type 0
 LastPacketIsOwed =
     ((split_ran split packets).0
-    ≡ done_with_copies 1 (copy_on_1 ∷ []) ∷ done [] ∷ done_with_copies 1 (copy_on_1 ∷ [])
+    ≡ done_with_copies 1 (copy_on_1 ∷ []) ∷ done_with [] ∷ done_with_copies 1 (copy_on_1 ∷ [])
     ∷ done_with_copies 1 (copy_on_1 ∷ []) ∷ [])
     × ((later.core).present ≡ 10) × (later.now ≡ 15)
     × (map (λ (n : Notice). n.moment) later.owed ≡ 15 ∷ [])
@@ -63,16 +63,16 @@ CoreCatchesUp =
 
 -- ---- a source without a fact, at a router that never leaves the shared tree
 
-abbrev pub never : State
-never = state_after (opened_with (record base { spt = SptSwitch.Never })) (frame 2 to_exclude ∷ advance 10 ∷ [])
+abbrev pub spt_never : State
+spt_never = state_after (opened_with (record base { spt = SptSwitch.Never })) (frame 2 to_exclude ∷ advance 10 ∷ [])
 
 abbrev pub on_shared_tree : List Outcome × Split
-on_shared_tree = split_ran (whole never (told never)) (advance 15 ∷ frame 0 packet ∷ frame 1 packet ∷ [])
+on_shared_tree = split_ran (whole spt_never (told spt_never)) (advance 15 ∷ frame 0 packet ∷ frame 1 packet ∷ [])
 
 -- its packet leaves on 2, and one that comes on 1 is dropped; the core stands at 10, and hears of neither
 abbrev pub UnknownIsForwarded : Type 0
 UnknownIsForwarded =
-    (on_shared_tree.0 ≡ done [] ∷ done_with_copies 1 (copy_on_2 ∷ []) ∷ done [] ∷ [])
+    (on_shared_tree.0 ≡ done_with [] ∷ done_with_copies 1 (copy_on_2 ∷ []) ∷ done_with [] ∷ [])
     × (((on_shared_tree.1).core).present ≡ 10) × ((on_shared_tree.1).now ≡ 15)
     × (map (λ (n : Notice). n.moment) (on_shared_tree.1).owed ≡ [])
 

@@ -3,7 +3,7 @@ ghost use Rattle.std.specs.Prelude.{◌≡◌, is_ok, map, option_map};
 ghost use Rattle.std.specs.Result.{result_ok};
 ghost use Rattle.toml.specs.Data.{as_str, as_table, get_member};
 ghost use Rattle.toml.specs.View.{view, table_view};
-ghost use Rattle.pim_scenario.specs.Fields.{number_of, number_at, number_or, moment_of, moment_at, list_of, list_at};
+ghost use Rattle.pim_scenario.specs.Fields.{number_in, number_at, number_or, moment_of, moment_at, list_of, list_at};
 ghost use Rattle.pim_scenario.specs.Fields.{list_or_empty, text_at, optional_text, has_only, is_known};
 
 use super::Wrong;
@@ -47,8 +47,8 @@ pub(super) fn text_of(value: &Value) -> Result<&str, Wrong>
 }
 
 /// The number that a value is, from 0 and below 2^32.
-fn number_of(value: &Value) -> Result<u32, Wrong>
-    ensures { result_ok result ≡ number_of (view value.now) }
+fn number_in(value: &Value) -> Result<u32, Wrong>
+    ensures { result_ok result ≡ number_in (view value.now) }
 {
     let number = value.as_integer().ok_or(Wrong)?;
     u32::try_from(number).map_err(|_| Wrong)
@@ -100,7 +100,7 @@ pub(super) fn optional_text<'a>(table: &'a Table, key: &str) -> Result<Option<&'
 pub(super) fn number(table: &Table, key: &str) -> Result<u32, Wrong>
     ensures { result_ok result ≡ number_at key.now (table_view table.now) }
 {
-    number_of(value_at(table, key).ok_or(Wrong)?)
+    number_in(value_at(table, key).ok_or(Wrong)?)
 }
 
 /// The number at a key, or `default` where the key is not there.
@@ -108,7 +108,7 @@ pub(super) fn number_or(table: &Table, key: &str, default: u32) -> Result<u32, W
     ensures { result_ok result ≡ number_or default key.now (table_view table.now) }
 {
     match value_at(table, key) {
-        Some(value) => number_of(value),
+        Some(value) => number_in(value),
         None => Ok(default),
     }
 }

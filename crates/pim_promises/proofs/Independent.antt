@@ -1,0 +1,77 @@
+-- What is told of one group touches no other.
+use Rattle.std.proofs.Common.{◌≡◌, ◌∙◌, ◌==◌, ◌&&◌, ◌||◌, ℕ, Bool, true, false, List, [], ◌∷◌, Some, refl, sym, subst, arith}
+use Rattle.std.proofs.lemmas.Bool.{true≢false}
+use Rattle.std.proofs.lemmas.Bool.Decides.{nat_tests}
+use Rattle.std.specs.Cmp.{first_so, second_so}
+use Rattle.std.specs.List.{list_all}
+use Rattle.pim_types.specs.declared.fact.Key.{Key}
+use Rattle.pim_types.specs.declared.timer.TimerKind.{TimerKind}
+use Rattle.pim_types.specs.Keys.{group_in, is_of_group, source_in, source_key}
+use Rattle.pim_model.specs.declared.accepted.Accepted.{Accepted}
+use Rattle.pim_model.specs.Reach.{own_firing}
+use Rattle.pim_model.specs.State.{State}
+use Rattle.pim_model.specs.Step.{Answered, change, done, taken}
+use Rattle.pim_locality.specs.Events.{touched_by_event}
+use Rattle.pim_locality.specs.Locality.{touching}
+use Rattle.pim_locality.specs.Scopes.{reads}
+use Rattle.pim_locality.specs.Touches.{touched_by}
+use Rattle.pim_locality.proofs.EventLaws.{change_touches}
+use Rattle.pim_reach.specs.Keeps.{KeepsAnswers}
+use Rattle.pim_reach.proofs.Settled.{event_keeps, firing_keeps}
+use Rattle.pim_reach.proofs.Touched.{firing_agrees, touched_names}
+use Rattle.pim_promises.specs.Independent.{OtherGroupsKeep, OtherGroupsOutlast}
+use Rattle.pim_promises.proofs.Made.{step_taken}
+
+module _ (h src g : ℕ) (other : (h == g) ≡ false) where
+  unread_one : (k : Key) (b : Bool) → (group_in k == g) ≡ true
+      → ((group_in k == h) && b) ≡ false
+  unread_one k b is = go (group_in k == h) refl
+    where
+      go : (c : Bool) → (group_in k == h) ≡ c → (c && b) ≡ false
+      go true same = absurd (true≢false (sym (grind (arith, nat_tests, is, same)) ∙ other))
+      go false differs = refl
+
+  -- no key of the group is read by a source of another one
+  unread : (keys : List Key) → list_all (is_of_group g) keys ≡ true → touching keys (source_key 0 h src) ≡ false
+  unfolding touching reads
+  unread [] all = refl
+  unread (k ∷ keys) all =
+      rw (unread_one k ((source_in k == 0) || (source_in k == src)) (first_so (is_of_group g k) (list_all (is_of_group g) keys) all))
+      (unread keys (second_so (is_of_group g k) (list_all (is_of_group g) keys) all))
+
+-- an event that touches keys of its own is settled at once
+pub taken_at_once : (s : State) (w : ℕ) (a : Accepted) (keys : List Key) → touched_by_event s a ≡ Some keys
+    → taken s w a ≡ done s w (change s w a)
+unfolding taken touched_by_event
+taken_at_once s w (Accepted.Advance moment) keys e = cc
+taken_at_once s w a keys e = refl
+
+pub other_groups_keep : OtherGroupsKeep
+other_groups_keep s e g quiet few names h src other =
+    let a : Accepted = names.accepted in
+    subst (λ (t : Answered). KeepsAnswers h src s t.state)
+    (sym (step_taken s e a names.done ∙ taken_at_once s e.draw a names.keys names.touched))
+    (event_keeps s e.draw a few h src
+    (touched_names names.keys s (change s e.draw a).state quiet (change_touches s e.draw a names.keys names.touched) h src
+    (unread h src g other names.keys names.alone)))
+
+-- ---- timers
+
+touched_alike : (kind : TimerKind) (k : Key) → (group_in k == group_in k) ≡ true
+    → list_all (is_of_group (group_in k)) (touched_by kind k) ≡ true
+touched_alike TimerKind.PrunePending k e = rw e refl
+touched_alike TimerKind.DownstreamExpiry k e = rw e refl
+touched_alike TimerKind.GroupRecord k e = rw e refl
+touched_alike TimerKind.SourceRecord k e = rw e refl
+touched_alike TimerKind.Assert k e = rw e refl
+touched_alike TimerKind.Keepalive k e = rw e refl
+touched_alike TimerKind.Register k e = rw e refl
+touched_alike _ k e = refl
+
+pub other_groups_outlast : OtherGroupsOutlast
+other_groups_outlast s w e quiet few is h src other =
+    let keys : List Key = touched_by e.timer.kind e.timer.key in
+    firing_keeps s w e few h src
+    (touched_names keys s (own_firing s e) quiet (firing_agrees s e is) h src
+    (unread h src (group_in e.timer.key) other keys
+    (touched_alike e.timer.kind e.timer.key (grind (arith, nat_tests)))))

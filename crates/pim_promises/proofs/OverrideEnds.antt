@@ -1,0 +1,354 @@
+-- Override timers end soon: where no neighbour announces more, each ends within the longest override interval.
+use Rattle.std.proofs.Common.{◌≡◌, ℕ, zero, suc, ◌+◌, ◌-◌, ◌%◌, ◌<◌, ◌≤◌, not, ◌||◌, ◌==◌, max, min, Bool, true, false, cond, List, [], ◌∷◌, ⊎_elim, fold, Option, Some, None, refl, sym, subst, arith}
+use Rattle.std.proofs.lemmas.Nat.{mod_below}
+use Rattle.std.specs.List.{AllByRecursion, slice_get}
+use Rattle.std.specs.Option.{option_map_or}
+use Rattle.pim_ip.specs.declared.lan.LanDelay.{LanDelay}
+use Rattle.pim_types.specs.Keys.{is_on, neighbour_key, rpt_key, same_key, source_key}
+use Rattle.pim_types.specs.declared.config.IfaceId.{IfaceId}
+use Rattle.pim_types.specs.declared.config.InterfaceConfig.{InterfaceConfig}
+use Rattle.pim_types.specs.declared.fact.AssertRow.{AssertRow}
+use Rattle.pim_types.specs.declared.fact.DownstreamRow.{DownstreamRow}
+use Rattle.pim_types.specs.declared.fact.Key.{Key}
+use Rattle.pim_types.specs.declared.fact.NeighbourRow.{NeighbourRow}
+use Rattle.pim_types.specs.declared.fact.OverrideTimerRow.{OverrideTimerRow}
+use Rattle.pim_types.specs.declared.fact.RegisterState.{RegisterState}
+use Rattle.pim_types.specs.declared.timer.TimerKind.{TimerKind}
+use Rattle.pim_types.specs.declared.upstream.SourceView.{SourceView}
+use Rattle.pim_types.specs.declared.upstream.TreeState.{TreeState}
+use Rattle.pim_wire.specs.Values.{Encapsulated, JoinPrune, Null}
+use Rattle.pim_wire.specs.declared.hello.Hello.{Hello as HelloValue}
+use Rattle.pim_model.specs.declared.accepted.Accepted.{Accepted}
+use Rattle.pim_model.specs.Asserts.{assert_due, assert_forgotten, wins_again, without_spt_bit}
+use Rattle.pim_model.specs.Clearing.{clear}
+use Rattle.pim_model.specs.Downstream.{downstream_expired, prune_pending_due}
+use Rattle.pim_model.specs.Firing.{fire_row, fired, keepalive_due, settled}
+use Rattle.pim_model.specs.Forwarding.{source_here}
+use Rattle.pim_model.specs.Hellos.{hello_due, hello_holdtime_of, hello_received, hello_triggered, is_generation_changed, neighbour_due, neighbour_replaced, neighbour_restarted, neighbours_replaced}
+use Rattle.pim_model.specs.Messages.{Message}
+use Rattle.pim_model.specs.Neighbours.{effective_delay, greatest_delay, is_neighbour, neighbours_on, override_interval_among, t_override, t_override_among}
+use Rattle.pim_model.specs.Querier.{general_query_due, group_record_due, group_repeat_due, other_querier_gone, querier_up, querying, querying_on, source_record_due, source_repeat_due, sources_sent}
+use Rattle.pim_model.specs.Records.{with_members, with_repeats_of_rows}
+use Rattle.pim_model.specs.Registers.{register_due, register_stop_seen, settle_register, settle_registers, with_keepalive}
+use Rattle.pim_model.specs.Seen.{cancel_override_timer, lower_join_timer, lower_override_timer, override_end, raise_join_timer, seen}
+use Rattle.pim_model.specs.State.{State, my_override_interval}
+use Rattle.pim_model.specs.Step.{change, iface_down, iface_up, rps_replaced}
+use Rattle.pim_model.specs.Tables.{Table, delay_in, drop_at, drop_where, row_at, rows_on, set_row}
+use Rattle.pim_model.specs.Upstream.{Cancel, Keep, LowerTo, SetTo, TimerChange, Told, becomes_star, group_upstream, join_timer_due, moved_join_timer, moved_override_timer, override_on, override_timer_due, rpt_told, rpt_told_from, source_told, source_upstream, source_view, upstream, with_join_timer, with_override_timer}
+use Rattle.pim_model.specs.Writing.{write_all}
+use Rattle.pim_laws.proofs.ListLaws.{by_cond, each_filter}
+use Rattle.pim_laws.proofs.RowLaws.{each_put}
+use Rattle.pim_laws.proofs.SettlingLaws.{IsFair, kept_by_clearing, moved_override_row}
+use Rattle.pim_laws.proofs.TableLaws.{row_of_each}
+use Rattle.pim_laws.proofs.TurnLaws.{kept_in_turn}
+use Rattle.pim_ready.proofs.SeenLaws.{kept_by_seen}
+use Rattle.pim_promises.specs.Uncounted.{longest_override}
+use Rattle.pim_promises.proofs.LiesUnder.{row_fires}
+use Rattle.pim_promises.proofs.Lasting.{Beside, Lasting, Unsettled, Whole, assert_whole, clear_same, data_whole, lasting, query_lasting, register_whole, report_lasting, seen_beside, settled_same, to_me_whole}
+
+-- ---- how long an override takes at most
+
+-- an announcement of no more
+abbrev pub IsShort : Option LanDelay → Type 0
+IsShort None = Unit {0}
+IsShort (Some d) = d.override_interval ≤ longest_override
+
+abbrev pub AreShort : Table NeighbourRow → Type 0
+AreShort t = AllByRecursion (λ e. IsShort (e.1).lan_delay) t
+
+abbrev pub AreConfiguredShort : List InterfaceConfig → Type 0
+AreConfiguredShort cs = AllByRecursion (λ c. c.override_interval ≤ longest_override) cs
+
+one_short : (mine : ℕ) (o : Option LanDelay) → mine ≤ longest_override → IsShort o
+    → max mine (option_map_or (λ (d : LanDelay). d.override_interval) o 0) ≤ longest_override
+one_short mine None le f = omega (arith, le)
+one_short mine (Some d) le f = omega (arith, le, f)
+
+most_short : (rows : Table NeighbourRow) (mine : ℕ) → mine ≤ longest_override → AreShort rows
+    → fold (λ most (e : Key × NeighbourRow). max most (option_map_or (λ (d : LanDelay). d.override_interval) (e.1).lan_delay 0)) mine rows
+    ≤ longest_override
+most_short [] mine le f = le
+most_short (e ∷ es) mine le f = most_short es _ (one_short mine (e.1).lan_delay le f.0) f.1
+
+effective_short : (mine : ℕ) (rows : Table NeighbourRow) → mine ≤ longest_override → AreShort rows → override_interval_among mine rows ≤ longest_override
+unfolding override_interval_among effective_delay greatest_delay
+effective_short mine rows le f = by_cond (λ (n : ℕ). n ≤ longest_override) _ _ 2500 (most_short rows mine le f) (omega arith)
+
+drawn_short : (v w : ℕ) → v ≤ longest_override → delay_in 1 (max 1 v) w ≤ longest_override
+unfolding delay_in
+drawn_short v w le =
+    let below : w % (max 1 v - 1 + 1) < max 1 v - 1 + 1 = mod_below w (max 1 v - 1 + 1) (omega arith) in
+    omega (arith, below, le)
+
+value_short : (cs : List InterfaceConfig) (i : ℕ) → AreConfiguredShort cs
+    → option_map_or (λ (c : InterfaceConfig). c.override_interval) (slice_get cs i) 0 ≤ longest_override
+value_short [] i f = omega arith
+value_short (c ∷ cs) zero f = f.0
+value_short (c ∷ cs) (suc i) f = value_short cs i f.1
+
+-- no more is announced, or configured
+pub record IsBrief (configured : List InterfaceConfig) (neighbours : Table NeighbourRow) : Type 0 where
+  pub mine : AreConfiguredShort configured
+  pub theirs : AreShort neighbours
+
+abbrev pub Brief : State → Type 0
+Brief s = IsBrief s.configured s.neighbours
+
+pub override_short : (s : State) (i w : ℕ) → Brief s → t_override s i w ≤ longest_override
+unfolding t_override t_override_among rows_on
+override_short s i w f =
+    drawn_short _ w (effective_short (my_override_interval s i) (neighbours_on s i) (value_short s.configured i f.mine)
+    (each_filter (λ e. IsShort (e.1).lan_delay) (λ e. is_on i e.0) s.neighbours f.theirs))
+
+-- an event that announces no more
+abbrev pub IsBriefly : Accepted → Type 0
+IsBriefly (Accepted.Hello i from h) = IsShort h.lan_delay
+IsBriefly a = Unit {0}
+
+-- ---- the ends by then
+
+module _ (last : ℕ) where
+  abbrev IsBy : ℕ → Type 0
+  IsBy end = end ≤ last + longest_override
+
+  abbrev EndBy : Table OverrideTimerRow → Type 0
+  EndBy t = AllByRecursion (λ e. IsBy (e.1).end) t
+
+  pub record Soon (present : ℕ) (configured : List InterfaceConfig) (neighbours : Table NeighbourRow) (timers : Table OverrideTimerRow) : Type 0 where
+    pub now : present ≤ last
+    pub brief : IsBrief configured neighbours
+    pub ends : EndBy timers
+
+  abbrev pub IsSoon : State → Type 0
+  IsSoon s = Soon s.present s.configured s.neighbours s.override_timers
+
+  by_then : (p d : ℕ) → p ≤ last → d ≤ longest_override → IsBy (p + d)
+  by_then p d x y = omega (arith, x, y)
+
+  set_ends : (o : Option OverrideTimerRow) (k : Key) (t : Table OverrideTimerRow) → ((r : OverrideTimerRow) → o ≡ Some r → IsBy r.end)
+      → EndBy t → EndBy (set_row t k o)
+  unfolding set_row drop_at drop_where
+  set_ends None k t h f = each_filter (λ e. IsBy (e.1).end) (λ e. not (same_key k e.0)) t f
+  set_ends (Some r) k t h f = each_put k r (λ e. IsBy (e.1).end) (h r refl) t f
+
+  dropped_ends : (k : Key) (t : Table OverrideTimerRow) → EndBy t → EndBy (drop_at t k)
+  unfolding drop_at drop_where
+  dropped_ends k t f = each_filter (λ e. IsBy (e.1).end) (λ e. not (same_key k e.0)) t f
+
+  -- ---- what is told upstream
+
+  override_by : (a : State) (w : ℕ) (iface : Option IfaceId) → a.present ≤ last → Brief a → IsBy (override_on a w iface)
+  override_by a w None now brief = by_then a.present 1 now (omega arith)
+  override_by a w (Some i) now brief = by_then a.present (t_override a i.number w) now (override_short a i.number w brief)
+
+  module _ (a : State) (w : ℕ) (now : a.present ≤ last) (brief : Brief a) where
+    record TellsBy (t : Told) : Type 0 where
+      fair : IsFair IsBy t.timer
+
+    told_by : (g src : ℕ) (old new : SourceView) (was is : TreeState) → TellsBy (rpt_told_from a w g src old new was is)
+    unfolding rpt_told_from
+    told_by g src old new TreeState.NotPruned TreeState.Pruned = record { fair = tt }
+    told_by g src old new TreeState.Pruned TreeState.NotPruned = record { fair = tt }
+    told_by g src old new TreeState.NotPruned TreeState.NotPruned =
+        by_cond TellsBy (becomes_star old new) _ _ (record { fair = override_by a w _ now brief }) (record { fair = tt })
+    told_by g src old new TreeState.NotPruned TreeState.NotJoined = record { fair = tt }
+    told_by g src old new TreeState.Pruned TreeState.Pruned = record { fair = tt }
+    told_by g src old new TreeState.Pruned TreeState.NotJoined = record { fair = tt }
+    told_by g src old new TreeState.NotJoined is = record { fair = tt }
+
+    moved_by : (s : State) (k : Key) (change : TimerChange) → IsFair IsBy change → EndBy s.override_timers
+        → EndBy (moved_override_timer s k change).override_timers
+    unfolding moved_override_timer
+    moved_by s k change fair f =
+        set_ends _ k s.override_timers
+        (λ r e. ⊎_elim (row_of_each (λ x. IsBy (x.1).end) k r s.override_timers f) (λ end. end) (moved_override_row IsBy change (row_at s.override_timers k) fair r e)) f
+
+    with_by : (s : State) (k : Key) (change : TimerChange) → IsFair IsBy change → EndBy s.override_timers
+        → EndBy (with_override_timer s k change).override_timers
+    unfolding with_override_timer
+    with_by s k Keep fair f = f
+    with_by s k Cancel fair f = moved_by s k Cancel fair f
+    with_by s k (SetTo e) fair f = moved_by s k (SetTo e) fair f
+    with_by s k (LowerTo e) fair f = moved_by s k (LowerTo e) fair f
+
+    join_by : (s : State) (k : Key) (change : TimerChange) → EndBy s.override_timers → EndBy (with_join_timer s k change).override_timers
+    unfolding with_join_timer moved_join_timer
+    join_by s k Keep f = f
+    join_by s k Cancel f = f
+    join_by s k (SetTo e) f = f
+    join_by s k (LowerTo e) f = f
+
+    source_by : (o : State) (g : ℕ) (s : State) (src : ℕ) → EndBy s.override_timers → EndBy (source_upstream o a w g s src).0.override_timers
+    unfolding source_upstream rpt_told
+    source_by o g s src f =
+        with_by _ (rpt_key 0 g src) _ (told_by g src (source_view o g src) (source_view a g src) _ _).fair
+        (join_by s (source_key 0 g src) (source_told a w g src (source_view o g src) (source_view a g src)).timer f)
+
+    group_by : (o : State) (keys : List Key) (s : State) (g : ℕ) → EndBy s.override_timers → EndBy (group_upstream o a w keys s g).0.override_timers
+    unfolding group_upstream
+    group_by o keys s g f =
+        kept_in_turn (source_upstream o a w g) (λ t. EndBy t.override_timers) (λ t src h. source_by o g t src h) _ _ (join_by s _ _ f)
+
+    upstream_by : (o : State) → EndBy a.override_timers → EndBy (upstream o a w).0.override_timers
+    unfolding upstream
+    upstream_by o f =
+        kept_in_turn (group_upstream o a w _) (λ t. EndBy t.override_timers) (λ t g h. group_by o _ t g h) _ a f
+
+  -- ---- a Join/Prune between other routers
+
+  lower_by : (row : Option OverrideTimerRow) (end : ℕ) → ((r : OverrideTimerRow) → row ≡ Some r → IsBy r.end) → IsBy end
+      → IsBy (option_map_or (λ (r : OverrideTimerRow). min r.end end) row end)
+  lower_by None end h le = le
+  lower_by (Some r) end h le = let x : r.end ≤ last + longest_override = h r refl in omega (arith, x, le)
+
+  seen_by : (s : State) (w i : ℕ) (m : JoinPrune) → s.present ≤ last → Brief s → EndBy s.override_timers → EndBy (seen s w i m).override_timers
+  unfolding raise_join_timer lower_join_timer cancel_override_timer lower_override_timer
+  seen_by s w i m now brief f =
+      kept_by_seen (λ t. EndBy t.override_timers) s w i m (λ t k end g. g) (λ t k g. g)
+      (λ t k g. dropped_ends k t.override_timers g)
+      (λ t k g. each_put k _ (λ e. IsBy (e.1).end)
+      (lower_by (row_at t.override_timers k) (override_end s i w) (λ r e. row_of_each (λ x. IsBy (x.1).end) k r t.override_timers g e)
+      (by_then s.present (t_override s i w) now (override_short s i w brief))) t.override_timers g) f
+
+  -- ---- all that follows
+
+  clear_by : (o s : State) → (clear o s).0.override_timers ≡ s.override_timers
+  unfolding settle_registers assert_forgotten without_spt_bit
+  clear_by o s = kept_by_clearing (λ t. t.override_timers ≡ s.override_timers) (λ t k f. f) (λ t k f. f) o s refl
+
+  settled_by : (o : State) (c : State × List Message) (w : ℕ) → IsSoon c.0 → EndBy (settled o c w).0.override_timers
+  unfolding settled write_all
+  settled_by o c w f =
+      let after : State = (clear o c.0).0 in
+      upstream_by after w (subst (λ (u : Unsettled). u.present ≤ last) (sym (clear_same o c.0)) f.now)
+      (subst (λ (u : Unsettled). IsBrief u.configured u.neighbours) (sym (clear_same o c.0)) f.brief) o
+      (subst EndBy (sym (clear_by o c.0)) f.ends)
+
+  pub soon_follows : (o : State) (c : State × List Message) (w : ℕ) → IsSoon c.0 → IsSoon (settled o c w).0
+  soon_follows o c w f = record {
+    now = subst (λ (u : Unsettled). u.present ≤ last) (sym (settled_same o c w)) f.now;
+    brief = subst (λ (u : Unsettled). IsBrief u.configured u.neighbours) (sym (settled_same o c w)) f.brief;
+    ends = settled_by o c w f;
+  }
+
+  -- ---- the ends of rows
+
+  pending_lasting : (s : State) (k : Key) (r : DownstreamRow) → lasting (prune_pending_due s k r).0 ≡ lasting s
+  unfolding prune_pending_due
+  pending_lasting s k r = grind arith
+
+  assert_lasting : (s : State) (k : Key) (r : AssertRow) → lasting (assert_due s k r).0 ≡ lasting s
+  unfolding assert_due wins_again assert_forgotten
+  assert_lasting s k r = grind arith
+
+  abbrev SoonIn : Lasting → Type 0
+  SoonIn l = Soon (l.still).present (l.still).configured (l.still).neighbours l.override_timers
+
+  pub soon_fires : (s : State) (kind : TimerKind) (k : Key) → IsSoon s → IsSoon (fired s kind k).0
+  unfolding fired fire_row downstream_expired neighbour_due keepalive_due override_timer_due join_timer_due
+      other_querier_gone querying_on general_query_due hello_due register_due group_repeat_due source_repeat_due sources_sent
+      group_record_due source_record_due with_members with_repeats_of_rows drop_at drop_where
+  soon_fires s TimerKind.Neighbour k f = record {
+    now = f.now;
+    brief = record { mine = f.brief.mine; theirs = each_filter (λ e. IsShort (e.1).lan_delay) (λ e. not (same_key k e.0)) s.neighbours f.brief.theirs };
+    ends = f.ends;
+  }
+  soon_fires s TimerKind.PrunePending k f =
+      row_fires IsSoon s _ (row_at s.downstream k) f (λ r. subst SoonIn (sym (pending_lasting s k r)) f)
+  soon_fires s TimerKind.DownstreamExpiry k f = f
+  soon_fires s TimerKind.GroupRecord k f = f
+  soon_fires s TimerKind.SourceRecord k f = f
+  soon_fires s TimerKind.Assert k f =
+      row_fires IsSoon s _ (row_at s.asserts k) f (λ r. subst SoonIn (sym (assert_lasting s k r)) f)
+  soon_fires s TimerKind.Keepalive k f = row_fires IsSoon s _ (row_at s.sources k) f (λ r. f)
+  soon_fires s TimerKind.Register k f = row_fires IsSoon s _ (row_at s.registers k) f (λ r. due r.state)
+    where
+      due : (state : RegisterState) → IsSoon (register_due s k state).0
+      due (RegisterState.Prune end) = f
+      due RegisterState.Join = f
+      due (RegisterState.JoinPending end) = f
+  soon_fires s TimerKind.Override k f = record { now = f.now; brief = f.brief; ends = dropped_ends k s.override_timers f.ends }
+  soon_fires s TimerKind.Join k f = f
+  soon_fires s TimerKind.OtherQuerier k f = f
+  soon_fires s TimerKind.GroupRepeat k f = row_fires IsSoon s _ (row_at s.group_repeats k) f (λ r. f)
+  soon_fires s TimerKind.SourceRepeat k f = f
+  soon_fires s TimerKind.GeneralQuery k f = row_fires IsSoon s _ (row_at s.queriers k) f (λ r. f)
+  soon_fires s TimerKind.Hello k f = row_fires IsSoon s _ (row_at s.interfaces k) f (λ r. f)
+
+  -- ---- each event's own change
+
+  soon_here : (s : State) (g src iif : ℕ) → IsSoon s → IsSoon (source_here s g src iif)
+  unfolding source_here settle_register with_keepalive
+  soon_here s g src iif f = by_cond IsSoon _ (settle_register (with_keepalive s g src) (source_key 0 g src)) s f f
+
+  set_short : (o : Option NeighbourRow) (k : Key) (t : Table NeighbourRow) → ((r : NeighbourRow) → o ≡ Some r → IsShort r.lan_delay)
+      → AreShort t → AreShort (set_row t k o)
+  unfolding set_row drop_at drop_where
+  set_short None k t h f = each_filter (λ e. IsShort (e.1).lan_delay) (λ e. not (same_key k e.0)) t f
+  set_short (Some r) k t h f = each_put k r (λ e. IsShort (e.1).lan_delay) (h r refl) t f
+
+  said_short : (b : Bool) (row r : NeighbourRow) → IsShort row.lan_delay → cond b None (Some row) ≡ Some r → IsShort r.lan_delay
+  said_short true row r f e = cc
+  said_short false row r f e = let same : row ≡ r = cc in subst (λ (q : NeighbourRow). IsShort q.lan_delay) same f
+
+  replaced_short : (present i address : ℕ) (h : HelloValue) (t : Table NeighbourRow) → IsShort h.lan_delay → AreShort t
+      → AreShort (neighbours_replaced present i address h t)
+  unfolding neighbours_replaced
+  replaced_short present i address h t said f =
+      set_short _ (neighbour_key i address) t (λ r e. said_short (hello_holdtime_of h == 0) _ r said e) f
+
+  soon_hello : (s : State) (i address : ℕ) (h : HelloValue) (w : ℕ) → IsShort h.lan_delay → IsSoon s → IsSoon (hello_received s i address h w)
+  unfolding hello_received hello_triggered neighbour_replaced neighbour_restarted
+  soon_hello s i address h w said f =
+      let changed : Bool = is_generation_changed s i address h in
+      restarted changed _ (triggered (changed || not (is_neighbour s i address)))
+    where
+      triggered : (b : Bool) → IsSoon (let t : State = cond b (hello_triggered s i w) s in neighbour_replaced t i address h)
+      triggered true = record {
+        now = f.now;
+        brief = record { mine = f.brief.mine; theirs = replaced_short s.present i address h s.neighbours said f.brief.theirs };
+        ends = f.ends;
+      }
+      triggered false = record {
+        now = f.now;
+        brief = record { mine = f.brief.mine; theirs = replaced_short s.present i address h s.neighbours said f.brief.theirs };
+        ends = f.ends;
+      }
+
+      restarted : (b : Bool) (t : State) → IsSoon t → IsSoon (cond b (neighbour_restarted s i address w t) t)
+      restarted true t g = g
+      restarted false t g = g
+
+  abbrev SoonOf : Whole → Type 0
+  SoonOf u = SoonIn u.lasting
+
+  pub soon_changes : (s : State) (w : ℕ) (a : Accepted) → IsBriefly a → IsSoon s → IsSoon (change s w a).state
+  unfolding change iface_up querier_up querying rps_replaced register_stop_seen iface_down drop_where
+  soon_changes s w (Accepted.Advance moment) said f = f
+  soon_changes s w (Accepted.Up i) said f = f
+  soon_changes s w (Accepted.Down i) said f = record {
+    now = f.now;
+    brief = record { mine = f.brief.mine; theirs = each_filter (λ e. IsShort (e.1).lan_delay) (λ e. not (is_on i.number e.0)) s.neighbours f.brief.theirs };
+    ends = f.ends;
+  }
+  soon_changes s w (Accepted.Routes routes) said f = f
+  soon_changes s w (Accepted.Rps ranges) said f = f
+  soon_changes s w (Accepted.Hello i from h) said f = soon_hello s i.number from.bits h w said f
+  soon_changes s w (Accepted.JoinPruneToMe i m) said f = subst SoonOf (sym (to_me_whole s i.number m)) f
+  soon_changes s w (Accepted.JoinPruneSeen i m) said f = record {
+    now = subst (λ (u : Beside). (u.still).present ≤ last) (sym (seen_beside s w i.number m)) f.now;
+    brief = subst (λ (u : Beside). IsBrief (u.still).configured (u.still).neighbours) (sym (seen_beside s w i.number m)) f.brief;
+    ends = seen_by s w i.number m f.now f.brief f.ends;
+  }
+  soon_changes s w (Accepted.Assert i from a) said f = subst SoonOf (sym (assert_whole s i.number from.bits a)) f
+  soon_changes s w (Accepted.Query i from q) said f = subst SoonIn (sym (query_lasting s i.number from.bits q)) f
+  soon_changes s w (Accepted.Report i records) said f = subst SoonIn (sym (report_lasting s i.number records)) f
+  soon_changes s w (Accepted.Data i p) said f =
+      subst SoonOf (sym (data_whole s p.destination p.source i.number)) (soon_here s p.destination p.source i.number f)
+  soon_changes s w (Accepted.Register p (Encapsulated inner)) said f =
+      subst SoonOf (sym (register_whole s p inner.destination inner.source false)) f
+  soon_changes s w (Accepted.Register p (Null source group)) said f = subst SoonOf (sym (register_whole s p group source true)) f
+  soon_changes s w (Accepted.RegisterStop from r) said f = f
+
+  pub soon_moves : (s : State) (m : ℕ) → m ≤ last → IsSoon s → IsSoon (record s { present = m })
+  soon_moves s m le f = record { now = le; brief = f.brief; ends = f.ends }

@@ -1,0 +1,226 @@
+-- How many messages are told upstream of a change.
+use Rattle.std.proofs.Common.{◌≡◌, ◌∙◌, ℕ, ◌*◌, ◌≤◌, not, Bool, true, false, cond, List, [], ◌∷◌, ◌++◌, length, Option, Some, None, option_map, is_none, refl, ap, subst, arith, length-append, eq-eqb}
+use Rattle.std.specs.Cmp.Derive.{both_true}
+use Rattle.std.specs.List.{filter}
+use Rattle.pim_ip.specs.Addr.{addr}
+use Rattle.pim_ip.specs.declared.addr.Addr.{Addr}
+use Rattle.pim_types.specs.Keys.{star_key}
+use Rattle.pim_types.specs.declared.config.IfaceId.{IfaceId}
+use Rattle.pim_types.specs.declared.fact.Key.{Key}
+use Rattle.pim_types.specs.declared.path.Hop.{Hop}
+use Rattle.pim_types.specs.declared.path.Path.{Path}
+use Rattle.pim_types.specs.declared.upstream.SourceView.{SourceView}
+use Rattle.pim_types.specs.declared.upstream.StarView.{StarView}
+use Rattle.pim_types.specs.declared.upstream.TreeState.{TreeState}
+use Rattle.pim_wire.specs.declared.join_prune.Entry.{Entry}
+use Rattle.pim_model.specs.Messages.{Message}
+use Rattle.pim_model.specs.Neighbours.{nbr}
+use Rattle.pim_model.specs.Querier.{each_in_turn}
+use Rattle.pim_model.specs.State.{State}
+use Rattle.pim_model.specs.Tables.{same_address, same_hop, same_iface, same_option}
+use Rattle.pim_model.specs.Unicast.{route, rp_of, rp_route}
+use Rattle.pim_model.specs.Upstream.{Told, TimerChange, becomes_star, group_upstream, groups_of, if_neighbour, join_prune_to, join_star_to, prune_star_to, rpt_told, rpt_told_from, source_stays, source_told, source_upstream, source_view, sources_of, star_stays, star_told, star_view, with_join_timer}
+use Rattle.pim_laws.proofs.ListLaws.{by_cond}
+use Rattle.pim_locality.specs.Locality.{AgreesBut, own_keys, own_upstream, touching}
+use Rattle.pim_locality.specs.Scopes.{reads, scope}
+use Rattle.pim_locality.proofs.SharedMacros.{nbr_local, route_local, rp_of_local, rp_route_local}
+use Rattle.pim_locality.proofs.UntoldKeys.{same_by_scope, star_untold_where_agreed}
+use Rattle.pim_reach.proofs.Configured.{beyond, untouched}
+use Rattle.pim_promises.specs.Answers.{told_of_group, told_of_groups}
+
+-- ---- one message
+
+to_one : (hop : Option Hop) (g : ℕ) (joins prunes : List Entry) → length (join_prune_to hop g joins prunes) ≤ 1
+unfolding join_prune_to
+to_one None g joins prunes = omega arith
+to_one (Some hop) g joins prunes = omega arith
+
+join_star_one : (s : State) (rp : Option Addr) (hop : Option Hop) (g : ℕ) → length (join_star_to s rp hop g) ≤ 1
+unfolding join_star_to
+join_star_one s None hop g = omega arith
+join_star_one s (Some a) hop g = to_one hop g _ _
+
+prune_star_one : (s : State) (rp : Option Addr) (hop : Option Hop) (g : ℕ) → length (prune_star_to s rp hop g) ≤ 1
+unfolding prune_star_to
+prune_star_one s None hop g = omega arith
+prune_star_one s (Some a) hop g = to_one (if_neighbour s hop) g _ _
+
+-- at most one
+record Few (t : Told) : Type 0 where
+  few : length t.messages ≤ 1
+
+none_told : (t : TimerChange) → Few (record { timer = t; messages = [] })
+none_told t = record { few = omega arith }
+
+one_told : (t : TimerChange) (ms : List Message) → length ms ≤ 1 → Few (record { timer = t; messages = ms })
+one_told t ms le = record { few = le }
+
+none_few : (b : Bool) (ms : List Message) → length ms ≤ 1 → length (cond b [] ms) ≤ 1
+none_few true ms le = omega arith
+none_few false ms le = le
+
+-- ---- where the routes are as they were
+
+module _ (a : State) (w g : ℕ) where
+  module _ (old new : StarView) (rp : same_address old.rp new.rp ≡ true) (iface : same_iface old.iface new.iface ≡ true)
+      (hop : same_hop old.next_hop new.next_hop ≡ true) where
+    star_stays_few : Few (star_stays a w g old new)
+    unfolding star_stays
+    star_stays_few = rw (iface, hop, rp) (by_cond Few (not (same_hop old.upstream new.upstream)) _ _ (none_told _) (none_told _))
+
+    star_few : Few (star_told a w g old new)
+    unfolding star_told
+    star_few =
+        by_cond Few new.is_desired _ _
+        (by_cond Few old.is_desired _ _ star_stays_few (one_told _ _ (join_star_one a new.rp new.upstream g)))
+        (by_cond Few old.is_desired _ _
+        (one_told _ _ (none_few (is_none new.rp) _ (prune_star_one a old.rp old.upstream g))) (none_told _))
+
+  module _ (src : ℕ) (old new : SourceView) (iface : same_iface old.iface new.iface ≡ true)
+      (hop : same_hop old.next_hop new.next_hop ≡ true) where
+    source_stays_few : Few (source_stays a w g src old new)
+    unfolding source_stays
+    source_stays_few = rw (iface, hop) (by_cond Few (same_hop old.upstream new.upstream) _ _ (none_told _) (none_told _))
+
+    source_few : Few (source_told a w g src old new)
+    unfolding source_told
+    source_few =
+        by_cond Few new.is_desired _ _
+        (by_cond Few old.is_desired _ _ source_stays_few (one_told _ _ (to_one new.upstream g _ _)))
+        (by_cond Few old.is_desired _ _ (one_told _ _ (to_one (if_neighbour a old.upstream) g _ _)) (none_told _))
+
+  rpt_few_from : (src : ℕ) (old new : SourceView) (x y : TreeState) → Few (rpt_told_from a w g src old new x y)
+  unfolding rpt_told_from
+  rpt_few_from src old new TreeState.NotPruned TreeState.Pruned = one_told _ _ (to_one new.tree_upstream g _ _)
+  rpt_few_from src old new TreeState.Pruned TreeState.NotPruned = one_told _ _ (to_one new.tree_upstream g _ _)
+  rpt_few_from src old new TreeState.NotPruned TreeState.NotPruned =
+      by_cond Few (becomes_star old new) _ _ (none_told _) (none_told _)
+  rpt_few_from src old new TreeState.NotPruned TreeState.NotJoined = none_told _
+  rpt_few_from src old new TreeState.Pruned TreeState.Pruned = none_told _
+  rpt_few_from src old new TreeState.Pruned TreeState.NotJoined = none_told _
+  rpt_few_from src old new TreeState.NotJoined TreeState.Pruned = none_told _
+  rpt_few_from src old new TreeState.NotJoined TreeState.NotPruned = none_told _
+  rpt_few_from src old new TreeState.NotJoined TreeState.NotJoined = none_told _
+
+  rpt_few : (src : ℕ) (old new : SourceView) → Few (rpt_told a w g src old new)
+  unfolding rpt_told
+  rpt_few src old new = rpt_few_from src old new old.tree new.tree
+
+-- ---- where a change touches some keys alone, the routes are as they were
+
+same_numbers : (o : Option ℕ) → same_option o o ≡ true
+same_numbers None = refl
+same_numbers (Some n) = eq-eqb n n refl
+
+same_hops : (h : Option Hop) → same_hop h h ≡ true
+same_hops None = refl
+same_hops (Some h) = both_true (eq-eqb h.iface.number h.iface.number refl) (eq-eqb h.address.bits h.address.bits refl)
+
+module _ (keys : List Key) (o a : State) (agree : AgreesBut (touching keys) o a) where
+  abbrev other : Key
+  other = star_key 0 (beyond keys)
+
+  shared : {A : Type 0} (f : State → A) → ((s : State) → f (scope (reads other) s) ≡ f s) → f o ≡ f a
+  shared f local = same_by_scope other f local o a (agree other (untouched keys))
+
+  same_rp : (g : ℕ) → same_address (star_view o g).rp (star_view a g).rp ≡ true
+  unfolding star_view
+  same_rp g =
+      subst (λ (x : Option ℕ). same_address (option_map addr (rp_of o g)) (option_map addr x) ≡ true)
+      (shared (λ s. rp_of s g) (λ s. rp_of_local (reads other) s g))
+      (same_numbers (option_map (λ (x : Addr). x.bits) (option_map addr (rp_of o g))))
+
+  abbrev iface_of : Option Path → Option IfaceId
+  iface_of p = option_map (λ (x : Path). x.iface) p
+
+  same_star_iface : (g : ℕ) → same_iface (star_view o g).iface (star_view a g).iface ≡ true
+  unfolding star_view
+  same_star_iface g =
+      subst (λ (p : Option Path). same_iface (iface_of (rp_route o g)) (iface_of p) ≡ true)
+      (shared (λ s. rp_route s g) (λ s. rp_route_local (reads other) s g))
+      (same_numbers (option_map (λ (x : IfaceId). x.number) (iface_of (rp_route o g))))
+
+  same_star_hop : (g : ℕ) → same_hop (star_view o g).next_hop (star_view a g).next_hop ≡ true
+  unfolding star_view
+  same_star_hop g =
+      subst (λ (h : Option Hop). same_hop (nbr o (rp_route o g)) h ≡ true)
+      (shared (λ s. nbr s (rp_route s g))
+      (λ s. nbr_local (reads other) s _ ∙ ap (nbr s) (rp_route_local (reads other) s g)))
+      (same_hops (nbr o (rp_route o g)))
+
+  same_source_iface : (g src : ℕ) → same_iface (source_view o g src).iface (source_view a g src).iface ≡ true
+  unfolding source_view
+  same_source_iface g src =
+      subst (λ (p : Option Path). same_iface (iface_of (route o src)) (iface_of p) ≡ true)
+      (shared (λ s. route s src) (λ s. route_local (reads other) s src))
+      (same_numbers (option_map (λ (x : IfaceId). x.number) (iface_of (route o src))))
+
+  same_source_hop : (g src : ℕ) → same_hop (source_view o g src).next_hop (source_view a g src).next_hop ≡ true
+  unfolding source_view
+  same_source_hop g src =
+      subst (λ (h : Option Hop). same_hop (nbr o (route o src)) h ≡ true)
+      (shared (λ s. nbr s (route s src))
+      (λ s. nbr_local (reads other) s _ ∙ ap (nbr s) (route_local (reads other) s src)))
+      (same_hops (nbr o (route o src)))
+
+  -- ---- what is told
+
+  module _ (w g : ℕ) where
+    source_two : (s : State) (src : ℕ) → length (source_upstream o a w g s src).1 ≤ 2
+    unfolding source_upstream
+    source_two s src =
+        let old : SourceView = source_view o g src in
+        let new : SourceView = source_view a g src in
+        let x : length (source_told a w g src old new).messages ≤ 1 =
+        (source_few a w g src old new (same_source_iface g src) (same_source_hop g src)).few in
+        let y : length (rpt_told a w g src old new).messages ≤ 1 = (rpt_few a w g src old new).few in
+        let z = length-append (source_told a w g src old new).messages (rpt_told a w g src old new).messages in
+        omega (arith, x, y, z)
+
+    sources_two : (srcs : List ℕ) (s : State) → length (each_in_turn (source_upstream o a w g) s srcs).1 ≤ 2 * length srcs
+    unfolding each_in_turn
+    sources_two [] s = omega arith
+    sources_two (src ∷ srcs) s =
+        let first : State × List Message = source_upstream o a w g s src in
+        let x : length first.1 ≤ 2 = source_two s src in
+        let y : length (each_in_turn (source_upstream o a w g) first.0 srcs).1 ≤ 2 * length srcs = sources_two srcs first.0 in
+        let z = length-append first.1 (each_in_turn (source_upstream o a w g) first.0 srcs).1 in
+        omega (arith, x, y, z)
+
+    star_if_touched : length (star_told a w g (star_view o g) (star_view a g)).messages ≤ cond (touching keys (star_key 0 g)) 1 0
+    star_if_touched = go (touching keys (star_key 0 g)) refl
+      where
+        go : (b : Bool) → touching keys (star_key 0 g) ≡ b
+            → length (star_told a w g (star_view o g) (star_view a g)).messages ≤ cond b 1 0
+        go true e = (star_few a w g (star_view o g) (star_view a g) (same_rp g) (same_star_iface g) (same_star_hop g)).few
+        go false e = rw (star_untold_where_agreed g o a w (agree (star_key 0 g) e)) (omega arith)
+
+    group_told : (s : State)
+        → length (group_upstream o a w (filter (touching keys) (own_keys g o ++ own_keys g a)) s g).1
+        ≤ told_of_group keys o a g
+    unfolding group_upstream told_of_group
+    group_told s =
+        let star : Told = star_told a w g (star_view o g) (star_view a g) in
+        let x : length star.messages ≤ cond (touching keys (star_key 0 g)) 1 0 = star_if_touched in
+        let first : State = with_join_timer s (star_key 0 g) star.timer in
+        let srcs : List ℕ = sources_of g (filter (touching keys) (own_keys g o ++ own_keys g a)) in
+        let y : length (each_in_turn (source_upstream o a w g) first srcs).1 ≤ 2 * length srcs = sources_two srcs first in
+        let z = length-append star.messages (each_in_turn (source_upstream o a w g) first srcs).1 in
+        omega (arith, x, y, z)
+
+  groups_told : (w : ℕ) (gs : List ℕ) (s : State)
+      → length (each_in_turn (λ t g. group_upstream o a w (filter (touching keys) (own_keys g o ++ own_keys g a)) t g) s gs).1
+      ≤ told_of_groups keys o a gs
+  unfolding each_in_turn told_of_groups
+  groups_told w [] s = omega arith
+  groups_told w (g ∷ gs) s =
+      let turn : State → ℕ → State × List Message =
+      λ t h. group_upstream o a w (filter (touching keys) (own_keys h o ++ own_keys h a)) t h in
+      let x : length (turn s g).1 ≤ told_of_group keys o a g = group_told w g s in
+      let y : length (each_in_turn turn (turn s g).0 gs).1 ≤ told_of_groups keys o a gs = groups_told w gs (turn s g).0 in
+      let z = length-append (turn s g).1 (each_in_turn turn (turn s g).0 gs).1 in
+      omega (arith, x, y, z)
+
+  pub upstream_told : (w : ℕ) → length (own_upstream keys o a w).1 ≤ told_of_groups keys o a (groups_of keys)
+  unfolding own_upstream
+  upstream_told w = groups_told w (groups_of keys) a

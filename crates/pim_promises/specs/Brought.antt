@@ -1,0 +1,21 @@
+-- Where a packet that goes on was read: the bytes of the event.
+use Rattle.std.specs.Prelude.{List, Ok, Some, ℕ, ◌≡◌}
+use Rattle.pim_ip.specs.Ipv4.{Packet, ipv4_reading}
+use Rattle.pim_types.specs.declared.config.IfaceId.{IfaceId}
+use Rattle.pim_types.specs.declared.event.Event.{Event}
+use Rattle.pim_types.specs.declared.event.EventKind.{EventKind}
+use Rattle.pim_wire.specs.Messages.{pim_reading}
+use Rattle.pim_wire.specs.Values.{Encapsulated}
+use Rattle.pim_wire.specs.declared.view.PimView.{PimView}
+use Rattle.pim_model.specs.Cause.{done_as, packet_in}
+use Rattle.pim_model.specs.State.{State}
+use Rattle.pim_promises.specs.Copies.{happens}
+
+-- as the packet that came on a link, or as the one inside a Register that came to the router
+pub data Brings (e : Event) (p : Packet) : Type 0 where
+  OnLink : (i : IfaceId) (bytes : List ℕ) → e.kind ≡ EventKind.Frame i bytes → ipv4_reading bytes ≡ Ok p → Brings e p
+  InRegister : (bytes : List ℕ) (outer : Packet) → e.kind ≡ EventKind.Unicast bytes → ipv4_reading bytes ≡ Ok outer
+      → pim_reading outer.payload ≡ Ok (PimView.Register (Encapsulated p)) → Brings e p
+
+abbrev pub PacketIsBrought : Type 0
+PacketIsBrought = (s : State) (e : Event) (p : Packet) → packet_in (done_as (happens s e)) ≡ Some p → Brings e p

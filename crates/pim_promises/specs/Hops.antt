@@ -1,0 +1,44 @@
+-- From router to router: a packet and its copies don't go on for ever.
+use Rattle.std.specs.List.{Contains}
+use Rattle.std.specs.Prelude.{List, Some, [], length, ℕ, ◌<◌, ◌∷◌, ◌≡◌}
+use Rattle.pim_ip.specs.Ipv4.{Packet}
+use Rattle.pim_ip.specs.declared.addr.Addr.{Addr}
+use Rattle.pim_types.specs.declared.config.IfaceId.{IfaceId}
+use Rattle.pim_types.specs.declared.event.Event.{Event}
+use Rattle.pim_types.specs.declared.event.EventKind.{EventKind}
+use Rattle.pim_types.specs.declared.outcome.Emission.{Emission}
+use Rattle.pim_model.specs.declared.accepted.Accepted.{Accepted}
+use Rattle.pim_model.specs.Cause.{done_as, packet_in}
+use Rattle.pim_model.specs.State.{State}
+use Rattle.pim_model.specs.Step.{change}
+use Rattle.pim_promises.specs.Copies.{copies_at, happens}
+
+-- what was sent comes to a router: on one of its interfaces, or to an address of its own
+pub data Comes (x : Emission) (e : Event) : Type 0 where
+  OnALink : (i j : IfaceId) (bytes : List ℕ) → x ≡ Emission.Link i bytes → e.kind ≡ EventKind.Frame j bytes → Comes x e
+  ToARouter : (to : Addr) (bytes : List ℕ) → x ≡ Emission.Unicast to bytes → e.kind ≡ EventKind.Unicast bytes → Comes x e
+
+-- what the router then sends on: a copy of the packet, or the Register round one
+pub data GoesOn (s : State) (e : Event) (y : Emission) : Type 0 where
+  AsACopy : Contains (copies_at s e) y → GoesOn s e y
+  InTheTunnel : (a : Accepted) → done_as (happens s e) ≡ Some a → Contains (change s e.draw a).registered y → GoesOn s e y
+
+-- a hop: a router in any state, to which x comes, sends y on
+pub record Hop (x y : Emission) : Type 0 where
+  pub state : State
+  pub event : Event
+  pub comes : Comes x event
+  pub packet : Packet
+  pub brought : packet_in (done_as (happens state event)) ≡ Some packet
+  pub goes_on : GoesOn state event y
+
+-- each hop from the next to the one after it
+abbrev pub AreHops : List Emission → Type 0
+AreHops [] = Unit {0}
+AreHops (x ∷ []) = Unit {0}
+AreHops (x ∷ y ∷ more) = Hop x y × AreHops (y ∷ more)
+
+-- a packet makes fewer hops than its TTL, by whatever routers in whatever states, and whatever is lost, repeated or reordered
+abbrev pub HopsEnd : Type 0
+HopsEnd = (x y : Emission) (more : List Emission) (first : Hop x y) → AreHops (y ∷ more)
+    → length (y ∷ more) < first.packet.time_to_live

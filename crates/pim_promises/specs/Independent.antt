@@ -1,0 +1,38 @@
+-- Groups don't meddle with one another: what names one group alone leaves all that the macros answer of the others.
+use Rattle.std.specs.List.{list_all}
+use Rattle.std.specs.Prelude.{List, Some, false, length, true, ℕ, ◌==◌, ◌≡◌, ◌≤◌}
+use Rattle.pim_types.specs.declared.event.Event.{Event}
+use Rattle.pim_types.specs.declared.fact.Key.{Key}
+use Rattle.pim_types.specs.Keys.{group_in, is_of_group}
+use Rattle.pim_model.specs.declared.accepted.Accepted.{Accepted}
+use Rattle.pim_model.specs.Cause.{done_as}
+use Rattle.pim_model.specs.Firing.{fire_once}
+use Rattle.pim_model.specs.Limits.{most_ifaces}
+use Rattle.pim_model.specs.State.{State}
+use Rattle.pim_model.specs.Step.{step}
+use Rattle.pim_model.specs.Timers.{Ending}
+use Rattle.pim_locality.specs.Events.{touched_by_event}
+use Rattle.pim_locality.specs.Locality.{IsQuiet}
+use Rattle.pim_locality.specs.Touches.{isnt_neighbour}
+use Rattle.pim_reach.specs.Keeps.{KeepsAnswers}
+use Rattle.pim_promises.specs.Copies.{happens}
+
+-- an event that was answered Done, and whose own change is about keys of one group: each Join/Prune, Assert, report,
+-- query, packet, Register or Register-Stop of it
+pub record NamesAlone (g : ℕ) (s : State) (e : Event) : Type 0 where
+  pub accepted : Accepted
+  pub done : done_as (happens s e) ≡ Some accepted
+  pub keys : List Key
+  pub touched : touched_by_event s accepted ≡ Some keys
+  pub alone : list_all (is_of_group g) keys ≡ true
+
+-- it leaves the answers of each source of another group; what is refused or ignored changes nothing at all
+abbrev pub OtherGroupsKeep : Type 0
+OtherGroupsKeep = (s : State) (e : Event) (g : ℕ) → IsQuiet s → length s.configured ≤ most_ifaces → NamesAlone g s e
+    → (h src : ℕ) → (h == g) ≡ false → KeepsAnswers h src s (step s e).state
+
+-- so does the end of a timer, which is of one group where it is no neighbour's
+abbrev pub OtherGroupsOutlast : Type 0
+OtherGroupsOutlast = (s : State) (w : ℕ) (e : Ending) → IsQuiet s → length s.configured ≤ most_ifaces
+    → isnt_neighbour e.timer.kind ≡ true
+    → (h src : ℕ) → (h == group_in e.timer.key) ≡ false → KeepsAnswers h src s (fire_once w s e).0

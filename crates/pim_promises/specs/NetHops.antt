@@ -1,0 +1,44 @@
+-- From router to router in a network of them, in which frames are delivered as often and in whatever order as one likes.
+use Rattle.std.specs.Prelude.{List, None, Some, [], length, ℕ, ◌<◌, ◌∷◌, ◌≡◌, ◌≤◌}
+use Rattle.pim_ip.specs.Ipv4.{Packet}
+use Rattle.pim_types.specs.declared.event.Event.{Event}
+use Rattle.pim_types.specs.declared.outcome.Emission.{Emission}
+use Rattle.pim_model.specs.Cause.{done_as, packet_in}
+use Rattle.pim_model.specs.Network.{At, Deliver, DeliverUnicast, Move, Network, Sent, Station, event_of, frame_at, sent_by, station_at}
+use Rattle.pim_model.specs.State.{iface_count}
+use Rattle.pim_promises.specs.Copies.{happens}
+use Rattle.pim_promises.specs.Hops.{GoesOn}
+
+-- the move delivers the frame: on a link, or as a unicast where it was sent as one
+abbrev pub Delivers : Network → Move → Sent → Type 0
+Delivers n (At r e) f = ⊥
+Delivers n (Deliver r i k draw) f = frame_at n k ≡ Some f
+Delivers n (DeliverUnicast r k draw) f = (frame_at n k ≡ Some f) × (f.link ≡ None)
+
+-- a move of a network, whatever happened in it before: a frame is delivered to a router with a link for each of its interfaces,
+-- which sends another with the packet
+pub record NetHop (f g : Sent) : Type 0 where
+  pub network : Network
+  pub move : Move
+  pub delivers : Delivers network move f
+  pub router : ℕ
+  pub event : Event
+  pub is : event_of network move ≡ Some (router, event)
+  pub station : Station
+  pub at : station_at network router ≡ Some station
+  pub linked : iface_count station.state ≤ length station.links
+  pub packet : Packet
+  pub brought : packet_in (done_as (happens station.state event)) ≡ Some packet
+  pub out : Emission
+  pub goes_on : GoesOn station.state event out
+  pub sent : g ≡ sent_by station.links out
+
+abbrev pub AreNetHops : List Sent → Type 0
+AreNetHops [] = Unit {0}
+AreNetHops (f ∷ []) = Unit {0}
+AreNetHops (f ∷ g ∷ more) = NetHop f g × AreNetHops (g ∷ more)
+
+-- a packet makes fewer hops than its TTL
+abbrev pub NetHopsEnd : Type 0
+NetHopsEnd = (f g : Sent) (more : List Sent) (first : NetHop f g) → AreNetHops (g ∷ more)
+    → length (g ∷ more) < first.packet.time_to_live

@@ -1,0 +1,199 @@
+//! Laws of the definitions, each the contract of a function with nothing to do.
+
+ghost use Rattle.pim_promises.specs.Answers.{AnswersAreBounded, AssertGivesOne, DataGivesCopiesOrAssert, HelloAgainIsSilent, OneSourceFollows, OthersGiveNone, RecordAsksFew, RegisterGivesCopiesAndStop, SeenIsSilent};
+ghost use Rattle.pim_promises.specs.Bounded.{AddsWhatIsNeeded, AssertsStayBounded, CountedStayBounded, NothingNewAddsNone, RunStaysWithin, StepStaysWithin, TimeAddsNone};
+ghost use Rattle.pim_promises.specs.Brought.{PacketIsBrought};
+ghost use Rattle.pim_promises.specs.Copies.{CopiesReadLower, NeverBack, NeverTwice, TtlFalls, TunnelTtlFalls};
+ghost use Rattle.pim_promises.specs.Hops.{HopsEnd};
+ghost use Rattle.pim_promises.specs.Independent.{OtherGroupsKeep, OtherGroupsOutlast};
+ghost use Rattle.pim_promises.specs.NetHops.{NetHopsEnd};
+ghost use Rattle.pim_promises.specs.Served.{ListIsServed, MemberIsServed, ServedHere, SourceIsServed};
+ghost use Rattle.pim_promises.specs.Uncounted.{AllStayBounded, EachIsShorter, EachJoinIsWanted, EachLiesUnder, EachOverrideEndsSoon, JoinTimersStayBounded, UncountedStayBounded};
+
+/// The copies of an event are one text on each of some configured interfaces, ascending: on each link at most once.
+pub fn never_twice()
+    ensures { NeverTwice }
+{}
+
+/// Of a data packet none goes back to where it came from.
+pub fn never_back()
+    ensures { NeverBack }
+{}
+
+/// Each copy is the packet with the TTL one lower, and the packet's TTL was above 1.
+pub fn ttl_falls()
+    ensures { TtlFalls }
+{}
+
+/// The packet is the one that the event's bytes are read as, or the one inside the Register that they are read as.
+pub fn packet_is_brought()
+    ensures { PacketIsBrought }
+{}
+
+/// A copy of a packet that was read is read as that packet with the TTL one lower.
+pub fn copies_read_lower()
+    ensures { CopiesReadLower }
+{}
+
+/// Likewise of the packet inside the Register by which data leaves by the tunnel.
+pub fn tunnel_ttl_falls()
+    ensures { TunnelTtlFalls }
+{}
+
+/// From router to router, whatever state each is in, a packet makes fewer hops than its TTL, as copies on links and in Registers.
+pub fn hops_end()
+    ensures { HopsEnd }
+{}
+
+/// So it is in a network, in which frames are delivered as often and in whatever order as one likes.
+pub fn net_hops_end()
+    ensures { NetHopsEnd }
+{}
+
+/// A data packet on its tree leaves on every other interface of the tree's list.
+pub fn list_is_served()
+    ensures { ListIsServed }
+{}
+
+/// It leaves where the group was joined, the source isn't pruned, and no assert was lost.
+pub fn served_here()
+    ensures { ServedHere }
+{}
+
+/// It leaves where a host asked for the group and didn't exclude the source, the router serves the link, and no assert was lost.
+pub fn member_is_served()
+    ensures { MemberIsServed }
+{}
+
+/// On the shortest path tree it leaves where a router joined its source, or a host asked for it, and no assert was lost.
+pub fn source_is_served()
+    ensures { SourceIsServed }
+{}
+
+/// Time that passes, whatever fires, adds no neighbour, membership record, downstream row or source.
+pub fn time_adds_none()
+    ensures { TimeAddsNone }
+{}
+
+/// An event adds at most as many of these as it names keys without a row, of those under which it may make one.
+pub fn adds_what_is_needed()
+    ensures { AddsWhatIsNeeded }
+{}
+
+/// So an event that names no new key adds none.
+pub fn nothing_new_adds_none()
+    ensures { NothingNewAddsNone }
+{}
+
+/// Every event keeps neighbours, membership records, downstream rows and sources, taken together, within the limit.
+pub fn step_stays_within()
+    ensures { StepStaysWithin }
+{}
+
+/// So they are after any events from the opening with an accepted configuration.
+pub fn run_stays_within()
+    ensures { RunStaysWithin }
+{}
+
+/// Asserts may pass the limit: there are at most as many as the limit on each interface.
+pub fn asserts_stay_bounded()
+    ensures { AssertsStayBounded }
+{}
+
+/// So all that counts is at most the limit, once for each interface and once more.
+pub fn counted_stay_bounded()
+    ensures { CountedStayBounded }
+{}
+
+/// Other facts are of an interface, or lie under one that counts: what is still to be asked under the records of its group and
+/// sources, registers under sources.
+pub fn each_lies_under()
+    ensures { EachLiesUnder }
+{}
+
+/// So they are no more than those.
+pub fn each_is_shorter()
+    ensures { EachIsShorter }
+{}
+
+/// All of them, the Join and override timers left out, are at most twice the limit and two for each interface.
+pub fn uncounted_stay_bounded()
+    ensures { UncountedStayBounded }
+{}
+
+/// Each Join timer runs for what is wanted.
+pub fn each_join_is_wanted()
+    ensures { EachJoinIsWanted }
+{}
+
+/// So they are within the limit.
+pub fn join_timers_stay_bounded()
+    ensures { JoinTimersStayBounded }
+{}
+
+/// All facts but the override timers are bounded by the limit and the number of interfaces.
+pub fn all_stay_bounded()
+    ensures { AllStayBounded }
+{}
+
+/// Each override timer ends within 65.535 s of the present, after any events whose frames are of bytes.
+pub fn each_override_ends_soon()
+    ensures { EachOverrideEndsSoon }
+{}
+
+/// Data gives at most a copy on each interface and one Register, or else one Assert.
+pub fn data_gives_copies_or_assert()
+    ensures { DataGivesCopiesOrAssert }
+{}
+
+/// A Register to the router gives at most a copy on each interface and one Register-Stop.
+pub fn register_gives_copies_and_stop()
+    ensures { RegisterGivesCopiesAndStop }
+{}
+
+/// An Assert gives at most one Assert.
+pub fn assert_gives_one()
+    ensures { AssertGivesOne }
+{}
+
+/// A Hello, a Join/Prune, a query and a Register-Stop give nothing themselves.
+pub fn others_give_none()
+    ensures { OthersGiveNone }
+{}
+
+/// A record of a report asks at most a query of its group, and for its sources two and one more for each 366 of them; each
+/// query names at most 366.
+pub fn record_asks_few()
+    ensures { RecordAsksFew }
+{}
+
+/// All that an event of some keys sends: what it gives itself, what is cancelled and told upstream of those keys, and a Hello
+/// before each message whose interface owes one.
+pub fn answers_are_bounded()
+    ensures { AnswersAreBounded }
+{}
+
+/// Of one source follow at most two messages upstream, and what is cancelled.
+pub fn one_source_follows()
+    ensures { OneSourceFollows }
+{}
+
+/// A Join/Prune between other routers sends nothing.
+pub fn seen_is_silent()
+    ensures { SeenIsSilent }
+{}
+
+/// The Hello of a neighbour that says what it said sends nothing.
+pub fn hello_again_is_silent()
+    ensures { HelloAgainIsSilent }
+{}
+
+/// What names one group alone leaves all that the macros answer of the sources of other groups.
+pub fn other_groups_keep()
+    ensures { OtherGroupsKeep }
+{}
+
+/// So does the end of a timer.
+pub fn other_groups_outlast()
+    ensures { OtherGroupsOutlast }
+{}

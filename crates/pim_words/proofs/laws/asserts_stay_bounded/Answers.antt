@@ -1,5 +1,0 @@
-use Rattle.pim_words.proofs.Few.{asserts_stay_bounded}
-use Rattle.pim_words.proofs.laws.asserts_stay_bounded.Goals as goal
-
-pub returns : goal.returns
-returns c = asserts_stay_bounded
