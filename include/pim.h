@@ -259,6 +259,7 @@ struct pim_interfaces {
 /* How data of a source to a group goes, as the forwarding cache has it. */
 struct pim_forwarding {
     uint32_t rpf;                      /* RPF_interface(S), or PIM_NO_INTERFACE */
+    uint32_t shared_rpf;               /* RPF_interface(RP(G)), or PIM_NO_INTERFACE: also at the RP itself */
     bool has_spt_bit;                  /* SPTbit(S,G) */
     bool has_tunnel;                   /* the register tunnel is in the first two lists */
     struct pim_interfaces immediate;   /* immediate_olist(S,G) */

@@ -74,9 +74,14 @@ class Routers(unittest.TestCase):
         router = self.joined()
         router.frame(0, bytes.fromhex(DATA))
         told = router.cached("10.0.3.5", "225.1.1.1")
-        self.assertEqual((told.rpf, told.has_spt_bit, told.has_tunnel), (0, True, False))
+        self.assertEqual((told.rpf, told.shared_rpf, told.has_spt_bit, told.has_tunnel), (0, 0, True, False))
         self.assertEqual((told.immediate, told.inherited, told.shared_tree), ({1}, {1}, set()))
         self.assertIsNone(router.cached("10.0.3.6", "225.1.1.1"))
+        router.set_routes([("10.9.9.0/24", "10.0.1.2", 1, 110, 20), ROUTES[1]])
+        told = router.cached("10.0.3.5", "225.1.1.1")
+        self.assertEqual((told.rpf, told.shared_rpf), (0, 1))
+        router.set_ranges([])
+        self.assertIsNone(router.cached("10.0.3.5", "225.1.1.1").shared_rpf)
 
     def test_what_a_data_plane_is_told(self):
         router, name = self.joined(), ("10.0.3.5", "225.1.1.1")

@@ -325,6 +325,7 @@ impl Interfaces {
 #[derive(Clone, Copy, Debug, Default, PartialEq, Eq)]
 pub struct Forwarding {
     rpf: u32,
+    shared_rpf: u32,
     /// SPTbit(S,G).
     pub has_spt_bit: bool,
     /// The register tunnel is in the first two lists.
@@ -341,6 +342,11 @@ impl Forwarding {
     /// RPF_interface(S).
     pub fn rpf(&self) -> Option<u32> {
         (self.rpf != NO_INTERFACE).then_some(self.rpf)
+    }
+
+    /// RPF_interface(RP(G)): none at the RP itself.
+    pub fn shared_rpf(&self) -> Option<u32> {
+        (self.shared_rpf != NO_INTERFACE).then_some(self.shared_rpf)
     }
 }
 

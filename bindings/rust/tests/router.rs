@@ -109,12 +109,19 @@ fn how_data_goes() {
     let (source, group) = (address([10, 0, 3, 5]), address([225, 1, 1, 1]));
     assert_eq!(router.frame(0, 0, &bytes_of(DATA)), DONE);
     let told = router.cached(source, group).unwrap();
-    assert_eq!((told.rpf(), told.has_spt_bit, told.has_tunnel), (Some(0), true, false));
+    assert_eq!((told.rpf(), told.shared_rpf()), (Some(0), Some(0)));
+    assert_eq!((told.has_spt_bit, told.has_tunnel), (true, false));
     assert_eq!(told.immediate.iter().collect::<Vec<_>>(), [1]);
     assert_eq!(told.inherited, told.immediate);
     assert_eq!(told.shared_tree.iter().count(), 0);
     assert!(!told.immediate.contains(128));
     assert_eq!(router.cached(address([10, 0, 3, 6]), group), None);
+    let to_rp = Route::new(address([10, 9, 9, 0]), 24, address([10, 0, 1, 2]), 1);
+    assert_eq!(router.set_routes(0, &[to_rp, routes()[1]]), DONE);
+    let told = router.cached(source, group).unwrap();
+    assert_eq!((told.rpf(), told.shared_rpf()), (Some(0), Some(1)));
+    assert_eq!(router.set_ranges(0, &[]), DONE);
+    assert_eq!(router.cached(source, group).unwrap().shared_rpf(), None);
 }
 
 #[test]

@@ -23,3 +23,4 @@ mod SptBit
 mod Receiving
 mod Needed
 mod Visited
+mod Stays

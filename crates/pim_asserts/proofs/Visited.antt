@@ -12,7 +12,7 @@ use Rattle.pim_model.specs.Tables.{has_row, row_at}
 use Rattle.pim_store.specs.PimTables.{PimTables, pim_tables}
 use Rattle.pim_store.specs.Visits.{Visits}
 use Rattle.pim_world.specs.Visits.{mark_nodes, raised}
-use Rattle.pim_world.proofs.Visits.{at_least_itself, at_least_none, new_counted, none_visited, raised_by_none, raised_further, rises_by, two_in_turn}
+use Rattle.pim_world.proofs.Visits.{at_least_itself, at_least_none, new_counted, none_visited, raised_further, rises_by, two_in_turn}
 use Rattle.pim_asserts.specs.Going.{bits_of, clear_once}
 use Rattle.pim_asserts.specs.Opened.{part_to_clear}
 use Rattle.pim_asserts.specs.Visits.{new_assert_nodes, new_source_nodes, turn_nodes, turns_nodes}

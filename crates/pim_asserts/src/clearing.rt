@@ -1,20 +1,22 @@
 //! What must go after a change: asserts, and SPTbits with the asserts that they kept.
-ghost use Rattle.std.specs.Prelude.{◌≡◌, ◌≤◌, ◌∷◌, [], OnOk, Some, false};
-ghost use Rattle.pim_macros.specs.Sights.{IsSourceSight};
+ghost use Rattle.std.specs.Prelude.{◌≡◌, ◌≤◌, ◌∷◌, [], IsTrue, OnOk, Some, false, map};
+ghost use Rattle.pim_macros.specs.Sights.{IsSourceSight, IsStarSight};
+ghost use Rattle.pim_opening.specs.Seen.{AreSeen, IsSeen, opened_in, opening_in};
 ghost use Rattle.pim_world.specs.Turns.{saying};
 ghost use Rattle.pim_world.specs.Visits.{raised, sight_nodes};
 ghost use Rattle.pim_model.specs.Asserts.{without_spt_bit};
 ghost use Rattle.pim_model.specs.Querier.{each_in_turn};
 ghost use Rattle.pim_model.specs.Desires.{join_desired};
+ghost use Rattle.pim_model.specs.State.{State};
 ghost use Rattle.pim_model.specs.Tables.{row_at};
 ghost use Rattle.pim_types.specs.Keys.{source_key};
 ghost use Rattle.pim_asserts.specs.Opened.{clear_asserts, clear_bit, clear_bits, clear_by, clear_source, clear_star};
 ghost use Rattle.pim_asserts.specs.Visits.{alone_nodes, clear_all_asserts_nodes, clear_all_bits_nodes, clear_asserts_nodes, clear_bit_nodes, clear_bits_nodes, clear_nodes, clear_source_nodes, clear_sources_nodes, clear_star_nodes, gone_bit_nodes, seen_bit_nodes, seen_source_nodes};
 
-use crate::going::first_of_source;
+use crate::going::{first_of_source, first_of_star};
 use crate::part::{Part, clear_part};
 use pim_macros::{SourceSight, StarSight};
-use pim_opening::{GroupOpening, Opening, SourceOpening};
+use pim_opening::{GroupOpening, GroupSeen, Opening, SourceOpening, SourceSeen};
 use pim_types::fact::SourceRow;
 use pim_types::{Addr, IfaceId, Key};
 use pim_world::{Meter, Turn, World};
@@ -309,4 +311,78 @@ pub fn clear_alone(
 {
     clear_source_seen(world, turn, meter, opened, sight)?;
     clear_bit_seen(world, turn, meter, opened, sight)
+}
+
+// Whether nothing must go of the asserts of (*,G), where all of the group was opened.
+#[tactic(auto, unfolding(crate::specs::Opened::clear_star))]
+fn is_clear_star(world: &World, seen: &GroupSeen) -> bool
+    requires { IsStarSight world.now seen.now.star }
+    ensures { IsTrue result → clear_star world.now (opening_in seen.now) ≡ (world.now, []) }
+{
+    // It tells that asserts are under keys of their kind, each of which stands once.
+    world.recall_keyed();
+    if !seen.is_whole {
+        return true;
+    }
+    let Some(_) = first_of_star(world, &seen.star, seen.was.iface) else {
+        return true;
+    };
+    false
+}
+
+// Whether none of the source's asserts must go.
+fn is_clear_of_asserts(world: &World, seen: &SourceSeen) -> bool
+    requires sight { IsSourceSight world.now seen.now.sight }
+    requires source { seen.now.sight.source ≡ seen.now.opened.source }
+    ensures { IsTrue result → clear_source seen.now.sight.star.group.bits world.now seen.now.opened ≡ (world.now, []) }
+{
+    // It tells that asserts are under keys of their kind, each of which stands once.
+    world.recall_keyed();
+    let Some(_) = first_of_source(world, &seen.sight, seen.opened.view.iface) else {
+        return true;
+    };
+    false
+}
+
+// Whether the source's SPTbit isn't set, or stays.
+fn keeps_bit(seen: &SourceSeen) -> bool
+    requires { seen.now.sight.source ≡ seen.now.opened.source }
+    ensures { IsTrue result → (s : State) → IsSourceSight s seen.now.sight
+        → clear_bit seen.now.sight.star.group.bits s seen.now.opened ≡ (s, []) }
+{
+    if !seen.sight.spt {
+        return true;
+    }
+    seen.sight.join_desired()
+}
+
+// Whether nothing must go of these sources of a group.
+fn are_clear_among(world: &World, star: &StarSight, sources: &[SourceSeen]) -> bool
+    requires { AreSeen world.now star.now sources.now }
+    ensures asserts { IsTrue result
+        → each_in_turn (clear_source star.now.group.bits) world.now (map opened_in sources.now) ≡ (world.now, []) }
+    ensures bits { IsTrue result
+        → each_in_turn (clear_bit star.now.group.bits) world.now (map opened_in sources.now) ≡ (world.now, []) }
+{
+    for seen in sources {
+        if !is_clear_of_asserts(world, seen) {
+            return false;
+        }
+        if !keeps_bit(seen) {
+            return false;
+        }
+    }
+    true
+}
+
+/// Whether nothing must go of a touched group and of its touched sources, by what was gathered of them. Where it answers
+/// yes, `clear` would change nothing, and send nothing.
+pub fn are_clear(world: &World, seen: &GroupSeen) -> bool
+    requires { IsSeen world.now seen.now }
+    ensures { IsTrue result → clear_by (opening_in seen.now ∷ []) world.now ≡ (world.now, []) }
+{
+    if !is_clear_star(world, seen) {
+        return false;
+    }
+    are_clear_among(world, &seen.star, seen.sources.as_slice())
 }

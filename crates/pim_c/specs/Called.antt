@@ -12,6 +12,7 @@ use Rattle.pim_model.specs.Sets.{Set, is_kept_alive}
 use Rattle.pim_model.specs.State.{opening}
 use Rattle.pim_model.specs.Step.{step}
 use Rattle.pim_model.specs.Sure.{needs_no_memory}
+use Rattle.pim_model.specs.Unicast.{rpf_interface_rp}
 use Rattle.pim_offload.specs.Keeping.{keep}
 use Rattle.pim_offload.specs.Offered.{Offered, offered}
 use Rattle.pim_reach.specs.Named.{event_named}
@@ -167,10 +168,11 @@ NameTold (Some key) is_there name told = (is_there ≡ true) × (told ≡ name_o
 abbrev pub interfaces_of : Set → Interfaces
 interfaces_of p = record { low = mask_of p 64; high = mask_of (λ q. p (64 + q)) 56 }
 
--- the answers of a source, as they are told
-abbrev pub forwarding_of : Answers → Forwarding
-forwarding_of a = record {
+-- the answers of a source and RPF_interface(RP(G)), as they are told
+abbrev pub forwarding_of : Answers → Option ℕ → Forwarding
+forwarding_of a shared_rpf = record {
   rpf = unwrap_or a.rpf no_interface;
+  shared_rpf = unwrap_or shared_rpf no_interface;
   has_spt_bit = a.spt;
   has_tunnel = a.has_tunnel;
   immediate = interfaces_of a.immediate;
@@ -178,14 +180,15 @@ forwarding_of a = record {
   shared_tree = interfaces_of a.inherited_rpt;
 }
 
-abbrev pub AnswersTold : Option Answers → Bool → Forwarding → Forwarding → Type 0
-AnswersTold None is_there row told = (is_there ≡ false) × (told ≡ row)
-AnswersTold (Some a) is_there row told = (is_there ≡ true) × (told ≡ forwarding_of a)
+abbrev pub AnswersTold : Option Answers → Option ℕ → Bool → Forwarding → Forwarding → Type 0
+AnswersTold None shared_rpf is_there row told = (is_there ≡ false) × (told ≡ row)
+AnswersTold (Some a) shared_rpf is_there row told = (is_there ≡ true) × (told ≡ forwarding_of a shared_rpf)
 
 -- the row of a source with a fact is told
 abbrev pub CachedTold : Option Standing → ℕ → ℕ → Bool → Forwarding → Forwarding → Type 0
 CachedTold None source group is_there row told = (is_there ≡ false) × (told ≡ row)
-CachedTold (Some r) source group is_there row told = AnswersTold (cached r.state group source) is_there row told
+CachedTold (Some r) source group is_there row told =
+    AnswersTold (cached r.state group source) (rpf_interface_rp r.state group) is_there row told
 
 -- what is offered of a source, as it is told
 abbrev pub plane_row_of : Offered → PlaneRow

@@ -5,6 +5,7 @@ ghost use Rattle.std.specs.Prelude.{◌≡◌, [], Err, IfErr, IfOk, MatchOption
 ghost use Rattle.pim_fanout.specs.Named.{keys_of};
 ghost use Rattle.pim_ip.specs.declared.fault.Fault.{Fault};
 ghost use Rattle.pim_model.specs.Limits.{config_test};
+ghost use Rattle.pim_macros.specs.Rows.{number_of};
 ghost use Rattle.pim_mfc.specs.Laws.{TellsRow};
 ghost use Rattle.pim_model.specs.Cache.{Answers};
 ghost use Rattle.pim_model.specs.Timers.{next_moment};
@@ -222,7 +223,8 @@ impl Handle {
         let Some(session) = self.take(alloc) else {
             return false;
         };
-        let is_there = tell_cached(session.cached(source, group), forwarding);
+        let row = session.cached(source, group);
+        let is_there = tell_cached(row, session.rp_interface(group), forwarding);
         self.put(session);
         is_there
     }
@@ -372,15 +374,19 @@ fn tell_row(rows: &[Row], index: usize, row: &mut TableRow) -> bool
     }
 }
 
-// Tells a row of the forwarding cache, where it is there.
-fn tell_cached(row: Option<CacheRow>, forwarding: &mut Forwarding) -> bool
+// Tells a row of the forwarding cache, with RPF_interface(RP(G)), where it is there.
+fn tell_cached(
+    row: Option<CacheRow>,
+    shared_rpf: Option<IfaceId>,
+    forwarding: &mut Forwarding,
+) -> bool
     ensures told { (answers : Option Answers) → TellsRow row answers
-        → AnswersTold answers result forwarding.old forwarding.new }
+        → AnswersTold answers (number_of shared_rpf) result forwarding.old forwarding.new }
     ensures none { row ≡ None → (result ≡ false) × (forwarding.new ≡ forwarding.old) }
 {
     match row {
         Some(row) => {
-            *forwarding = told::cache_row(&row);
+            *forwarding = told::cache_row(&row, shared_rpf);
             true
         }
         None => false,

@@ -3,6 +3,7 @@ ghost use Rattle.std.specs.Prelude.{◌≡◌, ◌+◌, ◌<◌, ◌≤◌, ◌^
 ghost use Rattle.pim_fanout.specs.Before.{name_key};
 ghost use Rattle.pim_ip.specs.Fault.{fault_number};
 ghost use Rattle.pim_ifset.specs.Members.{has, mask_of};
+ghost use Rattle.pim_macros.specs.Rows.{number_of};
 ghost use Rattle.pim_mfc.specs.Laws.{IsAfresh};
 ghost use Rattle.pim_model.specs.Cache.{Answers};
 ghost use Rattle.pim_model.specs.Sets.{Set};
@@ -354,6 +355,8 @@ pub struct Interfaces {
 pub struct Forwarding {
     /// RPF_interface(S), or `NO_INTERFACE`.
     pub rpf: u32,
+    /// RPF_interface(RP(G)), or `NO_INTERFACE`.
+    pub shared_rpf: u32,
     /// SPTbit(S,G).
     pub has_spt_bit: bool,
     /// The register tunnel is in the first two lists.
@@ -398,12 +401,13 @@ fn words(set: IfSet) -> Interfaces
     }
 }
 
-/// A row of the forwarding cache as it is told.
-pub fn cache_row(row: &CacheRow) -> Forwarding
-    ensures { (a : Answers) → IsAfresh row.now a → result ≡ forwarding_of a }
+/// A row of the forwarding cache, with RPF_interface(RP(G)), as it is told.
+pub fn cache_row(row: &CacheRow, shared_rpf: Option<IfaceId>) -> Forwarding
+    ensures { (a : Answers) → IsAfresh row.now a → result ≡ forwarding_of a (number_of shared_rpf) }
 {
     Forwarding {
         rpf: iface_number(row.rpf),
+        shared_rpf: iface_number(shared_rpf),
         has_spt_bit: row.spt,
         has_tunnel: row.inherited.has_tunnel(),
         immediate: words(row.immediate),

@@ -1,5 +1,5 @@
 -- Where all are touched of one of two changes, all are.
-use Rattle.std.proofs.Common.{◌≡◌, List, refl}
+use Rattle.std.proofs.Common.{◌≡◌, refl}
 use Rattle.pim_world.specs.declared.touched.Touched.{Touched}
 use Rattle.pim_fanout.specs.Disturbed.{joined}
 

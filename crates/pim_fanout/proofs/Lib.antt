@@ -7,6 +7,7 @@ mod Refreshed
 mod Same
 mod SameSets
 mod Seen
+mod Visited
 pub mod Shown
 pub mod Untouched
 mod Joining

@@ -31,6 +31,7 @@ use Rattle.pim_reach.specs.Named.{is_named, named, named_by}
 use Rattle.pim_reach.proofs.Moved.{moved_names}
 use Rattle.pim_reach.proofs.Taken.{facts_stay}
 use Rattle.pim_reach.proofs.Touched.{touched_names}
+use Rattle.pim_adjacent.proofs.Stays.{adjoins_names}
 use Rattle.pim_cached.specs.Kept.{is_listed}
 use Rattle.pim_cached.proofs.Listed.{listed}
 use Rattle.pim_world.specs.declared.touched.Touched.{Touched}
@@ -220,18 +221,24 @@ module _ (o changed : State) (quiet : IsQuiet o) (g src : ℕ) where
 
   named_is_opened : (touched : Touched) → Contains touched o changed → has_one ≡ true → is_named g src o after ≡ true
       → list_any (same_key (source_key 0 g src)) (opened_sources o touched) ≡ true
-  named_is_opened Touched.All (inl within) known named =
+  named_is_opened Touched.All (inl (inl within)) known named =
       opened_of_all o g src (was_known (has_facts o g src) (λ e. e) (within.sources g src) known)
+  named_is_opened Touched.All (inl (inr none)) known named = absurd none
   named_is_opened Touched.All (inr none) known named = absurd none
-  named_is_opened (Touched.Keys keys) (inl concerns) known named =
+  named_is_opened (Touched.Keys keys) (inl (inl concerns)) known named =
       opened_if_touched keys (touched_names keys o changed quiet concerns.agrees g src) named
       (was_known (has_facts o g src || list_any (names_source g src) keys)
       (or_left (has_facts o g src) (list_any (names_source g src) keys)) (concerns.named g src) known)
-  named_is_opened (Touched.Keys keys) (inr moves) known named =
+  named_is_opened (Touched.Keys keys) (inl (inr moves)) known named =
       let had : has_facts o g src ≡ true =
       was_known (has_facts o g src) (λ e. e)
       (λ e. ap (λ (ks : List Key). list_any (names_source g src) ks) (sym (facts_stay keys o changed moves)) ∙ e) known in
       opened_if_touched keys (moved_names keys o changed quiet moves g src had) named
+      (or_left (has_facts o g src) (list_any (names_source g src) keys) had)
+  named_is_opened (Touched.Keys keys) (inr adjoins) known named =
+      let had : has_facts o g src ≡ true =
+      was_known (has_facts o g src) (λ e. e) (adjoins.facts (names_source g src)) known in
+      opened_if_touched keys (adjoins_names keys o changed quiet adjoins g src had) named
       (or_left (has_facts o g src) (list_any (names_source g src) keys) had)
 
   among_named : (b n l : Bool) → (b ≡ true → n ≡ true → l ≡ true) → ((b && n) && l) ≡ (n && b)

@@ -4,17 +4,15 @@ use Rattle.std.specs.Cmp.Derive.{both_true}
 use Rattle.std.specs.Prelude.{option_and_then}
 use Rattle.pim_types.specs.declared.config.Route.{Route}
 use Rattle.pim_types.specs.declared.config.RpRange.{RpRange}
-use Rattle.pim_types.specs.declared.path.Path.{Path}
 use Rattle.pim_model.specs.State.{State}
 use Rattle.pim_model.specs.Unicast.{route, route_among, rp_among, rp_of, rp_route}
-use Rattle.pim_locality.specs.Locality.{IsQuiet}
 use Rattle.pim_reach.specs.Moved.{IsRerouted}
 use Rattle.pim_reach.specs.Named.{has_same_routes, has_same_rp}
 use Rattle.pim_reach.proofs.Rerouted.{around_rerouted, rerouted_beside, rerouted_unnamed}
 use Rattle.pim_reach.proofs.Sights.{options_same, paths_same}
 use Rattle.pim_reach.proofs.Touched.{touched_names}
 use Rattle.pim_world.specs.declared.touched.Touched.{Touched}
-use Rattle.pim_fanout.specs.Contains.{Contains}
+use Rattle.pim_fanout.specs.Contains.{CoversOrMoves}
 use Rattle.pim_fanout.specs.Disturbed.{is_disturbed}
 use Rattle.pim_fanout.specs.Laws.{UntouchedIsUnnamed}
 

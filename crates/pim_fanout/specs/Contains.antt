@@ -2,6 +2,7 @@
 use Rattle.std.specs.Prelude.{◌⊎◌}
 use Rattle.pim_model.specs.State.{State}
 use Rattle.pim_reach.specs.Moved.{MovesAlone}
+use Rattle.pim_adjacent.specs.Adjacent.{AdjoinsAlone}
 use Rattle.pim_world.specs.declared.touched.Touched.{Touched}
 use Rattle.pim_opening.specs.Covers.{Covers}
 
@@ -10,6 +11,15 @@ abbrev pub Moves : Touched → State → State → Type 0
 Moves Touched.All o a = ⊥
 Moves (Touched.Keys keys) o a = MovesAlone keys o a
 
--- the change concerns no others; or it is one of routes or RP ranges, which all macros read, and moves no others
+-- so do neighbours that leave where the router is the DR
+abbrev pub Adjoins : Touched → State → State → Type 0
+Adjoins Touched.All o a = ⊥
+Adjoins (Touched.Keys keys) o a = AdjoinsAlone keys o a
+
+-- the change concerns no others, or it is one of routes or RP ranges, which all macros read, and moves no others
+abbrev pub CoversOrMoves : Touched → State → State → Type 0
+CoversOrMoves touched o a = Covers touched o a ⊎ Moves touched o a
+
+-- or it is one of neighbours, and moves no others
 abbrev pub Contains : Touched → State → State → Type 0
-Contains touched o a = Covers touched o a ⊎ Moves touched o a
+Contains touched o a = CoversOrMoves touched o a ⊎ Adjoins touched o a

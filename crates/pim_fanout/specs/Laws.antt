@@ -26,7 +26,7 @@ use Rattle.pim_cached.specs.Kept.{is_listed, refreshed}
 use Rattle.pim_world.specs.declared.touched.Touched.{Touched}
 use Rattle.pim_macros.specs.declared.rows.SourceAnswers.{SourceAnswers}
 use Rattle.pim_mfc.specs.Laws.{ShowsRows}
-use Rattle.pim_fanout.specs.Contains.{Contains}
+use Rattle.pim_fanout.specs.Contains.{Contains, CoversOrMoves}
 use Rattle.pim_fanout.specs.Disturbed.{is_disturbed}
 use Rattle.pim_fanout.specs.Named.{named_among}
 
@@ -45,10 +45,10 @@ abbrev pub NamesAreNamed : Type 0
 NamesAreNamed = (o : State) → IsQuiet o → (touched : Touched) (changed : State) → Contains touched o changed → (g src : ℕ)
     → is_listed (names_of o changed touched) g src ≡ is_listed (named_by o changed) g src
 
--- Where routes and RP ranges are as they were a source that the change doesn't touch isn't named, whether it has a fact or
--- not.
+-- Where routes and RP ranges are as they were, and the change isn't one of neighbours, a source that it doesn't touch isn't
+-- named, whether it has a fact or not.
 abbrev pub UntouchedIsUnnamed : Type 0
-UntouchedIsUnnamed = (o changed : State) → IsQuiet o → (touched : Touched) → Contains touched o changed → (g src : ℕ)
+UntouchedIsUnnamed = (o changed : State) → IsQuiet o → (touched : Touched) → CoversOrMoves touched o changed → (g src : ℕ)
     → o.routes ≡ changed.routes → o.ranges ≡ changed.ranges → is_disturbed touched g src ≡ false
     → is_named g src o (clear o changed).0 ≡ false
 

@@ -1,17 +1,11 @@
--- How many nodes of tries are visited, at least, where sources are gathered to be compared, and where the rows of named
--- sources are made anew.
-use Rattle.std.specs.Prelude.{Bool, List, None, Option, Some, false, if◌then◌else◌, map, option_map, sum_by, ℕ, ◌+◌, ◌==◌}
-use Rattle.pim_ip.specs.Addr.{addr}
+-- How many nodes of tries are visited, at least, where sources are gathered to be compared with what they were, and where
+-- the rows of named sources are made anew.
+use Rattle.std.specs.Prelude.{Bool, List, None, Option, Some, false, if◌then◌else◌, option_map, ℕ, ◌+◌, ◌==◌}
 use Rattle.pim_ip.specs.declared.addr.Addr.{Addr}
 use Rattle.pim_model.specs.State.{State}
 use Rattle.pim_model.specs.Tables.{has_row}
-use Rattle.pim_model.specs.Upstream.{groups_of}
 use Rattle.pim_macros.specs.declared.sight.StarSight.{StarSight}
-use Rattle.pim_world.specs.Touches.{touched_keys}
 use Rattle.pim_world.specs.Visits.{nodes_in_turn, source_nodes, star_nodes}
-use Rattle.pim_world.specs.declared.touched.Touched.{Touched}
-use Rattle.pim_opening.specs.Openings.{touched_sources}
-use Rattle.pim_opening.specs.Visits.{touched_nodes}
 use Rattle.pim_fanout.specs.Before.{name_key}
 use Rattle.pim_fanout.specs.declared.before.KnownSource.{KnownSource}
 use Rattle.pim_fanout.specs.declared.before.SourceBefore.{SourceBefore}
@@ -44,22 +38,6 @@ seen_nodes s last name =
 
 abbrev pub next_last : State → Option Addr → SourceGroup → Option Addr
 next_last s last name = if has_row s.sources (name_key name) then Some name.group else last
-
-abbrev pub seen_in_turn : State → Option Addr → List SourceGroup → ℕ
-seen_in_turn s last names = nodes_in_turn (next_last s) (seen_nodes s) last names
-
--- ---- as they are at the opening
-
-abbrev pub name_in : ℕ → ℕ → SourceGroup
-name_in g src = record { group = addr g; source = addr src }
-
--- which sources of the group are touched, and these
-abbrev pub group_before_nodes : State → Touched → ℕ → ℕ
-group_before_nodes s touched g =
-    touched_nodes s touched g + seen_in_turn s None (map (name_in g) (touched_sources s touched g))
-
-unfoldable pub before_nodes : State → Touched → ℕ
-before_nodes s touched = sum_by (group_before_nodes s touched) (groups_of (touched_keys s touched))
 
 -- ---- as they are to be compared
 

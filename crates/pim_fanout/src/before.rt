@@ -1,19 +1,20 @@
-//! The sources that an event touches, as they are before its own change.
+//! What an event touches, as it is before its own change: gathered once, for the machines and for the forwarding cache.
 ghost use Rattle.std.specs.List.{flat_map};
-ghost use Rattle.std.specs.Prelude.{◌≡◌, ◌≤◌, ◌++◌, None, true, IfOk, IfSome, OnOk, map, sum_by};
+ghost use Rattle.std.specs.Prelude.{◌≡◌, ◌≤◌, ◌++◌, ◌∷◌, [], true, IfOk, IfSome, OnOk, map, sum_by};
 ghost use Rattle.pim_fanout.specs.Before.{AreBefore, IsBefore, IsSourceBefore, IsKnown, key_before, name_key, seen_key};
-ghost use Rattle.pim_fanout.specs.Visits.{before_nodes, group_before_nodes, last_group, last_star_nodes, name_in, next_last, seen_in_turn, seen_nodes};
+ghost use Rattle.pim_fanout.specs.Visits.{last_group, last_star_nodes, next_last, seen_nodes};
 ghost use Rattle.pim_macros.specs.Sights.{IsSourceSight, IsStarSight};
 ghost use Rattle.pim_model.specs.Sets.{register_state};
 ghost use Rattle.pim_model.specs.Tables.{has_row};
-ghost use Rattle.pim_opening.specs.Openings.{touched_sources};
+ghost use Rattle.pim_opening.specs.Openings.{group_opening, opening_of, source_opening, touched_sources};
+ghost use Rattle.pim_opening.specs.Visits.{group_opening_nodes, opening_nodes, source_opening_nodes};
 ghost use Rattle.pim_trie.specs.Meter.{raised};
 ghost use Rattle.pim_types.specs.Keys.{source_key};
 ghost use Rattle.pim_world.specs.Groups.{numbers_of};
 ghost use Rattle.pim_world.specs.Visits.{source_nodes};
 
 use pim_macros::{SourceGroup, SourceSight, StarSight};
-use pim_opening::touched_sources;
+use pim_opening::{GroupOpening, Opening, SourceOpening, is_whole, touched_sources};
 use pim_types::fact::RegisterState;
 use pim_types::{Addr, IfaceId, Key, Series};
 use pim_world::{Meter, Touched, World};
@@ -42,7 +43,7 @@ pub enum SourceBefore {
     Known(KnownSource),
 }
 
-/// The touched sources as they were at the opening of an event, by group, then by source.
+/// The touched sources, as they are compared for the forwarding cache, by group, then by source.
 #[derive(Drop)]
 pub struct Before {
     sources: Series<SourceBefore>,
@@ -55,6 +56,14 @@ impl Model for Before {
     ghost Value = { List SourceBefore };
 
     ghost view = { λ b. b.sources };
+}
+
+/// What an event touches, as it was before its own change.
+#[derive(Drop)]
+pub struct Gathered {
+    /// The touched groups and sources, as the machines compare them.
+    pub opening: Opening,
+    pub before: Before,
 }
 
 impl KnownSource {
@@ -82,25 +91,6 @@ impl SourceBefore {
 }
 
 impl Before {
-    /// The sources that the event touches, as they are now. The meter rises by the nodes that the look-ups visit, at least those
-    /// of the sight of each of these sources that has a fact, and of its group's.
-    pub fn of(
-        world: &World,
-        alloc: Global,
-        meter: &mut Meter,
-        touched: &Touched,
-    ) -> Result<Before, AllocError>
-        ensures before { IfOk result (λ before. IsBefore world.now touched.now before) }
-        ensures at_least { OnOk result (raised meter.old (before_nodes world.now touched.now) ≤ meter.new) }
-    {
-        let mut groups = BTreeMap::new(alloc);
-        world.gather_touched(touched, &mut groups)?;
-        let sources = gather_groups(world, alloc, meter, touched, &groups)?;
-        Ok(Before {
-            sources: Series::from_vec(sources),
-        })
-    }
-
     /// The sources.
     pub(crate) fn sources(&self) -> &[SourceBefore]
         ensures { result.now ≡ self.now }
@@ -109,71 +99,179 @@ impl Before {
     }
 }
 
-// The touched sources of these groups.
-fn gather_groups(
+impl Gathered {
+    /// What the event touches, as it is now: of each touched group and source one sight is gathered. The meter rises by the
+    /// nodes that the look-ups visit, at least those of these sights, and those that lead to the facts of each source.
+    pub fn of(
+        world: &World,
+        alloc: Global,
+        touched: &Touched,
+        meter: &mut Meter,
+    ) -> Result<Gathered, AllocError>
+        ensures opening { IfOk result (λ gathered. gathered.opening ≡ opening_of world.now touched.now) }
+        ensures before { IfOk result (λ gathered. IsBefore world.now touched.now gathered.before) }
+        ensures at_least { OnOk result (raised meter.old (opening_nodes world.now touched.now) ≤ meter.new) }
+    {
+        let mut groups = BTreeMap::new(alloc);
+        world.gather_touched(touched, &mut groups)?;
+        let mut before = Vec::new(alloc);
+        let groups = open_groups(world, alloc, touched, &groups, meter, &mut before)?;
+        Ok(Gathered {
+            opening: Opening::new(groups),
+            before: Before {
+                sources: Series::from_vec(before),
+            },
+        })
+    }
+}
+
+// These groups. Their sources, as they are compared, are put behind others.
+fn open_groups(
     world: &World,
     alloc: Global,
-    meter: &mut Meter,
     touched: &Touched,
     groups: &BTreeMap<Addr, (), Global>,
-) -> Result<Vec<SourceBefore>, AllocError>
-    ensures keys { IfOk result (λ found. map key_before found.items
-        ≡ flat_map (λ g. map (source_key 0 g) (touched_sources world.now touched.now g))
+    meter: &mut Meter,
+    before: &mut Vec<SourceBefore>,
+) -> Result<Vec<GroupOpening>, AllocError>
+    requires { AreBefore world.now before.old.items }
+    ensures opened { IfOk result (λ opened. opened.items
+        ≡ map (group_opening world.now touched.now) (numbers_of groups.now.entries)) }
+    ensures keys { OnOk result (map key_before before.new.items ≡ map key_before before.old.items
+        ++ flat_map (λ g. map (source_key 0 g) (touched_sources world.now touched.now g))
         (numbers_of groups.now.entries)) }
-    ensures each { IfOk result (λ found. AreBefore world.now found.items) }
+    ensures each { OnOk result (AreBefore world.now before.new.items) }
     ensures at_least { OnOk result (raised meter.old
-        (sum_by (group_before_nodes world.now touched.now) (numbers_of groups.now.entries)) ≤ meter.new) }
+        (sum_by (group_opening_nodes world.now touched.now) (numbers_of groups.now.entries)) ≤ meter.new) }
 {
-    let mut found = Vec::new(alloc);
+    let mut opened = Vec::new(alloc);
     for (group, ()) in groups.iter() {
-        gather_group(world, alloc, meter, touched, *group, &mut found)?;
+        opened.push(open_group(world, alloc, touched, *group, meter, before)?)?;
     }
-    Ok(found)
+    Ok(opened)
 }
 
-// Puts the touched sources of a group behind others.
-fn gather_group(
+// A group.
+fn open_group(
     world: &World,
     alloc: Global,
-    meter: &mut Meter,
     touched: &Touched,
     group: Addr,
-    found: &mut Vec<SourceBefore>,
-) -> Result<(), AllocError>
-    requires { AreBefore world.now found.old.items }
-    ensures keys { OnOk result (map key_before found.new.items ≡ map key_before found.old.items
+    meter: &mut Meter,
+    before: &mut Vec<SourceBefore>,
+) -> Result<GroupOpening, AllocError>
+    requires { AreBefore world.now before.old.items }
+    ensures opened { IfOk result (λ opened. opened ≡ group_opening world.now touched.now group.bits) }
+    ensures keys { OnOk result (map key_before before.new.items ≡ map key_before before.old.items
         ++ map (source_key 0 group.bits) (touched_sources world.now touched.now group.bits)) }
-    ensures each { OnOk result (AreBefore world.now found.new.items) }
-    ensures at_least { OnOk result (raised meter.old (group_before_nodes world.now touched.now group.bits) ≤ meter.new) }
+    ensures each { OnOk result (AreBefore world.now before.new.items) }
+    ensures at_least { OnOk result (raised meter.old (group_opening_nodes world.now touched.now group.bits) ≤ meter.new) }
 {
+    let star = StarSight::of(world, group, meter);
     let sources = touched_sources(alloc, world, touched, group, meter)?;
-    gather_sources(world, meter, group, &sources, found)
+    let sources = open_sources(world, alloc, &star, &sources, meter, before)?;
+    Ok(GroupOpening {
+        group,
+        is_whole: is_whole(touched, group),
+        star: star.view(),
+        sources: Series::from_vec(sources),
+    })
 }
 
-// Puts these sources of a group behind others.
-fn gather_sources(
+// These sources of a group.
+fn open_sources(
     world: &World,
-    meter: &mut Meter,
-    group: Addr,
+    alloc: Global,
+    star: &StarSight,
     sources: &BTreeMap<Addr, (), Global>,
-    found: &mut Vec<SourceBefore>,
-) -> Result<(), AllocError>
-    requires { AreBefore world.now found.old.items }
-    ensures keys { OnOk result (map key_before found.new.items ≡ map key_before found.old.items
-        ++ map (source_key 0 group.bits) (numbers_of sources.now.entries)) }
-    ensures each { OnOk result (AreBefore world.now found.new.items) }
+    meter: &mut Meter,
+    before: &mut Vec<SourceBefore>,
+) -> Result<Vec<SourceOpening>, AllocError>
+    requires sight { IsStarSight world.now star.now }
+    requires before { AreBefore world.now before.old.items }
+    ensures opened { IfOk result (λ opened. opened.items
+        ≡ map (source_opening world.now star.now.group.bits) (numbers_of sources.now.entries)) }
+    ensures keys { OnOk result (map key_before before.new.items ≡ map key_before before.old.items
+        ++ map (source_key 0 star.now.group.bits) (numbers_of sources.now.entries)) }
+    ensures each { OnOk result (AreBefore world.now before.new.items) }
     ensures at_least { OnOk result (raised meter.old
-        (seen_in_turn world.now None (map (name_in group.bits) (numbers_of sources.now.entries))) ≤ meter.new) }
+        (sum_by (source_opening_nodes world.now star.now.group.bits) (numbers_of sources.now.entries)) ≤ meter.new) }
 {
-    let mut last = None;
+    let mut opened = Vec::new(alloc);
     for (source, ()) in sources.iter() {
-        let name = SourceGroup {
-            group,
-            source: *source,
-        };
-        found.push(seen(world, meter, &mut last, name))?;
+        opened.push(open_source(world, star, *source, meter, before)?)?;
     }
-    Ok(())
+    Ok(opened)
+}
+
+// A source of a group.
+fn open_source(
+    world: &World,
+    star: &StarSight,
+    source: Addr,
+    meter: &mut Meter,
+    before: &mut Vec<SourceBefore>,
+) -> Result<SourceOpening, AllocError>
+    requires sight { IsStarSight world.now star.now }
+    requires before { AreBefore world.now before.old.items }
+    ensures opened { IfOk result (λ opened. opened ≡ source_opening world.now star.now.group.bits source.bits) }
+    ensures keys { OnOk result (map key_before before.new.items ≡ map key_before before.old.items
+        ++ source_key 0 star.now.group.bits source.bits ∷ []) }
+    ensures each { OnOk result (AreBefore world.now before.new.items) }
+    ensures at_least { OnOk result
+        (raised meter.old (source_opening_nodes world.now star.now.group.bits source.bits) ≤ meter.new) }
+{
+    let sight = SourceSight::of(world, *star, source, meter);
+    before.push(seen_by(world, &sight))?;
+    Ok(SourceOpening {
+        source,
+        has_facts: world.has_facts(star.group, source, meter),
+        view: sight.view(),
+    })
+}
+
+/// A source as its sight shows it.
+pub(crate) fn seen_by(world: &World, sight: &SourceSight) -> SourceBefore
+    requires { IsSourceSight world.now sight.now }
+    ensures key { key_before result ≡ seen_key sight.now }
+    ensures before { IsSourceBefore world.now result }
+{
+    let name = SourceGroup {
+        group: sight.star.group,
+        source: sight.source,
+    };
+    if !has_fact(world, name) {
+        return SourceBefore::Unknown(name);
+    }
+    SourceBefore::Known(known_by(world, sight))
+}
+
+// A source with a fact, as its sight shows it.
+fn known_by(world: &World, sight: &SourceSight) -> KnownSource
+    requires sight { IsSourceSight world.now sight.now }
+    requires fact { has_row world.now.sources (seen_key sight.now) ≡ true }
+    ensures known { IsKnown world.now result }
+    ensures sight { result.sight ≡ sight.now }
+{
+    KnownSource {
+        sight: *sight,
+        may_register: sight.may_register(),
+        could_register: sight.could_register(),
+        register: register_of(world, sight.star.group, sight.source),
+        is_desired: sight.join_desired(),
+    }
+}
+
+// A source with a fact as it is now.
+fn known(world: &World, meter: &mut Meter, star: &StarSight, source: Addr) -> KnownSource
+    requires sight { IsStarSight world.now star.now }
+    requires fact { has_row world.now.sources (source_key 0 star.now.group.bits source.bits) ≡ true }
+    ensures known { IsKnown world.now result }
+    ensures star { result.sight.star ≡ star.now }
+    ensures source { result.sight.source ≡ source }
+    ensures at_least { raised meter.old (source_nodes world.now star.now.group source) ≤ meter.new }
+{
+    known_by(world, &SourceSight::of(world, *star, source, meter))
 }
 
 /// A source as it is now. The sight of its group is gathered where it isn't the last one. The meter rises by the nodes that the
@@ -198,28 +296,6 @@ pub(crate) fn seen(
     let known = known(world, meter, &star, name.source);
     *last = Some(star);
     SourceBefore::Known(known)
-}
-
-// A source with a fact as it is now.
-fn known(world: &World, meter: &mut Meter, star: &StarSight, source: Addr) -> KnownSource
-    requires sight { IsStarSight world.now star.now }
-    requires fact { has_row world.now.sources (source_key 0 star.now.group.bits source.bits) ≡ true }
-    ensures known { IsKnown world.now result }
-    ensures star { result.sight.star ≡ star.now }
-    ensures source { result.sight.source ≡ source }
-    ensures at_least { raised meter.old (source_nodes world.now star.now.group source) ≤ meter.new }
-{
-    let sight = SourceSight::of(world, *star, source, meter);
-    let may_register = sight.may_register();
-    let could_register = sight.could_register();
-    let is_desired = sight.join_desired();
-    KnownSource {
-        sight,
-        may_register,
-        could_register,
-        register: register_of(world, star.group, source),
-        is_desired,
-    }
 }
 
 /// Whether there is a fact of the source.

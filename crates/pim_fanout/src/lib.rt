@@ -9,8 +9,8 @@ pub mod disturbed;
 pub mod laws;
 pub mod naming;
 
-pub use before::{Before, KnownSource, SourceBefore};
+pub use before::{Before, Gathered, KnownSource, SourceBefore};
 pub use cache::Cache;
 pub use compare::{is_same_address, is_same_path};
 pub use disturbed::Disturbed;
-pub use naming::named;
+pub use naming::{named, named_seen};

@@ -1,21 +1,34 @@
 //! Which of the touched sources are named, to be made anew.
-ghost use Rattle.std.specs.Prelude.{◌≡◌, ◌≤◌, IfOk, IfSome, OnOk, filter, map};
-ghost use Rattle.pim_fanout.specs.Before.{AreBefore, IsBefore, IsSourceBefore, IsKnown, key_before, seen_key};
+ghost use Rattle.std.specs.Prelude.{◌≡◌, ◌≤◌, IfOk, IfSome, IsTrue, OnOk, filter, map};
+ghost use Rattle.pim_fanout.specs.Before.{AreBefore, IsBefore, IsSourceBefore, IsKnown, key_before, name_key, seen_key};
 ghost use Rattle.pim_fanout.specs.Named.{is_changed, keys_of, named_among};
 ghost use Rattle.pim_fanout.specs.Visits.{asked_nodes, known_name, last_group, naming_nodes, next_asked, next_last, seen_nodes};
-ghost use Rattle.pim_macros.specs.Sights.{IsStarSight};
+ghost use Rattle.pim_macros.specs.Sights.{IsSourceSight, IsStarSight};
 ghost use Rattle.pim_model.specs.State.{State};
+ghost use Rattle.pim_opening.specs.Seen.{AreSeen};
 ghost use Rattle.pim_trie.specs.Meter.{raised};
 ghost use Rattle.pim_world.specs.declared.touched.Touched.{Touched};
 
-use crate::before::{Before, KnownSource, SourceBefore, has_fact, seen};
+use crate::before::{Before, KnownSource, SourceBefore, has_fact, seen, seen_by};
 use crate::compare::is_same_source;
-use pim_macros::{SourceGroup, StarSight};
+use pim_macros::{SourceGroup, SourceSight, StarSight};
+use pim_opening::SourceSeen;
 use pim_types::Series;
 use pim_world::{Meter, World};
 use std::alloc::{AllocError, Global};
 
 // Whether a source that had a fact has none now, or differs in what is compared.
+fn differs(known: &KnownSource, after: &SourceBefore) -> bool
+    ensures { (o a : State) → IsKnown o known.now → IsSourceBefore a after.now
+        → key_before after.now ≡ seen_key known.now.sight → result ≡ is_changed o a (seen_key known.now.sight) }
+{
+    match after {
+        SourceBefore::Unknown(_) => true,
+        SourceBefore::Known(after) => !is_same_source(known, after),
+    }
+}
+
+// Whether that is so of a source, which is gathered.
 fn has_changed(
     world: &World,
     meter: &mut Meter,
@@ -28,10 +41,7 @@ fn has_changed(
     ensures group { last_group last.new ≡ next_last world.now (last_group last.old) (known_name known.now) }
     ensures at_least { raised meter.old (seen_nodes world.now (last_group last.old) (known_name known.now)) ≤ meter.new }
 {
-    match seen(world, meter, last, known.name()) {
-        SourceBefore::Unknown(_) => true,
-        SourceBefore::Known(after) => !is_same_source(known, &after),
-    }
+    differs(known, &seen(world, meter, last, known.name()))
 }
 
 // Whether a source is named. Where it had no fact, and where it has none now, nothing is gathered.
@@ -91,5 +101,110 @@ pub fn named(
     ensures at_least { OnOk result (raised meter.old (naming_nodes world.now before.now) ≤ meter.new) }
 {
     let names = named_of(world, alloc, meter, before.sources())?;
+    Ok(Series::from_vec(names))
+}
+
+// Whether the sight is of the source.
+fn is_sight_of(sight: &SourceSight, name: SourceGroup) -> bool
+    ensures { IsTrue result → seen_key sight.now ≡ name_key name }
+{
+    sight.star.group == name.group && sight.source == name.source
+}
+
+// Whether a source with a fact has changed, by the sight at hand; another's is gathered.
+fn has_changed_at_hand(
+    world: &World,
+    meter: &mut Meter,
+    sight: Option<SourceSight>,
+    known: &KnownSource,
+) -> bool
+    requires { IfSome sight (IsSourceSight world.now) }
+    ensures changed { (o : State) → IsKnown o known.now → result ≡ is_changed o world.now (seen_key known.now.sight) }
+    ensures rises { meter.old ≤ meter.new }
+{
+    match sight {
+        Some(sight) if is_sight_of(&sight, known.name()) => {
+            differs(known, &seen_by(world, &sight))
+        }
+        _ => has_changed(world, meter, &mut None, known),
+    }
+}
+
+// Whether a source is named, by the sight at hand.
+fn is_named_at_hand(
+    world: &World,
+    meter: &mut Meter,
+    sight: Option<SourceSight>,
+    before: &SourceBefore,
+) -> bool
+    requires { IfSome sight (IsSourceSight world.now) }
+    ensures changed { (o : State) → IsSourceBefore o before.now
+        → result ≡ is_changed o world.now (key_before before.now) }
+    ensures rises { meter.old ≤ meter.new }
+{
+    match before {
+        SourceBefore::Unknown(new) => has_fact(world, *new),
+        SourceBefore::Known(known) => has_changed_at_hand(world, meter, sight, known),
+    }
+}
+
+// The sight at the place, where there is one.
+fn sight_at(
+    world: &World,
+    star: &StarSight,
+    sources: &[SourceSeen],
+    at: usize,
+) -> Option<SourceSight>
+    requires { AreSeen world.now star.now sources.now }
+    ensures { IfSome result (IsSourceSight world.now) }
+{
+    if at < sources.len() {
+        Some(sources[at].sight)
+    } else {
+        None
+    }
+}
+
+// Those of these sources that are named, by the sights at hand.
+fn named_of_seen(
+    world: &World,
+    alloc: Global,
+    meter: &mut Meter,
+    sources: &[SourceBefore],
+    star: &StarSight,
+    seen: &[SourceSeen],
+) -> Result<Vec<SourceGroup>, AllocError>
+    requires { AreSeen world.now star.now seen.now }
+    ensures named { IfOk result (λ names. (o : State) → AreBefore o sources.now
+        → keys_of names.items ≡ filter (is_changed o world.now) (map key_before sources.now)) }
+    ensures rises { OnOk result (meter.old ≤ meter.new) }
+{
+    let mut names = Vec::new(alloc);
+    for (at, source) in sources.iter().enumerate() {
+        let sight = sight_at(world, star, seen, at);
+        if is_named_at_hand(world, meter, sight, source) {
+            names.push(source.name())?;
+        }
+    }
+    Ok(names)
+}
+
+/// The same where one group alone was opened, by the sights of its sources in the world as clearing left it: they stand in the
+/// same order, so none is gathered again.
+#[tactic(auto, unfolding(crate::specs::Named::named_among))]
+pub fn named_seen(
+    world: &World,
+    alloc: Global,
+    meter: &mut Meter,
+    before: &Before,
+    star: &StarSight,
+    seen: &[SourceSeen],
+) -> Result<Series<SourceGroup>, AllocError>
+    requires { AreSeen world.now star.now seen.now }
+    ensures named { IfOk result (λ names. (o : State) (touched : Touched) → IsBefore o touched before.now
+        → keys_of names ≡ named_among o world.now touched) }
+    ensures rises { OnOk result (meter.old ≤ meter.new) }
+{
+    let names = named_of_seen(world, alloc, meter, before.sources(), star, seen)?;
     Ok(Series::from_vec(names))
 }

@@ -1,3 +1,4 @@
 pub mod Openings
+pub mod Seen
 pub mod Covers
 pub mod Visits

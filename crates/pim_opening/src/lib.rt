@@ -1,9 +1,10 @@
-//! What the machines compare with after an event's own change: the groups and sources that it touches, as they were
-//! before.
+//! The groups and sources that an event touches: what the machines compare of them before its own change and after it.
 #![tactic(auto)]
 
 pub mod opening;
+pub mod seen;
 pub mod sources;
 
-pub use opening::{GroupOpening, Opening, SourceOpening};
+pub use opening::{GroupOpening, Opening, SourceOpening, is_whole};
+pub use seen::{GroupSeen, SourceSeen};
 pub use sources::touched_sources;

@@ -1,19 +1,10 @@
 //! What the machines compare, as it is at the opening of an event.
-ghost use Rattle.std.specs.List.{list_any};
-ghost use Rattle.std.specs.Prelude.{◌≡◌, ◌≤◌, ◌∷◌, [], IfOk, IfSome, OnOk, false, map, sum_by};
-ghost use Rattle.pim_world.specs.Groups.{numbers_of};
-ghost use Rattle.pim_macros.specs.Sights.{IsStarSight};
-ghost use Rattle.pim_opening.specs.Openings.{group_opening, is_whole, opening_of, source_opening};
-ghost use Rattle.pim_opening.specs.Visits.{group_opening_nodes, opening_nodes, source_opening_nodes};
-ghost use Rattle.pim_trie.specs.Meter.{raised};
+ghost use Rattle.std.specs.Prelude.{◌≡◌, ◌∷◌, [], IfSome, false};
+ghost use Rattle.pim_opening.specs.Openings.{is_whole};
 
 use crate::sources;
-use crate::sources::touched_sources;
-use pim_macros::{SourceSight, StarSight};
 use pim_types::{Addr, Series, SourceView, StarView};
-use pim_world::{Meter, Touched, World};
-use std::alloc::{AllocError, Global};
-use std::collections::BTreeMap;
+use pim_world::Touched;
 use std::marker::Model;
 
 /// A touched source of a group.
@@ -53,21 +44,11 @@ impl Model for Opening {
 }
 
 impl Opening {
-    /// What the event touches, as it is now. The meter rises by the nodes that the look-ups visit, at least those of the
-    /// sight of each touched group and source, and those that lead to the facts of each.
-    pub fn of(
-        world: &World,
-        alloc: Global,
-        touched: &Touched,
-        meter: &mut Meter,
-    ) -> Result<Opening, AllocError>
-        ensures opening { IfOk result (λ opening. opening ≡ opening_of world.now touched.now) }
-        ensures at_least { OnOk result (raised meter.old (opening_nodes world.now touched.now) ≤ meter.new) }
+    /// These groups.
+    pub fn new(groups: Vec<GroupOpening>) -> Opening
+        ensures { result ≡ groups.items }
     {
-        let mut groups = BTreeMap::new(alloc);
-        world.gather_touched(touched, &mut groups)?;
-        let groups = open_groups(world, alloc, touched, &groups, meter)?;
-        Ok(Opening { groups })
+        Opening { groups }
     }
 
     /// The group whose one source is all that is touched, where it is so.
@@ -92,90 +73,13 @@ impl Opening {
     }
 }
 
-// These groups.
-fn open_groups(
-    world: &World,
-    alloc: Global,
-    touched: &Touched,
-    groups: &BTreeMap<Addr, (), Global>,
-    meter: &mut Meter,
-) -> Result<Vec<GroupOpening>, AllocError>
-    ensures opened { IfOk result (λ opened. opened.items
-        ≡ map (group_opening world.now touched.now) (numbers_of groups.now.entries)) }
-    ensures at_least { OnOk result (raised meter.old
-        (sum_by (group_opening_nodes world.now touched.now) (numbers_of groups.now.entries)) ≤ meter.new) }
-{
-    let mut opened = Vec::new(alloc);
-    for (group, ()) in groups.iter() {
-        opened.push(open_group(world, alloc, touched, *group, meter)?)?;
-    }
-    Ok(opened)
-}
-
-// A group.
-fn open_group(
-    world: &World,
-    alloc: Global,
-    touched: &Touched,
-    group: Addr,
-    meter: &mut Meter,
-) -> Result<GroupOpening, AllocError>
-    ensures opened { IfOk result (λ opened. opened ≡ group_opening world.now touched.now group.bits) }
-    ensures at_least { OnOk result (raised meter.old (group_opening_nodes world.now touched.now group.bits) ≤ meter.new) }
-{
-    let star = StarSight::of(world, group, meter);
-    let sources = touched_sources(alloc, world, touched, group, meter)?;
-    let sources = open_sources(world, alloc, &star, &sources, meter)?;
-    Ok(GroupOpening {
-        group,
-        is_whole: is_whole(touched, group),
-        star: star.view(),
-        sources: Series::from_vec(sources),
-    })
-}
-
-// Whether all of the group is touched.
+/// Whether all of the group is touched.
 #[tactic(auto, unfolding(crate::specs::Openings::is_whole))]
-fn is_whole(touched: &Touched, group: Addr) -> bool
+pub fn is_whole(touched: &Touched, group: Addr) -> bool
     ensures { result ≡ is_whole touched.now group.bits }
 {
     match touched {
         Touched::All => true,
         Touched::Keys(keys) => sources::is_whole(keys.as_slice(), group),
-    }
-}
-
-// These sources of a group.
-fn open_sources(
-    world: &World,
-    alloc: Global,
-    star: &StarSight,
-    sources: &BTreeMap<Addr, (), Global>,
-    meter: &mut Meter,
-) -> Result<Vec<SourceOpening>, AllocError>
-    requires { IsStarSight world.now star.now }
-    ensures opened { IfOk result (λ opened. opened.items
-        ≡ map (source_opening world.now star.now.group.bits) (numbers_of sources.now.entries)) }
-    ensures at_least { OnOk result (raised meter.old
-        (sum_by (source_opening_nodes world.now star.now.group.bits) (numbers_of sources.now.entries)) ≤ meter.new) }
-{
-    let mut opened = Vec::new(alloc);
-    for (source, ()) in sources.iter() {
-        opened.push(open_source(world, star, *source, meter))?;
-    }
-    Ok(opened)
-}
-
-// A source of a group.
-fn open_source(world: &World, star: &StarSight, source: Addr, meter: &mut Meter) -> SourceOpening
-    requires { IsStarSight world.now star.now }
-    ensures opened { result ≡ source_opening world.now star.now.group.bits source.bits }
-    ensures at_least { raised meter.old (source_opening_nodes world.now star.now.group.bits source.bits) ≤ meter.new }
-{
-    let sight = SourceSight::of(world, *star, source, meter);
-    SourceOpening {
-        source,
-        has_facts: world.has_facts(star.group, source, meter),
-        view: sight.view(),
     }
 }

@@ -1,21 +1,27 @@
 -- Registers settled in turn, source by source and group by group.
-use Rattle.std.proofs.Common.{◌≡◌, ◌<◌, ◌+◌, drop, get_or, length, ℕ, None, false, List, [], ◌∷◌, fold, refl, sym, ap, ◌∙◌}
+use Rattle.std.proofs.Common.{Bool, true, ◌≡◌, ◌<◌, ◌+◌, drop, get_or, length, map, subst, ℕ, None, false, List, [], ◌∷◌, fold, refl, sym, ap, ◌∙◌}
 use Rattle.std.proofs.lemmas.List.{drop_more}
 use Rattle.std.proofs.lemmas.List.Sums.{fold-append}
 use Rattle.pim_ip.specs.Addr.{addr}
+use Rattle.pim_ip.specs.declared.addr.Addr.{Addr}
 use Rattle.pim_types.specs.declared.fact.Key.{Key}
 use Rattle.pim_types.specs.declared.upstream.TreeState.{TreeState}
-use Rattle.pim_types.specs.Keys.{source_key}
+use Rattle.pim_types.specs.Keys.{group_in, source_in, source_key}
+use Rattle.pim_types.specs.declared.fact.RegisterRow.{RegisterRow}
 use Rattle.pim_model.specs.Neighbours.{is_dr, nbr}
 use Rattle.pim_model.specs.Receivers.{is_exclude}
 use Rattle.pim_model.specs.Registers.{could_register, has_other_rp, settle_register, settled_register}
 use Rattle.pim_model.specs.Sets.{is_kept_alive, joins_star}
 use Rattle.pim_model.specs.State.{State}
+use Rattle.pim_model.specs.Tables.{Table, has_row}
+use Rattle.pim_locality.proofs.Registers.{nothing_dropped}
 use Rattle.pim_model.specs.Unicast.{route, rp_of, rp_route, rpf_interface_rp}
 use Rattle.pim_macros.specs.Sights.{IsStarSight}
 use Rattle.pim_macros.specs.declared.sight.StarSight.{StarSight}
 use Rattle.pim_opening.specs.declared.opening.GroupOpening.{GroupOpening}
 use Rattle.pim_opening.specs.declared.opening.SourceOpening.{SourceOpening}
+use Rattle.pim_opening.specs.declared.seen.SourceSeen.{SourceSeen}
+use Rattle.pim_opening.specs.Seen.{AreSeen, IsSeenSource, opened_in}
 use Rattle.pim_register.specs.Settling.{opened_sources, registers_by}
 use Rattle.pim_register.specs.Steps.{source_keys}
 use Rattle.pim_register.proofs.Settled.{all_settled}
@@ -94,3 +100,38 @@ next_group x left rest s t is settled =
 pub no_group : (s : State) → registers_by [] s ≡ s
 unfolding registers_by opened_sources
 no_group s = refl
+
+-- a register stays where it is as it has to be
+pub register_stays : (s : State) (k : Key) (b : Bool) → could_register s (group_in k) (source_in k) ≡ b
+    → has_row s.registers k ≡ b → settle_register s k ≡ s
+unfolding settle_register settled_register
+register_stays s k true could has = rw (could, has) refl
+register_stays s k false could has =
+    rw could (ap (λ (t : Table RegisterRow). let u : State = record s { registers = t } in u)
+    (nothing_dropped k s.registers has))
+
+-- a source whose register stays
+pub next_settled : (s : State) (star : StarSight) (x : SourceSeen) (left rest : List SourceSeen) → left ≡ x ∷ rest
+    → AreSeen s star left
+    → settle_register s (source_key 0 (x.sight).star.group.bits (x.sight).source.bits) ≡ s
+    → fold settle_register s (source_keys star.group.bits (map opened_in rest))
+    ≡ fold settle_register s (source_keys star.group.bits (map opened_in left))
+next_settled s star x left rest is seen stays =
+    let one : IsSeenSource s star x = (subst (λ (xs : List SourceSeen). AreSeen s star xs) is seen).0 in
+    let here : settle_register s (source_key 0 star.group.bits (x.opened).source.bits) ≡ s =
+    ap (λ (t : StarSight). settle_register s (source_key 0 t.group.bits (x.opened).source.bits)) (sym one.star)
+    ∙ ap (λ (a : Addr). settle_register s (source_key 0 (x.sight).star.group.bits a.bits)) (sym one.source)
+    ∙ stays in
+    ap (λ (u : State). fold settle_register u (source_keys star.group.bits (map opened_in rest))) (sym here)
+    ∙ ap (λ (xs : List SourceSeen). fold settle_register s (source_keys star.group.bits (map opened_in xs))) (sym is)
+
+pub left_seen : (s : State) (star : StarSight) (x : SourceSeen) (left rest : List SourceSeen) → left ≡ x ∷ rest
+    → AreSeen s star left → AreSeen s star rest
+left_seen s star x left rest is seen = (subst (λ (xs : List SourceSeen). AreSeen s star xs) is seen).1
+
+-- a group alone
+pub alone_settled : (s : State) (x : GroupOpening)
+    → registers_by (x ∷ []) s ≡ fold settle_register s (source_keys (x.group).bits x.sources)
+unfolding opened_sources
+alone_settled s x =
+    in_turn (x ∷ []) s ∙ fold-append settle_register s (source_keys (x.group).bits x.sources) []

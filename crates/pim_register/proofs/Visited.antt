@@ -1,19 +1,16 @@
 -- Look-ups of what is the same, and look-ups on a condition, raise a meter by the nodes that are counted.
-use Rattle.std.proofs.Common.{◌≡◌, ◌≤◌, ◌+◌, ◌&&◌, ◌∙◌, Bool, Err, List, None, Ok, Option, Some, ap, arith, false, is_some, not, refl, subst, sym, true, ℕ}
-use Rattle.std.specs.List.{sum_by}
+use Rattle.std.proofs.Common.{◌≡◌, ◌≤◌, ◌+◌, ◌&&◌, ◌∙◌, Bool, List, None, Option, Some, ap, false, is_some, not, refl, subst, sym, true, ℕ}
 use Rattle.std.specs.Option.{option_map_or}
 use Rattle.std.specs.Prelude.{if◌then◌else◌}
 use Rattle.pim_ip.specs.Addr.{addr}
 use Rattle.pim_ip.specs.declared.addr.Addr.{Addr}
 use Rattle.pim_ip.specs.Ipv4.{Packet}
 use Rattle.pim_world.specs.Visits.{mark_nodes, nodes_in_turn, raised, source_nodes, star_nodes}
-use Rattle.pim_types.specs.declared.config.RpRange.{RpRange}
 use Rattle.pim_types.specs.declared.fact.Key.{Key}
 use Rattle.pim_types.specs.declared.fact.RegisterRow.{RegisterRow}
 use Rattle.pim_types.specs.declared.fact.RegisterState.{RegisterState}
 use Rattle.pim_types.specs.declared.fact.SourceRow.{SourceRow}
 use Rattle.pim_types.specs.Keys.{source_key}
-use Rattle.pim_model.specs.Limits.{are_rps}
 use Rattle.pim_model.specs.Registers.{could_register, is_spt_wanted, registered_group, registered_source}
 use Rattle.pim_model.specs.Sets.{spt_bit}
 use Rattle.pim_model.specs.State.{State}
@@ -24,8 +21,8 @@ use Rattle.pim_store.specs.PimTables.{PimTables, pim_tables}
 use Rattle.pim_store.specs.Visits.{Visits}
 use Rattle.pim_opening.specs.declared.opening.SourceOpening.{SourceOpening}
 use Rattle.pim_wire.specs.Values.{Register}
-use Rattle.pim_world.proofs.Visits.{at_least_itself, at_least_none, new_counted, none_asked, none_visited, one_asked, raised_by_none, rises_by, two_in_turn, whether_or_not}
-use Rattle.pim_register.specs.Visits.{at_rp_nodes, ended_nodes, fired_nodes, is_prune, new_source_nodes, probe_nodes, register_mark_nodes, register_nodes, replaced_nodes, rps_nodes, settled_source_nodes, source_settled, watched_nodes}
+use Rattle.pim_world.proofs.Visits.{at_least_itself, at_least_none, new_counted, none_asked, none_visited, one_asked, two_in_turn, whether_or_not}
+use Rattle.pim_register.specs.Visits.{at_rp_nodes, ended_nodes, fired_nodes, is_prune, new_source_nodes, probe_nodes, register_mark_nodes, register_nodes, settled_source_nodes, source_settled, watched_nodes}
 
 -- ---- what is known of a value
 
@@ -33,10 +30,6 @@ pub not_prune : (x : RegisterState) → ((end : ℕ) → x ≡ RegisterState.Pru
 not_prune (RegisterState.Prune end) other = absurd (other end refl)
 not_prune RegisterState.Join other = refl
 not_prune (RegisterState.JoinPending end) other = refl
-
-pub refused : {A E : Type 0} (b : Bool) (x : A) (e f : E) → Err f ≡ (if b then Ok x else Err e) → b ≡ false
-refused true x e f is = cc
-refused false x e f is = refl
 
 -- ---- rows that come and go
 
@@ -195,17 +188,3 @@ module _ (s : State) where
     pub none_probed : (row : RegisterRow) → row_at s.registers k ≡ Some row → is_prune row.state ≡ false → new ≡ old
         → raised old (fired_nodes s k) ≤ new
     none_probed row found off same = by_row (Some row) found (none_asked old new _ _ off same)
-
-  -- ---- new RP ranges
-
-  pub all_asked : (old new : ℕ) (ranges taken : List RpRange) → are_rps ranges ≡ true → taken ≡ ranges
-      → raised old (sum_by (rps_nodes s taken) s.registers) ≤ new → raised old (replaced_nodes s ranges) ≤ new
-  unfolding replaced_nodes
-  all_asked old new ranges taken are same least =
-      one_asked old new _ _ are
-      (subst (λ (rs : List RpRange). raised old (sum_by (rps_nodes s rs) s.registers) ≤ new) same least)
-
-  pub none_replaced : (old new : ℕ) (ranges : List RpRange) → are_rps ranges ≡ false → new ≡ old
-      → raised old (replaced_nodes s ranges) ≤ new
-  unfolding replaced_nodes
-  none_replaced old new ranges are same = none_asked old new _ _ are same

@@ -11,7 +11,6 @@ use Rattle.pim_types.specs.declared.fact.Key.{Key}
 use Rattle.pim_types.specs.declared.fact.RegisterRow.{RegisterRow}
 use Rattle.pim_types.specs.declared.fact.RegisterState.{RegisterState}
 use Rattle.pim_types.specs.declared.fact.SourceRow.{SourceRow}
-use Rattle.pim_model.specs.Limits.{are_rps}
 use Rattle.pim_model.specs.Registers.{could_register, is_spt_wanted, registered_group, registered_source, settle_register}
 use Rattle.pim_model.specs.Sets.{spt_bit}
 use Rattle.pim_model.specs.State.{State}
@@ -109,6 +108,5 @@ register_nodes s p r =
 abbrev pub rps_nodes : State → List RpRange → Key × RegisterRow → ℕ
 rps_nodes s ranges e = rp_nodes s.ranges (group_in e.0) + rp_nodes ranges (group_in e.0)
 
--- ranges that don't pass their test change nothing
-unfoldable pub replaced_nodes : State → List RpRange → ℕ
-replaced_nodes s ranges = if are_rps ranges then sum_by (rps_nodes s ranges) s.registers else 0
+abbrev pub replaced_nodes : State → List RpRange → ℕ
+replaced_nodes s ranges = sum_by (rps_nodes s ranges) s.registers

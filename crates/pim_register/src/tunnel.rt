@@ -1,7 +1,6 @@
 //! What a Register-Stop and new RP ranges change of the tunnels (RFC 7761, section 4.4.1).
-ghost use Rattle.std.specs.Prelude.{◌≡◌, ◌≤◌, ◌==◌, IfOk, OnOk, filter, if◌then◌else◌, not, option_map, sum_by};
+ghost use Rattle.std.specs.Prelude.{◌≡◌, ◌≤◌, ◌==◌, IfOk, OnOk, filter, not, option_map, sum_by};
 ghost use Rattle.pim_laws.specs.Rows.{all_changed};
-ghost use Rattle.pim_model.specs.Limits.{are_rps};
 ghost use Rattle.pim_model.specs.Registers.{register_stop_seen, state_after_stop};
 ghost use Rattle.pim_model.specs.Step.{rps_replaced};
 ghost use Rattle.pim_model.specs.Tables.{change_row, keys_in, same_option};
@@ -13,7 +12,7 @@ ghost use Rattle.pim_types.specs.Keys.{is_of_group};
 use pim_mrib::Mrib;
 use pim_neighbours::delay_in;
 use pim_types::fact::{RegisterRow, RegisterState};
-use pim_types::{Addr, IfaceId, Key, RpRange};
+use pim_types::{Addr, IfaceId, Key};
 use pim_world::{Meter, Turn, World};
 use std::alloc::AllocError;
 
@@ -154,27 +153,19 @@ fn join_all(world: &mut World, meter: &mut Meter, keys: &[Key]) -> Result<(), Al
     Ok(())
 }
 
-/// Puts RP ranges that pass their test in the place of those there are: where the RP of a group becomes another one, its
+/// Puts the RP ranges of the next table in the place of those there are: where the RP of a group becomes another one, its
 /// registers begin anew. The meter rises by the nodes that the look-ups visit, at least those that lead to the RP of each
 /// register, by the old ranges and by the new. An error is want of memory.
-#[tactic(auto, unfolding(pim_model::specs::Step::rps_replaced))]
 pub fn rps_replaced(
     world: &mut World,
     turn: &mut Turn,
     meter: &mut Meter,
-    ranges: &[RpRange],
+    next: Mrib,
 ) -> Result<(), AllocError>
-    ensures state { OnOk result (world.new
-        ≡ (if are_rps ranges.now then rps_replaced world.old ranges.now else world.old)) }
+    ensures state { OnOk result (world.new ≡ rps_replaced world.old next.ranges) }
     ensures silent { turn.new ≡ turn.old }
-    ensures at_least { OnOk result (raised meter.old (replaced_nodes world.old ranges.now) ≤ meter.new) }
+    ensures at_least { OnOk result (raised meter.old (replaced_nodes world.old next.ranges) ≤ meter.new) }
 {
-    let mut next = Mrib::new(turn.alloc);
-    match next.replace_rps(ranges) {
-        Ok(Ok(())) => {}
-        Ok(Err(_)) => return Ok(()),
-        Err(_) => return Err(AllocError),
-    }
     let keys = keys_with_new_rp(world, turn, meter, &next)?;
     world.take_ranges(next);
     join_all(world, meter, &keys)

@@ -1,6 +1,6 @@
 -- Where what is accepted is about an interface, that is one of the router's; where it is about a moment, that is one
--- that an event may have.
-use Rattle.std.proofs.Common.{◌≡◌, ◌<◌, ◌≤◌, ℕ, Bool, true, false, not, nat_le, nat_lt, Ok, Err, List, length, arith, refl, ap, subst, sym, ◌∙◌, ◌==◌, ◌&&◌}
+-- that an event may have; and routes and RP ranges are those of the event.
+use Rattle.std.proofs.Common.{◌≡◌, ◌<◌, ◌≤◌, ℕ, Bool, true, false, not, nat_le, nat_lt, Ok, Err, List, length, arith, refl, subst, sym, ◌∙◌, ◌==◌, ◌&&◌}
 use Rattle.std.proofs.lemmas.Bool.Decides.{nat_tests}
 use Rattle.std.specs.Prelude.{if◌then◌else◌}
 use Rattle.pim_ip.specs.Addr.{addr}
@@ -23,52 +23,60 @@ use Rattle.pim_model.specs.Neighbours.{is_neighbour}
 use Rattle.pim_model.specs.Registers.{registered_group}
 use Rattle.pim_model.specs.State.{InterfaceTable, State, iface_count, interfaces_of, is_own, is_up, my_address}
 use Rattle.pim_model.specs.Unicast.{is_rp}
-use Rattle.pim_router.specs.Naming.{IsConfigured}
+use Rattle.pim_mrib.specs.Routes.{RouteTable}
+use Rattle.pim_intake.specs.Admitted.{IsTableOf}
+use Rattle.pim_router.specs.Naming.{Brings, IsConfigured}
 use Rattle.pim_router.proofs.Judgements.{FitsTo, Says, choosing, ignoring, reading, refusing, three, two}
 
-module _ (s : State) where
+below : (i n : ℕ) → nat_le n i ≡ false → i < n
+below i n e = grind (arith, nat_tests, e)
+
+within : (m n : ℕ) → nat_lt n m ≡ false → m ≤ n
+within m n e = grind (arith, nat_tests, e)
+
+-- the event brings the routes, or the RP ranges, that are accepted
+abbrev IsBroughtBy : EventKind → Accepted → Type 0
+IsBroughtBy kind (Accepted.Routes routes) = kind ≡ EventKind.Routes routes
+IsBroughtBy kind (Accepted.Rps ranges) = kind ≡ EventKind.Rps ranges
+IsBroughtBy kind _ = Unit {0}
+
+module _ (s : State) (whole : EventKind) where
   abbrev Fits : Judged → Type 0
-  Fits = FitsTo (IsConfigured s)
+  Fits = FitsTo (λ a. IsConfigured s a × IsBroughtBy whole a)
 
   -- ---- a frame on an interface of the router
-
-  below : (i n : ℕ) → nat_le n i ≡ false → i < n
-  below i n e = grind (arith, nat_tests, e)
-
-  within : (m n : ℕ) → nat_lt n m ≡ false → m ≤ n
-  within m n e = grind (arith, nat_tests, e)
 
   module _ (i : IfaceId) (known : i.number < iface_count s) where
     join_prune : (m : JoinPrune) (b : Bool)
         → Fits (Ok (if b then Accepted.JoinPruneToMe i m else Accepted.JoinPruneSeen i m))
-    join_prune m true = record { says = known }
-    join_prune m false = record { says = known }
+    join_prune m true = record { says = (known, tt) }
+    join_prune m false = record { says = (known, tt) }
 
     pim : (from : ℕ) (v : PimView) → Fits (pim_judged s i from v)
     unfolding pim_judged hello_judged join_prune_judged assert_judged
     pim from (PimView.Hello h) =
         ignoring ((hello_holdtime_of h == 0) && not (is_neighbour s i.number from)) Ignored.NoNeighbour
-        (Ok (Accepted.Hello i (addr from) h)) (record { says = known })
+        (Ok (Accepted.Hello i (addr from) h)) (record { says = (known, tt) })
     pim from (PimView.JoinPrune m) =
         ignoring (not (is_neighbour s i.number from)) Ignored.NoNeighbour _
         (join_prune m (m.upstream == my_address s i.number))
     pim from (PimView.Assert a) =
         three (not (a.mask_length == 32)) (is_link_local a.group.bits) (not (is_neighbour s i.number from))
         Ignored.Mask Ignored.LinkLocal Ignored.NoNeighbour (Ok (Accepted.Assert i (addr from) a))
-        (record { says = known })
+        (record { says = (known, tt) })
     pim from PimView.Other = record { says = tt }
     pim from (PimView.Register r) = record { says = tt }
     pim from (PimView.RegisterStop r) = record { says = tt }
 
     igmp : (from : ℕ) (v : IgmpView) → Fits (Ok (igmp_accepted i from v))
-    igmp from (IgmpView.Query q) = record { says = known }
-    igmp from (IgmpView.Report records) = record { says = known }
+    igmp from (IgmpView.Query q) = record { says = (known, tt) }
+    igmp from (IgmpView.Report records) = record { says = (known, tt) }
 
     of_data : (p : Packet) → Fits (data_judged s i p)
     unfolding data_judged
     of_data p =
         three (is_own s p.source) (not (is_multicast p.destination)) (is_link_local p.destination)
-        Ignored.Own Ignored.NotForMe Ignored.LinkLocal (Ok (Accepted.Data i p)) (record { says = known })
+        Ignored.Own Ignored.NotForMe Ignored.LinkLocal (Ok (Accepted.Data i p)) (record { says = (known, tt) })
 
     packet : (p : Packet) → Fits (packet_judged s i p)
     unfolding packet_judged pim_message_judged igmp_message_judged igmp_judged
@@ -99,10 +107,10 @@ module _ (s : State) where
   unfolding pim_to_me_judged register_judged register_stop_judged
   to_me p (PimView.Register r) =
       ignoring (is_link_local (registered_group r)) Ignored.LinkLocal (Ok (Accepted.Register p r))
-      (record { says = tt })
+      (record { says = (tt, tt) })
   to_me p (PimView.RegisterStop r) =
       two (not (r.mask_length == 32)) (not (is_rp s r.group.bits p.source)) Ignored.Mask Ignored.NotRp
-      (Ok (Accepted.RegisterStop (addr p.source) r)) (record { says = tt })
+      (Ok (Accepted.RegisterStop (addr p.source) r)) (record { says = (tt, tt) })
   to_me p (PimView.Hello h) = record { says = tt }
   to_me p (PimView.JoinPrune m) = record { says = tt }
   to_me p (PimView.Assert a) = record { says = tt }
@@ -118,36 +126,49 @@ module _ (s : State) where
       (λ m. ignoring (not (is_own s p.destination)) Ignored.NotForMe (pim_to_me_judged s p m) (to_me p m)))
       (record { says = tt }))
 
-  so : (b : Bool) → not b ≡ false → b ≡ true
-  so true e = refl
-  so false e = cc
+-- ---- any event
 
-  any : (kind : EventKind) → Fits (judged s kind)
+module _ (s : State) where
+  any : (kind : EventKind) → Fits s kind (judged s kind)
   unfolding judged up_judged down_judged advance_judged routes_judged rps_judged
   any (EventKind.Advance moment) =
       refusing (nat_lt moment s.present) Refusal.MomentBack
       (refuse_if (nat_lt last_moment moment) Refusal.MomentFar >> Ok (Accepted.Advance moment))
       (λ _. refusing (nat_lt last_moment moment) Refusal.MomentFar (Ok (Accepted.Advance moment))
-      (λ e. record { says = within moment last_moment e }))
-  any (EventKind.Frame i bytes) = frame i bytes
-  any (EventKind.Unicast bytes) = unicast bytes
+      (λ e. record { says = (within moment last_moment e, tt) }))
+  any (EventKind.Frame i bytes) = frame s (EventKind.Frame i bytes) i bytes
+  any (EventKind.Unicast bytes) = unicast s (EventKind.Unicast bytes) bytes
   any (EventKind.Up i) =
       refusing (nat_le (iface_count s) i.number) Refusal.NoInterface _
       (λ e. ignoring (is_up s i.number) Ignored.Already (Ok (Accepted.Up i))
-      (record { says = below i.number (iface_count s) e }))
+      (record { says = (below i.number (iface_count s) e, tt) }))
   any (EventKind.Down i) =
       refusing (nat_le (iface_count s) i.number) Refusal.NoInterface _
       (λ e. ignoring (not (is_up s i.number)) Ignored.Already (Ok (Accepted.Down i))
-      (record { says = below i.number (iface_count s) e }))
+      (record { says = (below i.number (iface_count s) e, tt) }))
   any (EventKind.Routes routes) =
       refusing (not (are_routes s.configured routes)) Refusal.BadRoutes (Ok (Accepted.Routes routes))
-      (λ e. record { says = so (are_routes s.configured routes) e })
+      (λ e. record { says = (tt, refl) })
   any (EventKind.Rps ranges) =
-      refusing (not (are_rps ranges)) Refusal.BadRps (Ok (Accepted.Rps ranges))
-      (λ e. record { says = so (are_rps ranges) e })
+      refusing (not (are_rps ranges)) Refusal.BadRps (Ok (Accepted.Rps ranges)) (λ e. record { says = (tt, refl) })
+
+  accepted_of : (kind : EventKind) (j : Judged) (a : Accepted) → j ≡ judged s kind → j ≡ Ok a
+      → IsConfigured s a × IsBroughtBy kind a
+  accepted_of kind j a e f =
+      subst (λ (x : Judged). Says (λ a. IsConfigured s a × IsBroughtBy kind a) x) (sym e ∙ f) (any kind).says
 
   pub configured : (kind : EventKind) (j : Judged) (a : Accepted) → j ≡ judged s kind → j ≡ Ok a → IsConfigured s a
-  configured kind j a e f = subst (λ (x : Judged). Says (IsConfigured s) x) (sym e ∙ f) (any kind).says
+  configured kind j a e f = (accepted_of kind j a e f).0
+
+  of_event : (kind : EventKind) (a : Accepted) (table : RouteTable) → IsBroughtBy kind a → IsTableOf kind table
+      → Brings a table
+  of_event kind (Accepted.Routes routes) table is of = subst (λ (k : EventKind). IsTableOf k table) is of
+  of_event kind (Accepted.Rps ranges) table is of = subst (λ (k : EventKind). IsTableOf k table) is of
+  of_event kind a table is of = tt
+
+  pub brings : (kind : EventKind) (a : Accepted) (table : RouteTable) → judged s kind ≡ Ok a → IsTableOf kind table
+      → Brings a table
+  brings kind a table heard of = of_event kind a table (accepted_of kind (judged s kind) a refl heard).1 of
 
   pub data_below : (kind : EventKind) (i : IfaceId) (p : Packet) → judged s kind ≡ Ok (Accepted.Data i p)
       → (lent : InterfaceTable) → lent ≡ interfaces_of s → length lent.configured ≤ 120 → i.number < 120

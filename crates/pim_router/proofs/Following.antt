@@ -63,3 +63,35 @@ module _ (opening : List GroupOpening) (s u v : State) (t z : Taking) (registere
   unfolding cleared_by
   named_there before names named o touched is =
       named o touched is ∙ ap (λ (x : State). named_among o x touched) left_so
+
+-- what must go, then what is told
+module _ (opening : List GroupOpening) (s v : State) (t z : Taking) (left : v ≡ (cleared_by opening s).0)
+    (said : z ≡ saying t (cleared_by opening s).1) where
+  told_state : (upstream_by opening v z.draw).0 ≡ (followed_by opening s t.draw).0
+  unfolding followed_by
+  told_state =
+      ap (λ (d : ℕ). (upstream_by opening v d).0) (ap (λ (y : Taking). y.draw) said)
+      ∙ ap (λ (a : State). (upstream_by opening a t.draw).0) left
+
+  told_messages : saying z (upstream_by opening v z.draw).1 ≡ saying t (followed_by opening s t.draw).1
+  unfolding followed_by
+  told_messages =
+      ap (λ (d : ℕ). saying z (upstream_by opening v d).1) (ap (λ (y : Taking). y.draw) said)
+      ∙ ap (λ (a : State). saying z (upstream_by opening a t.draw).1) left
+      ∙ ap (λ (y : Taking). saying y (upstream_by opening (cleared_by opening s).0 t.draw).1) said
+      ∙ said_both t (cleared_by opening s).1 (upstream_by opening (cleared_by opening s).0 t.draw).1
+
+  -- by what was gathered of the one group
+  pub seen_state : (xs : List GroupOpening) → xs ≡ opening
+      → (upstream_by xs v z.draw).0 ≡ (followed_by opening s t.draw).0
+  seen_state xs is = ap (λ (os : List GroupOpening). (upstream_by os v z.draw).0) is ∙ told_state
+
+  pub seen_messages : (xs : List GroupOpening) → xs ≡ opening
+      → saying z (upstream_by xs v z.draw).1 ≡ saying t (followed_by opening s t.draw).1
+  seen_messages xs is = ap (λ (os : List GroupOpening). saying z (upstream_by os v z.draw).1) is ∙ told_messages
+
+  pub seen_named : (before : List SourceBefore) (names : List Key)
+      → ((o : State) (touched : Touched) → IsBefore o touched before → names ≡ named_among o v touched)
+      → AreNamed before (cleared_by opening s).0 names
+  seen_named before names named o touched is =
+      named o touched is ∙ ap (λ (x : State). named_among o x touched) left

@@ -1,5 +1,5 @@
 -- Time that passes: how far a loop over timers has come.
-use Rattle.std.proofs.Common.{◌≡◌, ◌≤◌, ◌<◌, ℕ, nat_le, inl, Bool, true, false, cond, List, [], ◌++◌, Ok, Err, Result, OnOk, option_and_then, append_assoc, append-nil, le-leb, Option, Some, None, option_map, refl, ap, subst, sym, ◌∙◌, arith}
+use Rattle.std.proofs.Common.{◌≡◌, ◌≤◌, ◌<◌, ℕ, nat_le, Bool, true, false, cond, List, [], ◌++◌, Ok, Err, Result, OnOk, option_and_then, append_assoc, append-nil, le-leb, Option, Some, None, option_map, refl, ap, subst, sym, ◌∙◌, arith}
 use Rattle.std.proofs.lemmas.Bool.Decides.{nat_tests}
 use Rattle.std.specs.Option.{option_map_or}
 use Rattle.std.specs.Prelude.{if◌then◌else◌}
@@ -177,13 +177,13 @@ module _ (s : State) (due : ℕ × Timer) where
       ∙ ap (λ (ms : List Message). settled_by (opening_of s those) after_end.0 ms ended.draw) sent
       ∙ ap (λ (w : ℕ). settled_by (opening_of s those) after_end.0 after_end.1 w) drawn
       ∙ sym (settled_as_opened s after_end.0 quiet (subst (λ (x : State). AreKeyed (pim_tables x)) state keyed)
-      after_end.1 first.draw those (inl (end_covered s lawful (ending_of due))))
+      after_end.1 first.draw those (end_covered s lawful (ending_of due)))
 
   pub end_touched : (touched : Touched) → IsLawful s → touched ≡ touched_by_end s due.1.kind due.1.key
       → Contains touched s (own_firing s (ending_of due))
   unfolding own_firing
   end_touched touched lawful touches =
-      subst (λ (t : Touched). Contains t s after_end.0) (sym touches) (inl (end_covered s lawful (ending_of due)))
+      subst (λ (t : Touched). Contains t s after_end.0) (sym touches) (end_covered s lawful (ending_of due))
 
   pub end_fired : (moved t : State) → moved ≡ at_end → t ≡ (fired moved due.1.kind due.1.key).0
       → t ≡ own_firing s (ending_of due)

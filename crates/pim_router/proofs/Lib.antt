@@ -25,7 +25,6 @@ mod Packets
 mod Offering
 mod Plans
 mod Repeats
-mod Restarted
 mod Touching
 mod Tunnelled
 mod Visited

@@ -1,6 +1,6 @@
 -- Plans of events: each kind's fits where its parts do.
 use Rattle.std.specs.Prelude.{if◌then◌else◌}
-use Rattle.std.proofs.Common.{◌≡◌, ℕ, Bool, true, false, List, ap, inl, inr, refl, subst, sym, ◌∙◌}
+use Rattle.std.proofs.Common.{◌≡◌, ℕ, Bool, true, false, List, OnOk, Option, Result, ap, inl, inr, refl, subst, sym, ◌∙◌}
 use Rattle.pim_types.specs.declared.fact.Key.{Key}
 use Rattle.pim_model.specs.declared.accepted.Accepted.{Accepted}
 use Rattle.pim_model.specs.Full.{is_full, join_prune_is_full, keys_are_full, source_is_full}
@@ -15,6 +15,7 @@ use Rattle.pim_ip.specs.declared.refusal.Refusal.{Refusal}
 use Rattle.pim_types.specs.declared.outcome.Stop.{Stop}
 use Rattle.pim_opening.specs.Covers.{Concerns, IsWithin}
 use Rattle.pim_fanout.specs.Contains.{Contains}
+use Rattle.pim_mrib.specs.Routes.{RouteTable}
 use Rattle.pim_reach.specs.Moved.{MovesAlone, keys_by_routes, keys_by_rps}
 use Rattle.pim_reach.proofs.MovedKeys.{routes_move, rps_move}
 use Rattle.pim_world.specs.declared.touched.Touched.{Touched}
@@ -28,8 +29,9 @@ use Rattle.pim_model.specs.Downstream.{joined_keys, pruned_keys}
 use Rattle.pim_downstream.specs.Naming.{changes_after}
 use Rattle.pim_downstream.specs.declared.effect.Change.{Change}
 use Rattle.pim_macros.specs.declared.sight.SourceSight.{SourceSight}
+use Rattle.pim_router.specs.Ends.{few_or_all}
 use Rattle.pim_router.specs.OtherRoutes.{with_routes}
-use Rattle.pim_router.specs.Planning.{Fits, HasChanges, HasHeard, HasKeys, HasSight, HasSomeSight, IsSightOf, Supplies, touched_of}
+use Rattle.pim_router.specs.Planning.{Fits, HasChanges, HasHeard, HasKeys, HasSight, HasSomeSight, IsSightOf, Supplies, ranges_by, routes_by, table_of, touched_of}
 use Rattle.pim_router.specs.declared.plan.Heard.{Heard}
 use Rattle.pim_router.specs.declared.plan.Means.{Means}
 use Rattle.pim_router.specs.declared.plan.Plan.{Plan}
@@ -42,7 +44,7 @@ module _ (s : State) (a : Accepted) (plan : Plan) where
       → Supplies s a means → Fits s a plan
   keys_fit keys means is touches room covers supplied =
       subst (λ (p : Plan). Fits s a p) (sym is)
-      (record { room = room; touches = touches; covers = λ w. inl (covers w); means = supplied })
+      (record { room = room; touches = touches; covers = λ w. inl (inl (covers w)); means = supplied })
 
   -- all may be touched
   all_fit : (let p : Plan = record { touched = Touched.All; means = Means.Nothing } in plan ≡ p)
@@ -50,7 +52,19 @@ module _ (s : State) (a : Accepted) (plan : Plan) where
       → Supplies s a Means.Nothing → Fits s a plan
   all_fit is touches room covers supplied =
       subst (λ (p : Plan). Fits s a p) (sym is)
-      (record { room = room; touches = touches; covers = λ w. inl (covers w); means = supplied })
+      (record { room = room; touches = touches; covers = λ w. inl (inl (covers w)); means = supplied })
+
+-- those of what looks to a neighbour are touched, or all
+pub adjoins_fit : (s : State) (a : Accepted) (keys : List Key) (touched : Touched) → touched ≡ few_or_all keys
+    → few_or_all keys ≡ touched_of s a → is_full s a ≡ false
+    → ((w : ℕ) → Contains (few_or_all keys) s (change s w a).state) → Supplies s a Means.Nothing
+    → (let p : Plan = record { touched = touched; means = Means.Nothing } in Fits s a p)
+adjoins_fit s a keys touched those touches room covers supplied = record {
+  room = room;
+  touches = those ∙ touches;
+  covers = λ w. subst (λ (t : Touched). Contains t s (change s w a).state) (sym those) (covers w);
+  means = supplied;
+}
 
 -- all may be touched, of an event whose kind is known
 pub all_planned : (s : State) (a b : Accepted) (plan : Plan)
@@ -65,10 +79,10 @@ pub keys_where : (on : Bool) (keys none : List Key) (otherwise : Touched) → on
     → Touched.Keys keys ≡ (if on then Touched.Keys none else otherwise)
 keys_where on keys none otherwise is are = rw is (ap Touched.Keys are)
 
--- and on two
-pub restarted_where : (on too : Bool) (keys these : List Key) (none : Touched) → on ≡ false → too ≡ true → keys ≡ these
-    → Touched.Keys keys ≡ (if on then none else (if too then Touched.Keys these else Touched.All))
-restarted_where on too keys these none is also are = rw (is, also) (ap Touched.Keys are)
+-- what is touched on two
+pub touched_where : (on too : Bool) (touched these none : Touched) → on ≡ false → too ≡ true → touched ≡ these
+    → touched ≡ (if on then none else (if too then these else Touched.All))
+touched_where on too touched these none is also are = rw (is, also) are
 
 pub all_where : (on too : Bool) (none these : Touched) → on ≡ false → too ≡ false
     → Touched.All ≡ (if on then none else (if too then these else Touched.All))
@@ -93,31 +107,31 @@ kept_alive_of s (Null own of_group) g src group source = λ j. is_kept_alive s (
 -- ---- routes and RP ranges
 
 -- these keys are touched, which take all that is moved
-module _ (s : State) (a : Accepted) (touched : Touched) (keys : List Key) where
-  moved_fits : Touched.Keys keys ≡ touched_of s a → is_full s a ≡ false → Supplies s a Means.Nothing
+module _ (s : State) (a : Accepted) (touched : Touched) (means : Means) (keys : List Key) where
+  moved_fits : Touched.Keys keys ≡ touched_of s a → is_full s a ≡ false → Supplies s a means
       → ((w : ℕ) → MovesAlone keys s (change s w a).state) → touched ≡ Touched.Keys keys
-      → (let p : Plan = record { touched = touched; means = Means.Nothing } in Fits s a p)
+      → (let p : Plan = record { touched = touched; means = means } in Fits s a p)
   moved_fits touches room supplied moves those = record {
     room = room;
     touches = those ∙ touches;
-    covers = λ w. subst (λ (t : Touched). Contains t s (change s w a).state) (sym those) (inr (moves w));
+    covers = λ w. subst (λ (t : Touched). Contains t s (change s w a).state) (sym those) (inl (inr (moves w)));
     means = supplied;
   }
 
-pub routes_fit : (s : State) (routes : List Route) (touched : Touched)
-    → touched ≡ Touched.Keys (keys_by_routes s (with_routes s routes))
-    → (let p : Plan = record { touched = touched; means = Means.Nothing } in Fits s (Accepted.Routes routes) p)
+pub routes_fit : (s : State) (routes : List Route) (touched : Touched) (means : Means)
+    → touched ≡ Touched.Keys (keys_by_routes s (with_routes s routes)) → routes_by s (table_of means) ≡ routes
+    → (let p : Plan = record { touched = touched; means = means } in Fits s (Accepted.Routes routes) p)
 unfolding is_full change touched_of
-routes_fit s routes touched those =
-    moved_fits s (Accepted.Routes routes) touched (keys_by_routes s (with_routes s routes)) refl refl tt
+routes_fit s routes touched means those supplied =
+    moved_fits s (Accepted.Routes routes) touched means (keys_by_routes s (with_routes s routes)) refl refl supplied
     (λ w. routes_move s w routes) those
 
-pub rps_fit : (s : State) (ranges : List RpRange) (touched : Touched)
-    → touched ≡ Touched.Keys (keys_by_rps s (rps_replaced s ranges))
-    → (let p : Plan = record { touched = touched; means = Means.Nothing } in Fits s (Accepted.Rps ranges) p)
+pub rps_fit : (s : State) (ranges : List RpRange) (touched : Touched) (means : Means)
+    → touched ≡ Touched.Keys (keys_by_rps s (rps_replaced s ranges)) → ranges_by s (table_of means) ≡ ranges
+    → (let p : Plan = record { touched = touched; means = means } in Fits s (Accepted.Rps ranges) p)
 unfolding is_full change touched_of
-rps_fit s ranges touched those =
-    moved_fits s (Accepted.Rps ranges) touched (keys_by_rps s (rps_replaced s ranges)) refl refl tt
+rps_fit s ranges touched means those supplied =
+    moved_fits s (Accepted.Rps ranges) touched means (keys_by_rps s (rps_replaced s ranges)) refl refl supplied
     (λ w. rps_move s w ranges) those
 
 -- ---- room
@@ -177,11 +191,13 @@ module _ (s : State) (a : Accepted) (m : Means) where
   some_heard joined pruned (Means.Heard heard) h = tt
   some_heard joined pruned Means.Nothing h = h
   some_heard joined pruned (Means.Sight sight) h = h
+  some_heard joined pruned (Means.Table table) h = h
 
   some_sight : (g src : ℕ) (n : Means) → HasSight s g src n → HasSomeSight n
   some_sight g src (Means.Sight sight) h = tt
   some_sight g src Means.Nothing h = h
   some_sight g src (Means.Heard heard) h = h
+  some_sight g src (Means.Table table) h = h
 
   module _ (i : IfaceId) (message : JoinPrune) where
     abbrev joined : List Key
@@ -229,3 +245,24 @@ module _ (s : State) (a : Accepted) (m : Means) where
     data_sight sight shows =
         subst (λ (n : Means). HasSight s p.destination p.source n) shows
         (subst (λ (x : Accepted). Supplies s x m) is supplied)
+
+-- the routes of the table that was planned are those that come
+module _ (s t : State) (w : ℕ) (a : Accepted) where
+  pub routes_taken : (routes : List Route) (means : Means) (next : Option RouteTable) → a ≡ Accepted.Routes routes
+      → Supplies s a means → next ≡ table_of means → t ≡ record s { routes = routes_by s next } → t ≡ (change s w a).state
+  unfolding change
+  routes_taken routes means next is supplied of taken =
+      let same : routes_by s next ≡ routes =
+      ap (routes_by s) of ∙ subst (λ (x : Accepted). Supplies s x means) is supplied in
+      subst (λ (x : Accepted). t ≡ (change s w x).state) (sym is)
+      (taken ∙ ap (λ (rs : List Route). let y : State = record s { routes = rs } in y) same)
+
+  pub ranges_taken : {E : Type 0} (ranges : List RpRange) (means : Means) (next : Option RouteTable) → a ≡ Accepted.Rps ranges
+      → Supplies s a means → next ≡ table_of means → (r : Result (Unit {0}) E)
+      → OnOk r (t ≡ rps_replaced s (ranges_by s next)) → OnOk r (t ≡ (change s w a).state)
+  unfolding change
+  ranges_taken ranges means next is supplied of r taken =
+      let same : ranges_by s next ≡ ranges =
+      ap (ranges_by s) of ∙ subst (λ (x : Accepted). Supplies s x means) is supplied in
+      subst (λ (x : Accepted). OnOk r (t ≡ (change s w x).state)) (sym is)
+      (subst (λ (rs : List RpRange). OnOk r (t ≡ rps_replaced s rs)) same taken)

@@ -9,9 +9,9 @@ use Rattle.pim_locality.specs.Rest.{IsAtRest}
 use Rattle.std.specs.Prelude.{if◌then◌else◌}
 use Rattle.pim_types.specs.declared.config.Config.{Config}
 use Rattle.pim_asked.proofs.Steps.{run_is_asked}
-use Rattle.pim_words.proofs.Bounded.{run_stays_within}
-use Rattle.pim_words.proofs.Few.{counted_stay_bounded}
-use Rattle.pim_words.specs.Bounded.{IsBounded}
+use Rattle.pim_promises.proofs.Bounded.{run_stays_within}
+use Rattle.pim_promises.proofs.Few.{counted_stay_bounded}
+use Rattle.pim_promises.specs.Bounded.{IsBounded}
 use Rattle.pim_world.specs.declared.touched.Touched.{Touched}
 use Rattle.pim_model.specs.Cause.{OutcomesAreAsked}
 use Rattle.pim_model.specs.Limits.{config_test}

@@ -22,6 +22,9 @@ use Rattle.pim_locality.proofs.Touches.{touching_is_closed}
 use Rattle.pim_reach.specs.Moved.{HaveSources, MovesAlone}
 use Rattle.pim_reach.proofs.Moved.{moved_goes, moved_settles}
 use Rattle.pim_reach.proofs.Taken.{facts_stay}
+use Rattle.pim_adjacent.specs.Adjacent.{AdjoinsAlone}
+use Rattle.pim_adjacent.proofs.Goes.{adjoins_goes}
+use Rattle.pim_adjacent.proofs.Settles.{adjoins_settles}
 use Rattle.pim_store.specs.PimTables.{AreKeyed, is_source_key, pim_tables}
 use Rattle.pim_world.specs.declared.touched.Touched.{Touched}
 use Rattle.pim_opening.specs.Covers.{IsWithin, NewAreNamed}
@@ -81,6 +84,12 @@ moved_named keys o a moves g src there =
     or_left (has_facts o g src) (list_any (names_source g src) keys)
     (ap (λ (ks : List Key). list_any (names_source g src) ks) (sym (facts_stay keys o a moves)) ∙ there)
 
+-- ---- what looks to another neighbour
+
+adjoined_named : (keys : List Key) (o a : State) → AdjoinsAlone keys o a → NewAreNamed keys o a
+adjoined_named keys o a adjoins g src there =
+    or_left (has_facts o g src) (list_any (names_source g src) keys) (adjoins.facts (names_source g src) there)
+
 module _ (o a : State) (quiet : IsQuiet o) (keyed : AreKeyed (pim_tables a)) where
   sources_have : HaveSources a.sources
   sources_have =
@@ -113,7 +122,7 @@ module _ (o a : State) (quiet : IsQuiet o) (keyed : AreKeyed (pim_tables a)) whe
     pub settled_as_opened : (touched : Touched) → Contains touched o a
         → settled o (a, messages) w ≡ settled_by (opening_of o touched) a messages w
     unfolding settled clear
-    settled_as_opened Touched.All (inl within) =
+    settled_as_opened Touched.All (inl (inl within)) =
         let opening : List GroupOpening = opening_of o Touched.All in
         let s : State = registers_by opening a in
         let here : IsWithin o s = within_both o a s within (registers_are_within opening a) in
@@ -123,12 +132,15 @@ module _ (o a : State) (quiet : IsQuiet o) (keyed : AreKeyed (pim_tables a)) whe
         (all_go_by_opened o s here left left.asserts_rise left.sources_rise)
         (upstream_of_all o (clear_by opening s).0 w
         (within_both o s (clear_by opening s).0 here (clearing_is_within opening s)))
+    settled_as_opened Touched.All (inl (inr none)) = absurd none
     settled_as_opened Touched.All (inr none) = absurd none
-    settled_as_opened (Touched.Keys keys) (inl concerns) =
+    settled_as_opened (Touched.Keys keys) (inl (inl concerns)) =
         by_keys keys concerns.named (settling_is_own keys o quiet (a, messages) w concerns.agrees)
-    settled_as_opened (Touched.Keys keys) (inr moves) =
+    settled_as_opened (Touched.Keys keys) (inl (inr moves)) =
         by_keys keys (moved_named keys o a moves)
         (moved_settles keys o a quiet moves sources_have registers_have messages w)
+    settled_as_opened (Touched.Keys keys) (inr adjoins) =
+        by_keys keys (adjoined_named keys o a adjoins) (adjoins_settles keys o a quiet adjoins messages w)
 
   -- ---- what clearing leaves, by what was opened
 
@@ -150,19 +162,22 @@ module _ (o a : State) (quiet : IsQuiet o) (keyed : AreKeyed (pim_tables a)) whe
   pub cleared_as_opened : (touched : Touched) → Contains touched o a
       → (clear o a).0 ≡ (cleared_by (opening_of o touched) a).0
   unfolding clear cleared_by
-  cleared_as_opened Touched.All (inl within) =
+  cleared_as_opened Touched.All (inl (inl within)) =
       let opening : List GroupOpening = opening_of o Touched.All in
       let s : State = registers_by opening a in
       let here : IsWithin o s = within_both o a s within (registers_are_within opening a) in
       let left : AreKeyed (pim_tables s) = registers_are_keyed opening a keyed in
       ap (λ (t : State). (clear_all o t).0) (registers_of_all o a within keyed keyed.registers_rise)
       ∙ ap (λ (p : State × List Message). p.0) (all_go_by_opened o s here left left.asserts_rise left.sources_rise)
+  cleared_as_opened Touched.All (inl (inr none)) = absurd none
   cleared_as_opened Touched.All (inr none) = absurd none
-  cleared_as_opened (Touched.Keys keys) (inl concerns) =
+  cleared_as_opened (Touched.Keys keys) (inl (inl concerns)) =
       cleared_by_keys keys concerns.named
       (ap (clear_all o) (registers_of_touched (touching keys) (touching_is_closed keys) o quiet a concerns.agrees)
       ∙ clear_of_touched (touching keys) o (touching_is_closed keys) quiet (touched_registers (touching keys) a)
       (registers_agree (touching keys) (touching_is_closed keys) o a concerns.agrees))
-  cleared_as_opened (Touched.Keys keys) (inr moves) =
+  cleared_as_opened (Touched.Keys keys) (inl (inr moves)) =
       cleared_by_keys keys (moved_named keys o a moves)
       (moved_goes keys o a quiet moves sources_have registers_have)
+  cleared_as_opened (Touched.Keys keys) (inr adjoins) =
+      cleared_by_keys keys (adjoined_named keys o a adjoins) (adjoins_goes keys o a quiet adjoins)

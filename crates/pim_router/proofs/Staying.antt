@@ -1,6 +1,6 @@
 -- Which sources stay as they were, whether they have a fact or not: after an event, after a timer's end, and over firings and
 -- events in turn.
-use Rattle.std.proofs.Common.{◌≡◌, ◌≤◌, ◌<◌, ◌+◌, ℕ, Bool, true, false, not, ◌||◌, cond, List, [], ◌∷◌, ◌++◌, Result, Ok, Err, OnOk, length, take, take_all, get_or, add-one, refl, ap, subst, sym, ◌∙◌}
+use Rattle.std.proofs.Common.{◌≡◌, ◌≤◌, ◌<◌, ◌+◌, ℕ, Bool, true, false, not, ◌&&◌, ◌||◌, ◌⊎◌, inl, inr, cond, List, [], ◌∷◌, ◌++◌, Result, Ok, Err, OnOk, length, take, take_all, get_or, add-one, refl, ap, subst, sym, ◌∙◌}
 use Rattle.std.proofs.Math.Seq.{take-suc}
 use Rattle.std.proofs.lemmas.Bool.{or_parts}
 use Rattle.std.proofs.lemmas.List.Folds.{list_any-append}
@@ -8,20 +8,33 @@ use Rattle.pim_ip.specs.Ipv4.{Packet}
 use Rattle.pim_types.specs.declared.event.Event.{Event}
 use Rattle.pim_types.specs.declared.fact.Key.{Key}
 use Rattle.pim_types.specs.Keys.{source_key}
-use Rattle.pim_model.specs.Cache.{Plain}
+use Rattle.pim_model.specs.Cache.{Answers, Plain, answers}
 use Rattle.pim_model.specs.declared.accepted.Accepted.{Accepted}
-use Rattle.pim_model.specs.Firing.{fire_once}
+use Rattle.pim_model.specs.Firing.{fire_once, fired, settled}
+use Rattle.pim_model.specs.Messages.{Message}
 use Rattle.pim_model.specs.Full.{passes_limit}
 use Rattle.pim_model.specs.Reach.{own_firing}
 use Rattle.pim_model.specs.State.{InterfaceTable, State, interfaces_of}
 use Rattle.pim_model.specs.Step.{change, done, ran, state_after, step, taken}
+use Rattle.pim_model.specs.Tables.{has_row}
 use Rattle.pim_model.specs.Timers.{Ending}
 use Rattle.pim_locality.specs.Locality.{IsQuiet, touching}
 use Rattle.pim_locality.specs.Rest.{IsAtRest}
 use Rattle.pim_locality.specs.Scopes.{reads}
+use Rattle.pim_reach.specs.Keeps.{KeepsAnswers}
+use Rattle.pim_reach.specs.Named.{is_named, is_same_beside, is_same_fact, is_same_sight}
+use Rattle.pim_reach.proofs.Configured.{configured_beside}
+use Rattle.pim_reach.proofs.Kept.{unnamed_keeps}
+use Rattle.pim_reach.proofs.Reached.{IsConfigured}
+use Rattle.pim_reach.proofs.SameRows.{both_of, flags, not_false}
+use Rattle.pim_reach.proofs.Settled.{settled_configured}
+use Rattle.pim_adjacent.specs.Adjacent.{AdjoinsAlone, with_neighbours}
+use Rattle.pim_adjacent.proofs.Stays.{adjoins_stays}
 use Rattle.pim_cached.specs.Decided.{IsDecided}
+use Rattle.pim_cached.specs.Kept.{SameAnswers}
+use Rattle.pim_cached.proofs.SameRows.{kept_is_same}
 use Rattle.pim_world.specs.declared.touched.Touched.{Touched}
-use Rattle.pim_fanout.specs.Contains.{Contains}
+use Rattle.pim_fanout.specs.Contains.{Adjoins, Contains}
 use Rattle.pim_fanout.specs.Disturbed.{is_disturbed, joined}
 use Rattle.pim_fanout.proofs.Untouched.{untouched_is_unnamed}
 use Rattle.pim_offload.specs.Offered.{offered}
@@ -65,6 +78,67 @@ few_of : (s : State) (lent : InterfaceTable) → lent ≡ interfaces_of s → le
     → length s.configured ≤ 120
 few_of s lent lends few = subst (λ (x : InterfaceTable). length x.configured ≤ 120) lends few
 
+either_way : {A B C : Type 0} → A ⊎ B → (A → C) → (B → C) → C
+either_way (inl a) first second = first a
+either_way (inr b) first second = second b
+
+-- a change of neighbours
+module _ (s c : State) (quiet : IsQuiet s) (few : length s.configured ≤ 120) (keys : List Key)
+    (adjoins : AdjoinsAlone keys s c) (messages : List Message) (w g src : ℕ)
+    (out : touching keys (source_key 0 g src) ≡ false) where
+  abbrev last : State
+  last = (settled s (c, messages) w).0
+
+  abbrev before : State
+  before = with_neighbours last s.neighbours
+
+  stays_there : (is_named g src s before ≡ false) × (answers before g src ≡ answers last g src)
+  stays_there = adjoins_stays keys s c quiet adjoins messages w g src out
+
+  before_configured : IsConfigured s before
+  before_configured =
+      let changed : IsConfigured s (with_neighbours c s.neighbours) =
+      configured_beside keys s (with_neighbours c s.neighbours) adjoins.agrees in
+      let all : IsConfigured s last =
+      settled_configured s (c, messages) w (record { settings = changed.settings; configured = changed.configured }) in
+      record { settings = all.settings; configured = all.configured }
+
+  before_keeps : KeepsAnswers g src s before
+  before_keeps =
+      unnamed_keeps g src s before before_configured.settings before_configured.configured few stays_there.0
+
+  same_fact : is_named g src s before ≡ false
+      → has_row s.sources (source_key 0 g src) ≡ has_row last.sources (source_key 0 g src)
+  unfolding is_named
+  same_fact e =
+      let all : _ = both_of (is_same_fact g src s before && is_same_sight g src s before) (is_same_beside g src s before)
+      (not_false _ e) in
+      flags _ _ (both_of (is_same_fact g src s before) (is_same_sight g src s before) all.0).0
+
+  adjoined_stays : SourceStays g src s last
+  adjoined_stays = record {
+    fact = same_fact stays_there.0;
+    answers_are = subst (λ (r : Answers). SameAnswers (answers s g src) r) stays_there.1
+        (kept_is_same g src s before before_configured few before_keeps);
+  }
+
+adjoined_event_stays : (s : State) (w : ℕ) (a : Accepted) → IsQuiet s → length s.configured ≤ 120 → (touched : Touched)
+    → Adjoins touched s (change s w a).state → (g src : ℕ) → is_disturbed touched g src ≡ false
+    → SourceStays g src s (done s w (change s w a)).state
+unfolding done is_disturbed
+adjoined_event_stays s w a quiet few Touched.All none g src out = absurd none
+adjoined_event_stays s w a quiet few (Touched.Keys keys) adjoins g src out =
+    adjoined_stays s (change s w a).state quiet few keys adjoins (change s w a).messages w g src out
+
+adjoined_firing_stays : (s : State) (w : ℕ) (e : Ending) → IsQuiet s → length s.configured ≤ 120 → (touched : Touched)
+    → Adjoins touched s (own_firing s e) → (g src : ℕ) → is_disturbed touched g src ≡ false
+    → SourceStays g src s (fire_once w s e).0
+unfolding fire_once own_firing is_disturbed
+adjoined_firing_stays s w e quiet few Touched.All none g src out = absurd none
+adjoined_firing_stays s w e quiet few (Touched.Keys keys) adjoins g src out =
+    let changed : State × List Message = fired (record s { present = e.end }) e.timer.kind e.timer.key in
+    adjoined_stays s changed.0 quiet few keys adjoins changed.1 w g src out
+
 pub stays_after : (o s t : State) (w : ℕ) (a : Accepted) → ((m : ℕ) → ¬ (a ≡ Accepted.Advance m)) → (touched : Touched)
     → Contains touched s (change s w a).state → IsQuiet s → (lent : InterfaceTable) → lent ≡ interfaces_of s
     → length lent.configured ≤ 120 → t ≡ (taken s w a).state → (before after : Touched)
@@ -77,8 +151,10 @@ stays_after o s t w a timeless touched covers quiet lent lends few is before aft
     let same : t ≡ (done s w (change s w a)).state = is ∙ ap (λ x. x.state) (taken_is_done s w a timeless) in
     subst (λ (u : State). SourceStays g src o u) (sym same)
     (stays_in_turn o s (done s w (change s w a)).state g src (stays g src parts.0)
-    (unnamed_source_stays s w a (few_of s lent lends few) g src
-    (untouched_is_unnamed s (change s w a).state quiet touched covers g src routed.routes routed.ranges calm.1)))
+    (either_way covers
+    (λ known. unnamed_source_stays s w a (few_of s lent lends few) g src
+    (untouched_is_unnamed s (change s w a).state quiet touched known g src routed.routes routed.ranges calm.1))
+    (λ adjoins. adjoined_event_stays s w a quiet (few_of s lent lends few) touched adjoins g src calm.1)))
 
 pub stays_fired : (o s t : State) (w : ℕ) (e : Ending) (touched : Touched) → Contains touched s (own_firing s e)
     → IsQuiet s → (lent : InterfaceTable) → lent ≡ interfaces_of s → length lent.configured ≤ 120
@@ -89,8 +165,10 @@ stays_fired o s t w e touched covers quiet lent lends few is before after joins 
     let routed : KeepsRoutes s (own_firing s e) = firing_keeps_routes s e in
     subst (λ (u : State). SourceStays g src o u) (sym is)
     (stays_in_turn o s (fire_once w s e).0 g src (stays g src parts.0)
-    (firing_source_stays s w e (few_of s lent lends few) g src
-    (untouched_is_unnamed s (own_firing s e) quiet touched covers g src routed.routes routed.ranges parts.1)))
+    (either_way covers
+    (λ known. firing_source_stays s w e (few_of s lent lends few) g src
+    (untouched_is_unnamed s (own_firing s e) quiet touched known g src routed.routes routed.ranges parts.1))
+    (λ adjoins. adjoined_firing_stays s w e quiet (few_of s lent lends few) touched adjoins g src parts.1)))
 
 pub stays_present : (o s t : State) (m : ℕ) (disturbed : Touched) → t ≡ record s { present = m }
     → StaysBeside disturbed o s → StaysBeside disturbed o t

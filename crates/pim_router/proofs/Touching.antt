@@ -1,15 +1,14 @@
 -- Which machines a change concerns, and of which groups and sources it makes facts.
-use Rattle.std.proofs.Common.{◌≡◌, ℕ, Bool, true, false, List, [], ◌∷◌, ◌&&◌, ◌||◌, ◌++◌, ◌==◌, filter, min, map, not, Option, Some, None, refl, ap, eqb-true, subst, sym, ◌∙◌}
+use Rattle.std.proofs.Common.{◌≡◌, ℕ, Bool, true, false, List, [], ◌∷◌, ◌&&◌, ◌||◌, ◌++◌, ◌==◌, filter, map, not, Option, Some, None, inl, inr, refl, ap, eqb-true, subst, sym, ◌∙◌}
 use Rattle.std.specs.Cmp.{first_so, second_so}
 use Rattle.std.proofs.lemmas.Bool.{or_left}
 use Rattle.std.proofs.lemmas.List.Folds.{list_any-append}
 use Rattle.std.specs.List.{list_any}
 use Rattle.std.specs.Option.{option_map_or}
 use Rattle.std.specs.Prelude.{fold, if◌then◌else◌}
-use Rattle.pim_types.specs.declared.fact.JoinTimerRow.{JoinTimerRow}
 use Rattle.pim_types.specs.declared.fact.Key.{Key}
 use Rattle.pim_types.specs.declared.fact.NeighbourRow.{NeighbourRow}
-use Rattle.pim_types.specs.Keys.{is_of_group, is_star, names_source, neighbour_key, star_key}
+use Rattle.pim_types.specs.Keys.{iface_in, is_of_group, is_star, names_source, neighbour_key, source_in, star_key}
 use Rattle.pim_wire.specs.declared.hello.Hello.{Hello as HelloValue}
 use Rattle.pim_types.specs.declared.config.IfaceId.{IfaceId}
 use Rattle.pim_ip.specs.declared.addr.Addr.{Addr}
@@ -20,19 +19,18 @@ use Rattle.pim_model.specs.declared.accepted.Accepted.{Accepted}
 use Rattle.pim_model.specs.Downstream.{asserts_after_joins, is_named, joined_keys, keys_taken, pruned_keys, row_after, to_me, touched_keys}
 use Rattle.pim_model.specs.Firing.{fired}
 use Rattle.pim_model.specs.Full.{asserted_keys}
-use Rattle.pim_model.specs.Hellos.{hello_holdtime_of, hello_received, hello_triggered, is_generation_changed, is_lost_to, neighbour_replaced, neighbour_restarted}
+use Rattle.pim_model.specs.Hellos.{hello_holdtime_of, hello_received, is_generation_changed}
 use Rattle.pim_model.specs.Querier.{is_skipped, querier_up, querying}
 use Rattle.pim_model.specs.Seen.{seen}
 use Rattle.pim_model.specs.Sets.{is_loser}
 use Rattle.pim_model.specs.State.{State}
 use Rattle.pim_model.specs.Step.{change, decapsulated, iface_up}
-use Rattle.pim_model.specs.Tables.{Table, keys_in, row_at, same_option, set_row}
+use Rattle.pim_model.specs.Tables.{keys_in, row_at, same_option, set_row}
 use Rattle.pim_model.specs.Timers.{Ending}
 use Rattle.pim_model.specs.Upstream.{fact_keys}
 use Rattle.pim_types.specs.declared.timer.TimerKind.{TimerKind}
-use Rattle.pim_laws.proofs.FewerFacts.{IsFewer, down_fewer, ended_fewer, fewer_both, fewer_so, no_other, rows_left, table_fewer}
+use Rattle.pim_laws.proofs.FewerFacts.{IsFewer, down_fewer, ended_fewer, fewer_both, no_other, rows_left}
 use Rattle.pim_laws.proofs.ListLaws.{either}
-use Rattle.pim_laws.proofs.Parts.{Asserts, JoinTimers}
 use Rattle.pim_locality.proofs.EventLaws.{change_touches}
 use Rattle.pim_locality.proofs.JoinPrunes.{join_prune_touches_moved, new_rows_moved}
 use Rattle.pim_locality.proofs.RefreshedNeighbours.{hello_again_touches_none}
@@ -43,11 +41,16 @@ use Rattle.pim_locality.specs.Events.{touched_by_event}
 use Rattle.pim_locality.specs.JoinPrunes.{moved_among, moved_keys}
 use Rattle.pim_locality.specs.Locality.{AgreesBut, touching}
 use Rattle.pim_locality.specs.Touches.{isnt_neighbour, packet_keys, touched_by}
-use Rattle.pim_opening.specs.Covers.{Concerns, Covers, IsWithin, NewAreNamed}
+use Rattle.pim_adjacent.specs.Adjacent.{AdjoinsAlone, end_keeps_dr, hello_keeps_dr, keys_of_hello, keys_towards}
+use Rattle.pim_adjacent.proofs.Hellos.{end_adjoins, hello_adjoins, hello_leaves_facts}
+use Rattle.pim_fanout.specs.Contains.{Contains}
+use Rattle.pim_world.specs.declared.touched.Touched.{Touched}
+use Rattle.pim_model.specs.Reach.{own_firing}
+use Rattle.pim_opening.specs.Covers.{Concerns, IsWithin, NewAreNamed}
 use Rattle.pim_opening.specs.Openings.{has_facts}
 use Rattle.pim_neighbours.specs.Refreshed.{is_refreshed}
 use Rattle.pim_ready.specs.Ready.{IsLawful, IsOrdered, Rises}
-use Rattle.pim_router.specs.Ends.{has_other_sources, keeps_group, touched_by_end, touched_by_source}
+use Rattle.pim_router.specs.Ends.{few_or_all, has_other_sources, keeps_group, touched_by_end, touched_by_source}
 use Rattle.pim_router.proofs.SourceEnds.{source_end_touches}
 use Rattle.pim_model.specs.Full.{reported_groups, reported_sources}
 use Rattle.pim_laws.proofs.ListLaws.{each_of_list}
@@ -64,11 +67,10 @@ use Rattle.pim_ip.specs.Ipv4.{Packet}
 use Rattle.pim_router.proofs.Packets.{packet_named, register_named}
 use Rattle.pim_wire.specs.declared.register.RegisterStop.{RegisterStop as RegisterStopValue}
 use Rattle.pim_types.specs.Keys.{source_key}
-use Rattle.pim_router.specs.Repeats.{is_assert_known, keys_of_packet, lost_keys, moves_end, without_generation}
+use Rattle.pim_router.specs.Repeats.{is_assert_known, keys_of_packet, moves_end}
 use Rattle.pim_locality.specs.Rest.{IsAtRest}
 use Rattle.pim_model.specs.Sets.{is_kept_alive}
 use Rattle.pim_router.proofs.Repeats.{assert_concerned, packet_concerned, register_concerned, so_false}
-use Rattle.pim_router.proofs.Restarted.{restarted_touches, same_priority}
 use Rattle.pim_router.proofs.Asserted.{asserted_named}
 use Rattle.pim_router.proofs.Growing.{Grows, facts_grow, stays}
 use Rattle.pim_router.proofs.Heard.{seen_named}
@@ -114,41 +116,11 @@ up_leaves_facts s w i = no_other s (iface_up s w i).0 refl
 
 -- ---- Hellos
 
-lowered_keys : (test : Key → Bool) (end : ℕ) (t : Table JoinTimerRow)
-    → keys_in (map (λ (e : Key × JoinTimerRow). if test e.0 then (e.0, record { end = min (e.1).end end }) else e) t)
-    ≡ keys_in t
-unfolding keys_in
-lowered_keys test end [] = refl
-lowered_keys test end (e ∷ t) = one (test e.0) e (keys_in t) _ (lowered_keys test end t) where
-  one : (b : Bool) (e : Key × JoinTimerRow) (ks : List Key) (later : List Key) → later ≡ ks
-      → (if b then (e.0, record { end = min (e.1).end end }) else e).0 ∷ later ≡ e.0 ∷ ks
-  one true e ks later is = ap (λ xs. e.0 ∷ xs) is
-  one false e ks later is = ap (λ xs. e.0 ∷ xs) is
-
-triggered : (s : State) (i w : ℕ) (b : Bool) → fact_keys (if b then hello_triggered s i w else s) ≡ fact_keys s
-unfolding hello_triggered fact_keys
-triggered s i w true = refl
-triggered s i w false = refl
-
-replaced : (t : State) (i a : ℕ) (h : HelloValue) → fact_keys (neighbour_replaced t i a h) ≡ fact_keys t
-unfolding neighbour_replaced fact_keys
-replaced t i a h = refl
-
-restarted : (o t : State) (i a w : ℕ) → IsFewer t (neighbour_restarted o i a w t)
-unfolding neighbour_restarted
-restarted o t i a w =
-    let forgotten : State = record t { asserts = filter (λ e. not (is_lost_to i a e)) t.asserts } in
-    fewer_both t forgotten (neighbour_restarted o i a w t)
-    (table_fewer Asserts t _ (rows_left (λ e. not (is_lost_to i a e)) t.asserts))
-    (table_fewer JoinTimers forgotten _
-    (λ p e. sym (ap (λ (ks : List Key). list_any p ks) (lowered_keys _ _ t.join_timers)) ∙ e))
-
-hello_leaves_facts : (s : State) (i a w : ℕ) (h : HelloValue) → IsFewer s (hello_received s i a h w)
-unfolding hello_received
-hello_leaves_facts s i a w h =
-    let after : State = neighbour_replaced (if _ then hello_triggered s i w else s) i a h in
-    let heard : IsFewer s after = no_other s after (replaced _ i a h ∙ triggered s i w _) in
-    fewer_so (is_generation_changed s i a h) s _ _ (fewer_both s after _ heard (restarted s after i a w)) heard
+same_priority : (m n : Option ℕ) → same_option m n ≡ true → n ≡ m
+same_priority None None e = refl
+same_priority None (Some n) e = cc
+same_priority (Some m) None e = cc
+same_priority (Some m) (Some n) e = ap Some (sym (eqb-true m n e))
 
 module _ (s : State) (i a : ℕ) (h : HelloValue) where
   tests : Option NeighbourRow → Bool
@@ -174,6 +146,12 @@ module _ (s : State) (i a : ℕ) (h : HelloValue) where
   unfolding is_refreshed is_generation_changed tests
   refreshed_touches_none w rises e =
       refreshed_row w rises (row_at s.neighbours (neighbour_key i a)) refl e
+
+-- all may be touched where the keys are many
+few_contain : (keys : List Key) (s c : State) → AdjoinsAlone keys s c → IsWithin s c → (many : Bool)
+    → Contains (if many then Touched.All else Touched.Keys keys) s c
+few_contain keys s c adjoins within true = inl (inl within)
+few_contain keys s c adjoins within false = inr adjoins
 
 -- what touches some keys touches them and more
 touching_more : (keys more : List Key) (s t : State) → AgreesBut (touching keys) s t
@@ -242,19 +220,12 @@ module _ (s : State) where
             ((hello_leaves_facts s i.number from.bits w h).passed (names_source g src) there);
       })
 
-  pub restarted_covered : (i : IfaceId) (from : Addr) (h : HelloValue) (keys : List Key) → Rises s.neighbours
-      → is_refreshed s.neighbours i.number from.bits (without_generation h) ≡ true → keys ≡ lost_keys s i.number from.bits
-      → (w : ℕ) → Concerns keys s (change s w (Accepted.Hello i from h)).state
+  pub hello_moves : (i : IfaceId) (from : Addr) (h : HelloValue) → hello_keeps_dr s i.number from.bits h ≡ true → (w : ℕ)
+      → Contains (few_or_all (keys_of_hello s i.number from.bits h)) s (change s w (Accepted.Hello i from h)).state
   unfolding change
-  restarted_covered i from h keys rises kept those w =
-      let s' : State = hello_received s i.number from.bits h w in
-      let lost : List Key = lost_keys s i.number from.bits in
-      subst (λ ks. Concerns ks s s') (sym those)
-      (record {
-        agrees = restarted_touches s i.number from.bits w h rises kept;
-        named = λ g src there. or_left (has_facts s g src) (list_any (names_source g src) lost)
-            ((hello_leaves_facts s i.number from.bits w h).passed (names_source g src) there);
-      })
+  hello_moves i from h keeps w =
+      few_contain (keys_of_hello s i.number from.bits h) s (hello_received s i.number from.bits h w)
+      (hello_adjoins s i.number from.bits w h keeps) (within_so s _ (hello_leaves_facts s i.number from.bits w h)) _
 
   pub seen_covered : (i : IfaceId) (m : JoinPrune) (pruned keys : List Key) → pruned ≡ pruned_keys i.number m
       → keys ≡ filter (λ k. not (is_star k)) pruned
@@ -463,11 +434,20 @@ module _ (s : State) (lawful : IsLawful s) (e : Ending) where
             (ended_leaves_facts.passed (names_source g src) there);
       }
 
-  pub end_covered : Covers (touched_by_end s e.timer.kind e.timer.key) s ended
+  neighbour_covered : e.timer.kind ≡ TimerKind.Neighbour → (b : Bool) → end_keeps_dr s e.timer.key ≡ b
+      → Contains (if b then few_or_all (keys_towards s (iface_in e.timer.key) (source_in e.timer.key)) else Touched.All) s
+      ended
+  unfolding own_firing
+  neighbour_covered is true keeps =
+      few_contain (keys_towards s (iface_in e.timer.key) (source_in e.timer.key)) s ended (end_adjoins s e is keeps)
+      (within_so s ended ended_leaves_facts) _
+  neighbour_covered is false keeps = inl (inl (within_so s ended ended_leaves_facts))
+
+  pub end_covered : Contains (touched_by_end s e.timer.kind e.timer.key) s ended
   end_covered = go e.timer.kind refl
     where
-      go : (kind : TimerKind) → e.timer.kind ≡ kind → Covers (touched_by_end s kind e.timer.key) s ended
-      go TimerKind.Neighbour is = within_so s ended ended_leaves_facts
-      go TimerKind.SourceRecord is = source_concerns is
-      go _ is = subst (λ (kind : TimerKind). Concerns (touched_by kind e.timer.key) s ended) is
-          (end_concerns (ap isnt_neighbour is))
+      go : (kind : TimerKind) → e.timer.kind ≡ kind → Contains (touched_by_end s kind e.timer.key) s ended
+      go TimerKind.Neighbour is = neighbour_covered is (end_keeps_dr s e.timer.key) refl
+      go TimerKind.SourceRecord is = inl (inl (source_concerns is))
+      go _ is = inl (inl (subst (λ (kind : TimerKind). Concerns (touched_by kind e.timer.key) s ended) is
+          (end_concerns (ap isnt_neighbour is))))

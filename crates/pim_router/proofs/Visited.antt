@@ -1,36 +1,46 @@
 -- What a call visits at least, by what its parts do.
 use Rattle.std.proofs.Common.{◌≡◌, ◌≤◌, ◌+◌, ◌∙◌, ◌∷◌, [], Bool, List, ap, arith, false, not, refl, subst, sym, true, ℕ}
+use Rattle.std.specs.List.{sum_by}
 use Rattle.std.specs.Prelude.{if◌then◌else◌}
+use Rattle.std.proofs.lemmas.List.Sums.{sum_by-cons}
 use Rattle.pim_ip.specs.Addr.{addr}
 use Rattle.pim_ip.specs.Ipv4.{Packet}
 use Rattle.pim_ip.specs.declared.addr.Addr.{Addr}
 use Rattle.pim_model.specs.Full.{source_is_full}
 use Rattle.pim_model.specs.State.{State}
-use Rattle.pim_fanout.specs.Visits.{naming_nodes}
-use Rattle.pim_fanout.specs.declared.before.SourceBefore.{SourceBefore}
-use Rattle.pim_opening.specs.declared.opening.GroupOpening.{GroupOpening}
-use Rattle.pim_opening.specs.declared.opening.SourceOpening.{SourceOpening}
 use Rattle.pim_trie.specs.Meter.{raised}
 use Rattle.pim_world.specs.Visits.{source_nodes, star_nodes}
-use Rattle.pim_world.proofs.Visits.{none_visited, two_in_turn}
-use Rattle.pim_router.specs.Settling.{cleared_by}
-use Rattle.pim_router.specs.Visits.{data_plan_nodes, followed_alone_nodes, followed_nodes}
+use Rattle.pim_world.proofs.Visits.{none_visited, raised_by_none, two_in_turn}
+use Rattle.pim_router.specs.Visits.{data_plan_nodes}
 
-pub fewer : (old new most nodes : ℕ) → nodes ≤ most → raised old most ≤ new → raised old nodes ≤ new
+-- what is looked up after something else
+pub afterwards : (old next new nodes : ℕ) → old ≤ next → raised next nodes ≤ new → raised old nodes ≤ new
 unfolding raised
-fewer old new most nodes e f = omega (arith, e, f)
+afterwards old next new nodes rises least = omega (arith, rises, least)
 
--- ---- of what follows, asking which sources are named
+-- ---- what a call visits exactly
 
-pub names_of_all : (opening : List GroupOpening) (before : List SourceBefore) (s : State)
-    → naming_nodes (cleared_by opening s).0 before ≤ followed_nodes opening before s
-unfolding followed_nodes
-names_of_all opening before s = omega arith
+pub two_visited : (old next new first second : ℕ) → next ≡ raised old first → new ≡ raised next second
+    → new ≡ raised old (first + second)
+unfolding raised
+two_visited old next new first second e f = omega (arith, e, f)
 
-pub names_of_alone : (group : GroupOpening) (opened : SourceOpening) (before : List SourceBefore) (s : State)
-    → naming_nodes (cleared_by (group ∷ []) s).0 before ≤ followed_alone_nodes group opened before s
-unfolding followed_alone_nodes
-names_of_alone group opened before s = omega arith
+visited_further : (old next first rest : ℕ) → next ≡ raised old first → raised old (first + rest) ≡ raised next rest
+unfolding raised
+visited_further old next first rest e = omega (arith, e)
+
+-- of a loop that asks something of each element
+module _ {X : Type 0} (f : X → ℕ) where
+  pub next_visited : (before old new : ℕ) (x : X) (whole left rest : List X)
+      → raised before (sum_by f whole) ≡ raised old (sum_by f left) → left ≡ x ∷ rest → new ≡ raised old (f x)
+      → raised before (sum_by f whole) ≡ raised new (sum_by f rest)
+  next_visited before old new x whole left rest same is one =
+      same ∙ ap (raised old) (ap (sum_by f) is ∙ sum_by-cons f x rest) ∙ visited_further old new (f x) (sum_by f rest) one
+
+  pub all_visited : (before old : ℕ) (whole left : List X)
+      → raised before (sum_by f whole) ≡ raised old (sum_by f left) → left ≡ [] → old ≡ raised before (sum_by f whole)
+  all_visited before old whole left same none =
+      sym (same ∙ ap (λ (xs : List X). raised old (sum_by f xs)) none ∙ raised_by_none old)
 
 -- ---- a packet that is planned, without room and with it
 
@@ -63,3 +73,7 @@ module _ (s : State) (p : Packet) (group source : Addr) (full : Bool) (here : gr
 pub unmoved : (moved same : Bool) → moved ≡ not same → moved ≡ false → same ≡ true
 unmoved moved true is off = refl
 unmoved moved false is off = sym off ∙ is
+
+pub moved_on : (moved same : Bool) → moved ≡ not same → moved ≡ true → same ≡ false
+moved_on moved true is on = sym on ∙ is
+moved_on moved false is on = refl

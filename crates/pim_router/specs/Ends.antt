@@ -1,6 +1,6 @@
 -- The ends of timers, as the router takes them.
 use Rattle.std.specs.List.{list_any}
-use Rattle.std.specs.Prelude.{Bool, [], if◌then◌else◌, is_some, not, ℕ, ◌&&◌, ◌==◌, ◌∷◌, ◌||◌}
+use Rattle.std.specs.Prelude.{Bool, List, [], if◌then◌else◌, is_some, length, nat_lt, not, ℕ, ◌&&◌, ◌==◌, ◌∷◌, ◌||◌}
 use Rattle.pim_types.specs.declared.fact.Key.{Key}
 use Rattle.pim_types.specs.declared.timer.Timer.{Timer}
 use Rattle.pim_types.specs.declared.timer.TimerKind.{TimerKind}
@@ -10,6 +10,7 @@ use Rattle.pim_model.specs.Records.{is_at_group}
 use Rattle.pim_model.specs.State.{State}
 use Rattle.pim_model.specs.Timers.{Ending}
 use Rattle.pim_locality.specs.Touches.{touched_by}
+use Rattle.pim_adjacent.specs.Adjacent.{end_keeps_dr, keys_towards}
 use Rattle.pim_world.specs.declared.touched.Touched.{Touched}
 
 abbrev pub ending_of : ℕ × Timer → Ending
@@ -29,8 +30,17 @@ touched_by_source s k =
     if keeps_group s (iface_in k) (group_in k) (source_in k) then source_key 0 (group_in k) (source_in k)
     else star_key 0 (group_in k)
 
--- the keys that a timer's end touches; that of a neighbour is for all
+-- These keys, or all where there are many: each touched group is looked for among them.
+abbrev pub few_or_all : List Key → Touched
+few_or_all keys = if nat_lt 256 (length keys) then Touched.All else Touched.Keys keys
+
+-- a neighbour's end touches what looks to it, or all where the router is the DR after it and wasn't
+abbrev pub touched_by_neighbour : State → Key → Touched
+touched_by_neighbour s k =
+    if end_keeps_dr s k then few_or_all (keys_towards s (iface_in k) (source_in k)) else Touched.All
+
+-- the keys that a timer's end touches
 abbrev pub touched_by_end : State → TimerKind → Key → Touched
-touched_by_end s TimerKind.Neighbour k = Touched.All
+touched_by_end s TimerKind.Neighbour k = touched_by_neighbour s k
 touched_by_end s TimerKind.SourceRecord k = Touched.Keys (touched_by_source s k ∷ [])
 touched_by_end s kind k = Touched.Keys (touched_by kind k)

@@ -1,20 +1,17 @@
 -- What is known of what was accepted: its tests passed.
-use Rattle.std.specs.Prelude.{true, ◌<◌, ◌≤◌, ◌≡◌}
+use Rattle.std.specs.Prelude.{◌<◌, ◌≤◌, ◌≡◌}
 use Rattle.pim_ip.specs.Ipv4.{Packet}
 use Rattle.pim_types.specs.declared.config.IfaceId.{IfaceId}
 use Rattle.pim_wire.specs.Values.{Register}
+use Rattle.pim_mrib.specs.Routes.{RouteTable}
 use Rattle.pim_model.specs.declared.accepted.Accepted.{Accepted}
 use Rattle.pim_model.specs.Judging.{last_moment}
-use Rattle.pim_model.specs.Limits.{are_routes, are_rps}
 use Rattle.pim_model.specs.State.{State, iface_count}
 
--- the interface of an event is one of the router's, its moment one that an event may have; routes and ranges pass their
--- test
+-- the interface of an event is one of the router's, its moment one that an event may have
 abbrev pub IsConfigured : State → Accepted → Type 0
 IsConfigured s (Accepted.Advance moment) = moment ≤ last_moment
 IsConfigured s (Accepted.Up i) = i.number < iface_count s
-IsConfigured s (Accepted.Routes routes) = are_routes s.configured routes ≡ true
-IsConfigured s (Accepted.Rps ranges) = are_rps ranges ≡ true
 IsConfigured s (Accepted.Down i) = i.number < iface_count s
 IsConfigured s (Accepted.Hello i from h) = i.number < iface_count s
 IsConfigured s (Accepted.JoinPruneToMe i m) = i.number < iface_count s
@@ -24,6 +21,12 @@ IsConfigured s (Accepted.Query i from q) = i.number < iface_count s
 IsConfigured s (Accepted.Report i records) = i.number < iface_count s
 IsConfigured s (Accepted.Data i packet) = i.number < iface_count s
 IsConfigured s _ = Unit {0}
+
+-- the table is of the routes, or of the RP ranges, that it brings
+abbrev pub Brings : Accepted → RouteTable → Type 0
+Brings (Accepted.Routes routes) table = table.routes ≡ routes
+Brings (Accepted.Rps ranges) table = table.ranges ≡ ranges
+Brings _ table = Unit {0}
 
 -- it is neither a packet of data nor a Register
 pub record HasNoPacket (a : Accepted) : Type 0 where

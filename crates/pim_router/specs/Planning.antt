@@ -1,6 +1,8 @@
 -- What is planned of an event before its change.
 use Rattle.std.specs.Prelude.{List, [], None, Option, Some, false, filter, if◌then◌else◌, not, true, ℕ, ◌++◌, ◌∷◌, ◌≡◌}
 use Rattle.pim_types.specs.Keys.{is_star, source_key}
+use Rattle.pim_types.specs.declared.config.Route.{Route}
+use Rattle.pim_types.specs.declared.config.RpRange.{RpRange}
 use Rattle.pim_types.specs.declared.fact.Key.{Key}
 use Rattle.pim_model.specs.declared.accepted.Accepted.{Accepted}
 use Rattle.pim_model.specs.Downstream.{joined_keys, pruned_keys}
@@ -11,7 +13,9 @@ use Rattle.pim_model.specs.Step.{change, rps_replaced}
 use Rattle.pim_downstream.specs.Naming.{changes_after}
 use Rattle.pim_downstream.specs.declared.effect.Change.{Change}
 use Rattle.pim_locality.specs.JoinPrunes.{moved_keys}
+use Rattle.pim_mrib.specs.Routes.{RouteTable}
 use Rattle.pim_reach.specs.Moved.{keys_by_routes, keys_by_rps}
+use Rattle.pim_adjacent.specs.Adjacent.{hello_keeps_dr, keys_of_hello}
 use Rattle.pim_neighbours.specs.Refreshed.{is_refreshed}
 use Rattle.pim_querier.specs.Reports.{all_keep_modes, moved_sources}
 use Rattle.pim_world.specs.declared.touched.Touched.{Touched}
@@ -19,7 +23,8 @@ use Rattle.pim_macros.specs.Sights.{IsSourceSight}
 use Rattle.pim_macros.specs.declared.sight.SourceSight.{SourceSight}
 use Rattle.pim_fanout.specs.Contains.{Contains}
 use Rattle.pim_model.specs.Sets.{is_kept_alive}
-use Rattle.pim_router.specs.Repeats.{is_assert_known, keys_of_packet, lost_keys, without_generation}
+use Rattle.pim_router.specs.Ends.{few_or_all}
+use Rattle.pim_router.specs.Repeats.{is_assert_known, keys_of_packet}
 use Rattle.pim_router.specs.OtherRoutes.{with_routes}
 use Rattle.pim_router.specs.declared.plan.Means.{Means}
 use Rattle.pim_router.specs.declared.plan.Plan.{Plan}
@@ -52,6 +57,20 @@ abbrev pub HasSomeSight : Means → Type 0
 HasSomeSight (Means.Sight sight) = Unit {0}
 HasSomeSight _ = ⊥
 
+-- the table of new routes or RP ranges
+abbrev pub table_of : Means → Option RouteTable
+table_of (Means.Table table) = Some table
+table_of _ = None
+
+-- without one they are those there are
+abbrev pub routes_by : State → Option RouteTable → List Route
+routes_by s None = s.routes
+routes_by s (Some table) = table.routes
+
+abbrev pub ranges_by : State → Option RouteTable → List RpRange
+ranges_by s None = s.ranges
+ranges_by s (Some table) = table.ranges
+
 -- what the change of the event needs
 abbrev pub Supplies : State → Accepted → Means → Type 0
 Supplies s (Accepted.JoinPruneToMe i m) means =
@@ -59,15 +78,17 @@ Supplies s (Accepted.JoinPruneToMe i m) means =
     × HasChanges (changes_after s i.number m.holdtime (joined_keys s i.number m) (pruned_keys i.number m)) means
 Supplies s (Accepted.JoinPruneSeen i m) means = HasKeys (joined_keys s i.number m) (pruned_keys i.number m) means
 Supplies s (Accepted.Data i p) means = HasSight s p.destination p.source means
+Supplies s (Accepted.Routes routes) means = routes_by s (table_of means) ≡ routes
+Supplies s (Accepted.Rps ranges) means = ranges_by s (table_of means) ≡ ranges
 Supplies s _ means = Unit {0}
 
 -- What it touches: the keys that it names, or that it moves; none where it moves ends alone. An interface that goes up or
--- down may touch all, and so may a Hello that says more than that its neighbour lasts, or started anew.
+-- down may touch all, and so may a Hello after which the router is the DR there and wasn't, or isn't and was.
 unfoldable pub touched_of : State → Accepted → Touched
 touched_of s (Accepted.Hello i from h) =
     if is_refreshed s.neighbours i.number from.bits h then Touched.Keys []
-    else (if is_refreshed s.neighbours i.number from.bits (without_generation h)
-    then Touched.Keys (lost_keys s i.number from.bits) else Touched.All)
+    else (if hello_keeps_dr s i.number from.bits h then few_or_all (keys_of_hello s i.number from.bits h)
+    else Touched.All)
 touched_of s (Accepted.JoinPruneToMe i m) = Touched.Keys (moved_keys s i.number m)
 touched_of s (Accepted.JoinPruneSeen i m) = Touched.Keys (filter (λ k. not (is_star k)) (pruned_keys i.number m))
 touched_of s (Accepted.Assert i from a) =

@@ -1,34 +1,22 @@
--- What is heard again: events that change no more than the end of a timer that runs, or that end what a neighbour won.
+-- What is heard again: events that change no more than the end of a timer that runs.
 use Rattle.std.specs.Option.{option_map_or}
-use Rattle.std.specs.Prelude.{Bool, List, None, Option, [], false, filter, if◌then◌else◌, not, ℕ, ◌&&◌, ◌==◌, ◌||◌}
+use Rattle.std.specs.Prelude.{Bool, List, Option, [], false, if◌then◌else◌, not, ℕ, ◌&&◌, ◌==◌, ◌||◌}
 use Rattle.pim_types.specs.declared.fact.AssertMetric.{AssertMetric}
 use Rattle.pim_types.specs.declared.fact.AssertRow.{AssertRow}
 use Rattle.pim_types.specs.declared.fact.Key.{Key}
 use Rattle.pim_types.specs.Keys.{source_key, star_key}
 use Rattle.pim_wire.specs.declared.assert.Assert.{Assert as AssertMessage}
-use Rattle.pim_wire.specs.declared.hello.Hello.{Hello as HelloValue}
 use Rattle.pim_model.specs.AssertMacros.{is_infinite}
 use Rattle.pim_model.specs.Asserts.{theirs_of}
 use Rattle.pim_model.specs.Desires.{join_desired}
 use Rattle.pim_model.specs.Forwarding.{has_local_receivers}
-use Rattle.pim_model.specs.Hellos.{is_lost_to as is_lost_to_neighbour}
 use Rattle.pim_model.specs.Registers.{is_spt_wanted}
 use Rattle.pim_model.specs.Rows.{same_metric}
 use Rattle.pim_model.specs.Sets.{inherited_olist, inherited_olist_rpt, is_kept_alive, is_loser, spt_bit}
 use Rattle.pim_model.specs.State.{State}
-use Rattle.pim_model.specs.Tables.{has_row, keys_in, row_at}
+use Rattle.pim_model.specs.Tables.{has_row, row_at}
 use Rattle.pim_model.specs.Unicast.{is_connected, is_rpf_interface, is_rpf_interface_rp}
 use Rattle.pim_locality.specs.Touches.{packet_keys}
-
--- ---- a Hello
-
--- but for the generation that it tells
-abbrev pub without_generation : HelloValue → HelloValue
-without_generation h = record h { generation = None }
-
--- the asserts that a neighbour won of the router
-abbrev pub lost_keys : State → ℕ → ℕ → List Key
-lost_keys s i address = keys_in (filter (is_lost_to_neighbour i address) s.asserts)
 
 -- ---- an Assert
 

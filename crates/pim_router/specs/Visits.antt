@@ -3,7 +3,7 @@ use Rattle.std.specs.List.{sum_by}
 use Rattle.std.specs.Prelude.{List, None, Option, Some, [], if◌then◌else◌, ℕ, ◌+◌, ◌∷◌}
 use Rattle.pim_ip.specs.Addr.{addr}
 use Rattle.pim_ip.specs.Ipv4.{Packet}
-use Rattle.pim_mrib.specs.Routes.{route_nodes, rp_nodes}
+use Rattle.pim_mrib.specs.Routes.{RouteTable, route_nodes, rp_nodes}
 use Rattle.pim_types.specs.declared.config.Route.{Route}
 use Rattle.pim_types.specs.declared.config.RpRange.{RpRange}
 use Rattle.pim_types.specs.declared.fact.Key.{Key}
@@ -19,7 +19,7 @@ use Rattle.pim_reach.specs.Named.{has_same_rp}
 use Rattle.pim_asserts.specs.Visits.{alone_nodes, clear_nodes, fired_nodes as assert_end_nodes, received_nodes as asserted_nodes}
 use Rattle.pim_data.specs.Visits.{arrived_nodes}
 use Rattle.pim_downstream.specs.Visits.{fired_nodes as downstream_end_nodes, to_me_nodes}
-use Rattle.pim_fanout.specs.Visits.{before_nodes, naming_nodes}
+use Rattle.pim_fanout.specs.Visits.{naming_nodes}
 use Rattle.pim_fanout.specs.declared.before.SourceBefore.{SourceBefore}
 use Rattle.pim_hello.specs.Visits.{received_nodes as hello_nodes}
 use Rattle.pim_opening.specs.Visits.{opening_nodes}
@@ -34,6 +34,8 @@ use Rattle.pim_world.specs.Visits.{source_nodes, sources_nodes, star_nodes}
 use Rattle.pim_world.specs.declared.touched.Touched.{Touched}
 use Rattle.pim_router.specs.Ends.{touched_by_end}
 use Rattle.pim_router.specs.OtherRoutes.{with_routes}
+use Rattle.pim_router.specs.Planning.{table_of}
+use Rattle.pim_router.specs.declared.plan.Means.{Means}
 use Rattle.pim_router.specs.Settling.{cleared_by}
 
 -- ---- what new routes and RP ranges touch
@@ -79,17 +81,22 @@ data_plan_nodes s p =
 
 -- ---- an event's own change; what leaves of a packet isn't counted here
 
-abbrev pub change_nodes : State → Accepted → ℕ
-change_nodes s (Accepted.Rps ranges) = replaced_nodes s ranges
-change_nodes s (Accepted.Hello i from hello) = hello_nodes s i.number from.bits hello
-change_nodes s (Accepted.JoinPruneToMe i m) =
+-- where RP ranges are those there are nothing is looked up
+abbrev pub ranges_nodes : State → Option RouteTable → ℕ
+ranges_nodes s None = 0
+ranges_nodes s (Some table) = replaced_nodes s table.ranges
+
+abbrev pub change_nodes : State → Accepted → Means → ℕ
+change_nodes s (Accepted.Rps ranges) means = ranges_nodes s (table_of means)
+change_nodes s (Accepted.Hello i from hello) means = hello_nodes s i.number from.bits hello
+change_nodes s (Accepted.JoinPruneToMe i m) means =
     to_me_nodes s i.number m.holdtime (joined_keys s i.number m) (pruned_keys i.number m)
-change_nodes s (Accepted.JoinPruneSeen i m) = seen_nodes s i.number m
-change_nodes s (Accepted.Assert i from a) = asserted_nodes s i.number from.bits a
-change_nodes s (Accepted.Report i records) = report_seen_nodes s i.number records
-change_nodes s (Accepted.Data i p) = arrived_nodes s p.destination p.source i.number
-change_nodes s (Accepted.Register p r) = register_nodes s p r
-change_nodes s _ = 0
+change_nodes s (Accepted.JoinPruneSeen i m) means = seen_nodes s i.number m
+change_nodes s (Accepted.Assert i from a) means = asserted_nodes s i.number from.bits a
+change_nodes s (Accepted.Report i records) means = report_seen_nodes s i.number records
+change_nodes s (Accepted.Data i p) means = arrived_nodes s p.destination p.source i.number
+change_nodes s (Accepted.Register p r) means = register_nodes s p r
+change_nodes s _ means = 0
 
 -- the end of a timer
 abbrev pub end_nodes : State → TimerKind → Key → ℕ
@@ -115,23 +122,21 @@ followed_nodes opening before s =
     cleared_nodes opening s + naming_nodes cleared before + told_nodes cleared opening
 
 -- the same of one source alone, whose sight is gathered once
-unfoldable pub followed_alone_nodes : GroupOpening → SourceOpening → List SourceBefore → State → ℕ
-followed_alone_nodes group opened before s =
+unfoldable pub followed_alone_nodes : GroupOpening → SourceOpening → State → ℕ
+followed_alone_nodes group opened s =
     let cleared : State = (cleared_by (group ∷ []) s).0 in
     star_nodes s group.group + source_nodes s group.group opened.source
     + register_mark_nodes s group.group opened.source
-    + alone_nodes group.group (registers_by (group ∷ []) s) opened + naming_nodes cleared before
-    + told_alone_nodes cleared group opened
+    + alone_nodes group.group (registers_by (group ∷ []) s) opened + told_alone_nodes cleared group opened
 
--- ---- an event, and a timer's end: what it touches is opened, and its sources are gathered; then comes its own change. What
--- follows isn't counted here.
+-- ---- an event, and a timer's end: what it touches is opened; then comes its own change. What follows isn't counted here.
 
-unfoldable pub taken_nodes : State → Touched → Accepted → ℕ
-taken_nodes s touched a = opening_nodes s touched + before_nodes s touched + change_nodes s a
+unfoldable pub taken_nodes : State → Touched → Accepted → Means → ℕ
+taken_nodes s touched a means = opening_nodes s touched + change_nodes s a means
 
 unfoldable pub firing_nodes : State → ℕ × Timer → ℕ
 firing_nodes s due =
     let kind : TimerKind = due.1.kind in
     let key : Key = due.1.key in
-    opening_nodes s (touched_by_end s kind key) + before_nodes s (touched_by_end s kind key)
+    opening_nodes s (touched_by_end s kind key)
     + end_nodes (record s { present = due.0 }) kind key

@@ -1,35 +1,19 @@
-//! What is heard again: which events change no more than the end of a timer that runs, so that they touch nothing; and which
-//! Hellos end no more than the asserts that their neighbour won.
+//! What is heard again: which events change no more than the end of a timer that runs, so that they touch nothing.
 ghost use Rattle.std.specs.Prelude.{◌≡◌, ◌<◌, if◌then◌else◌};
-ghost use Rattle.pim_neighbours.specs.Refreshed.{is_refreshed};
 ghost use Rattle.pim_macros.specs.Sights.{InSource, IsSourceSight};
 ghost use Rattle.pim_model.specs.Rows.{same_metric};
 ghost use Rattle.pim_model.specs.Sets.{is_kept_alive, spt_bit};
 ghost use Rattle.pim_model.specs.Tables.{has_row};
 ghost use Rattle.pim_types.specs.Keys.{source_key, star_key};
-ghost use Rattle.pim_router.specs.Repeats.{asserted_key, asserts_anew, is_assert_known, is_direct, is_lost_to, is_watched, moves_end, without_generation};
+ghost use Rattle.pim_router.specs.Repeats.{asserted_key, asserts_anew, is_assert_known, is_direct, is_lost_to, is_watched, moves_end};
 
 use pim_data::is_on_list;
 use pim_macros::SourceSight;
 use pim_macros::asserts::is_infinite;
 use pim_types::fact::{AssertMetric, AssertRole, AssertRow};
 use pim_types::{Addr, IfaceId, Key};
-use pim_wire::{Assert, Hello};
+use pim_wire::Assert;
 use pim_world::World;
-
-// ---- a Hello
-
-/// Whether a Hello says no more of its neighbour than that it lasts, and may have started anew: it is known with this
-/// priority.
-pub(crate) fn keeps_priority(world: &World, iface: IfaceId, from: Addr, hello: &Hello) -> bool
-    ensures { result ≡ is_refreshed world.now.neighbours iface.number from.bits (without_generation hello.now) }
-{
-    let unnumbered = Hello {
-        generation: None,
-        ..*hello
-    };
-    world.neighbours().is_refreshed(iface, from, &unnumbered)
-}
 
 // ---- an Assert
 

@@ -2,15 +2,15 @@
 ghost use Rattle.std.specs.Prelude.{◌≡◌, ◌≤◌, ◌<◌, IfOk, OnOk};
 ghost use Rattle.pim_data.specs.Visits.{arrived_nodes};
 ghost use Rattle.pim_register.specs.Visits.{register_nodes};
-ghost use Rattle.pim_router.specs.Visits.{change_nodes};
+ghost use Rattle.pim_router.specs.Visits.{change_nodes, ranges_nodes};
 ghost use Rattle.pim_trie.specs.Meter.{raised};
 ghost use Rattle.pim_world.specs.Turns.{saying};
 ghost use Rattle.pim_model.specs.Forwarding.{forwarded, register_received};
 ghost use Rattle.pim_model.specs.Registers.{is_null, registered_group, registered_source};
 ghost use Rattle.pim_model.specs.State.{iface_count};
-ghost use Rattle.pim_model.specs.Step.{Change, change, decapsulated, iface_up, packet_forwarded};
+ghost use Rattle.pim_model.specs.Step.{Change, change, decapsulated, iface_up, packet_forwarded, rps_replaced};
 ghost use Rattle.pim_router.specs.Naming.{HasNoPacket, IsConfigured};
-ghost use Rattle.pim_router.specs.Planning.{HasHeard, HasSomeSight, IsSightOf, Supplies};
+ghost use Rattle.pim_router.specs.Planning.{HasHeard, HasSomeSight, IsSightOf, Supplies, ranges_by, routes_by, table_of};
 ghost use Rattle.pim_router.specs.Sending.{Sends};
 ghost use Rattle.pim_router.specs.declared.plan.Means.{Means as MeansValue};
 
@@ -21,6 +21,7 @@ use pim_hello::triggered_end;
 use pim_ip::Ipv4View;
 use pim_macros::SourceSight;
 use pim_model::Accepted;
+use pim_mrib::Mrib;
 use pim_register::register_seen;
 use pim_types::IfaceId;
 use pim_types::fact::InterfaceRow;
@@ -92,7 +93,7 @@ impl Means {
     {
         match self {
             Means::Heard(heard) => heard,
-            Means::Nothing | Means::Sight(_) => unreachable!(),
+            Means::Nothing | Means::Sight(_) | Means::Table(_) => unreachable!(),
         }
     }
 
@@ -103,8 +104,44 @@ impl Means {
     {
         match self {
             Means::Sight(sight) => *sight,
-            Means::Nothing | Means::Heard(_) => unreachable!(),
+            Means::Nothing | Means::Heard(_) | Means::Table(_) => unreachable!(),
         }
+    }
+
+    // The table of new routes or RP ranges, none where they are those there are.
+    fn table(self) -> Option<Mrib>
+        ensures { result ≡ table_of self }
+    {
+        match self {
+            Means::Table(table) => Some(table),
+            Means::Nothing | Means::Heard(_) | Means::Sight(_) => None,
+        }
+    }
+}
+
+// The routes of the next table stand in the place of those there are.
+fn take_routes(world: &mut World, next: Option<Mrib>)
+    ensures { world.new ≡ record world.old { routes = routes_by world.old next } }
+{
+    if let Some(next) = next {
+        world.take_routes(next);
+    }
+}
+
+// So do its RP ranges.
+fn take_ranges(
+    world: &mut World,
+    turn: &mut Turn,
+    meter: &mut Meter,
+    next: Option<Mrib>,
+) -> Result<(), AllocError>
+    ensures state { OnOk result (world.new ≡ rps_replaced world.old (ranges_by world.old next)) }
+    ensures silent { turn.new ≡ turn.old }
+    ensures at_least { OnOk result (raised meter.old (ranges_nodes world.old next) ≤ meter.new) }
+{
+    match next {
+        Some(next) => pim_register::rps_replaced(world, turn, meter, next),
+        None => Ok(()),
     }
 }
 
@@ -115,13 +152,13 @@ pub(crate) fn apply(
     turn: &mut Turn,
     meter: &mut Meter,
     accepted: &Accepted<'_>,
-    means: &Means,
+    means: Means,
 ) -> Result<Leaving, AllocError>
     requires configured { IsConfigured world.old accepted.now }
-    requires means { Supplies world.old accepted.now means.now }
+    requires means { Supplies world.old accepted.now means }
     ensures sends { IfOk result (λ leaving. Sends leaving world.new turn.old turn.new
         (change world.old turn.old.draw accepted.now)) }
-    ensures at_least { OnOk result (raised meter.old (change_nodes world.old accepted.now) ≤ meter.new) }
+    ensures at_least { OnOk result (raised meter.old (change_nodes world.old accepted.now means) ≤ meter.new) }
 {
     match accepted {
         Accepted::Data { iface, packet } => {
@@ -157,14 +194,14 @@ fn apply_without_packet(
     turn: &mut Turn,
     meter: &mut Meter,
     accepted: &Accepted<'_>,
-    means: &Means,
+    means: Means,
 ) -> Result<(), AllocError>
     requires packetless { HasNoPacket accepted.now }
     requires configured { IsConfigured world.old accepted.now }
-    requires means { Supplies world.old accepted.now means.now }
+    requires means { Supplies world.old accepted.now means }
     ensures state { OnOk result (world.new ≡ (change world.old turn.old.draw accepted.now).state) }
     ensures messages { OnOk result (turn.new ≡ saying turn.old (change world.old turn.old.draw accepted.now).messages) }
-    ensures at_least { OnOk result (raised meter.old (change_nodes world.old accepted.now) ≤ meter.new) }
+    ensures at_least { OnOk result (raised meter.old (change_nodes world.old accepted.now means) ≤ meter.new) }
 {
     match accepted {
         Accepted::Up { iface } => go_up(world, turn, *iface),
@@ -172,10 +209,11 @@ fn apply_without_packet(
             world.set_down(*iface, meter);
             Ok(())
         }
-        Accepted::Routes { routes } => world.replace_routes(routes.as_slice()),
-        Accepted::Rps { ranges } => {
-            pim_register::rps_replaced(world, turn, meter, ranges.as_slice())
+        Accepted::Routes { .. } => {
+            take_routes(world, means.table());
+            Ok(())
         }
+        Accepted::Rps { .. } => take_ranges(world, turn, meter, means.table()),
         Accepted::Hello { iface, from, hello } => {
             pim_hello::received(world, turn, meter, *iface, *from, hello)
         }

@@ -22,7 +22,7 @@ ghost use Rattle.pim_ip.specs.Ipv4.{Packet};
 ghost use Rattle.pim_model.specs.Judging.{judged};
 ghost use Rattle.pim_types.specs.declared.config.IfaceId.{IfaceId as IfaceValue};
 ghost use Rattle.pim_router.specs.Listing.{ListsMore, ListsSame};
-ghost use Rattle.pim_router.specs.Naming.{IsConfigured};
+ghost use Rattle.pim_router.specs.Naming.{Brings, IsConfigured};
 ghost use Rattle.pim_router.specs.Planning.{Fits};
 ghost use Rattle.pim_router.specs.Settling.{AreNames};
 ghost use Rattle.pim_offload.specs.Staying.{is_rerouting};
@@ -33,18 +33,18 @@ ghost use Rattle.pim_trie.specs.Meter.{raised};
 
 use crate::change::apply;
 use crate::plain::take_plain;
-use crate::plan::{Plan, planned};
+use crate::plan::{Means, Plan, planned};
 use crate::settle::settle;
 use crate::time::advance;
 use pim_data::Leaving;
-use pim_fanout::{Before, Cache};
-use pim_intake::{LentEvent, judge};
+use pim_fanout::{Cache, Gathered};
+use pim_intake::{Admitted, LentEvent, judge};
 use pim_ip::Ipv4View;
 use pim_macros::SourceGroup;
 use pim_messages::Room;
 use pim_mfc::Forward;
 use pim_model::Accepted;
-use pim_opening::Opening;
+use pim_mrib::Mrib;
 use pim_trie::Meter;
 use pim_types::{Fault, IfaceId, Outcome, Refusal, Series, Stop, Verdict};
 use pim_world::{Touched, Turn, World};
@@ -78,31 +78,31 @@ fn change_world(
     turn: &mut Turn,
     meter: &mut Meter,
     accepted: &Accepted<'_>,
-    plan: &Plan,
+    touched: &Touched,
+    means: Means,
 ) -> Result<Changed, Fault>
     requires timeless { (moment : ℕ) → ¬ (accepted.now ≡ Accepted.Advance moment) }
     requires rest { IsAtRest world.old }
     requires begun { turn.old.messages ≡ [] }
     requires configured { IsConfigured world.old accepted.now }
-    requires plan { Fits world.old accepted.now plan.now }
+    requires plan { Fits world.old accepted.now (record { touched = touched.now; means = means }) }
     ensures outcome { IfOk result (λ changed. changed.outcome ≡ outcome_of (taken world.old turn.old.draw accepted.now)) }
     ensures state { OnOk result (world.new ≡ (taken world.old turn.old.draw accepted.now).state) }
     ensures names { IfOk result (λ changed. AreNames world.old (change world.old turn.old.draw accepted.now).state
-        plan.now.touched (keys_of changed.names)) }
+        touched.now (keys_of changed.names)) }
     ensures fault { IsOkUnless result Fault.Memory }
-    ensures at_least { OnOk result (raised meter.old (taken_nodes world.old plan.now.touched accepted.now) ≤ meter.new) }
+    ensures at_least { OnOk result (raised meter.old (taken_nodes world.old touched.now accepted.now means) ≤ meter.new) }
 {
-    let opening = Opening::of(world, turn.alloc, &plan.touched, meter)?;
-    let before = Before::of(world, turn.alloc, meter, &plan.touched)?;
+    let gathered = Gathered::of(world, turn.alloc, touched, meter)?;
     let Leaving {
         mut copies,
         mut registered,
-    } = apply(world, turn, meter, accepted, &plan.means)?;
+    } = apply(world, turn, meter, accepted, means)?;
     // It tells that asserts, sources and registers are under keys of their kind.
     world.recall_keyed();
     let count = copies.len() as u32;
     let mut emissions = Vec::new(turn.alloc);
-    let names = settle(world, turn, meter, &opening, &before, &mut emissions)?;
+    let names = settle(world, turn, meter, &gathered, &mut emissions)?;
     emissions.append(&mut copies)?;
     emissions.append(&mut registered)?;
     let outcome = Outcome {
@@ -136,10 +136,9 @@ fn is_rerouting(accepted: &Accepted<'_>) -> bool
 }
 
 // What a change disturbs: new routes and RP ranges touch what has facts alone, and move any source.
-fn disturbed_by(accepted: &Accepted<'_>, plan: Plan) -> Touched
-    ensures { result ≡ disturbed_by accepted.now plan.touched }
+fn disturbed_by(accepted: &Accepted<'_>, touched: Touched) -> Touched
+    ensures { result ≡ disturbed_by accepted.now touched }
 {
-    let Plan { touched, means: _ } = plan;
     if is_rerouting(accepted) {
         Touched::All
     } else {
@@ -174,12 +173,13 @@ fn take_change(
     ensures stays { (o : State) → StaysBeside cache.old.disturbed o world.old
         → OnOk result (StaysBeside cache.new.disturbed o world.new) }
     ensures fault { IsOkUnless result Fault.Memory }
-    ensures at_least { OnOk result (raised meter.old (taken_nodes world.old plan.touched accepted.now) ≤ meter.new) }
+    ensures at_least { OnOk result (raised meter.old (taken_nodes world.old plan.touched accepted.now plan.means) ≤ meter.new) }
 {
     // It tells that there are at most 120 interfaces.
     world.interfaces().recall_few();
-    let Changed { outcome, names } = change_world(world, turn, meter, accepted, &plan)?;
-    cache.refresh(world, meter, names, disturbed_by(accepted, plan))?;
+    let Plan { touched, means } = plan;
+    let Changed { outcome, names } = change_world(world, turn, meter, accepted, &touched, means)?;
+    cache.refresh(world, meter, names, disturbed_by(accepted, touched))?;
     Ok(outcome)
 }
 
@@ -191,11 +191,13 @@ fn take_unless_full(
     turn: &mut Turn,
     meter: &mut Meter,
     accepted: &Accepted<'_>,
+    table: Mrib,
 ) -> Result<Outcome, Fault>
     requires rest { IsAtRest world.old }
     requires shown { ShowsRows cache.old.mfc.rows (cached world.old) }
     requires begun { turn.old.messages ≡ [] }
     requires configured { IsConfigured world.old accepted.now }
+    requires table { Brings accepted.now table }
     ensures outcome { IfOk result (λ outcome. outcome ≡ outcome_of (taken_unless_full world.old turn.old.draw accepted.now)) }
     ensures state { OnOk result (world.new ≡ (taken_unless_full world.old turn.old.draw accepted.now).state) }
     ensures shown { OnOk result (ShowsRows cache.new.mfc.rows (cached world.new)) }
@@ -211,7 +213,7 @@ fn take_unless_full(
     if let Accepted::Advance { moment } = accepted {
         return advance(world, cache, turn, meter, *moment);
     }
-    match planned(world, turn, meter, accepted)? {
+    match planned(world, turn, meter, accepted, table)? {
         Some(plan) => take_change(world, cache, turn, meter, accepted, plan),
         None => Ok(stopped(turn.alloc, Stop::Refuse(Refusal::Full))),
     }
@@ -233,11 +235,13 @@ fn take_turn(
     cache: &mut Cache,
     event: &LentEvent<'_>,
     accepted: &Accepted<'_>,
+    table: Mrib,
     meter: &mut Meter,
 ) -> Result<Outcome, Fault>
     requires rest { IsAtRest world.old }
     requires shown { ShowsRows cache.old.mfc.rows (cached world.old) }
     requires heard { judged world.old event.now.kind ≡ Ok accepted.now }
+    requires table { Brings accepted.now table }
     ensures outcome { IfOk result (λ outcome. outcome ≡ outcome_of (step world.old event.now)) }
     ensures state { OnOk result (world.new ≡ (step world.old event.now).state) }
     ensures shown { OnOk result (ShowsRows cache.new.mfc.rows (cached world.new)) }
@@ -249,7 +253,7 @@ fn take_turn(
 {
     let mut turn = Turn::new(room.taken(), event.draw());
     let was_full = world.passes_limit(1);
-    let outcome = take_unless_full(world, cache, &mut turn, meter, accepted)?;
+    let outcome = take_unless_full(world, cache, &mut turn, meter, accepted, table)?;
     cache.disturb_all_if(has_room_changed(was_full, world.passes_limit(1)));
     *room = turn.room;
     Ok(outcome)
@@ -306,7 +310,11 @@ fn take_data(
 {
     match by_row(cache, iface, packet, meter) {
         Some(forward) => take_plain(room, world, packet, forward, meter),
-        None => take_turn(room, world, cache, event, accepted, meter),
+        // It brings no table.
+        None => {
+            let table = Mrib::new(room.alloc);
+            take_turn(room, world, cache, event, accepted, table, meter)
+        }
     }
 }
 
@@ -317,11 +325,13 @@ fn take_other(
     cache: &mut Cache,
     event: &LentEvent<'_>,
     accepted: &Accepted<'_>,
+    table: Mrib,
     meter: &mut Meter,
 ) -> Result<Outcome, Fault>
     requires rest { IsAtRest world.old }
     requires shown { ShowsRows cache.old.mfc.rows (cached world.old) }
     requires heard { judged world.old event.now.kind ≡ Ok accepted.now }
+    requires table { Brings accepted.now table }
     requires other { (i : IfaceValue) (p : Packet) → ¬ (accepted.now ≡ Accepted.Data i p) }
     requires uncounted { touches cache.old ≡ 0 }
     requires unlisted { cache.old.changed ≡ [] }
@@ -334,7 +344,7 @@ fn take_other(
     ensures fault { IsOkUnless result Fault.Memory }
     ensures rises { OnOk result (meter.old ≤ meter.new) }
 {
-    take_turn(room, world, cache, event, accepted, meter)
+    take_turn(room, world, cache, event, accepted, table, meter)
 }
 
 // What was accepted.
@@ -344,11 +354,13 @@ fn take_accepted(
     cache: &mut Cache,
     event: &LentEvent<'_>,
     accepted: &Accepted<'_>,
+    table: Mrib,
     meter: &mut Meter,
 ) -> Result<Outcome, Fault>
     requires rest { IsAtRest world.old }
     requires shown { ShowsRows cache.old.mfc.rows (cached world.old) }
     requires heard { judged world.old event.now.kind ≡ Ok accepted.now }
+    requires table { Brings accepted.now table }
     requires uncounted { touches cache.old ≡ 0 }
     requires unlisted { cache.old.changed ≡ [] }
     requires unvisited { is_frame event.now.kind ≡ true → meter.old ≡ 0 }
@@ -367,7 +379,7 @@ fn take_accepted(
             world.interfaces().recall_few();
             take_data(room, world, cache, event, accepted, *iface, packet, meter)
         }
-        _ => take_other(room, world, cache, event, accepted, meter),
+        _ => take_other(room, world, cache, event, accepted, table, meter),
     }
 }
 
@@ -398,7 +410,9 @@ pub(crate) fn take_in(
     ensures rises { OnOk result (meter.old ≤ meter.new) }
 {
     match judge(room.alloc, world, event, meter)? {
-        Ok(accepted) => take_accepted(room, world, cache, event, &accepted, meter),
+        Ok(Admitted { accepted, table }) => {
+            take_accepted(room, world, cache, event, &accepted, table, meter)
+        }
         Err(stop) => Ok(stopped(room.alloc, stop)),
     }
 }

@@ -4,6 +4,7 @@
 mod again;
 pub mod change;
 pub mod event;
+mod few;
 mod plain;
 pub mod plan;
 mod plane;

@@ -1,6 +1,6 @@
 //! What is planned of an event before its change: whether there is room for the facts that it names, what its change
 //! touches, and what that needs. Each kind of event says all three in one place.
-ghost use Rattle.std.specs.Prelude.{◌≡◌, ◌<◌, ◌≤◌, ◌∷◌, [], IfOk, OnOk, filter, not, true};
+ghost use Rattle.std.specs.Prelude.{◌≡◌, ◌<◌, ◌≤◌, ◌∷◌, [], IfOk, OnOk, filter, not};
 ghost use Rattle.pim_types.specs.Keys.{is_star, source_key};
 ghost use Rattle.pim_model.specs.Registers.{registered_group, registered_source};
 ghost use Rattle.pim_model.specs.State.{iface_count};
@@ -10,23 +10,24 @@ ghost use Rattle.pim_locality.specs.Touches.{packet_keys};
 ghost use Rattle.pim_macros.specs.Sights.{IsSourceSight};
 ghost use Rattle.pim_downstream.specs.Visits.{named_nodes};
 ghost use Rattle.pim_mrib.specs.Routes.{rp_nodes};
-ghost use Rattle.pim_model.specs.Limits.{are_routes, are_rps};
 ghost use Rattle.pim_router.specs.Repeats.{keys_of_packet};
-ghost use Rattle.pim_router.specs.Naming.{IsConfigured};
+ghost use Rattle.pim_router.specs.Naming.{Brings, IsConfigured};
 ghost use Rattle.pim_router.specs.Planning.{IsPlanned, IsSightOf};
 ghost use Rattle.pim_router.specs.Visits.{data_plan_nodes, routes_nodes, rps_nodes};
 ghost use Rattle.pim_trie.specs.Meter.{raised};
 
-use crate::again::{is_assert_known, is_kept_alive, keeps_priority, moves_end};
+use crate::again::{is_assert_known, is_kept_alive, moves_end};
+use crate::few::few_or_all;
 use crate::rerouted::{touched_by_routes, touched_by_rps};
 use igmp_wire::{QueryView, ReportView};
 use pim_downstream::{Change, Effect, Named};
-use pim_hello::asserts_lost_to;
+use pim_hello::{hello_keeps_dr, keys_of_hello};
 use pim_ip::Ipv4View;
 use pim_macros::{SourceSight, StarSight};
 use pim_model::Accepted;
+use pim_mrib::Mrib;
 use pim_register::source_is_full;
-use pim_types::{Addr, Hop, IfaceId, Key, Route, RpRange, Series};
+use pim_types::{Addr, IfaceId, Key, Route, RpRange, Series};
 use pim_wire::{Assert, Hello, JoinPruneView, RegisterStop, RegisterView};
 use pim_world::{Meter, Touched, Turn, World};
 use std::alloc::{AllocError, Global};
@@ -46,6 +47,8 @@ pub enum Means {
     Heard(Heard),
     /// What the macros of a packet's source read.
     Sight(SourceSight),
+    /// The table of new routes or new RP ranges, where they aren't those there are.
+    Table(Mrib),
 }
 
 /// What is planned of an event that there is room for.
@@ -106,17 +109,19 @@ fn only(alloc: Global, key: Key) -> Result<Series<Key>, AllocError>
     Ok(Series::from_vec(keys))
 }
 
-// A Hello that says no more of its neighbour than that it lasts touches nothing, or the asserts that were lost to it where it
-// started anew. Any other may touch all.
+// A Hello that says no more of its neighbour than that it lasts touches nothing, another what looks to it, or all where it
+// changes whether the router is the DR.
 fn plan_hello(
     world: &World,
     turn: &Turn,
+    meter: &mut Meter,
     iface: IfaceId,
     from: Addr,
     hello: &Hello,
 ) -> Result<Option<Plan>, AllocError>
     requires { IsAtRest world.now }
-    ensures { IfOk result (λ plan. IsPlanned world.now (AcceptedValue.Hello iface from hello.now) plan) }
+    ensures plan { IfOk result (λ plan. IsPlanned world.now (AcceptedValue.Hello iface from hello.now) plan) }
+    ensures rises { OnOk result (meter.old ≤ meter.new) }
 {
     if pim_hello::is_full(world, iface, from, hello) {
         return Ok(None);
@@ -124,13 +129,10 @@ fn plan_hello(
     if world.neighbours().is_refreshed(iface, from, hello) {
         return Ok(Some(Plan::of_nothing(turn.alloc)));
     }
-    if keeps_priority(world, iface, from, hello) {
-        let neighbour = Hop {
-            iface,
-            address: from,
-        };
-        let keys = asserts_lost_to(world, turn, neighbour)?;
-        return Ok(Some(Plan::of_keys(Series::from_vec(keys))));
+    if hello_keeps_dr(world, iface, from, hello) {
+        let touched = few_or_all(keys_of_hello(world, turn, meter, iface, from, hello)?);
+        let means = Means::Nothing;
+        return Ok(Some(Plan { touched, means }));
     }
     Ok(Some(Plan::of_all()))
 }
@@ -342,19 +344,26 @@ fn plan_stop(
     Ok(Some(Plan::of_keys(keys)))
 }
 
-// New routes touch what they move, and make no facts.
+// New routes touch what they move, and make no facts. Where they are those there are, nothing is asked.
 fn plan_routes(
     world: &World,
     turn: &Turn,
     meter: &mut Meter,
     routes: &[Route],
+    next: Mrib,
 ) -> Result<Option<Plan>, AllocError>
-    requires { are_routes world.now.configured routes.now ≡ true }
+    requires { next.routes ≡ routes.now }
     ensures plan { IfOk result (λ plan. IsPlanned world.now (AcceptedValue.Routes routes.now) plan) }
-    ensures at_least { OnOk result (raised meter.old (routes_nodes world.now routes.now) ≤ meter.new) }
+    ensures same { world.now.routes ≡ routes.now → meter.new ≡ meter.old }
+    ensures at_least { OnOk result (¬ (world.now.routes ≡ routes.now)
+        → raised meter.old (routes_nodes world.now routes.now) ≤ meter.new) }
+    ensures rises { OnOk result (meter.old ≤ meter.new) }
 {
-    let touched = touched_by_routes(world, turn.alloc, meter, routes)?;
-    let means = Means::Nothing;
+    if world.has_routes(routes) {
+        return Ok(Some(Plan::of_nothing(turn.alloc)));
+    }
+    let touched = touched_by_routes(world, turn.alloc, meter, &next)?;
+    let means = Means::Table(next);
     Ok(Some(Plan { touched, means }))
 }
 
@@ -364,26 +373,35 @@ fn plan_rps(
     turn: &Turn,
     meter: &mut Meter,
     ranges: &[RpRange],
+    next: Mrib,
 ) -> Result<Option<Plan>, AllocError>
-    requires { are_rps ranges.now ≡ true }
+    requires { next.ranges ≡ ranges.now }
     ensures plan { IfOk result (λ plan. IsPlanned world.now (AcceptedValue.Rps ranges.now) plan) }
-    ensures at_least { OnOk result (raised meter.old (rps_nodes world.now ranges.now) ≤ meter.new) }
+    ensures same { world.now.ranges ≡ ranges.now → meter.new ≡ meter.old }
+    ensures visited { OnOk result (¬ (world.now.ranges ≡ ranges.now)
+        → meter.new ≡ raised meter.old (rps_nodes world.now ranges.now)) }
+    ensures rises { OnOk result (meter.old ≤ meter.new) }
 {
-    let touched = touched_by_rps(world, turn.alloc, meter, ranges)?;
-    let means = Means::Nothing;
+    if world.has_ranges(ranges) {
+        return Ok(Some(Plan::of_nothing(turn.alloc)));
+    }
+    let touched = touched_by_rps(world, turn.alloc, meter, &next)?;
+    let means = Means::Table(next);
     Ok(Some(Plan { touched, means }))
 }
 
-/// The plan of an event whose bytes and interface passed their tests; none where there is no room for the facts that it
-/// names.
+/// The plan of an event whose bytes and interface passed their tests, with the table of the routes or RP ranges that it brings;
+/// none where there is no room for the facts that it names.
 pub(crate) fn planned(
     world: &World,
     turn: &Turn,
     meter: &mut Meter,
     accepted: &Accepted<'_>,
+    table: Mrib,
 ) -> Result<Option<Plan>, AllocError>
     requires rest { IsAtRest world.now }
     requires configured { IsConfigured world.now accepted.now }
+    requires table { Brings accepted.now table }
     ensures plan { IfOk result (λ plan. IsPlanned world.now accepted.now plan) }
     ensures rises { OnOk result (meter.old ≤ meter.new) }
 {
@@ -391,9 +409,11 @@ pub(crate) fn planned(
         Accepted::Advance { .. } | Accepted::Up { .. } | Accepted::Down { .. } => {
             Ok(Some(Plan::of_all()))
         }
-        Accepted::Routes { routes } => plan_routes(world, turn, meter, routes.as_slice()),
-        Accepted::Rps { ranges } => plan_rps(world, turn, meter, ranges.as_slice()),
-        Accepted::Hello { iface, from, hello } => plan_hello(world, turn, *iface, *from, hello),
+        Accepted::Routes { routes } => plan_routes(world, turn, meter, routes.as_slice(), table),
+        Accepted::Rps { ranges } => plan_rps(world, turn, meter, ranges.as_slice(), table),
+        Accepted::Hello { iface, from, hello } => plan_hello(
+            world, turn, meter, *iface, *from, hello,
+        ),
         Accepted::JoinPruneToMe { iface, message } => plan_join_prune(
             world, turn, meter, *iface, message,
         ),

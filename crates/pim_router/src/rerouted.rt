@@ -1,9 +1,8 @@
 //! Which keys new routes, or new RP ranges, touch: those of what they move, of which there are facts. The new ones stand
-//! in a table of their own, beside those there are.
+//! in the table that was made to test them, beside those there are: each is asked once.
 ghost use Rattle.std.specs.List.{flat_map};
-ghost use Rattle.std.specs.Prelude.{◌≡◌, ◌≤◌, ◌++◌, IfOk, OnOk, filter, map, not, sum_by, true};
+ghost use Rattle.std.specs.Prelude.{◌≡◌, ◌≤◌, ◌++◌, IfOk, OnOk, filter, map, not, sum_by};
 ghost use Rattle.pim_types.specs.Keys.{source_key, star_key};
-ghost use Rattle.pim_model.specs.Limits.{are_routes, are_rps};
 ghost use Rattle.pim_model.specs.Rows.{same_both, same_path};
 ghost use Rattle.pim_model.specs.Step.{rps_replaced};
 ghost use Rattle.pim_model.specs.Unicast.{route};
@@ -17,42 +16,16 @@ ghost use Rattle.pim_router.specs.Visits.{both_routes_nodes, both_rps_nodes, mov
 
 use pim_fanout::{is_same_address, is_same_path};
 use pim_mrib::Mrib;
-use pim_types::{Addr, IfaceId, Key, Route, RpRange, Series};
+use pim_types::{Addr, IfaceId, Key, Series};
 use pim_world::{Meter, Touched, World};
 use std::alloc::{AllocError, Global};
 use std::collections::BTreeMap;
-
-// A table of these routes.
-fn table_of_routes(world: &World, alloc: Global, routes: &[Route]) -> Result<Mrib, AllocError>
-    requires { are_routes world.now.configured routes.now ≡ true }
-    ensures { IfOk result (λ next. next.routes ≡ routes.now) }
-{
-    let mut next = Mrib::new(alloc);
-    match next.replace(world.interfaces(), routes) {
-        Ok(Ok(())) => Ok(next),
-        Ok(Err(_)) => unreachable!(),
-        Err(_) => Err(AllocError),
-    }
-}
-
-// A table of these RP ranges.
-fn table_of_ranges(alloc: Global, ranges: &[RpRange]) -> Result<Mrib, AllocError>
-    requires { are_rps ranges.now ≡ true }
-    ensures { IfOk result (λ next. next.ranges ≡ ranges.now) }
-{
-    let mut next = Mrib::new(alloc);
-    match next.replace_rps(ranges) {
-        Ok(Ok(())) => Ok(next),
-        Ok(Err(_)) => unreachable!(),
-        Err(_) => Err(AllocError),
-    }
-}
 
 // Whether the address has another route in the new table.
 #[tactic(auto, unfolding(pim_model::specs::Unicast::route))]
 fn has_other_route(world: &World, meter: &mut Meter, next: &Mrib, address: Addr) -> bool
     ensures moved { result ≡ has_other_route world.now (with_routes world.now next.now.routes) address.bits }
-    ensures at_least { raised meter.old (both_routes_nodes world.now next.now.routes address.bits) ≤ meter.new }
+    ensures visited { meter.new ≡ raised meter.old (both_routes_nodes world.now next.now.routes address.bits) }
 {
     let before = world.route(address, meter);
     let after = next.route(world.interfaces(), address, meter);
@@ -62,7 +35,7 @@ fn has_other_route(world: &World, meter: &mut Meter, next: &Mrib, address: Addr)
 // Whether the RP of the group has another route in the new table.
 fn is_group_moved(world: &World, meter: &mut Meter, next: &Mrib, group: Addr) -> bool
     ensures moved { result ≡ not (has_same_rp group.bits world.now (with_routes world.now next.now.routes)) }
-    ensures at_least { raised meter.old (moved_group_nodes world.now next.now.routes group.bits) ≤ meter.new }
+    ensures visited { meter.new ≡ raised meter.old (moved_group_nodes world.now next.now.routes group.bits) }
 {
     match world.rp(group, meter) {
         Some(rp) => has_other_route(world, meter, next, rp),
@@ -74,7 +47,7 @@ fn is_group_moved(world: &World, meter: &mut Meter, next: &Mrib, group: Addr) ->
 #[tactic(auto, unfolding(pim_model::specs::Unicast::rp_of, pim_model::specs::Step::rps_replaced))]
 fn has_other_rp(world: &World, meter: &mut Meter, next: &Mrib, group: Addr) -> bool
     ensures moved { result ≡ has_other_rp world.now (rps_replaced world.now next.now.ranges) group.bits }
-    ensures at_least { raised meter.old (both_rps_nodes world.now next.now.ranges group.bits) ≤ meter.new }
+    ensures visited { meter.new ≡ raised meter.old (both_rps_nodes world.now next.now.ranges group.bits) }
 {
     let before = world.rp(group, meter);
     let after = next.rp(group, meter);
@@ -92,8 +65,8 @@ fn put_sources(
 ) -> Result<(), AllocError>
     ensures keys { OnOk result (keys.new.items ≡ keys.old.items ++ map (source_key 0 group.bits)
         (filter (has_other_route world.now (with_routes world.now next.now.routes)) (numbers_of sources.now.entries))) }
-    ensures at_least { OnOk result (raised meter.old
-        (sum_by (both_routes_nodes world.now next.now.routes) (numbers_of sources.now.entries)) ≤ meter.new) }
+    ensures visited { OnOk result (meter.new ≡ raised meter.old
+        (sum_by (both_routes_nodes world.now next.now.routes) (numbers_of sources.now.entries))) }
 {
     for (source, ()) in sources.iter() {
         if has_other_route(world, meter, next, *source) {
@@ -155,8 +128,8 @@ fn keys_with_other_rp(
 ) -> Result<Series<Key>, AllocError>
     ensures keys { IfOk result (λ keys. keys ≡ map (star_key 0)
         (filter (has_other_rp world.now (rps_replaced world.now next.now.ranges)) (numbers_of groups.now.entries))) }
-    ensures at_least { OnOk result (raised meter.old
-        (sum_by (both_rps_nodes world.now next.now.ranges) (numbers_of groups.now.entries)) ≤ meter.new) }
+    ensures visited { OnOk result (meter.new ≡ raised meter.old
+        (sum_by (both_rps_nodes world.now next.now.ranges) (numbers_of groups.now.entries))) }
 {
     let mut keys = Vec::new(alloc);
     for (group, ()) in groups.iter() {
@@ -167,39 +140,35 @@ fn keys_with_other_rp(
     Ok(Series::from_vec(keys))
 }
 
-/// What new routes touch: the groups with any fact whose RP has another route, and of the other groups the sources with any
-/// fact that have one. The meter rises by the nodes that the look-ups visit, at least those of the RP of each group and of the
-/// routes that are compared.
+/// What the routes of the next table touch: the groups with any fact whose RP has another route, and of the other groups the
+/// sources with any fact that have one. The meter rises by the nodes that the look-ups visit, at least those of the RP of each
+/// group and of the routes that are compared.
 pub(crate) fn touched_by_routes(
     world: &World,
     alloc: Global,
     meter: &mut Meter,
-    routes: &[Route],
+    next: &Mrib,
 ) -> Result<Touched, AllocError>
-    requires { are_routes world.now.configured routes.now ≡ true }
     ensures touched { IfOk result (λ touched. touched
-        ≡ TouchedValue.Keys (keys_by_routes world.now (with_routes world.now routes.now))) }
-    ensures at_least { OnOk result (raised meter.old (routes_nodes world.now routes.now) ≤ meter.new) }
+        ≡ TouchedValue.Keys (keys_by_routes world.now (with_routes world.now next.now.routes))) }
+    ensures at_least { OnOk result (raised meter.old (routes_nodes world.now next.now.routes) ≤ meter.new) }
 {
-    let next = table_of_routes(world, alloc, routes)?;
     let groups = world.groups(alloc)?;
-    Ok(Touched::Keys(keys_of_groups(world, alloc, meter, &next, &groups)?))
+    Ok(Touched::Keys(keys_of_groups(world, alloc, meter, next, &groups)?))
 }
 
-/// What new RP ranges touch: the groups with any fact that have another RP. The meter rises by the nodes that the look-ups
-/// visit, at least those of the RPs of each group.
+/// What the RP ranges of the next table touch: the groups with any fact that have another RP. The meter rises by the nodes of
+/// the RPs of each group.
 pub(crate) fn touched_by_rps(
     world: &World,
     alloc: Global,
     meter: &mut Meter,
-    ranges: &[RpRange],
+    next: &Mrib,
 ) -> Result<Touched, AllocError>
-    requires { are_rps ranges.now ≡ true }
     ensures touched { IfOk result (λ touched. touched
-        ≡ TouchedValue.Keys (keys_by_rps world.now (rps_replaced world.now ranges.now))) }
-    ensures at_least { OnOk result (raised meter.old (rps_nodes world.now ranges.now) ≤ meter.new) }
+        ≡ TouchedValue.Keys (keys_by_rps world.now (rps_replaced world.now next.now.ranges))) }
+    ensures visited { OnOk result (meter.new ≡ raised meter.old (rps_nodes world.now next.now.ranges)) }
 {
-    let next = table_of_ranges(alloc, ranges)?;
     let groups = world.groups(alloc)?;
-    Ok(Touched::Keys(keys_with_other_rp(world, alloc, meter, &next, &groups)?))
+    Ok(Touched::Keys(keys_with_other_rp(world, alloc, meter, next, &groups)?))
 }

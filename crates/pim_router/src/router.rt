@@ -23,12 +23,14 @@ ghost use Rattle.pim_model.specs.Limits.{config_test};
 ghost use Rattle.pim_model.specs.State.{opening};
 ghost use Rattle.pim_model.specs.Cause.{OutcomesAreAsked};
 ghost use Rattle.pim_model.specs.Printed.{rows};
+ghost use Rattle.pim_macros.specs.Rows.{number_of};
 ghost use Rattle.pim_model.specs.Timers.{next_moment};
+ghost use Rattle.pim_model.specs.Unicast.{rpf_interface_rp};
 ghost use Rattle.pim_router.specs.Standing.{beginning, begun, nothing_shown, last_copies, standing, standing_after, with_state};
 ghost use Rattle.pim_types.specs.declared.config.Config.{Config as ConfigValue};
 ghost use Rattle.pim_model.specs.Sure.{needs_no_memory};
 ghost use Rattle.pim_locality.specs.Rest.{IsAtRest};
-ghost use Rattle.pim_words.specs.Bounded.{IsBounded};
+ghost use Rattle.pim_promises.specs.Bounded.{IsBounded};
 
 use crate::event::take_in;
 use crate::plane::{bare_packet, keep, offer};
@@ -38,7 +40,7 @@ use pim_macros::SourceGroup;
 use pim_messages::Room;
 use pim_mfc::CacheRow;
 use pim_offrow::Offered;
-use pim_trie::Probes;
+use pim_trie::{Meter, Probes};
 use pim_types::{
     Addr, Config, Emission, Event, Fault, IfaceId, Outcome, Refusal, Row, Table, Verdict,
 };
@@ -143,6 +145,23 @@ impl Router {
             return None;
         }
         self.cache.mfc().cached(SourceGroup { source, group })
+    }
+
+    /// RPF_interface(RP(G)) of any group: what the macro is of the state as it is, evaluated afresh. `None` where the group has no
+    /// RP, where the router is the RP or has no route to it, and where the router has failed. No memory is taken.
+    #[tactic(auto, unfolding(pim_model::specs::Unicast::rpf_interface_rp))]
+    pub fn rp_interface(&self, group: Addr) -> Option<IfaceId>
+        ensures rpf { IfSome self.now.standing (λ r. number_of result ≡ rpf_interface_rp r.state group.bits) }
+        ensures failed { self.now.standing ≡ None → result ≡ None }
+    {
+        if self.failed {
+            return None;
+        }
+        // No event asks for this.
+        let mut uncounted = Meter::outside_events();
+        let rp = self.world.rp(group, &mut uncounted);
+        let path = self.world.rp_route(group, rp, &mut uncounted);
+        path.map(|path| path.iface)
     }
 
     /// The trie nodes that the last event visited: 0 where there was none yet, and where the router has failed. Of an event

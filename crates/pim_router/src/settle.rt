@@ -1,16 +1,17 @@
 //! What follows of an event's own change.
-ghost use Rattle.std.specs.Prelude.{◌≡◌, ◌≤◌, ◌++◌, ◌∷◌, [], IfOk, IsOkUnless, OnOk, false};
+ghost use Rattle.std.specs.Prelude.{◌≡◌, ◌≤◌, ◌++◌, ◌∷◌, [], IfOk, IsOkUnless, IsTrue, OnOk, false};
 ghost use Rattle.pim_fanout.specs.Named.{keys_of};
 ghost use Rattle.pim_ip.specs.declared.fault.Fault.{Fault};
-ghost use Rattle.pim_fanout.specs.Visits.{naming_nodes};
+ghost use Rattle.pim_opening.specs.Seen.{IsSeen, opening_in};
+ghost use Rattle.pim_opening.specs.Visits.{seen_nodes};
 ghost use Rattle.pim_router.specs.Settling.{AreNamed, cleared_by, followed_by, settled_by};
 ghost use Rattle.pim_router.specs.Visits.{cleared_nodes, followed_alone_nodes, followed_nodes};
 ghost use Rattle.pim_trie.specs.Meter.{raised};
 ghost use Rattle.pim_world.specs.Turns.{saying};
 
-use pim_fanout::{Before, named};
+use pim_fanout::{Before, Gathered, named, named_seen};
 use pim_macros::{SourceGroup, SourceSight, StarSight};
-use pim_opening::{GroupOpening, Opening, SourceOpening};
+use pim_opening::{GroupOpening, GroupSeen, Opening, SourceOpening, SourceSeen};
 use pim_types::{Emission, Fault, Series};
 use pim_world::{Meter, Turn, World};
 use std::alloc::AllocError;
@@ -52,6 +53,16 @@ fn follow_all(
     Ok(names)
 }
 
+// The source as it was opened, with its sight.
+fn seen_alone(opened: SourceOpening, sight: &SourceSight) -> SourceSeen
+    ensures { result ≡ record { opened = opened; sight = sight.now } }
+{
+    SourceSeen {
+        opened,
+        sight: *sight,
+    }
+}
+
 // What follows where one source alone was opened: its sight is gathered once, and kept up to date by what goes.
 #[tactic(auto, unfolding(crate::specs::Settling::followed_by))]
 fn follow_source(
@@ -68,15 +79,94 @@ fn follow_source(
     ensures messages { OnOk result (turn.new
         ≡ saying turn.old (followed_by (group.now ∷ []) world.old turn.old.draw).1) }
     ensures named { IfOk result (λ names. AreNamed before.now (cleared_by (group.now ∷ []) world.old).0 (keys_of names)) }
-    ensures at_least { OnOk result (raised meter.old (followed_alone_nodes group.now opened before.now world.old) ≤ meter.new) }
+    ensures at_least { OnOk result (raised meter.old (followed_alone_nodes group.now opened world.old) ≤ meter.new) }
 {
     let star = StarSight::of(world, group.group, meter);
     let mut sight = SourceSight::of(world, star, opened.source, meter);
     pim_register::settle_register(world, meter, &mut sight)?;
     pim_asserts::clear_alone(world, turn, meter, group, opened, &mut sight)?;
-    let names = named(world, turn.alloc, meter, before)?;
+    let seen = [seen_alone(opened, &sight)];
+    let names = named_seen(world, turn.alloc, meter, before, &sight.star, &seen)?;
     pim_upstream::changed_alone(world, turn, meter, group, opened, &sight)?;
     Ok(names)
+}
+
+// Whether nothing is to be settled of a group, and nothing must go.
+#[tactic(auto, unfolding(crate::specs::Settling::cleared_by))]
+fn stays(world: &World, seen: &GroupSeen) -> bool
+    requires { IsSeen world.now seen.now }
+    ensures { IsTrue result → cleared_by (opening_in seen.now ∷ []) world.now ≡ (world.now, []) }
+{
+    if !pim_register::are_settled(world, seen) {
+        return false;
+    }
+    pim_asserts::are_clear(world, seen)
+}
+
+// The registers are settled, then goes what must, of one group alone. It is gathered once, and anew only where something of it
+// was to be settled or to go.
+fn clear_group(
+    world: &mut World,
+    turn: &mut Turn,
+    meter: &mut Meter,
+    opened: &Opening,
+    group: &GroupOpening,
+) -> Result<GroupSeen, AllocError>
+    requires { opened.now ≡ group.now ∷ [] }
+    ensures state { OnOk result (world.new ≡ (cleared_by opened.now world.old).0) }
+    ensures messages { OnOk result (turn.new ≡ saying turn.old (cleared_by opened.now world.old).1) }
+    ensures opening { IfOk result (λ seen. opening_in seen ≡ group.now) }
+    ensures seen { IfOk result (λ seen. IsSeen world.new seen) }
+    ensures at_least { OnOk result (raised meter.old (seen_nodes world.new group.now) ≤ meter.new) }
+{
+    let seen = GroupSeen::of(world, turn.alloc, group, meter)?;
+    if stays(world, &seen) {
+        return Ok(seen);
+    }
+    clear(world, turn, meter, opened)?;
+    let anew = GroupSeen::of(world, turn.alloc, group, meter)?;
+    Ok(anew)
+}
+
+// What follows where one group alone was opened: which sources are named, and what is told, by what was gathered once.
+fn follow_group(
+    world: &mut World,
+    turn: &mut Turn,
+    meter: &mut Meter,
+    opening: &Opening,
+    group: &GroupOpening,
+    before: &Before,
+) -> Result<Series<SourceGroup>, AllocError>
+    requires { opening.now ≡ group.now ∷ [] }
+    ensures state { OnOk result (world.new ≡ (followed_by opening.now world.old turn.old.draw).0) }
+    ensures messages { OnOk result (turn.new ≡ saying turn.old (followed_by opening.now world.old turn.old.draw).1) }
+    ensures named { IfOk result (λ names. AreNamed before.now (cleared_by opening.now world.old).0 (keys_of names)) }
+    ensures at_least { OnOk result (raised meter.old (seen_nodes (cleared_by opening.now world.old).0 group.now) ≤ meter.new) }
+{
+    let seen = clear_group(world, turn, meter, opening, group)?;
+    let sources = seen.sources.as_slice();
+    let names = named_seen(world, turn.alloc, meter, before, &seen.star, sources)?;
+    pim_upstream::changed_group(world, turn, meter, &seen)?;
+    Ok(names)
+}
+
+// What follows where more than one source of a group, or all of one, was opened.
+fn follow_groups(
+    world: &mut World,
+    turn: &mut Turn,
+    meter: &mut Meter,
+    opening: &Opening,
+    before: &Before,
+) -> Result<Series<SourceGroup>, AllocError>
+    ensures state { OnOk result (world.new ≡ (followed_by opening.now world.old turn.old.draw).0) }
+    ensures messages { OnOk result (turn.new ≡ saying turn.old (followed_by opening.now world.old turn.old.draw).1) }
+    ensures named { IfOk result (λ names. AreNamed before.now (cleared_by opening.now world.old).0 (keys_of names)) }
+    ensures rises { OnOk result (meter.old ≤ meter.new) }
+{
+    let [group] = opening.groups() else {
+        return follow_all(world, turn, meter, opening, before);
+    };
+    follow_group(world, turn, meter, opening, group, before)
 }
 
 // What follows, by comparison with the opening: the registers first, then what must go, then what is told upstream.
@@ -90,11 +180,11 @@ fn follow(
     ensures state { OnOk result (world.new ≡ (followed_by opening.now world.old turn.old.draw).0) }
     ensures messages { OnOk result (turn.new ≡ saying turn.old (followed_by opening.now world.old turn.old.draw).1) }
     ensures named { IfOk result (λ names. AreNamed before.now (cleared_by opening.now world.old).0 (keys_of names)) }
-    ensures at_least { OnOk result (raised meter.old (naming_nodes (cleared_by opening.now world.old).0 before.now) ≤ meter.new) }
+    ensures rises { OnOk result (meter.old ≤ meter.new) }
 {
     match opening.only_source() {
         Some((group, opened)) => follow_source(world, turn, meter, group, opened, before),
-        None => follow_all(world, turn, meter, opening, before),
+        None => follow_groups(world, turn, meter, opening, before),
     }
 }
 
@@ -105,19 +195,18 @@ pub(crate) fn settle(
     world: &mut World,
     turn: &mut Turn,
     meter: &mut Meter,
-    opening: &Opening,
-    before: &Before,
+    gathered: &Gathered,
     emissions: &mut Vec<Emission>,
 ) -> Result<Series<SourceGroup>, Fault>
-    ensures state { OnOk result (world.new ≡ (settled_by opening.now world.old turn.old.messages turn.old.draw).0) }
+    ensures state { OnOk result (world.new ≡ (settled_by gathered.now.opening world.old turn.old.messages turn.old.draw).0) }
     ensures sent { OnOk result (emissions.new.items ≡ emissions.old.items
-        ++ (settled_by opening.now world.old turn.old.messages turn.old.draw).1) }
-    ensures named { IfOk result (λ names. AreNamed before.now (cleared_by opening.now world.old).0 (keys_of names)) }
+        ++ (settled_by gathered.now.opening world.old turn.old.messages turn.old.draw).1) }
+    ensures named { IfOk result (λ names. AreNamed gathered.now.before (cleared_by gathered.now.opening world.old).0 (keys_of names)) }
     ensures draw { OnOk result (turn.new.draw ≡ turn.old.draw) }
     ensures fault { IsOkUnless result Fault.Memory }
-    ensures at_least { OnOk result (raised meter.old (naming_nodes (cleared_by opening.now world.old).0 before.now) ≤ meter.new) }
+    ensures rises { OnOk result (meter.old ≤ meter.new) }
 {
-    let names = follow(world, turn, meter, opening, before)?;
+    let names = follow(world, turn, meter, &gathered.opening, &gathered.before)?;
     world.write(&mut turn.room, &turn.out, emissions)?;
     Ok(names)
 }

@@ -22,17 +22,21 @@ ghost use Rattle.pim_model.specs.Timers.{next_due};
 ghost use Rattle.pim_ready.specs.Ready.{IsLawful};
 ghost use Rattle.pim_router.specs.Listing.{ListsMore};
 ghost use Rattle.pim_router.specs.Staying.{StaysBeside};
-ghost use Rattle.pim_router.specs.Ends.{ending_of, has_other_sources, keeps_group, touched_by_end, touched_by_source};
+ghost use Rattle.pim_router.specs.Ends.{ending_of, has_other_sources, keeps_group, touched_by_end, touched_by_neighbour, touched_by_source};
 ghost use Rattle.pim_tables.specs.Ends.{due_of};
+ghost use Rattle.pim_types.specs.Keys.{iface_in, source_in};
 
+use crate::few::few_or_all;
 use crate::settle::settle;
-use pim_fanout::{Before, Cache};
+use pim_fanout::{Cache, Gathered};
+use pim_hello::{end_keeps_dr, keys_towards};
 use pim_macros::SourceGroup;
 use pim_messages::Outbox;
-use pim_opening::Opening;
-use pim_types::{Addr, Emission, Fault, IfaceId, Key, Outcome, Series, Timer, TimerKind, Verdict};
+use pim_types::{
+    Addr, Emission, Fault, Hop, IfaceId, Key, Outcome, Series, Timer, TimerKind, Verdict,
+};
 use pim_world::{Meter, Touched, Turn, World};
-use std::alloc::{AllocError, Global};
+use std::alloc::AllocError;
 
 // The timer that ends first, with its end in ms, where that is due by the moment.
 fn next_due(world: &World, moment: u64) -> Option<(u64, Timer)>
@@ -76,12 +80,46 @@ fn touched_by_source(world: &World, key: Key) -> Key
     }
 }
 
+// The neighbour whose key it is.
+fn neighbour_of(key: Key) -> Hop
+    ensures iface { result.iface.number ≡ iface_in key }
+    ensures address { result.address.bits ≡ source_in key }
+{
+    Hop {
+        iface: key.iface,
+        address: key.source.unwrap_or(Addr::NONE),
+    }
+}
+
+// What the end of the neighbour with this key touches: what looks to it, or all where it changes whether the router is the DR.
+fn touched_by_neighbour(
+    world: &World,
+    turn: &Turn,
+    meter: &mut Meter,
+    key: Key,
+) -> Result<Touched, AllocError>
+    ensures touched { IfOk result (λ touched. touched ≡ touched_by_neighbour world.now key) }
+    ensures rises { OnOk result (meter.old ≤ meter.new) }
+{
+    if end_keeps_dr(world, key) {
+        let keys = keys_towards(world, turn, meter, neighbour_of(key))?;
+        return Ok(few_or_all(keys));
+    }
+    Ok(Touched::All)
+}
+
 // The keys that the end of a timer touches.
-fn touched_by_end(world: &World, alloc: Global, timer: Timer) -> Result<Touched, AllocError>
-    ensures { IfOk result (λ touched. touched ≡ touched_by_end world.now timer.kind timer.key) }
+fn touched_by_end(
+    world: &World,
+    turn: &Turn,
+    meter: &mut Meter,
+    timer: Timer,
+) -> Result<Touched, AllocError>
+    ensures touched { IfOk result (λ touched. touched ≡ touched_by_end world.now timer.kind timer.key) }
+    ensures rises { OnOk result (meter.old ≤ meter.new) }
 {
     let key = match timer.kind {
-        TimerKind::Neighbour => return Ok(Touched::All),
+        TimerKind::Neighbour => return touched_by_neighbour(world, turn, meter, timer.key),
         TimerKind::PrunePending
         | TimerKind::DownstreamExpiry
         | TimerKind::Assert
@@ -95,9 +133,9 @@ fn touched_by_end(world: &World, alloc: Global, timer: Timer) -> Result<Touched,
         | TimerKind::OtherQuerier
         | TimerKind::GroupRepeat
         | TimerKind::SourceRepeat
-        | TimerKind::GeneralQuery => return Ok(Touched::Keys(Series::new(alloc))),
+        | TimerKind::GeneralQuery => return Ok(Touched::Keys(Series::new(turn.alloc))),
     };
-    let mut keys = Vec::new(alloc);
+    let mut keys = Vec::new(turn.alloc);
     keys.push(key)?;
     Ok(Touched::Keys(Series::from_vec(keys)))
 }
@@ -157,13 +195,12 @@ fn fire_world(
     ensures fault { IsOkUnless result Fault.Memory }
     ensures at_least { OnOk result (raised meter.old (firing_nodes world.old due) ≤ meter.new) }
 {
-    let opening = Opening::of(world, turn.alloc, touched, meter)?;
-    let before = Before::of(world, turn.alloc, meter, touched)?;
+    let gathered = Gathered::of(world, turn.alloc, touched, meter)?;
     world.set_present(due.0);
     fired(world, turn, meter, due.1)?;
     // It tells that asserts, sources and registers are under keys of their kind.
     world.recall_keyed();
-    settle(world, turn, meter, &opening, &before, emissions)
+    settle(world, turn, meter, &gathered, emissions)
 }
 
 // The same, and then the rows of the named sources; whatever was sent in the turn before.
@@ -198,7 +235,7 @@ fn fire_once(
     // It tells that there are at most 120 interfaces.
     world.interfaces().recall_few();
     turn.out = Outbox::new(turn.alloc);
-    let touched = touched_by_end(world, turn.alloc, due.1)?;
+    let touched = touched_by_end(world, turn, meter, due.1)?;
     let names = fire_world(world, turn, meter, due, &touched, emissions)?;
     cache.refresh(world, meter, names, touched)?;
     Ok(())

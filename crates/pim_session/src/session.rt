@@ -4,6 +4,7 @@ ghost use Rattle.std.specs.Prelude.{◌≡◌, ◌↔◌, [], Err, IfErr, IfOk, 
 ghost use Rattle.pim_ip.specs.declared.fault.Fault.{Fault};
 ghost use Rattle.pim_fanout.specs.Disturbed.{is_disturbed};
 ghost use Rattle.pim_fanout.specs.Named.{keys_of};
+ghost use Rattle.pim_macros.specs.Rows.{number_of};
 ghost use Rattle.pim_mfc.specs.Laws.{TellsRow};
 ghost use Rattle.pim_model.specs.Cache.{cached};
 ghost use Rattle.pim_model.specs.Judging.{last_moment};
@@ -14,6 +15,7 @@ ghost use Rattle.pim_model.specs.State.{opening};
 ghost use Rattle.pim_model.specs.Step.{step};
 ghost use Rattle.pim_model.specs.Sure.{needs_no_memory};
 ghost use Rattle.pim_model.specs.Timers.{next_moment};
+ghost use Rattle.pim_model.specs.Unicast.{rpf_interface_rp};
 ghost use Rattle.pim_offload.specs.Keeping.{keep};
 ghost use Rattle.pim_offload.specs.Offered.{offered};
 ghost use Rattle.pim_offload.specs.Seen.{seen_event};
@@ -282,6 +284,17 @@ impl Session {
             return None;
         }
         self.router.cached(source, group)
+    }
+
+    /// RPF_interface(RP(G)) of any group, as `Router::rp_interface` tells it; `None` after a fault.
+    pub fn rp_interface(&self, group: Addr) -> Option<IfaceId>
+        ensures rpf { IfSome self.now.router.standing (λ r. number_of result ≡ rpf_interface_rp r.state group.bits) }
+        ensures failed { self.now.router.standing ≡ None → result ≡ None }
+    {
+        if self.is_lost {
+            return None;
+        }
+        self.router.rp_interface(group)
     }
 
     /// What a data plane may do of the packets of (S,G), as `Router::offload` tells it; `None` after a fault.

@@ -21,8 +21,8 @@ use Rattle.pim_model.specs.Seen.{is_unpruned_towards, lower_join_timer, lower_ov
 use Rattle.pim_model.specs.State.{State}
 use Rattle.pim_model.specs.Tables.{Table, drop_at, drop_where, put, row_at, set_row}
 use Rattle.pim_laws.proofs.RowLaws.{row_put, row_put_away, same_key_swap}
-use Rattle.pim_telling.specs.Changes.{change_of}
-use Rattle.pim_telling.specs.declared.change.Change.{Change}
+use Rattle.pim_rpt.specs.Changes.{change_of}
+use Rattle.pim_rpt.specs.declared.change.Change.{Change}
 use Rattle.pim_upstream.specs.Hearing.{heard_if, heard_in_prunes, heard_of_prune, heard_of_source, heard_of_timer, heard_of_timers, is_source_towards, is_star_towards, timers_of}
 use Rattle.pim_upstream.specs.Timers.{after_move, after_moves, join_key}
 use Rattle.pim_upstream.specs.declared.timer.TimerMove.{TimerMove}

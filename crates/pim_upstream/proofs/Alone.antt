@@ -1,5 +1,5 @@
 -- What is told upstream where one source alone was opened.
-use Rattle.std.proofs.Common.{◌≡◌, ℕ, List, [], ◌∷◌, ◌++◌, ap, append-nil}
+use Rattle.std.proofs.Common.{◌≡◌, ℕ, List, [], ◌∷◌, ◌++◌, ap, append-nil, map, refl}
 use Rattle.pim_types.specs.Keys.{star_key}
 use Rattle.pim_types.specs.declared.upstream.StarView.{StarView}
 use Rattle.pim_model.specs.Messages.{Message}
@@ -8,6 +8,8 @@ use Rattle.pim_model.specs.State.{State}
 use Rattle.pim_model.specs.Upstream.{Told, with_join_timer}
 use Rattle.pim_opening.specs.declared.opening.GroupOpening.{GroupOpening}
 use Rattle.pim_opening.specs.declared.opening.SourceOpening.{SourceOpening}
+use Rattle.pim_opening.specs.declared.seen.SourceSeen.{SourceSeen}
+use Rattle.pim_opening.specs.Seen.{opened_in}
 use Rattle.pim_upstream.specs.Told.{group_step, source_step, star_changed, upstream_by}
 
 -- first the group, then the source; the timers move in s
@@ -27,3 +29,20 @@ told_alone a w x o alone =
     rw alone
     (ap (λ (ms : List Message). let p : State × List Message = (step.0, ms) in p)
     (λ j. append-nil (star.messages ++ append-nil step.1 j) j))
+
+-- one group alone
+pub group_alone : (a : State) (w : ℕ) (x : GroupOpening) → upstream_by (x ∷ []) a w ≡ group_step a w a x
+unfolding upstream_by each_in_turn
+group_alone a w x =
+    let told : State × List Message = group_step a w a x in
+    ap (λ (ms : List Message). let p : State × List Message = (told.0, ms) in p) (append-nil told.1)
+
+-- sources one after the other, by what was opened of them
+pub each_opened : (step : State → SourceOpening → State × List Message) (xs : List SourceSeen) (s : State)
+    → each_in_turn (λ (t : State) (x : SourceSeen). step t x.opened) s xs ≡ each_in_turn step s (map opened_in xs)
+unfolding each_in_turn
+each_opened step [] s = refl
+each_opened step (x ∷ xs) s =
+    let first : State × List Message = step s x.opened in
+    ap (λ (p : State × List Message). let both : State × List Message = (p.0, first.1 ++ p.1) in both)
+    (each_opened step xs first.0)

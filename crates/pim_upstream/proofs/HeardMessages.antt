@@ -23,8 +23,8 @@ use Rattle.pim_model.specs.State.{State}
 use Rattle.pim_model.specs.Tables.{Table, hop_at, keys_in, row_at, same_bool, same_hop, set_row}
 use Rattle.pim_model.specs.Upstream.{LowerTo, changed_end, moved_override_timer, with_override_timer}
 use Rattle.pim_upstream.specs.Hearing.{heard_if, heard_in_join, heard_in_joins, heard_in_prunes, heard_of_join, heard_of_prune, heard_of_source, heard_of_timer, heard_of_timers, is_source_towards, is_star_towards, timers_of}
-use Rattle.pim_telling.specs.Changes.{change_of}
-use Rattle.pim_telling.specs.declared.change.Change.{Change}
+use Rattle.pim_rpt.specs.Changes.{change_of}
+use Rattle.pim_rpt.specs.declared.change.Change.{Change}
 use Rattle.pim_upstream.specs.Timers.{after_move, after_moves}
 use Rattle.pim_upstream.specs.declared.timer.TimerMove.{TimerMove}
 use Rattle.pim_upstream.proofs.EntryChanges.{all_entries, passing_entries}

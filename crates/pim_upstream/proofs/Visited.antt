@@ -1,16 +1,15 @@
 -- What is looked up in loops where a step may be left out: of sources while there is room, and of keys that are named again.
-use Rattle.std.proofs.Common.{◌≡◌, ◌≤◌, ◌<◌, ◌+◌, ◌++◌, ◌∙◌, ◌∷◌, ◌||◌, Bool, List, [], None, Option, Some, ap, append_assoc, cond, drop, false, get_or, length, not, refl, subst, suc, sym, take, true, zero, ℕ, arith}
+use Rattle.std.proofs.Common.{◌≡◌, ◌≤◌, ◌<◌, ◌+◌, ◌++◌, ◌∙◌, ◌∷◌, Bool, List, [], None, Option, Some, ap, append_assoc, drop, false, get_or, length, not, refl, subst, suc, sym, take, true, zero, ℕ}
 use Rattle.std.specs.List.{flat_map, sum_by}
 use Rattle.std.specs.Bool.{beq}
 use Rattle.std.specs.Prelude.{if◌then◌else◌, is_none, is_some, option_map}
 use Rattle.std.proofs.lemmas.List.{drop_all, drop_more, flat_map_more, take_more}
-use Rattle.std.proofs.lemmas.List.Folds.{list_any_more}
 use Rattle.pim_ip.specs.Addr.{addr}
 use Rattle.pim_ip.specs.declared.addr.Addr.{Addr}
 use Rattle.pim_types.specs.declared.fact.JoinTimerRow.{JoinTimerRow}
 use Rattle.pim_types.specs.declared.fact.Key.{Key}
 use Rattle.pim_types.specs.declared.path.Hop.{Hop}
-use Rattle.pim_types.specs.Keys.{is_star, same_key}
+use Rattle.pim_types.specs.Keys.{is_star}
 use Rattle.pim_wire.specs.Values.{JoinPrune}
 use Rattle.pim_model.specs.Desires.{rpf_star}
 use Rattle.pim_model.specs.Downstream.{is_named, joined_keys, pruned_keys}
@@ -18,13 +17,12 @@ use Rattle.pim_model.specs.State.{State}
 use Rattle.pim_model.specs.Tables.{Table, same_bool}
 use Rattle.pim_model.specs.Unicast.{rp_of}
 use Rattle.pim_model.specs.Upstream.{is_pruned_with_star, star_view}
-use Rattle.pim_laws.proofs.RowLaws.{same_key_swap}
 use Rattle.pim_macros.specs.Sights.{IsStarSight}
 use Rattle.pim_macros.specs.declared.sight.StarSight.{StarSight}
 use Rattle.pim_opening.specs.declared.opening.GroupOpening.{GroupOpening}
 use Rattle.pim_opening.specs.declared.opening.SourceOpening.{SourceOpening}
 use Rattle.pim_world.specs.Visits.{raised, source_nodes, star_nodes}
-use Rattle.pim_world.proofs.Visits.{none_further, none_visited, one_further, raised_by_none, raised_further, then_rises, two_in_turn}
+use Rattle.pim_world.proofs.Visits.{none_further, none_visited, one_further, then_rises, two_in_turn}
 use Rattle.pim_upstream.specs.Hearing.{heard_in_join, heard_in_joins, heard_of_timer, heard_of_timers}
 use Rattle.pim_upstream.specs.Visits.{group_told_nodes, is_told_nodes, join_again_nodes, join_star_nodes, joined_nodes, looked_at_nodes, pruned_key_nodes, pruned_keys_nodes, seen_nodes, source_told_nodes, star_told_nodes, told_alone_nodes}
 use Rattle.pim_upstream.specs.declared.timer.TimerMove.{TimerMove}

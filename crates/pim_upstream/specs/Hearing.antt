@@ -10,7 +10,7 @@ use Rattle.pim_model.specs.Desires.{rpf_source, rpf_star}
 use Rattle.pim_model.specs.Seen.{is_unpruned_towards}
 use Rattle.pim_model.specs.State.{State}
 use Rattle.pim_model.specs.Tables.{Table, same_bool, same_hop}
-use Rattle.pim_telling.specs.declared.change.Change.{Change}
+use Rattle.pim_rpt.specs.declared.change.Change.{Change}
 use Rattle.pim_upstream.specs.declared.timer.TimerMove.{TimerMove}
 
 -- one change, or none

@@ -6,7 +6,7 @@ use Rattle.pim_model.specs.Upstream.{with_join_timer, with_override_timer}
 use Rattle.pim_ip.specs.declared.addr.Addr.{Addr}
 use Rattle.pim_types.specs.declared.fact.Key.{Key}
 use Rattle.pim_types.specs.Keys.{key_of, rpt_key}
-use Rattle.pim_telling.specs.Changes.{change_of}
+use Rattle.pim_rpt.specs.Changes.{change_of}
 use Rattle.pim_upstream.specs.declared.timer.TimerMove.{TimerMove}
 
 -- of (*,G), where there is no source, or of (S,G)

@@ -16,7 +16,7 @@ use crate::timer::{TimerMove, move_timers, note_if};
 use pim_downstream::Named;
 use pim_macros::desires::is_same_hop;
 use pim_macros::{SourceSight, StarSight};
-use pim_telling::Change;
+use pim_rpt::Change;
 use pim_types::{Addr, Hop, IfaceId, Key, TreeState};
 use pim_wire::JoinPruneView;
 use pim_world::{Meter, Turn, World};

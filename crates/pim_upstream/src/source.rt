@@ -2,11 +2,11 @@
 ghost use Rattle.std.specs.Prelude.{◌≡◌, IfOk, OnOk};
 ghost use Rattle.pim_model.specs.Upstream.{join_source_to, prune_source_to, source_stays, source_told};
 ghost use Rattle.pim_world.specs.Turns.{saying};
-ghost use Rattle.pim_telling.specs.Changes.{change_of};
+ghost use Rattle.pim_rpt.specs.Changes.{change_of};
 
 use pim_macros::desires::is_same_hop;
-use pim_telling::Change;
-use pim_telling::message::{if_neighbour, is_due_to_assert, override_end, say};
+use pim_rpt::Change;
+use pim_rpt::message::{if_neighbour, is_due_to_assert, override_end, say};
 use pim_types::{Addr, Hop, SourceView};
 use pim_wire::{Entry, EntryKind};
 use pim_world::{Turn, World};
@@ -54,7 +54,7 @@ fn prune(
 }
 
 // (S,G) was desired, and is.
-#[tactic(auto, unfolding(pim_model::specs::Upstream::source_stays, pim_telling::specs::Changes::change_of))]
+#[tactic(auto, unfolding(pim_model::specs::Upstream::source_stays, pim_rpt::specs::Changes::change_of))]
 fn stay(
     world: &World,
     turn: &mut Turn,
@@ -81,7 +81,7 @@ fn stay(
 
 /// Sends what follows of the views of a source before and after a change, and tells what becomes of the Join timer of
 /// (S,G).
-#[tactic(auto, unfolding(pim_model::specs::Upstream::source_told, pim_telling::specs::Changes::change_of))]
+#[tactic(auto, unfolding(pim_model::specs::Upstream::source_told, pim_rpt::specs::Changes::change_of))]
 pub(crate) fn tell(
     world: &World,
     turn: &mut Turn,

@@ -3,15 +3,15 @@ ghost use Rattle.std.specs.Prelude.{◌≡◌, ◌≤◌, [], IfOk, OnOk, if◌t
 ghost use Rattle.pim_model.specs.Upstream.{join_star_to, prune_star_to, star_stays, star_told};
 ghost use Rattle.pim_macros.specs.Sights.{IsStarSight};
 ghost use Rattle.pim_world.specs.Turns.{saying};
-ghost use Rattle.pim_telling.specs.Changes.{change_of};
+ghost use Rattle.pim_rpt.specs.Changes.{change_of};
 ghost use Rattle.pim_world.specs.Visits.{raised};
 ghost use Rattle.pim_upstream.specs.Visits.{join_star_nodes, star_stays_nodes, star_told_nodes};
 
 use crate::compound::pruned_with_star;
 use pim_macros::StarSight;
 use pim_macros::desires::is_same_hop;
-use pim_telling::Change;
-use pim_telling::message::{if_neighbour, is_due_to_assert, override_end, say};
+use pim_rpt::Change;
+use pim_rpt::message::{if_neighbour, is_due_to_assert, override_end, say};
 use pim_types::{Addr, Hop, StarView};
 use pim_wire::{Entry, EntryKind};
 use pim_world::{Meter, Turn, World};
@@ -75,7 +75,7 @@ fn prune(
 }
 
 // (*,G) was desired, and is.
-#[tactic(auto, unfolding(pim_model::specs::Upstream::star_stays, pim_telling::specs::Changes::change_of))]
+#[tactic(auto, unfolding(pim_model::specs::Upstream::star_stays, pim_rpt::specs::Changes::change_of))]
 fn stay(
     world: &World,
     turn: &mut Turn,
@@ -124,7 +124,7 @@ fn cease(
 }
 
 /// Sends what follows of the views of a group before and after a change, and tells what becomes of its Join timer.
-#[tactic(auto, unfolding(pim_model::specs::Upstream::star_told, pim_telling::specs::Changes::change_of))]
+#[tactic(auto, unfolding(pim_model::specs::Upstream::star_told, pim_rpt::specs::Changes::change_of))]
 pub(crate) fn tell(
     world: &World,
     turn: &mut Turn,

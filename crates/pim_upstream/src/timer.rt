@@ -7,9 +7,9 @@ ghost use Rattle.pim_model.specs.Tables.{row_at};
 ghost use Rattle.pim_model.specs.Upstream.{LowerTo, changed_end, with_join_timer, with_override_timer};
 ghost use Rattle.pim_upstream.specs.Hearing.{heard_if};
 ghost use Rattle.pim_upstream.specs.Timers.{after_move, after_moves, join_key};
-ghost use Rattle.pim_telling.specs.Changes.{change_of};
+ghost use Rattle.pim_rpt.specs.Changes.{change_of};
 
-use pim_telling::Change;
+use pim_rpt::Change;
 use pim_types::fact::{JoinTimerRow, OverrideTimerRow};
 use pim_types::{Addr, IfaceId, Key};
 use pim_world::{Meter, World};
@@ -70,7 +70,7 @@ fn join_timer(world: &World, group: Addr, source: Option<Addr>) -> Option<JoinTi
 }
 
 // What becomes of a Join timer.
-#[tactic(auto, unfolding(pim_model::specs::Upstream::with_join_timer, pim_model::specs::Upstream::moved_join_timer, pim_telling::specs::Changes::change_of))]
+#[tactic(auto, unfolding(pim_model::specs::Upstream::with_join_timer, pim_model::specs::Upstream::moved_join_timer, pim_rpt::specs::Changes::change_of))]
 fn move_join_timer(
     world: &mut World,
     meter: &mut Meter,
@@ -98,7 +98,7 @@ fn move_join_timer(
 }
 
 // What becomes of an override timer.
-#[tactic(auto, unfolding(pim_model::specs::Upstream::with_override_timer, pim_model::specs::Upstream::moved_override_timer, pim_telling::specs::Changes::change_of))]
+#[tactic(auto, unfolding(pim_model::specs::Upstream::with_override_timer, pim_model::specs::Upstream::moved_override_timer, pim_rpt::specs::Changes::change_of))]
 fn move_override_timer(
     world: &mut World,
     meter: &mut Meter,

@@ -1,8 +1,9 @@
 //! What is told upstream after an event's own change.
-ghost use Rattle.std.specs.Prelude.{◌≡◌, ◌≤◌, ◌∷◌, [], ◌||◌, OnOk, sum_by};
+ghost use Rattle.std.specs.Prelude.{◌≡◌, ◌≤◌, ◌∷◌, [], ◌||◌, OnOk, map, sum_by};
 ghost use Rattle.pim_types.specs.Keys.{star_key};
 ghost use Rattle.pim_model.specs.Upstream.{star_view, with_join_timer};
 ghost use Rattle.pim_opening.specs.Openings.{has_facts};
+ghost use Rattle.pim_opening.specs.Seen.{AreSeen, IsSeen, opened_in, opening_in};
 ghost use Rattle.pim_model.specs.Querier.{each_in_turn};
 ghost use Rattle.pim_model.specs.State.{State};
 ghost use Rattle.pim_macros.specs.Sights.{IsSourceSight, IsStarSight};
@@ -10,12 +11,12 @@ ghost use Rattle.pim_world.specs.Turns.{saying};
 ghost use Rattle.pim_upstream.specs.Told.{group_step, source_moved, source_step, star_changed, upstream_by};
 ghost use Rattle.pim_world.specs.Visits.{raised};
 ghost use Rattle.pim_upstream.specs.Timers.{after_moves};
-ghost use Rattle.pim_upstream.specs.Visits.{group_told_nodes, is_told_nodes, source_told_nodes, star_told_nodes, told_alone_nodes, told_nodes};
+ghost use Rattle.pim_upstream.specs.Visits.{group_told_nodes, is_told_nodes, seen_told_nodes, source_told_nodes, star_told_nodes, told_alone_nodes, told_nodes, told_seen_nodes};
 
 use crate::timer::{TimerMove, move_timers, note_join, note_override};
 use crate::{source, star};
 use pim_macros::{SourceSight, StarSight};
-use pim_opening::{GroupOpening, Opening, SourceOpening};
+use pim_opening::{GroupOpening, GroupSeen, Opening, SourceOpening, SourceSeen};
 use pim_types::{Addr, SourceView, StarView};
 use pim_world::{Meter, Turn, World};
 use std::alloc::AllocError;
@@ -233,5 +234,53 @@ pub fn changed_alone(
     let mut moves = Vec::new(turn.alloc);
     tell_star(world, turn, meter, &sight.star, group.star, &mut moves)?;
     tell_seen(world, turn, meter, sight, opened, &mut moves)?;
+    move_timers(world, meter, moves.as_slice())
+}
+
+// Sends what is told of these sources of a group by their sights, one after the other.
+fn tell_all_seen(
+    world: &World,
+    turn: &mut Turn,
+    meter: &mut Meter,
+    star: &StarSight,
+    sources: &[SourceSeen],
+    moves: &mut Vec<TimerMove>,
+) -> Result<(), AllocError>
+    requires { AreSeen world.now star.now sources.now }
+    ensures timers { OnOk result ((s : State) → after_moves s moves.new.items
+        ≡ (each_in_turn (source_step world.now turn.old.draw star.now.group.bits)
+        (after_moves s moves.old.items) (map opened_in sources.now)).0) }
+    ensures messages { OnOk result ((s : State) → turn.new ≡ saying turn.old
+        (each_in_turn (source_step world.now turn.old.draw star.now.group.bits)
+        (after_moves s moves.old.items) (map opened_in sources.now)).1) }
+    ensures at_least { OnOk result (raised meter.old
+        (sum_by (seen_told_nodes world.now star.now.group) sources.now) ≤ meter.new) }
+{
+    for seen in sources {
+        tell_seen(world, turn, meter, &seen.sight, seen.opened, moves)?;
+    }
+    Ok(())
+}
+
+/// The same of one group alone, by what was gathered of it in the state as the change left it: nothing of that is gathered
+/// again. The meter rises by the nodes that the look-ups visit, at least those of the sources that the group's Join may
+/// prune, and those that lead to the facts of each source that had none.
+#[tactic(auto, unfolding(crate::specs::Timers::after_moves))]
+pub fn changed_group(
+    world: &mut World,
+    turn: &mut Turn,
+    meter: &mut Meter,
+    seen: &GroupSeen,
+) -> Result<(), AllocError>
+    requires { IsSeen world.old seen.now }
+    ensures state { OnOk result (world.new ≡ (upstream_by (opening_in seen.now ∷ []) world.old turn.old.draw).0) }
+    ensures messages { OnOk result (turn.new
+        ≡ saying turn.old (upstream_by (opening_in seen.now ∷ []) world.old turn.old.draw).1) }
+    ensures at_least { OnOk result (raised meter.old (told_seen_nodes world.old seen.now) ≤ meter.new) }
+{
+    let mut moves = Vec::new(turn.alloc);
+    let sources = seen.sources.as_slice();
+    tell_star(world, turn, meter, &seen.star, seen.was, &mut moves)?;
+    tell_all_seen(world, turn, meter, &seen.star, sources, &mut moves)?;
     move_timers(world, meter, moves.as_slice())
 }

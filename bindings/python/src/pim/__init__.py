@@ -161,8 +161,8 @@ class Words(Structure):
 
 class Told(Structure):
     _fields_ = [
-        ("rpf", c_uint32), ("has_spt_bit", c_bool), ("has_tunnel", c_bool), ("immediate", Words), ("inherited", Words),
-        ("shared_tree", Words),
+        ("rpf", c_uint32), ("shared_rpf", c_uint32), ("has_spt_bit", c_bool), ("has_tunnel", c_bool), ("immediate", Words),
+        ("inherited", Words), ("shared_tree", Words),
     ]
 
 
@@ -185,9 +185,10 @@ class Sent(NamedTuple):
 
 
 class Forwarding(NamedTuple):
-    """How data of a source to a group goes: RPF_interface(S), SPTbit(S,G), whether the register tunnel is in the first two lists,
-    and immediate_olist(S,G), inherited_olist(S,G) and inherited_olist(S,G,rpt)."""
+    """How data of a source to a group goes: RPF_interface(S), RPF_interface(RP(G)), SPTbit(S,G), whether the register tunnel is in
+    the first two lists, and immediate_olist(S,G), inherited_olist(S,G) and inherited_olist(S,G,rpt)."""
     rpf: int | None
+    shared_rpf: int | None
     has_spt_bit: bool
     has_tunnel: bool
     immediate: frozenset[int]
@@ -378,8 +379,9 @@ class Router:
         told = Told()
         if not self.call("cached", c_uint32(address(source)), c_uint32(address(group)), byref(told)):
             return None
+        ways = (None if number == NO_INTERFACE else number for number in (told.rpf, told.shared_rpf))
         lists = (each.interfaces() for each in (told.immediate, told.inherited, told.shared_tree))
-        return Forwarding(None if told.rpf == NO_INTERFACE else told.rpf, told.has_spt_bit, told.has_tunnel, *lists)
+        return Forwarding(*ways, told.has_spt_bit, told.has_tunnel, *lists)
 
     # ---- a data plane; include/pim.h says what one owes
 

@@ -1,4 +1,6 @@
-use Rattle.std.proofs.Common.{Ok, ap, ◌∙◌}
+use Rattle.std.proofs.Common.{Ok, ap, subst, sym, ◌∙◌}
+use Rattle.pim_model.specs.declared.accepted.Accepted.{Accepted}
+use Rattle.pim_router.specs.Naming.{Brings}
 use Rattle.pim_fanout.specs.Refreshing.{touches}
 use Rattle.pim_router.proofs.Costs.{cheap_turn, plain_cheap, untouched}
 use Rattle.pim_reach.specs.Named.{event_named}
@@ -81,3 +83,6 @@ returns-in-Some-clause-stays c =
     c.requires.rest (c.requires.heard ∙ ap Ok c.requires.data) answered c.take_plain.result c.take_plain.new.world
     c.take_plain.ensures.state)
     c.args.cache.now.disturbed
+
+pub take_turn-requires-clause-table : goal.take_turn-requires-clause-table
+take_turn-requires-clause-table c = subst (λ (a : Accepted). Brings a c.new-table.result) (sym c.requires.data) tt

@@ -1,4 +1,8 @@
-use Rattle.std.proofs.Common.{arith, refl, sym, ◌∙◌}
+use Rattle.std.proofs.Common.{IfOk, Result, ap, arith, refl, subst, sym, ◌∙◌}
+use Rattle.pim_types.specs.declared.outcome.Stop.{Stop}
+use Rattle.pim_intake.specs.Admitted.{IsTableOf, heard_of}
+use Rattle.pim_intake.specs.declared.event.Admitted.{Admitted}
+use Rattle.pim_router.proofs.Configured.{brings}
 use Rattle.std.proofs.lemmas.Result.{on_ok_weaker}
 use Rattle.pim_world.proofs.Visits.{at_least_itself, rises_by}
 use Rattle.pim_fanout.specs.Refreshing.{touches}
@@ -24,14 +28,14 @@ returns-in-Ok-clause-rest c =
 
 pub returns-in-Ok-clause-sure : goal.returns-in-Ok-clause-sure
 returns-in-Ok-clause-sure c =
-    accepted_unsurely c.args.world.now c.args.event.now c.in_ok-accepted.field-0 c.in-Ok.accepted
-    c.take_accepted.result c.in_ok-accepted.ensures.value c.in-Ok.is
+    accepted_unsurely c.args.world.now c.args.event.now (heard_of c.in_ok-accepted.field-0) c.in-Ok.field-0.accepted
+    c.take_accepted.result c.in_ok-accepted.ensures.value (ap heard_of c.in-Ok.is)
 
 pub returns-in-Err-clause-cheap : goal.returns-in-Err-clause-cheap
 returns-in-Err-clause-cheap c =
     is_cheap c.args.world.now c.requires.rest c.args.event.now c.judge.new.meter (touches c.args.cache.now)
     (λ is. absurd (stop_isnt_plain c.args.world.now c.args.event.now c.requires.rest c.in-Err.stop
-    (sym c.in_ok-accepted.ensures.value ∙ c.in-Err.is) is))
+    (sym c.in_ok-accepted.ensures.value ∙ ap heard_of c.in-Err.is) is))
     (untouched (touches c.args.cache.now) c.args.world.now c.args.event.now c.requires.uncounted)
 
 pub returns-in-Ok-clause-rises : goal.returns-in-Ok-clause-rises
@@ -46,8 +50,18 @@ pub returns-in-Err-clause-listed : goal.returns-in-Err-clause-listed
 returns-in-Err-clause-listed c =
     unlisted c.args.cache.now.changed c.args.world.now c.args.event.now c.requires.unlisted
     (stopped_names_none c.args.world.now c.args.event.now c.in-Err.stop
-    (sym c.in_ok-accepted.ensures.value ∙ c.in-Err.is))
+    (sym c.in_ok-accepted.ensures.value ∙ ap heard_of c.in-Err.is))
 
 pub returns-in-Err-clause-stays : goal.returns-in-Err-clause-stays
 returns-in-Err-clause-stays c =
     offers_the_same c.args.world.now c.args.world.now c.args.cache.now.disturbed refl
+
+pub take_accepted-requires-clause-heard : goal.take_accepted-requires-clause-heard
+take_accepted-requires-clause-heard c = sym c.in_ok-accepted.ensures.value ∙ ap heard_of c.in-Ok.is
+
+pub take_accepted-requires-clause-table : goal.take_accepted-requires-clause-table
+take_accepted-requires-clause-table c =
+    brings c.args.world.now c.args.event.now.kind c.in-Ok.field-0.accepted c.in-Ok.field-0.table
+    (sym c.in_ok-accepted.ensures.value ∙ ap heard_of c.in-Ok.is)
+    (subst (λ (j : Result Admitted Stop). IfOk j (λ a. IsTableOf c.args.event.now.kind a.table)) c.in-Ok.is
+    c.in_ok-accepted.ensures.table)

@@ -1,5 +1,39 @@
+use Rattle.std.proofs.Common.{List, ap, subst, sym, ◌≡◌, ◌≤◌, ◌∙◌}
+use Rattle.pim_types.specs.declared.config.Route.{Route}
+use Rattle.pim_world.specs.declared.touched.Touched.{Touched}
+use Rattle.pim_model.specs.declared.accepted.Accepted.{Accepted}
+use Rattle.pim_reach.specs.Moved.{keys_by_routes}
+use Rattle.pim_trie.specs.Meter.{raised}
+use Rattle.pim_world.proofs.Visits.{rises_by}
+use Rattle.pim_router.specs.OtherRoutes.{with_routes}
+use Rattle.pim_router.specs.Planning.{Fits}
+use Rattle.pim_router.specs.Visits.{routes_nodes}
+use Rattle.pim_router.specs.declared.plan.Means.{Means}
+use Rattle.pim_router.specs.declared.plan.Plan.{Plan}
+use Rattle.pim_router.proofs.OtherRoutes.{none_by_same_routes}
 use Rattle.pim_router.proofs.Plans.{routes_fit}
 use Rattle.pim_router.proofs.plan.plan_routes.Goals as goal
 
+pub returns-then-has_routes-clause-plan : goal.returns-then-has_routes-clause-plan
+returns-then-has_routes-clause-plan c =
+    let s = c.args.world.now in
+    let routes = c.args.routes.now in
+    let same : s.routes ≡ routes = c.has_routes.ensures.0 c.if-has_routes.true in
+    subst (λ (p : Plan). Fits s (Accepted.Routes routes) p) (sym c.of_nothing.ensures)
+    (routes_fit s routes _ Means.Nothing (ap Touched.Keys (none_by_same_routes s routes same)) same)
+
 pub returns-clause-plan : goal.returns-clause-plan
-returns-clause-plan c = routes_fit c.args.world.now c.args.routes.now c.in_ok-touched.touched c.in_ok-touched.ensures.touched
+returns-clause-plan c =
+    let s = c.args.world.now in
+    routes_fit s c.args.routes.now c.in_ok-touched.touched (Means.Table c.args.next)
+    (c.in_ok-touched.ensures.touched
+    ∙ ap (λ (rs : List Route). Touched.Keys (keys_by_routes s (with_routes s rs))) c.requires)
+    c.requires
+
+pub returns-clause-at_least : goal.returns-clause-at_least
+returns-clause-at_least c = λ other.
+    subst (λ (rs : List Route). raised c.args.meter.now (routes_nodes c.args.world.now rs) ≤ c.touched_by_routes.new.meter)
+    c.requires c.in_ok-touched.ensures.at_least
+
+pub returns-clause-rises : goal.returns-clause-rises
+returns-clause-rises c = rises_by _ _ _ c.in_ok-touched.ensures.at_least

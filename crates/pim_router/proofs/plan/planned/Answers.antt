@@ -1,10 +1,7 @@
-use Rattle.std.proofs.Common.{◌≡◌, List, refl, subst, sym, true, ⊎_elim}
-use Rattle.pim_types.specs.declared.config.Route.{Route}
-use Rattle.pim_types.specs.declared.config.RpRange.{RpRange}
-use Rattle.pim_model.specs.Limits.{are_routes, are_rps}
+use Rattle.std.proofs.Common.{refl, subst, sym, ⊎_elim, ◌∙◌}
 use Rattle.pim_model.specs.declared.accepted.Accepted.{Accepted}
 use Rattle.pim_model.specs.Full.{is_full}
-use Rattle.pim_router.specs.Naming.{IsConfigured}
+use Rattle.pim_router.specs.Naming.{Brings}
 use Rattle.pim_router.specs.Planning.{touched_of}
 use Rattle.pim_router.proofs.Plans.{all_planned}
 use Rattle.std.proofs.lemmas.Result.{on_ok_weaker}
@@ -40,17 +37,8 @@ returns-in-Register-clause-rises c =
 
 pub plan_routes-requires : goal.plan_routes-requires
 plan_routes-requires c =
-    subst (λ (routes : List Route). are_routes c.args.world.now.configured routes ≡ true) (sym c.as_slice.ensures)
-    (subst (λ (a : Accepted). IsConfigured c.args.world.now a) c.in-Routes.is c.requires.configured)
+    subst (λ (a : Accepted). Brings a c.args.table) c.in-Routes.is c.requires.table ∙ sym c.as_slice.ensures
 
 pub plan_rps-requires : goal.plan_rps-requires
 plan_rps-requires c =
-    subst (λ (ranges : List RpRange). are_rps ranges ≡ true) (sym c.as_slice-in-Rps.ensures)
-    (subst (λ (a : Accepted). IsConfigured c.args.world.now a) c.in-Rps.is c.requires.configured)
-
-pub returns-in-Routes-clause-rises : goal.returns-in-Routes-clause-rises
-returns-in-Routes-clause-rises c =
-    on_ok_weaker c.plan_routes.result (λ e. rises_by _ _ _ e) c.plan_routes.ensures.at_least
-
-pub returns-in-Rps-clause-rises : goal.returns-in-Rps-clause-rises
-returns-in-Rps-clause-rises c = on_ok_weaker c.plan_rps.result (λ e. rises_by _ _ _ e) c.plan_rps.ensures.at_least
+    subst (λ (a : Accepted). Brings a c.args.table) c.in-Rps.is c.requires.table ∙ sym c.as_slice-in-Rps.ensures

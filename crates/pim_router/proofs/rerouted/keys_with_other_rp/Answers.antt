@@ -1,27 +1,27 @@
 use Rattle.std.proofs.Common.{ap, arith}
 use Rattle.std.proofs.lemmas.Grind.{common_steps}
 use Rattle.pim_world.specs.Groups.{numbers_of}
-use Rattle.pim_world.proofs.Visits.{all_gathered, next_gathered}
 use Rattle.pim_router.specs.Visits.{both_rps_nodes}
+use Rattle.pim_router.proofs.Visited.{all_visited, next_visited}
 use Rattle.pim_router.proofs.rerouted.keys_with_other_rp.Goals as goal
 
 pub loop-group-preserved-in-Continue-1 : goal.loop-group-preserved-in-Continue-1
 loop-group-preserved-in-Continue-1 c = record {
   keys = grind (arith, common_steps);
-  visited = next_gathered (both_rps_nodes c.args.world.now c.args.next.now.ranges) _ _ _ c.in-Some.group.now.bits (numbers_of c.args.groups.now.entries)
+  visited = next_visited (both_rps_nodes c.args.world.now c.args.next.now.ranges) _ _ _ c.in-Some.group.now.bits (numbers_of c.args.groups.now.entries)
       (numbers_of c.loop-group.group-iterator) (numbers_of c.next.new.self) c.loop-group.invariant.visited
-      (ap (λ es. numbers_of es) c.in-Some.ensures.steps) c.has_other_rp.ensures.at_least;
+      (ap (λ es. numbers_of es) c.in-Some.ensures.steps) c.has_other_rp.ensures.visited;
 }
 
 pub loop-group-preserved : goal.loop-group-preserved
 loop-group-preserved c = record {
   keys = grind (arith, common_steps);
-  visited = next_gathered (both_rps_nodes c.args.world.now c.args.next.now.ranges) _ _ _ c.in-Some.group.now.bits (numbers_of c.args.groups.now.entries)
+  visited = next_visited (both_rps_nodes c.args.world.now c.args.next.now.ranges) _ _ _ c.in-Some.group.now.bits (numbers_of c.args.groups.now.entries)
       (numbers_of c.loop-group.group-iterator) (numbers_of c.next.new.self) c.loop-group.invariant.visited
-      (ap (λ es. numbers_of es) c.in-Some.ensures.steps) c.has_other_rp.ensures.at_least;
+      (ap (λ es. numbers_of es) c.in-Some.ensures.steps) c.has_other_rp.ensures.visited;
 }
 
-pub returns-clause-at_least : goal.returns-clause-at_least
-returns-clause-at_least c =
-    all_gathered (both_rps_nodes c.args.world.now c.args.next.now.ranges) _ _ (numbers_of c.args.groups.now.entries) (numbers_of c.loop-group.group-iterator)
+pub returns-clause-visited : goal.returns-clause-visited
+returns-clause-visited c =
+    all_visited (both_rps_nodes c.args.world.now c.args.next.now.ranges) _ _ (numbers_of c.args.groups.now.entries) (numbers_of c.loop-group.group-iterator)
     c.loop-group.invariant.visited (ap (λ es. numbers_of es) c.in-None.ensures.steps.0)

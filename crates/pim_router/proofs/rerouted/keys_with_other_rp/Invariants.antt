@@ -1,4 +1,4 @@
-use Rattle.std.proofs.Common.{◌≡◌, ◌≤◌, ◌++◌, filter, map}
+use Rattle.std.proofs.Common.{◌≡◌, ◌++◌, filter, map}
 use Rattle.std.specs.List.{sum_by}
 use Rattle.pim_types.specs.Keys.{star_key}
 use Rattle.pim_model.specs.Step.{rps_replaced}
@@ -15,5 +15,5 @@ invariant-loop-group l = record {
       ≡ map (star_key 0)
       (filter (has_other_rp l.world (rps_replaced l.world l.next.ranges)) (numbers_of l.fn.groups.entries));
   visited : raised l.fn.meter (sum_by (both_rps_nodes l.world l.next.ranges) (numbers_of l.fn.groups.entries))
-      ≤ raised l.meter (sum_by (both_rps_nodes l.world l.next.ranges) (numbers_of l.group-iterator));
+      ≡ raised l.meter (sum_by (both_rps_nodes l.world l.next.ranges) (numbers_of l.group-iterator));
 }

@@ -1,12 +1,12 @@
-use Rattle.std.proofs.Common.{List, OnOk, ap, subst, ℕ, ◌≡◌, ◌≤◌, ◌++◌, ◌∷◌, [], ◌∙◌}
+use Rattle.std.proofs.Common.{List, OnOk, ap, subst, ℕ, ◌≡◌, ◌≤◌, ◌++◌, ◌∷◌, [], refl, ◌∙◌}
 use Rattle.pim_types.specs.declared.fact.Key.{Key}
 use Rattle.pim_router.proofs.OtherRoutes.{all_moved, some_moved}
 use Rattle.std.specs.List.{sum_by}
 use Rattle.std.proofs.lemmas.Result.{on_ok_weaker}
 use Rattle.pim_trie.specs.Meter.{raised}
-use Rattle.pim_world.proofs.Visits.{one_asked, two_in_turn}
+use Rattle.pim_world.proofs.Visits.{at_least_itself, none_asked, one_asked, two_in_turn}
 use Rattle.pim_router.specs.Visits.{both_routes_nodes}
-use Rattle.pim_router.proofs.Visited.{unmoved}
+use Rattle.pim_router.proofs.Visited.{moved_on, unmoved}
 use Rattle.pim_router.proofs.rerouted.put_group.Goals as goal
 
 pub returns-then-is_group_moved-clause-keys : goal.returns-then-is_group_moved-clause-keys
@@ -23,13 +23,18 @@ returns-clause-keys c =
     (some_moved c.args.world.now c.args.next.now.routes c.args.group.bits c.is_group_moved.result
     c.is_group_moved.ensures.moved c.if-is_group_moved.false _ c.in_ok-sources.ensures.sources) c.put_sources.ensures.keys
 
+pub returns-then-is_group_moved-clause-at_least : goal.returns-then-is_group_moved-clause-at_least
+returns-then-is_group_moved-clause-at_least c =
+    two_in_turn _ _ _ _ _ (at_least_itself _ _ _ c.is_group_moved.ensures.visited)
+    (none_asked _ _ _ _ (moved_on _ _ c.is_group_moved.ensures.moved c.if-is_group_moved.true) refl)
+
 pub returns-clause-at_least : goal.returns-clause-at_least
 returns-clause-at_least c =
     let f = both_routes_nodes c.args.world.now c.args.next.now.routes in
     on_ok_weaker c.put_sources.result
-    (λ e. two_in_turn _ _ _ _ _ c.is_group_moved.ensures.at_least
+    (λ e. two_in_turn _ _ _ _ _ (at_least_itself _ _ _ c.is_group_moved.ensures.visited)
     (one_asked _ _ _ _ (unmoved _ _ c.is_group_moved.ensures.moved c.if-is_group_moved.false)
     (two_in_turn _ _ _ _ _ c.in_ok-sources.ensures.at_least
     (subst (λ (ns : List ℕ). raised c.sources.new.meter (sum_by f ns) ≤ c.put_sources.new.meter)
-    c.in_ok-sources.ensures.sources e))))
-    c.put_sources.ensures.at_least
+    c.in_ok-sources.ensures.sources (at_least_itself _ _ _ e)))))
+    c.put_sources.ensures.visited

@@ -1,27 +1,27 @@
 use Rattle.std.proofs.Common.{ap, arith}
 use Rattle.std.proofs.lemmas.Grind.{common_steps}
 use Rattle.pim_world.specs.Groups.{numbers_of}
-use Rattle.pim_world.proofs.Visits.{all_gathered, next_gathered}
 use Rattle.pim_router.specs.Visits.{both_routes_nodes}
+use Rattle.pim_router.proofs.Visited.{all_visited, next_visited}
 use Rattle.pim_router.proofs.rerouted.put_sources.Goals as goal
 
 pub loop-source-preserved-in-Continue-1 : goal.loop-source-preserved-in-Continue-1
 loop-source-preserved-in-Continue-1 c = record {
   keys = grind (arith, common_steps);
-  visited = next_gathered (both_routes_nodes c.args.world.now c.args.next.now.routes) _ _ _ c.in-Some.source.now.bits (numbers_of c.args.sources.now.entries)
+  visited = next_visited (both_routes_nodes c.args.world.now c.args.next.now.routes) _ _ _ c.in-Some.source.now.bits (numbers_of c.args.sources.now.entries)
       (numbers_of c.loop-source.source-iterator) (numbers_of c.next.new.self) c.loop-source.invariant.visited
-      (ap (λ es. numbers_of es) c.in-Some.ensures.steps) c.has_other_route.ensures.at_least;
+      (ap (λ es. numbers_of es) c.in-Some.ensures.steps) c.has_other_route.ensures.visited;
 }
 
 pub loop-source-preserved : goal.loop-source-preserved
 loop-source-preserved c = record {
   keys = grind (arith, common_steps);
-  visited = next_gathered (both_routes_nodes c.args.world.now c.args.next.now.routes) _ _ _ c.in-Some.source.now.bits (numbers_of c.args.sources.now.entries)
+  visited = next_visited (both_routes_nodes c.args.world.now c.args.next.now.routes) _ _ _ c.in-Some.source.now.bits (numbers_of c.args.sources.now.entries)
       (numbers_of c.loop-source.source-iterator) (numbers_of c.next.new.self) c.loop-source.invariant.visited
-      (ap (λ es. numbers_of es) c.in-Some.ensures.steps) c.has_other_route.ensures.at_least;
+      (ap (λ es. numbers_of es) c.in-Some.ensures.steps) c.has_other_route.ensures.visited;
 }
 
-pub returns-clause-at_least : goal.returns-clause-at_least
-returns-clause-at_least c =
-    all_gathered (both_routes_nodes c.args.world.now c.args.next.now.routes) _ _ (numbers_of c.args.sources.now.entries) (numbers_of c.loop-source.source-iterator)
+pub returns-clause-visited : goal.returns-clause-visited
+returns-clause-visited c =
+    all_visited (both_routes_nodes c.args.world.now c.args.next.now.routes) _ _ (numbers_of c.args.sources.now.entries) (numbers_of c.loop-source.source-iterator)
     c.loop-source.invariant.visited (ap (λ es. numbers_of es) c.in-None.ensures.steps.0)

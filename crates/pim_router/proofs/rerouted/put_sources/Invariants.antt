@@ -1,4 +1,4 @@
-use Rattle.std.proofs.Common.{◌≡◌, ◌≤◌, ◌++◌, filter, map}
+use Rattle.std.proofs.Common.{◌≡◌, ◌++◌, filter, map}
 use Rattle.std.specs.List.{sum_by}
 use Rattle.pim_types.specs.Keys.{source_key}
 use Rattle.pim_trie.specs.Meter.{raised}
@@ -14,5 +14,5 @@ invariant-loop-source l = record {
       ≡ l.fn.keys.items ++ map (source_key 0 l.group.bits)
       (filter (has_other_route l.world (with_routes l.world l.next.routes)) (numbers_of l.fn.sources.entries));
   visited : raised l.fn.meter (sum_by (both_routes_nodes l.world l.next.routes) (numbers_of l.fn.sources.entries))
-      ≤ raised l.meter (sum_by (both_routes_nodes l.world l.next.routes) (numbers_of l.source-iterator));
+      ≡ raised l.meter (sum_by (both_routes_nodes l.world l.next.routes) (numbers_of l.source-iterator));
 }

@@ -1,10 +1,8 @@
 use Rattle.std.proofs.Common.{List, ap, subst, ◌≤◌, ◌∙◌, ℕ}
 use Rattle.std.specs.List.{flat_map, sum_by}
-use Rattle.pim_types.specs.declared.config.Route.{Route}
 use Rattle.pim_world.specs.declared.touched.Touched.{Touched}
 use Rattle.pim_reach.specs.Moved.{keys_by_routes, moved_of_group}
 use Rattle.pim_router.specs.OtherRoutes.{with_routes}
-use Rattle.pim_model.specs.Upstream.{fact_keys, groups_of}
 use Rattle.pim_trie.specs.Meter.{raised}
 use Rattle.pim_router.specs.Visits.{moved_nodes, routes_nodes}
 use Rattle.pim_router.proofs.rerouted.touched_by_routes.Goals as goal
@@ -14,13 +12,11 @@ unfolding keys_by_routes
 returns-clause-touched c =
     let s = c.args.world.now in
     ap Touched.Keys (c.in_ok-keys_of_groups.ensures.keys
-    ∙ ap (λ (gs : List ℕ). flat_map (moved_of_group s (with_routes s c.in_ok-next.next.routes)) gs) c.in_ok-groups.ensures
-    ∙ ap (λ (routes : List Route). keys_by_routes s (with_routes s routes)) c.in_ok-next.ensures)
+    ∙ ap (λ (gs : List ℕ). flat_map (moved_of_group s (with_routes s c.args.next.now.routes)) gs) c.in_ok-groups.ensures)
 
 pub returns-clause-at_least : goal.returns-clause-at_least
 unfolding routes_nodes
 returns-clause-at_least c =
-    let s = c.args.world.now in
-    subst (λ (xs : List Route). raised c.args.meter.now (sum_by (moved_nodes s xs) (groups_of (fact_keys s))) ≤ c.keys_of_groups.new.meter) c.in_ok-next.ensures
-    (subst (λ (gs : List ℕ). raised c.args.meter.now (sum_by (moved_nodes s c.in_ok-next.next.routes) gs) ≤ c.keys_of_groups.new.meter)
-    c.in_ok-groups.ensures c.in_ok-keys_of_groups.ensures.at_least)
+    subst (λ (gs : List ℕ). raised c.args.meter.now (sum_by (moved_nodes c.args.world.now c.args.next.now.routes) gs)
+    ≤ c.keys_of_groups.new.meter)
+    c.in_ok-groups.ensures c.in_ok-keys_of_groups.ensures.at_least

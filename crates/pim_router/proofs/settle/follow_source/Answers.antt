@@ -4,12 +4,11 @@ use Rattle.pim_macros.specs.declared.sight.StarSight.{StarSight}
 use Rattle.pim_model.specs.State.{State}
 use Rattle.pim_asserts.specs.Opened.{clear_by}
 use Rattle.pim_asserts.specs.Visits.{alone_nodes}
-use Rattle.pim_fanout.specs.Visits.{naming_nodes}
 use Rattle.pim_register.specs.Settling.{registers_by}
 use Rattle.pim_register.specs.Visits.{register_mark_nodes}
 use Rattle.pim_trie.specs.Meter.{raised}
 use Rattle.pim_upstream.specs.Visits.{told_alone_nodes}
-use Rattle.pim_world.proofs.Visits.{two_in_turn}
+use Rattle.pim_world.proofs.Visits.{then_rises, two_in_turn}
 use Rattle.pim_router.specs.Settling.{cleared_by}
 use Rattle.pim_router.specs.Visits.{followed_alone_nodes}
 use Rattle.pim_fanout.specs.Named.{keys_of}
@@ -69,7 +68,7 @@ returns-clause-at_least c =
     let cleared : c.clear_alone.new.world ≡ (clear_by (x ∷ []) (registers_by (x ∷ []) s)).0 =
     c.in_ok-clear_alone.ensures.state ∙ ap (λ (t : State). (clear_by (x ∷ []) t).0) registered in
     two_in_turn _ _ _ _ _
-    (two_in_turn _ _ _ _ _
+    (then_rises _ _ _ _
     (two_in_turn _ _ _ _ _
     (two_in_turn _ _ _ _ _
     (two_in_turn _ _ _ _ _ c.of-star.ensures.at_least (rw c.of-star.ensures.group at c.of-sight.ensures.at_least))
@@ -79,7 +78,6 @@ returns-clause-at_least c =
     (subst (λ (t : State). raised c.settle_register.new.meter (alone_nodes x.group t o) ≤ c.clear_alone.new.meter) registered
     (subst (λ (g : Addr). raised c.settle_register.new.meter (alone_nodes g c.settle_register.new.world o)
     ≤ c.clear_alone.new.meter) later c.in_ok-clear_alone.ensures.at_least)))
-    (subst (λ (t : State). raised c.clear_alone.new.meter (naming_nodes t c.args.before.now) ≤ c.named.new.meter) cleared
-    c.in_ok-names.ensures.at_least))
-    (subst (λ (t : State). raised c.named.new.meter (told_alone_nodes t x o) ≤ c.changed_alone.new.meter) cleared
+    c.in_ok-names.ensures.rises)
+    (subst (λ (t : State). raised c.named_seen.new.meter (told_alone_nodes t x o) ≤ c.changed_alone.new.meter) cleared
     c.in_ok-changed_alone.ensures.at_least)

@@ -10,6 +10,7 @@ use Rattle.pim_router.proofs.Staying.{stays_fired}
 use Rattle.pim_router.proofs.Rows.{cost_fired, rows_fired, touches_named}
 use Rattle.pim_router.specs.Ends.{ending_of, touched_by_end}
 use Rattle.pim_world.proofs.Visits.{rises_by, then_rises}
+use Rattle.pim_router.proofs.Visited.{afterwards}
 use Rattle.pim_router.proofs.time.fire_once.Goals as goal
 
 pub returns-clause-shown : goal.returns-clause-shown
@@ -38,7 +39,8 @@ returns-clause-listed c =
 
 pub returns-clause-at_least : goal.returns-clause-at_least
 returns-clause-at_least c =
-    then_rises _ _ _ _ c.in_ok-names.ensures.at_least (rises_by _ _ _ c.in_ok-refresh.ensures.at_least)
+    then_rises _ _ _ _ (afterwards _ _ _ _ c.in_ok-touched.ensures.rises c.in_ok-names.ensures.at_least)
+    (rises_by _ _ _ c.in_ok-refresh.ensures.at_least)
 
 pub returns-clause-touched : goal.returns-clause-touched
 returns-clause-touched c =
@@ -55,5 +57,5 @@ returns-clause-stays c = λ o stays.
     (c.in_ok-names.ensures.state ∙ ap (λ w. (fire_once w c.args.world.now (ending_of c.args.due)).0)
     (ap (λ (t : Taking). t.draw) c.turn.view_is))
     c.args.cache.now.disturbed c.refresh.new.self.disturbed
-    (c.in_ok-refresh.ensures.disturbed ∙ ap (λ (t : Touched). joined c.args.cache.now.disturbed t) c.in_ok-touched.ensures)
+    (c.in_ok-refresh.ensures.disturbed ∙ ap (λ (t : Touched). joined c.args.cache.now.disturbed t) c.in_ok-touched.ensures.touched)
     stays

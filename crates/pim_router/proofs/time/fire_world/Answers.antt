@@ -8,10 +8,9 @@ use Rattle.pim_types.specs.declared.outcome.Emission.{Emission}
 use Rattle.pim_router.proofs.Instants.{end_fired, end_touched, fired_in_turn}
 use Rattle.std.proofs.Common.{◌≤◌}
 use Rattle.std.proofs.lemmas.Result.{on_ok_weaker}
-use Rattle.pim_fanout.specs.Visits.{before_nodes}
 use Rattle.pim_opening.specs.Visits.{opening_nodes}
 use Rattle.pim_trie.specs.Meter.{raised}
-use Rattle.pim_world.proofs.Visits.{rises_by, then_rises, two_in_turn}
+use Rattle.pim_world.proofs.Visits.{then_rises, two_in_turn}
 use Rattle.pim_world.specs.declared.touched.Touched.{Touched}
 use Rattle.pim_router.specs.Settling.{AreNames}
 use Rattle.pim_router.specs.Visits.{end_nodes, firing_nodes}
@@ -21,8 +20,8 @@ pub returns-clause-state : goal.returns-clause-state
 returns-clause-state c =
     subst (λ (p : State × List Emission). OnOk c.settle.result (c.settle.new.world ≡ p.0))
     (fired_in_turn c.args.world.now c.args.due c.set_present.new.self c.fired.new.world c.args.touched.now
-    c.in_ok-opening.opening c.args.turn.now c.args.turn.now c.fired.new.turn c.requires.lawful c.requires.quiet
-    c.recall_keyed.ensures c.requires.touched c.in_ok-opening.ensures.opening c.requires.begun refl
+    c.in_ok-gathered.gathered.opening c.args.turn.now c.args.turn.now c.fired.new.turn c.requires.lawful c.requires.quiet
+    c.recall_keyed.ensures c.requires.touched c.in_ok-gathered.ensures.opening c.requires.begun refl
     c.set_present.ensures c.in_ok-fired.ensures.state c.in_ok-fired.ensures.messages)
     c.settle.ensures.state
 
@@ -31,8 +30,8 @@ returns-clause-sent c =
     subst (λ (p : State × List Emission). OnOk c.settle.result (c.settle.new.emissions.items
     ≡ c.args.emissions.now.items ++ p.1))
     (fired_in_turn c.args.world.now c.args.due c.set_present.new.self c.fired.new.world c.args.touched.now
-    c.in_ok-opening.opening c.args.turn.now c.args.turn.now c.fired.new.turn c.requires.lawful c.requires.quiet
-    c.recall_keyed.ensures c.requires.touched c.in_ok-opening.ensures.opening c.requires.begun refl
+    c.in_ok-gathered.gathered.opening c.args.turn.now c.args.turn.now c.fired.new.turn c.requires.lawful c.requires.quiet
+    c.recall_keyed.ensures c.requires.touched c.in_ok-gathered.ensures.opening c.requires.begun refl
     c.set_present.ensures c.in_ok-fired.ensures.state c.in_ok-fired.ensures.messages)
     c.settle.ensures.sent
 
@@ -42,12 +41,12 @@ returns-clause-names c =
     (λ names named. subst (λ (t : Touched). AreNames c.args.world.now (own_firing c.args.world.now (ending_of c.args.due)) t
     (keys_of names)) c.requires.touched
     (names_opened c.args.world.now (own_firing c.args.world.now (ending_of c.args.due)) c.fired.new.world
-    c.args.touched.now c.in_ok-opening.opening c.in_ok-before.before (keys_of names) c.requires.quiet
+    c.args.touched.now c.in_ok-gathered.gathered.opening c.in_ok-gathered.gathered.before (keys_of names) c.requires.quiet
     c.recall_keyed.ensures
     (end_touched c.args.world.now c.args.due c.args.touched.now c.requires.lawful c.requires.touched)
     (end_fired c.args.world.now c.args.due c.set_present.new.self c.fired.new.world c.set_present.ensures
     c.in_ok-fired.ensures.state)
-    c.in_ok-opening.ensures.opening c.in_ok-before.ensures.before named))
+    c.in_ok-gathered.ensures.opening c.in_ok-gathered.ensures.before named))
     c.settle.ensures.named
 
 pub returns-clause-at_least : goal.returns-clause-at_least
@@ -58,12 +57,9 @@ returns-clause-at_least c =
     on_ok_weaker c.settle.result
     (λ e. then_rises _ _ _ _
     (two_in_turn _ _ _ _ _
-    (two_in_turn _ _ _ _ _
     (subst (λ (t : Touched). raised c.args.meter.now (opening_nodes s t) ≤ c.of.new.meter) touched
-    c.in_ok-opening.ensures.at_least)
-    (subst (λ (t : Touched). raised c.of.new.meter (before_nodes s t) ≤ c.of-2.new.meter) touched
-    c.in_ok-before.ensures.at_least))
-    (subst (λ (t : State). raised c.of-2.new.meter (end_nodes t c.args.due.1.kind c.args.due.1.key) ≤ c.fired.new.meter)
+    c.in_ok-gathered.ensures.at_least)
+    (subst (λ (t : State). raised c.of.new.meter (end_nodes t c.args.due.1.kind c.args.due.1.key) ≤ c.fired.new.meter)
     c.set_present.ensures c.in_ok-fired.ensures.at_least))
-    (rises_by _ _ _ e))
-    c.settle.ensures.at_least
+    e)
+    c.settle.ensures.rises

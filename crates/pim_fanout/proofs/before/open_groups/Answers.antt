@@ -1,0 +1,31 @@
+use Rattle.std.proofs.Common.{[], ap, append_assoc, arith, map, sym, ◌++◌, ◌∙◌, ◌∷◌}
+use Rattle.std.proofs.lemmas.Grind.{common_steps}
+use Rattle.pim_world.specs.Groups.{numbers_of}
+use Rattle.pim_opening.specs.Openings.{group_opening}
+use Rattle.pim_opening.specs.declared.opening.GroupOpening.{GroupOpening}
+use Rattle.pim_opening.specs.Visits.{group_opening_nodes}
+use Rattle.pim_world.proofs.Visits.{all_gathered, next_gathered}
+use Rattle.pim_fanout.proofs.before.open_groups.Goals as goal
+
+pub loop-group-preserved : goal.loop-group-preserved
+loop-group-preserved c =
+    let s = c.args.world.now in
+    let left = map (group_opening s c.args.touched.now) (numbers_of c.next.new.self) in
+    record {
+      opened = ap (λ vs. vs ++ left) (c.in_ok-push.ensures.items
+          ∙ ap (λ (v : GroupOpening). c.loop-group.opened.items ++ v ∷ []) c.in_ok-open_group.ensures.opened)
+          ∙ append_assoc c.loop-group.opened.items (group_opening s c.args.touched.now c.in-Some.group.now.bits ∷ []) left
+          ∙ sym (ap (λ es. c.loop-group.opened.items ++ map (group_opening s c.args.touched.now) (numbers_of es)) c.in-Some.ensures.steps)
+          ∙ c.loop-group.invariant.opened;
+      keys = grind (arith, common_steps);
+      each = c.in_ok-open_group.ensures.each;
+      visited = next_gathered (group_opening_nodes s c.args.touched.now) _ _ _ c.in-Some.group.now.bits
+          (numbers_of c.args.groups.now.entries) (numbers_of c.loop-group.group-iterator) (numbers_of c.next.new.self) c.loop-group.invariant.visited
+          (ap (λ es. numbers_of es) c.in-Some.ensures.steps) c.in_ok-open_group.ensures.at_least;
+    }
+
+pub returns-clause-at_least : goal.returns-clause-at_least
+returns-clause-at_least c =
+    all_gathered (group_opening_nodes c.args.world.now c.args.touched.now) _ _ (numbers_of c.args.groups.now.entries)
+    (numbers_of c.loop-group.group-iterator) c.loop-group.invariant.visited
+    (ap (λ es. numbers_of es) c.in-None.ensures.steps.0)

@@ -1,0 +1,31 @@
+use Rattle.std.proofs.Common.{[], ap, append_assoc, arith, map, sym, ◌++◌, ◌∙◌, ◌∷◌}
+use Rattle.std.proofs.lemmas.Grind.{common_steps}
+use Rattle.pim_world.specs.Groups.{numbers_of}
+use Rattle.pim_opening.specs.Openings.{source_opening}
+use Rattle.pim_opening.specs.declared.opening.SourceOpening.{SourceOpening}
+use Rattle.pim_opening.specs.Visits.{source_opening_nodes}
+use Rattle.pim_world.proofs.Visits.{all_gathered, next_gathered}
+use Rattle.pim_fanout.proofs.before.open_sources.Goals as goal
+
+pub loop-source-preserved : goal.loop-source-preserved
+loop-source-preserved c =
+    let s = c.args.world.now in
+    let left = map (source_opening s c.args.star.now.group.bits) (numbers_of c.next.new.self) in
+    record {
+      opened = ap (λ vs. vs ++ left) (c.in_ok-push.ensures.items
+          ∙ ap (λ (v : SourceOpening). c.loop-source.opened.items ++ v ∷ []) c.in_ok-open_source.ensures.opened)
+          ∙ append_assoc c.loop-source.opened.items (source_opening s c.args.star.now.group.bits c.in-Some.source.now.bits ∷ []) left
+          ∙ sym (ap (λ es. c.loop-source.opened.items ++ map (source_opening s c.args.star.now.group.bits) (numbers_of es)) c.in-Some.ensures.steps)
+          ∙ c.loop-source.invariant.opened;
+      keys = grind (arith, common_steps);
+      each = c.in_ok-open_source.ensures.each;
+      visited = next_gathered (source_opening_nodes s c.args.star.now.group.bits) _ _ _ c.in-Some.source.now.bits
+          (numbers_of c.args.sources.now.entries) (numbers_of c.loop-source.source-iterator) (numbers_of c.next.new.self) c.loop-source.invariant.visited
+          (ap (λ es. numbers_of es) c.in-Some.ensures.steps) c.in_ok-open_source.ensures.at_least;
+    }
+
+pub returns-clause-at_least : goal.returns-clause-at_least
+returns-clause-at_least c =
+    all_gathered (source_opening_nodes c.args.world.now c.args.star.now.group.bits) _ _ (numbers_of c.args.sources.now.entries)
+    (numbers_of c.loop-source.source-iterator) c.loop-source.invariant.visited
+    (ap (λ es. numbers_of es) c.in-None.ensures.steps.0)

@@ -1,0 +1,19 @@
+//! Keys that are opened one by one, where they are few.
+ghost use Rattle.std.specs.Prelude.{◌≡◌};
+ghost use Rattle.pim_router.specs.Ends.{few_or_all};
+
+use pim_types::{Key, Series};
+use pim_world::Touched;
+
+// The most keys that are opened one by one.
+const MOST_OPENED: usize = 256;
+
+/// These keys, or all where there are many: each touched group is looked for among them, so that many cost a square.
+pub(crate) fn few_or_all(keys: Vec<Key>) -> Touched
+    ensures { result ≡ few_or_all keys.items }
+{
+    if keys.len() > MOST_OPENED {
+        return Touched::All;
+    }
+    Touched::Keys(Series::from_vec(keys))
+}
