@@ -266,6 +266,7 @@ static void cached(struct pim_router *router) {
     is("what isn't told", told.rpf, 7);
     is("the source's row", pim_cached(router, 0x0a000305, 0xe1010101, &told), true);
     is("by the source's tree", told.rpf == 0 && told.has_spt_bit && !told.has_tunnel, true);
+    is("the way to the RP", told.shared_rpf, 0);
     is("immediate_olist", told.immediate.low == 1 << 1 && told.immediate.high == 0, true);
     is("inherited_olist", told.inherited.low == 1 << 1 && told.inherited.high == 0, true);
     is("inherited_olist on the shared tree", told.shared_tree.low == 0 && told.shared_tree.high == 0, true);
@@ -378,6 +379,7 @@ static void many_interfaces(void) {
     is("data of the source", pim_frame(&router, 0, 0, packet, sizeof packet), PIM_DONE);
     is("its copies", pim_copies(&router), COUNT(hosts));
     is("its row", pim_cached(&router, 0x0a000009, 0xe8010101, &told), true);
+    is("no RP", told.shared_rpf, PIM_NO_INTERFACE);
     is("the low word", told.inherited.low, (uint64_t)1 << 63 | 1 << 1);
     is("the high word", told.inherited.high, (uint64_t)1 << 55 | 1);
     is("its row for a plane", pim_offload(&router, 0x0a000009, 0xe8010101, &row), true);

@@ -142,7 +142,7 @@ class Library:
     def rust_program(self, source):
         """A Rust program with it."""
         made = ROOM / f"{source.stem}_rs"
-        ran(["rustc", "--edition", "2024", "-O", "-o", made, source, "-C", f"link-arg={self.archive}"])
+        ran(["rustc", "--edition", "2021", "-O", "-o", made, source, "-C", f"link-arg={self.archive}"])
         return made
 
 

@@ -159,8 +159,9 @@ static uint64_t cached_of(struct pim_router *router) {
     for (size_t at = 0; at < source_count; at++) {
         struct pim_forwarding told;
         if (!pim_cached(router, sources[at].source, sources[at].group, &told)) continue;
-        uint64_t words[] = {at + 1, told.rpf, told.has_spt_bit, told.has_tunnel, told.immediate.low, told.immediate.high,
-                            told.inherited.low, told.inherited.high, told.shared_tree.low, told.shared_tree.high};
+        uint64_t words[] = {at + 1, told.rpf, told.shared_rpf, told.has_spt_bit, told.has_tunnel,
+                            told.immediate.low, told.immediate.high, told.inherited.low, told.inherited.high,
+                            told.shared_tree.low, told.shared_tree.high};
         sum = mixed(sum + 1, words, sizeof words);
     }
     return sum;
@@ -299,15 +300,17 @@ int main(void) {
     play_for_sources();
     kept = 0, asked = 0;
     if (run(1) != 0 || kept != 0) return printf("the full run fails, or keeps %ld blocks\n", kept), 1;
-    unsigned long total = asked, told = 0, other = 0;
+    unsigned long total = asked, done_without = 0, told = 0, other = 0;
     for (refused_at = 1; refused_at <= total; refused_at++) {
         asked = 0, kept = 0;
         int outcome = run(0);
+        done_without += outcome == 0 && kept == 0;
         told += outcome == 1 && kept == 0;
-        if (outcome == 1 && kept == 0) continue;
+        if (outcome != 2 && kept == 0) continue;
         other++;
         printf("refused at %lu: outcome %d, %ld blocks kept\n", refused_at, outcome, kept);
     }
-    printf("%lu events, %lu allocations, %lu refusals told, %lu other\n", (unsigned long)event_count, total, told, other);
+    printf("%lu events, %lu allocations, %lu refusals told, %lu done without, %lu other\n", (unsigned long)event_count, total, told,
+           done_without, other);
     return other != 0;
 }

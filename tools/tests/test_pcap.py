@@ -70,6 +70,11 @@ class Written(unittest.TestCase):
             self.assertIn("malformed", given.comment)
             self.assertIn(bytes.fromhex(text), [content for _, content, _ in packets_in(b"".join(pcap.capture(read, [given])))])
 
+    def test_a_file_that_cannot_be_written(self):
+        words = [stored.TOOLS / "pcap", stored.EXAMPLES / "one_join.toml", "/nowhere/run.pcapng"]
+        ran = subprocess.run(words, capture_output=True, text=True)
+        self.assertEqual((ran.returncode, ran.stderr), (1, "/nowhere/run.pcapng can't be written: No such file or directory\n"))
+
 
 def fields(path, *names, where="frame"):
     """These fields of each packet, as tshark reads them; it doesn't look into UDP."""

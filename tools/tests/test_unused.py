@@ -75,8 +75,8 @@ module _ (n : ℕ) where
 """
 
 
-def listed(code, lemmas=""):
-    files = {"crates/kin/src/lib.rt": code, "crates/kin/proofs/Lemmas.antt": lemmas}
+def listed(code, lemmas="", others=""):
+    files = {"crates/kin/src/lib.rt": code, "crates/kin/proofs/Lemmas.antt": lemmas, "crates/kin/proofs/Others.antt": others}
     # What was built is no part of it.
     files["crates/kin/src/out/lib.rt"] = "fn built() {\n}\n"
     with repository(files) as room, mock.patch.object(unused, "TOP", room):
@@ -105,6 +105,20 @@ class Listed(unittest.TestCase):
     def test_a_lemma_that_code_names_is_used(self):
         used = "#[tactic(auto, using(crate::proofs::Lemmas::forgotten))]\npub fn law()\n    ensures { IsRoute }\n{}\n"
         self.assertEqual(listed(used, LEMMAS), ["inner_forgotten"])
+
+    def test_what_another_file_calls_alike_is_no_use(self):
+        others = "forgotten : (n : ℕ) → n ≡ n\nforgotten n = refl\n\nlast : ℕ\nlast = forgotten last\n"
+        self.assertEqual(listed("", LEMMAS, others), ["forgotten", "inner_forgotten", "last"])
+        imported = "use Rattle.kin.proofs.Lemmas.{forgotten}\n\nlast : ℕ\nlast = forgotten last\n"
+        self.assertEqual(listed("", LEMMAS, imported), ["inner_forgotten", "last"])
+
+    def test_what_a_third_file_passes_on_is_used(self):
+        passes = "pub use Rattle.kin.proofs.Lemmas.{forgotten}\n"
+        user = "use Rattle.kin.proofs.Others.{forgotten}\n\nlast : ℕ\nlast = forgotten last\n"
+        with repository({"crates/kin/proofs/Lemmas.antt": LEMMAS, "crates/kin/proofs/Others.antt": passes,
+                         "crates/kin/proofs/Users.antt": user}) as room, mock.patch.object(unused, "TOP", room):
+            found = [line.partition(": ")[2] for line in unused.unused_lemmas()]
+        self.assertEqual(found, ["inner_forgotten", "last"])
 
     def test_an_import_is_no_use_in_groups_of_groups_too(self):
         imports = "use Rattle.kin.proofs.{Lemmas.{forgotten, IsRoute}, Deep.{forgotten as old, Deeper.{inner_forgotten}}}\n"
