@@ -4,10 +4,12 @@ ghost use Rattle.std.proofs.Common.{refl};
 ghost use Rattle.std.specs.Cmp.{partial_order_from_agreeing_total};
 ghost use Rattle.std.specs.Ordering.{as_partial_cmp};
 ghost use Rattle.pim_types.specs.FieldOrder.{fields_cmp, fields_tied, fields_total};
-ghost use Rattle.pim_types.specs.Keys.{iface_key, neighbour_key, rpt_key, source_key, star_key};
+ghost use Rattle.pim_types.specs.Keys.{iface_key, neighbour_key, rpt_key, source_in, source_key, star_key};
 ghost use Rattle.pim_types.specs.Packed.{lower, source_number, upper};
 
 use crate::config::IfaceId;
+use crate::name::SourceGroup;
+use crate::path::Hop;
 use pim_ip::{Addr, LanDelay};
 use std::cmp::Ordering;
 
@@ -123,6 +125,35 @@ impl Key {
         ensures { result ≡ star_key 0 group.bits }
     {
         Key::star(IfaceId::NONE, group)
+    }
+
+    /// The source, or a neighbour's address; 0.0.0.0 where the key has none.
+    pub fn address(self) -> Addr
+        ensures { result.bits ≡ source_in self }
+    {
+        self.source.unwrap_or(Addr::NONE)
+    }
+
+    /// The source and the group of a key of (S,G) or (S,G,rpt). One of (*,G) has 0.0.0.0 for a source.
+    pub fn name(self) -> SourceGroup
+        ensures source { result.source.bits ≡ source_in self }
+        ensures group { result.group ≡ self.group }
+    {
+        SourceGroup {
+            source: self.address(),
+            group: self.group,
+        }
+    }
+
+    /// The neighbour whose key it is.
+    pub fn hop(self) -> Hop
+        ensures iface { result.iface ≡ self.iface }
+        ensures address { result.address.bits ≡ source_in self }
+    {
+        Hop {
+            iface: self.iface,
+            address: self.address(),
+        }
     }
 }
 

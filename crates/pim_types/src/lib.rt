@@ -8,6 +8,7 @@
 pub mod config;
 pub mod event;
 pub mod fact;
+pub mod name;
 pub mod outcome;
 pub mod path;
 pub mod series;
@@ -18,6 +19,7 @@ pub mod upstream;
 pub use config::{Config, IfaceId, InterfaceConfig, Route, RpRange, Settings, SptSwitch};
 pub use event::{Event, EventKind};
 pub use fact::Key;
+pub use name::SourceGroup;
 pub use outcome::{Emission, Ignored, Outcome, Stop, Verdict};
 pub use path::{Hop, Path};
 pub use pim_ip::{Addr, Fault, LanDelay, Prefix, Refusal};
