@@ -24,9 +24,6 @@ Covers u v test = (k : Key) → (may_lack u k || test k) ≡ true → may_lack v
 abbrev HasOne : Unrecorded → Table SourceRecordRow → Key → Type 0
 HasOne u records k = (may_lack u k || has_row records k) ≡ true
 
-pub anywhere : (records : Table SourceRecordRow) (t : Table SendingRow) → HaveRecords Unrecorded.Anywhere records t
-anywhere records t = each_of_all (λ (e : Key × SendingRow). HasOne Unrecorded.Anywhere records e.0) (λ e. refl) t
-
 -- the one key is of the group, so none that isn't may lack a record
 pub only_here : (i g : ℕ) (q : Key) (u : Unrecorded) → u ≡ Unrecorded.At q → is_at_group i g q ≡ true → (k : Key)
     → (may_lack u k && not (is_at_group i g k)) ≡ true → false ≡ true

@@ -31,16 +31,16 @@ use pim_tables::{RowsOf, Timed, earlier};
 use pim_types::fact::{
     GroupRecordRow, GroupRepeatRow, QuerierRow, SendingRow, SourceRecordRow, SourceRepeatRow,
 };
-use pim_types::{IfaceId, Key, Timer};
+use pim_types::{IfaceId, Key, SourceGroup, Timer};
 use std::alloc::{AllocError, Global};
 use std::collections::BTreeMap;
 use std::collections::btree_map::Iter;
 use std::marker::Model;
 
 /// The IGMP membership facts of the router (RFC 3376, sections 4 and 6). After want of memory in a call that changes
-/// them nothing is promised of what they are, but that all that is told of them is true. What changes records raises the
-/// meter by the nodes that lead to what is listed of a group or a source, wherever a record comes or goes there, or its
-/// timer begins or ends to run.
+/// them nothing is promised of what they are, but that all that is told of them is true. What changes records raises
+/// the meter by the nodes that lead to what is listed of a group or a source, wherever a record comes or goes there, or
+/// its timer begins or ends to run.
 pub struct Membership {
     queriers: Timed<QuerierRow>,
     group_records: Records<GroupRecordRow>,
@@ -175,8 +175,8 @@ impl Membership {
           group_records = set_row self.old.group_records (star_key iface.number group.bits) row;
         }) }
         ensures visited { OnOk result (Visits (sets_listed (λ (r : GroupRecord). is_some r.end) row
-            (row_at self.old.group_records (star_key iface.number group.bits))) (keys_in self.old.group_records) group None
-            meter.old meter.new) }
+            (row_at self.old.group_records (star_key iface.number group.bits)))
+            (keys_in self.old.group_records) group None meter.old meter.new) }
     {
         self.group_records.set(iface, group, None, row, meter)
     }
@@ -209,10 +209,11 @@ impl Membership {
               group_records = change_row change (star_key iface.number group.bits) self.old.group_records;
             }) }
         ensures visited { OnOk result (Visits (changes_listed (λ (r : GroupRecord). is_some r.end) row
-            (row_at self.old.group_records (star_key iface.number group.bits))) (keys_in self.old.group_records) group None
-            meter.old meter.new) }
+            (row_at self.old.group_records (star_key iface.number group.bits)))
+            (keys_in self.old.group_records) group None meter.old meter.new) }
     {
-        self.group_records.change(iface, group, None, row, meter)
+        self.group_records
+            .change(Key::star(iface, group), row, meter)
     }
 
     /// The record of the source of the group on the interface.
@@ -314,24 +315,26 @@ impl Membership {
           source_records = change_row (λ _. Some row) key self.old.source_records;
         }) }
         ensures visited { OnOk result (Visits (changes_listed (λ (r : SourceRecord). is_some r.end) row
-            (row_at self.old.source_records key)) (keys_in self.old.source_records) key.group key.source meter.old meter.new) }
+            (row_at self.old.source_records key))
+            (keys_in self.old.source_records) key.group key.source meter.old meter.new) }
     {
         let unrecorded = self.unrecorded;
         // Where memory is wanting any record may be gone.
         self.unrecorded = Unrecorded::Anywhere;
-        self.source_records.change_at(key, row, meter)?;
+        self.source_records.change(key, row, meter)?;
         self.unrecorded = unrecorded;
         Ok(())
     }
 
-    /// Source records are under keys that rise.
+    /// Does nothing when it runs: it tells the prover that source records are under keys that rise.
     pub fn recall_rising_source_records(&self)
         ensures { IsStrictlySortedBy key_cmp (keys_in self.now.source_records) }
     {
         self.source_records.recall_rising();
     }
 
-    /// Source records are each under the key of a source of a group.
+    /// Does nothing when it runs: it tells the prover that source records are each under the key of a source of a
+    /// group.
     pub fn recall_keyed_source_records(&self)
         ensures { AllByRecursion (λ e. is_under_source e ≡ true) self.now.source_records }
     {
@@ -432,8 +435,8 @@ impl Membership {
         self.source_repeats.remove(iface, group);
     }
 
-    /// Changes when the group's sources on the interface are queried again, if they are, to this, or ends it. An error is want of
-    /// memory.
+    /// Changes when the group's sources on the interface are queried again, if they are, to this, or ends it. An error
+    /// is want of memory.
     pub fn change_source_repeat(
         &mut self,
         iface: IfaceId,
@@ -490,9 +493,9 @@ impl Membership {
         self.sendings.change(key, row);
     }
 
-    /// Takes away the sendings of those of the group's sources on the interface that have no record. Where since the last call
-    /// records went one at most, and none with the others of their group, no sending but that one's is looked at. An error is want of
-    /// memory.
+    /// Takes away the sendings of those of the group's sources on the interface that have no record. Where since the
+    /// last call records went one at most, and none with the others of their group, no sending but that one's is looked
+    /// at. An error is want of memory.
     pub fn drop_unrecorded(
         &mut self,
         alloc: Global,
@@ -515,7 +518,7 @@ impl Membership {
         Ok(())
     }
 
-    /// Sendings are under keys that rise.
+    /// Does nothing when it runs: it tells the prover that sendings are under keys that rise.
     pub fn recall_rising_sendings(&self)
         ensures { IsStrictlySortedBy key_cmp (keys_in self.now.sendings) }
     {
@@ -534,7 +537,8 @@ impl Membership {
         } }
         ensures at_least { raised meter.old
             (nodes_to_each self.old.group_records (keys_in (rows_on iface.number self.old.group_records))
-            + nodes_to_each self.old.source_records (keys_in (rows_on iface.number self.old.source_records))) ≤ meter.new }
+            + nodes_to_each self.old.source_records (keys_in (rows_on iface.number self.old.source_records)))
+            ≤ meter.new }
     {
         self.queriers.drop_on(iface);
         self.group_records.drop_on(iface, meter);
@@ -568,7 +572,8 @@ impl Membership {
     ) -> Result<BTreeMap<Addr, (), Global>, AllocError>
         ensures sources { IfOk result (λ found. map (λ e. (e.0).bits) found.entries
             ≡ sources_of group.bits (membership_keys self.now)) }
-        ensures at_least { OnOk result (raised meter.old (nodes_to_sources (keys_in self.now.source_records) group) ≤ meter.new) }
+        ensures at_least { OnOk result (raised meter.old
+            (nodes_to_sources (keys_in self.now.source_records) group) ≤ meter.new) }
     {
         // It tells that no other fact is of a source.
         self.recall_keyed();
@@ -581,7 +586,7 @@ impl Membership {
         Ok(found)
     }
 
-    // No fact but source records and sendings is of a source.
+    // Does nothing when it runs: it tells the prover that no fact but source records and sendings is of a source.
     fn recall_keyed(&self)
         ensures records { NameNone self.now.group_records }
         ensures group_repeats { NameNone self.now.group_repeats }
@@ -594,15 +599,15 @@ impl Membership {
 
     /// Whether there is any fact of the source of the group. The meter rises by the nodes that are
     /// visited: 66 at most, and at least those that lead to the source among those with a record.
-    pub fn has_facts(&self, group: Addr, source: Addr, meter: &mut Meter) -> bool
-        ensures any { result ≡ list_any (names_source group.bits source.bits) (membership_keys self.now) }
-        ensures at_least { raised meter.old (nodes_visited (keys_in self.now.source_records) group (Some source)) ≤ meter.new }
+    pub fn has_facts(&self, name: SourceGroup, meter: &mut Meter) -> bool
+        ensures any { result ≡ list_any (names_source name.group.bits name.source.bits) (membership_keys self.now) }
+        ensures at_least { raised meter.old
+            (nodes_visited (keys_in self.now.source_records) name.group (Some name.source)) ≤ meter.new }
         ensures at_most { meter.new ≤ meter.old + 66 }
     {
         // It tells that no other fact is of a source.
         self.recall_keyed();
-        self.source_records.has_source(group, source, meter)
-            || self.sendings.has_source(group, source)
+        self.source_records.has_source(name, meter) || self.sendings.has_source(name)
     }
 
     /// How many facts count: the group records and the source records.
@@ -628,8 +633,8 @@ impl Membership {
     }
 
     /// The interfaces on which the group has receivers of all its sources, but those excluded: it is in EXCLUDE
-    /// there. The meter rises by the nodes that are visited: 33 at most, and at least those that lead to the group among
-    /// those with a record.
+    /// there. The meter rises by the nodes that are visited: 33 at most, and at least those that lead to the group
+    /// among those with a record.
     pub fn receivers_star(&self, group: Addr, meter: &mut Meter) -> IfSet
         ensures interfaces { (i : ℕ) → has result i ≡ is_exclude_among self.now.group_records group.bits i }
         ensures tunnel { result.tunnel ≡ false }
@@ -644,32 +649,36 @@ impl Membership {
 
     /// The interfaces with receivers of this source of the group alone: the group is in INCLUDE there, and lists the
     /// source. The meter rises by the nodes that are visited, 99 at most.
-    pub fn receivers_include(&self, group: Addr, source: Addr, meter: &mut Meter) -> IfSet
+    pub fn receivers_include(&self, name: SourceGroup, meter: &mut Meter) -> IfSet
         ensures interfaces { (i : ℕ) → has result i ≡ local_receiver_include_among self.now.group_records
-            self.now.source_records group.bits source.bits i }
+            self.now.source_records name.group.bits name.source.bits i }
         ensures tunnel { result.tunnel ≡ false }
-        ensures at_least { raised meter.old (nodes_visited (keys_in self.now.group_records) group None
-            + nodes_visited (keys_in self.now.source_records) group (Some source)) ≤ meter.new }
+        ensures at_least { raised meter.old (nodes_visited (keys_in self.now.group_records) name.group None
+            + nodes_visited (keys_in self.now.source_records) name.group (Some name.source)) ≤ meter.new }
         ensures at_most { meter.new ≤ meter.old + 99 }
     {
-        let groups = self.group_records.listed(group, None, meter);
-        let sources = self.source_records.listed(group, Some(source), meter);
+        let groups = self.group_records.listed(name.group, None, meter);
+        let sources = self
+            .source_records
+            .listed(name.group, Some(name.source), meter);
         let include = groups.there.minus(groups.running);
         include.intersection(sources.there).without_tunnel()
     }
 
     /// The interfaces with receivers of the group's sources that exclude this one: the group is in EXCLUDE there, and
     /// the source is excluded. The meter rises by the nodes that are visited, 99 at most.
-    pub fn receivers_exclude(&self, group: Addr, source: Addr, meter: &mut Meter) -> IfSet
+    pub fn receivers_exclude(&self, name: SourceGroup, meter: &mut Meter) -> IfSet
         ensures interfaces { (i : ℕ) → has result i ≡ local_receiver_exclude_among self.now.group_records
-            self.now.source_records group.bits source.bits i }
+            self.now.source_records name.group.bits name.source.bits i }
         ensures tunnel { result.tunnel ≡ false }
-        ensures at_least { raised meter.old (nodes_visited (keys_in self.now.group_records) group None
-            + nodes_visited (keys_in self.now.source_records) group (Some source)) ≤ meter.new }
+        ensures at_least { raised meter.old (nodes_visited (keys_in self.now.group_records) name.group None
+            + nodes_visited (keys_in self.now.source_records) name.group (Some name.source)) ≤ meter.new }
         ensures at_most { meter.new ≤ meter.old + 99 }
     {
-        let groups = self.group_records.listed(group, None, meter);
-        let sources = self.source_records.listed(group, Some(source), meter);
+        let groups = self.group_records.listed(name.group, None, meter);
+        let sources = self
+            .source_records
+            .listed(name.group, Some(name.source), meter);
         let excluded = sources.there.minus(sources.running);
         groups.running.intersection(excluded).without_tunnel()
     }

@@ -22,7 +22,7 @@ use pim_ip::Addr;
 use pim_source_trie::Meter;
 use pim_tables::{Ends, RowsOf, Timed};
 use pim_types::fact::{GroupRecordRow, SourceRecordRow};
-use pim_types::{IfaceId, Key, Timer};
+use pim_types::{IfaceId, Key, SourceGroup, Timer};
 use std::alloc::{AllocError, Global};
 use std::collections::BTreeMap;
 use std::collections::btree_map::Iter;
@@ -105,14 +105,14 @@ impl<R: Record> Records<R> {
         self.rows.len()
     }
 
-    // They are under keys that rise.
+    // Does nothing when it runs: it tells the prover that they are under keys that rise.
     pub(crate) fn recall_rising(&self)
         ensures { IsStrictlySortedBy key_cmp (keys_in self.now) }
     {
         self.rows.recall_rising();
     }
 
-    // Each is under a key of its kind, and of no (S,G,rpt).
+    // Does nothing when it runs: it tells the prover that each is under a key of its kind, and of no (S,G,rpt).
     pub(crate) fn recall_kind(&self)
         ensures fit { AllByRecursion (λ e. is_record_key e.0 ≡ true) self.now }
         ensures kind { AllByRecursion (λ e. is_some (e.0).source ≡ R.of_sources) self.now }
@@ -125,7 +125,7 @@ impl<R: Record> Records<R> {
         ensures rows { result ≡ self.now }
         ensures below { IsTrue (list_all (λ e. nat_lt (iface_in e.0) 120) result) }
     {
-        self.rows.iter()
+        self.rows.rows().iter()
     }
 
     // Those of a group on an interface, by rising key; where there is one, the interface is below 120.
@@ -133,7 +133,7 @@ impl<R: Record> Records<R> {
         ensures rows { result ≡ filter (λ e. is_at_group iface.number group.bits e.0) self.now }
         ensures near { 0 < length result → iface.number < 120 }
     {
-        self.rows.rows_at(iface, group)
+        self.rows.rows().rows_at(iface, group)
     }
 
     // The record under the key.
@@ -170,15 +170,16 @@ impl<R: Record> Records<R> {
     }
 
     // Whether the source of the group has a record, on any interface.
-    pub(crate) fn has_source(&self, group: Addr, source: Addr, meter: &mut Meter) -> bool
-        ensures any { result ≡ list_any (names_source group.bits source.bits) (keys_in self.now) }
-        ensures at_least { raised meter.old (nodes_visited (keys_in self.now) group (Some source)) ≤ meter.new }
+    pub(crate) fn has_source(&self, name: SourceGroup, meter: &mut Meter) -> bool
+        ensures any { result ≡ list_any (names_source name.group.bits name.source.bits) (keys_in self.now) }
+        ensures at_least { raised meter.old
+            (nodes_visited (keys_in self.now) name.group (Some name.source)) ≤ meter.new }
         ensures at_most { meter.new ≤ meter.old + 66 }
     {
         // These tell that the keys rise, and of which form they are.
         self.recall_rising();
         self.recall_kind();
-        let listed = self.listed(group, Some(source), meter);
+        let listed = self.listed(name.group, Some(name.source), meter);
         !listed.there.without_tunnel().is_empty()
     }
 
@@ -200,7 +201,7 @@ impl<R: Record> Records<R> {
             let Some(source) = key.source else {
                 continue;
             };
-            if self.has_source(group, source, meter) {
+            if self.has_source(SourceGroup { source, group }, meter) {
                 found.insert(source, ())?;
             }
         }
@@ -221,8 +222,8 @@ impl<R: Record> Records<R> {
         requires kind { is_some source ≡ R.of_sources }
         ensures set { OnOk result (self.new ≡ set_row self.old (record_key iface.number group source) row) }
         ensures visited { OnOk result (Visits
-            (sets_listed R.runs row (row_at self.old (record_key iface.number group source))) (keys_in self.old) group source
-            meter.old meter.new) }
+            (sets_listed R.runs row (row_at self.old (record_key iface.number group source)))
+            (keys_in self.old) group source meter.old meter.new) }
     {
         match row {
             Some(row) => self.put(iface, group, source, row, meter),
@@ -246,8 +247,8 @@ impl<R: Record> Records<R> {
         requires kind { is_some source ≡ R.of_sources }
         ensures put { OnOk result (self.new ≡ put self.old (record_key iface.number group source) row) }
         ensures visited { OnOk result (Visits
-            (is_listed_anew R.runs row (row_at self.old (record_key iface.number group source))) (keys_in self.old) group source
-            meter.old meter.new) }
+            (is_listed_anew R.runs row (row_at self.old (record_key iface.number group source)))
+            (keys_in self.old) group source meter.old meter.new) }
     {
         let key = record_key(iface, group, source);
         relist(&self.rows, &mut self.index, key, row, meter)?;
@@ -275,42 +276,14 @@ impl<R: Record> Records<R> {
         self.index.unlist(iface, group, source, meter);
     }
 
-    // Changes the record, where there is one, to this one. An error is want of memory.
-    pub(crate) fn change(
-        &mut self,
-        iface: IfaceId,
-        group: Addr,
-        source: Option<Addr>,
-        row: R,
-        meter: &mut Meter,
-    ) -> Result<(), AllocError>
-        ensures to { OnOk result (self.new
-            ≡ change_row (λ _. Some row) (record_key iface.number group source) self.old) }
-        ensures by { OnOk result ((change : R → Option R)
-            → IfSome (row_at self.old (record_key iface.number group source)) (λ before. change before ≡ Some row)
-            → self.new ≡ change_row change (record_key iface.number group source) self.old) }
-        ensures visited { OnOk result (Visits
-            (changes_listed R.runs row (row_at self.old (record_key iface.number group source))) (keys_in self.old) group source
-            meter.old meter.new) }
-    {
-        // What is put under a key that is there stands in its place.
-        self.rows.recall_rising();
-        if self.rows.contains(record_key(iface, group, source)) {
-            self.put(iface, group, source, row, meter)?;
-        }
-        Ok(())
-    }
-
     // Changes the record under the key, where there is one, to this one. An error is want of memory.
-    pub(crate) fn change_at(
-        &mut self,
-        key: Key,
-        row: R,
-        meter: &mut Meter,
-    ) -> Result<(), AllocError>
-        ensures changed { OnOk result (self.new ≡ change_row (λ _. Some row) key self.old) }
-        ensures visited { OnOk result (Visits (changes_listed R.runs row (row_at self.old key)) (keys_in self.old) key.group
-            key.source meter.old meter.new) }
+    pub(crate) fn change(&mut self, key: Key, row: R, meter: &mut Meter) -> Result<(), AllocError>
+        ensures to { OnOk result (self.new ≡ change_row (λ _. Some row) key self.old) }
+        ensures by { OnOk result ((change : R → Option R)
+            → IfSome (row_at self.old key) (λ before. change before ≡ Some row)
+            → self.new ≡ change_row change key self.old) }
+        ensures visited { OnOk result (Visits (changes_listed R.runs row (row_at self.old key))
+            (keys_in self.old) key.group key.source meter.old meter.new) }
     {
         // What is put under a key that is there stands in its place.
         self.rows.recall_rising();
@@ -330,7 +303,7 @@ impl<R: Record> Records<R> {
         ensures kind { IfSome result (λ key. IsTrue (is_record_key key)) }
     {
         self.rows.recall_rising();
-        let (key, _) = self.rows.rows_at(iface, group).next()?;
+        let (key, _) = self.rows.rows().rows_at(iface, group).next()?;
         Some(*key)
     }
 
@@ -344,7 +317,7 @@ impl<R: Record> Records<R> {
         ensures kind { IfSome result (λ key. IsTrue (is_record_key key)) }
     {
         self.rows.recall_rising();
-        let (key, _) = self.rows.rows_on(iface).next()?;
+        let (key, _) = self.rows.rows().rows_on(iface).next()?;
         Some(*key)
     }
 
@@ -362,7 +335,8 @@ impl<R: Record> Records<R> {
     // Takes the interface's records away.
     pub(crate) fn drop_on(&mut self, iface: IfaceId, meter: &mut Meter)
         ensures dropped { self.new ≡ drop_where (is_on iface.number) self.old }
-        ensures at_least { raised meter.old (nodes_to_each self.old (keys_in (rows_on iface.number self.old))) ≤ meter.new }
+        ensures at_least { raised meter.old
+            (nodes_to_each self.old (keys_in (rows_on iface.number self.old))) ≤ meter.new }
     {
         while let Some(key) = self.first_on(iface) {
             self.remove(key.iface, key.group, key.source, meter);

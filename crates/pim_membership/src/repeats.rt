@@ -47,7 +47,7 @@ impl<R: Ends> Repeats<R> {
         }
     }
 
-    // They name no source.
+    // Does nothing when it runs: it tells the prover that they name no source.
     pub(crate) fn recall_no_source(&self)
         ensures { NameNone self.now }
     {
@@ -65,7 +65,7 @@ impl<R: Ends> Repeats<R> {
     pub(crate) fn iter(&self) -> Iter<'_, Key, R>
         ensures { result ≡ self.now }
     {
-        self.rows.iter()
+        self.rows.rows().iter()
     }
 
     // Which repeat comes first, and when, in ms.

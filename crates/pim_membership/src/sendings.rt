@@ -11,7 +11,7 @@ use crate::sources::{above_interfaces, gather};
 use pim_ip::Addr;
 use pim_tables::{Facts, RowsOf};
 use pim_types::fact::SendingRow;
-use pim_types::{IfaceId, Key};
+use pim_types::{IfaceId, Key, SourceGroup};
 use std::alloc::{AllocError, Global};
 use std::collections::BTreeMap;
 use std::collections::btree_map::Iter;
@@ -51,7 +51,7 @@ impl Sendings {
         }
     }
 
-    // They are under keys that rise.
+    // Does nothing when it runs: it tells the prover that they are under keys that rise.
     pub(crate) fn recall_rising(&self)
         ensures { IsStrictlySortedBy key_cmp (keys_in self.now) }
     {
@@ -73,8 +73,8 @@ impl Sendings {
     }
 
     // Whether the source of the group has a sending, on any interface.
-    pub(crate) fn has_source(&self, group: Addr, source: Addr) -> bool
-        ensures { result ≡ list_any (names_source group.bits source.bits) (keys_in self.now) }
+    pub(crate) fn has_source(&self, name: SourceGroup) -> bool
+        ensures { result ≡ list_any (names_source name.group.bits name.source.bits) (keys_in self.now) }
     {
         // It tells that the keys rise.
         self.recall_rising();
@@ -82,7 +82,10 @@ impl Sendings {
             let iface = IfaceId {
                 number: number as u32,
             };
-            if self.rows.contains(Key::source(iface, group, source)) {
+            if self
+                .rows
+                .contains(Key::source(iface, name.group, name.source))
+            {
                 return true;
             }
         }

@@ -26,7 +26,8 @@ pub(crate) enum Unrecorded {
 impl Unrecorded {
     // With the one under the key, where that lacks a record.
     pub(crate) fn with_key(self, key: Key, is_lacking: bool) -> Unrecorded
-        ensures { (k : KeyValue) → (may_lack self k || (is_lacking && same_key key k)) ≡ true → may_lack result k ≡ true }
+        ensures { (k : KeyValue) → (may_lack self k || (is_lacking && same_key key k)) ≡ true
+            → may_lack result k ≡ true }
     {
         if !is_lacking {
             return self;

@@ -2,10 +2,10 @@
 ghost use Rattle.std.specs.Prelude.{◌≡◌, IfOk, map};
 ghost use Rattle.pim_model.specs.Printed.{active_line, register_name};
 
-use crate::line::{Printed, source_in};
+use crate::line::Printed;
 use pim_types::fact::{RegisterRow, RegisterState, SourceRow};
 use pim_types::table::RegisterName;
-use pim_types::{IfaceId, Key, Row};
+use pim_types::{Key, Row};
 use pim_world::World;
 use std::alloc::{AllocError, Global};
 use std::collections::btree_map::Iter;
@@ -37,17 +37,14 @@ fn register_name(row: RegisterRow) -> RegisterName
 fn active_row(world: &World, key: Key, row: &SourceRow) -> Row
     ensures { result ≡ active_line world.now (key, row.now) }
 {
-    let source = source_in(key);
-    let register = match world
-        .store()
-        .register(Key::source(IfaceId::NONE, key.group, source))
-    {
+    let name = key.name();
+    let register = match world.store().register(name.key()) {
         Some(register) => Some(register_name(register)),
         None => None,
     };
     Row::Active {
-        group: key.group,
-        source,
+        group: name.group,
+        source: name.source,
         keepalive: row.keepalive,
         spt: row.spt,
         register,

@@ -1,8 +1,6 @@
 //! The row of a fact in its printed table.
 ghost use Rattle.std.specs.Prelude.{◌≡◌};
-ghost use Rattle.pim_ip.specs.Addr.{addr};
 ghost use Rattle.pim_model.specs.Printed.{assert_line, downstream_line, downstream_state, group_line, neighbour_line, source_line, upstream_line};
-ghost use Rattle.pim_types.specs.Keys.{source_in};
 ghost use Rattle.pim_types.specs.declared.fact.Key.{Key};
 ghost use Rattle.pim_types.specs.declared.table.Row.{Row};
 
@@ -10,7 +8,7 @@ use pim_types::fact::{
     AssertRow, DownstreamRow, GroupRecordRow, JoinTimerRow, NeighbourRow, SourceRecordRow,
 };
 use pim_types::table::DownstreamState;
-use pim_types::{Addr, Key, Row};
+use pim_types::{Key, Row};
 
 /// A fact whose row in its printed table tells its key and itself, and nothing else of the state.
 pub trait Printed {
@@ -22,20 +20,13 @@ pub trait Printed {
         ensures { result ≡ line (key, self.now) };
 }
 
-// The source of the key, or 0.0.0.0.
-pub(crate) fn source_in(key: Key) -> Addr
-    ensures { result ≡ addr (source_in key) }
-{
-    key.source.unwrap_or(Addr::NONE)
-}
-
 impl Printed for NeighbourRow {
     ghost line = { neighbour_line };
 
     fn line(&self, key: Key) -> Row {
         Row::Neighbour {
             iface: key.iface,
-            address: source_in(key),
+            address: key.address(),
             end: self.end,
         }
     }
@@ -61,7 +52,7 @@ impl Printed for SourceRecordRow {
         Row::Source {
             iface: key.iface,
             group: key.group,
-            source: source_in(key),
+            source: key.address(),
             end: self.end,
         }
     }

@@ -11,7 +11,7 @@ use crate::parts::{Parts, unboxed};
 use crate::sources::SourcesLeft;
 use pim_ip::Addr;
 use pim_trie::{Trie, Under};
-use pim_types::{IfaceId, Key};
+use pim_types::{Key, SourceGroup};
 use std::iter::FusedIterator;
 use std::marker::Model;
 
@@ -114,7 +114,11 @@ impl<'a, V> Iterator for Entries<'a, V> {
             return Some((Key::group(self.group), value));
         }
         let (source, value) = self.sources.as_mut()?.next()?;
-        Some((Key::source(IfaceId::NONE, self.group, source), value))
+        let name = SourceGroup {
+            source,
+            group: self.group,
+        };
+        Some((name.key(), value))
     }
 }
 

@@ -243,7 +243,7 @@ fn unmark_on<R: TellsMarks>(rows: &Timed<R>, index: &mut Index, iface: IfaceId, 
     ensures others { KeepsOtherMarks R.tells index.old index.new }
     ensures rises { meter.old ≤ meter.new }
 {
-    for (key, _) in rows.iter() {
+    for (key, _) in rows.rows().iter() {
         if key.iface == iface {
             index.unmark::<R>(*key, meter);
         }

@@ -1,5 +1,5 @@
 //! The PIM facts.
-ghost use Rattle.std.specs.Prelude.{◌≡◌, ◌<◌, ◌≤◌, ◌+◌, ◌^◌, ◌==◌, ◌++◌, ◌&&◌, ℕ, None, Some, IsSome, IsTrue, IfOk, OnOk, false, filter, nat_lt, not, option_map, true};
+ghost use Rattle.std.specs.Prelude.{◌≡◌, ◌<◌, ◌≤◌, ◌+◌, ◌^◌, ◌==◌, ◌++◌, ◌&&◌, ℕ, None, Some, IsSome, IsTrue, IfOk, OnOk, false, filter, is_some, nat_lt, not, option_map, true};
 ghost use Rattle.std.specs.List.{list_all, list_any};
 ghost use Rattle.pim_ifset.specs.Members.{has};
 ghost use Rattle.pim_model.specs.Clearing.{first_by};
@@ -22,11 +22,11 @@ use crate::rows::{change_row, drop_row, drop_rows_on, put_row, remove_row, set_r
 use crate::walks::Sources;
 use pim_ip::Addr;
 use pim_source_trie::{Groups, Meter};
-use pim_tables::{GroupRows, Placed, PlacedRows, RptKeys, Timed, earlier};
+use pim_tables::{Placed, PlacedRows, RowsOf, Timed, earlier};
 use pim_types::fact::{
     AssertRow, DownstreamRow, JoinTimerRow, OverrideTimerRow, RegisterRow, SourceRow,
 };
-use pim_types::{IfaceId, Key, Timer};
+use pim_types::{IfaceId, Key, SourceGroup, Timer};
 use std::alloc::{AllocError, Global};
 use std::collections::BTreeSet;
 use std::collections::btree_map::Iter;
@@ -93,7 +93,7 @@ impl Store {
         ensures rows { result ≡ self.now.downstream }
         ensures below { IsTrue (list_all (λ e. nat_lt (iface_in e.0) 120) result) }
     {
-        self.downstream.iter()
+        self.downstream.rows().iter()
     }
 
     /// The asserts, by rising key; each is of an interface below 120.
@@ -101,35 +101,35 @@ impl Store {
         ensures rows { result ≡ self.now.asserts }
         ensures below { IsTrue (list_all (λ e. nat_lt (iface_in e.0) 120) result) }
     {
-        self.asserts.iter()
+        self.asserts.rows().iter()
     }
 
     /// The Join timers, by rising key.
     pub fn join_timer_rows(&self) -> Iter<'_, Key, JoinTimerRow>
         ensures { result ≡ self.now.join_timers }
     {
-        self.join_timers.iter()
+        self.join_timers.rows().iter()
     }
 
     /// The override timers, by rising key.
     pub fn override_timer_rows(&self) -> Iter<'_, Key, OverrideTimerRow>
         ensures { result ≡ self.now.override_timers }
     {
-        self.override_timers.iter()
+        self.override_timers.rows().iter()
     }
 
     /// The sources, by rising key.
     pub fn source_rows(&self) -> PlacedRows<'_, SourceRow>
         ensures { result ≡ self.now.sources }
     {
-        self.sources.rows()
+        self.sources.rows().iter()
     }
 
     /// The registers, by rising key.
     pub fn register_rows(&self) -> Iter<'_, Key, RegisterRow>
         ensures { result ≡ self.now.registers }
     {
-        self.registers.iter()
+        self.registers.rows().iter()
     }
 
     /// The downstream state under the key.
@@ -174,10 +174,11 @@ impl Store {
         self.sources.get(key)
     }
 
-    /// The place of the source's row, while it stands there: a hint for `keep_alive`.
-    pub fn source_place(&self, group: Addr, source: Addr) -> Option<usize> {
-        self.sources
-            .place(Key::source(IfaceId::NONE, group, source))
+    /// The place of the source's row, if it has one, while it stands there: a hint for `keep_alive`.
+    pub fn source_place(&self, name: SourceGroup) -> Option<usize>
+        ensures { is_some result ≡ has_row self.now.sources (source_key 0 name.group.bits name.source.bits) }
+    {
+        self.sources.rows().place(name.key())
     }
 
     /// The register under the key.
@@ -274,7 +275,7 @@ impl Store {
         ensures gone { row ≡ None → Visits self.old group (Some source) meter.old meter.new }
         ensures rises { OnOk result (meter.old ≤ meter.new) }
     {
-        let key = Key::source_rpt(IfaceId::NONE, group, source);
+        let key = SourceGroup { source, group }.rpt_key();
         set_row(&mut self.override_timers, &mut self.index, key, row, meter)
     }
 
@@ -297,7 +298,7 @@ impl Store {
         ensures gone { row ≡ None → Visits self.old group (Some source) meter.old meter.new }
         ensures rises { OnOk result (meter.old ≤ meter.new) }
     {
-        let key = Key::source(IfaceId::NONE, group, source);
+        let key = SourceGroup { source, group }.key();
         set_row(&mut self.sources, &mut self.index, key, row, meter)
     }
 
@@ -306,25 +307,24 @@ impl Store {
     /// the hint is, the same is done. An error is want of memory.
     pub fn keep_alive(
         &mut self,
-        group: Addr,
-        source: Addr,
+        name: SourceGroup,
         end: u64,
         hint: Option<usize>,
         meter: &mut Meter,
     ) -> Result<(), AllocError>
         ensures state { OnOk result (self.new ≡ record self.old {
-          sources = put self.old.sources (source_key 0 group.bits source.bits)
-              (kept_alive end (row_at self.old.sources (source_key 0 group.bits source.bits)));
+          sources = put self.old.sources (source_key 0 name.group.bits name.source.bits)
+              (kept_alive end (row_at self.old.sources (source_key 0 name.group.bits name.source.bits)));
         }) }
-        ensures kept { OnOk result (IsTrue (has_row self.old.sources (source_key 0 group.bits source.bits))
+        ensures kept { OnOk result (IsTrue (has_row self.old.sources (source_key 0 name.group.bits name.source.bits))
             → meter.new ≡ meter.old) }
-        ensures new { OnOk result (row_at self.old.sources (source_key 0 group.bits source.bits) ≡ None
-            → Visits self.old group (Some source) meter.old meter.new) }
+        ensures new { OnOk result (row_at self.old.sources (source_key 0 name.group.bits name.source.bits) ≡ None
+            → Visits self.old name.group (Some name.source) meter.old meter.new) }
         ensures rises { OnOk result (meter.old ≤ meter.new) }
     {
         // A key stands once.
         self.sources.recall_rising();
-        let key = Key::source(IfaceId::NONE, group, source);
+        let key = name.key();
         let change = KeepAlive { end };
         if update_row(&mut self.sources, &mut self.index, hint, key, change, meter)? {
             return Ok(());
@@ -352,7 +352,7 @@ impl Store {
         ensures gone { row ≡ None → Visits self.old group (Some source) meter.old meter.new }
         ensures rises { OnOk result (meter.old ≤ meter.new) }
     {
-        let key = Key::source(IfaceId::NONE, group, source);
+        let key = SourceGroup { source, group }.key();
         set_row(&mut self.registers, &mut self.index, key, row, meter)
     }
 
@@ -542,15 +542,6 @@ impl Store {
         Sources::among(self.index.walk(group, meter))
     }
 
-    /// The keys of the (S,G,rpt) downstream states of the group on the interface, ascending by source. No state of
-    /// another group is looked at, but for the one that comes next.
-    pub fn rpt_keys(&self, iface: IfaceId, group: Addr) -> RptKeys<'_, DownstreamRow>
-        ensures { result
-            ≡ filter (λ k. is_on iface.number k && k.rpt && is_of_group group.bits k) (keys_in self.now.downstream) }
-    {
-        self.downstream.rpt_keys(iface, group)
-    }
-
     /// Puts the keys of the (S,G,rpt) downstream states of these groups on the interface behind the others, by rising key.
     /// No state of another group is looked at, but for one after each of them.
     pub fn push_rpt_keys(
@@ -563,23 +554,23 @@ impl Store {
             ++ filter (λ k. is_on iface.number k && k.rpt && list_any (λ a. group_in k == a.bits) groups.now.keys)
             (keys_in self.now.downstream)) }
     {
-        self.downstream.push_rpt_keys(iface, groups, keys)
+        self.downstream.rows().push_rpt_keys(iface, groups, keys)
     }
 
     /// The Join timers of the group, by rising key: that of (*,G), then those of its sources. No timer of another group
     /// is looked at, but for the one that comes next.
-    pub fn join_timers_of(&self, group: Addr) -> GroupRows<'_, JoinTimerRow>
+    pub fn join_timers_of(&self, group: Addr) -> RowsOf<'_, JoinTimerRow>
         ensures { result ≡ filter (λ e. is_of_group group.bits e.0) self.now.join_timers }
     {
-        self.join_timers.of_group(IfaceId::NONE, group)
+        self.join_timers.rows().rows_at(IfaceId::NONE, group)
     }
 
     /// The registers of the group, ascending by source. No register of another group is looked at, but for the one that
     /// comes next.
-    pub fn registers_of(&self, group: Addr) -> GroupRows<'_, RegisterRow>
+    pub fn registers_of(&self, group: Addr) -> RowsOf<'_, RegisterRow>
         ensures { result ≡ filter (λ e. is_of_group group.bits e.0) self.now.registers }
     {
-        self.registers.of_group(IfaceId::NONE, group)
+        self.registers.rows().rows_at(IfaceId::NONE, group)
     }
 
     /// Whether there is a fact of the source of the group. The meter rises by the nodes that it visits.

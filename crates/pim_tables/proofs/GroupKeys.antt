@@ -12,6 +12,7 @@ use Rattle.pim_ip.specs.declared.addr.Addr.{Addr}
 use Rattle.pim_types.specs.declared.fact.Key.{Key}
 use Rattle.pim_types.specs.Keys.{addr_cmp, group_in, iface_in, is_of_group, is_on, key_cmp}
 use Rattle.pim_types.proofs.Keys.{nat_cmp_same}
+use Rattle.pim_model.specs.Tables.{Table, keys_in}
 
 -- ---- keys that pass one test come before those that pass the other
 
@@ -142,3 +143,31 @@ module _ (i : ℕ) where
       ∙ filter_agree _ (is_rpt_among (a ∷ gs))
       (λ k. one_or_more (is_on i k && k.rpt) (is_of_group a.bits k)
       (list_any (λ (b : Addr). group_in k == b.bits) gs)) ks
+
+-- ---- the (S,G,rpt) keys among the rows of one group
+
+module _ {R : Type 0} (i g : ℕ) where
+  abbrev of_group_at : Table R → Table R
+  of_group_at t = filter (λ e. is_on i e.0 && is_of_group g e.0) t
+
+  abbrev rpt_rows : Table R → Table R
+  rpt_rows t = filter (λ (e : Key × R). e.0.rpt) (of_group_at t)
+
+  abbrev pub rpt_keys_at : Table R → List Key
+  rpt_keys_at t = filter (λ k. is_on i k && k.rpt && is_of_group g k) (keys_in t)
+
+  rpt_step : (e : Key × R) (t : Table R) (a b c : Bool) → e.0.rpt ≡ c → keys_in (rpt_rows t) ≡ rpt_keys_at t
+      → keys_in (filter (λ (x : Key × R). x.0.rpt) (cond (a && b) (e ∷ of_group_at t) (of_group_at t)))
+      ≡ cond ((a && c) && b) (e.0 ∷ rpt_keys_at t) (rpt_keys_at t)
+  unfolding keys_in
+  rpt_step e t true true true is rest =
+      ap (λ (b : Bool). keys_in (cond b (e ∷ rpt_rows t) (rpt_rows t))) is ∙ ap (λ ks. e.0 ∷ ks) rest
+  rpt_step e t true true false is rest = ap (λ (b : Bool). keys_in (cond b (e ∷ rpt_rows t) (rpt_rows t))) is ∙ rest
+  rpt_step e t true false true is rest = rest
+  rpt_step e t true false false is rest = rest
+  rpt_step e t false b c is rest = rest
+
+  pub rpt_keys_of_group : (t : Table R) → keys_in (rpt_rows t) ≡ rpt_keys_at t
+  unfolding keys_in
+  rpt_keys_of_group [] = refl
+  rpt_keys_of_group (e ∷ t) = rpt_step e t (is_on i e.0) (is_of_group g e.0) e.0.rpt refl (rpt_keys_of_group t)

@@ -2,7 +2,6 @@ mod Counting
 pub mod Firsts
 pub mod Gone
 mod GroupKeys
-mod GroupRuns
 mod Joined
 pub mod Lookups
 pub mod Orders

@@ -1,5 +1,5 @@
 -- The ends of a row, armed in a queue, and the queue beside rows that change.
-use Rattle.std.proofs.Common.{◌≡◌, ◌≢◌, ℕ, ◌+◌, ◌==◌, ◌&&◌, Bool, true, false, cond, length, [], ◌∷◌, Option, Some, None, refl, sym, ap, subst, ◌∙◌, arith}
+use Rattle.std.proofs.Common.{◌≡◌, ◌≢◌, ℕ, ◌≤◌, ◌+◌, ◌==◌, ◌&&◌, Bool, true, false, cond, length, [], ◌∷◌, Option, Some, None, refl, sym, ap, subst, ◌∙◌, arith}
 use Rattle.std.specs.Ordering.{is_eq, ordering_then, nat_cmp}
 use Rattle.std.specs.Cmp.{tied_itself, nat_cmp_total}
 use Rattle.std.specs.declared.cmp.Ordering.{Ordering}
@@ -9,7 +9,7 @@ use Rattle.pim_types.specs.contracts.timer.TimerKindPartialEq.TheImpl as kind_eq
 use Rattle.pim_types.specs.declared.fact.Key.{Key}
 use Rattle.pim_types.specs.declared.timer.Timer.{Timer}
 use Rattle.pim_types.specs.declared.timer.TimerKind.{TimerKind}
-use Rattle.pim_types.specs.Keys.{same_key, star_key}
+use Rattle.pim_types.specs.Keys.{is_on, same_key, star_key}
 use Rattle.pim_types.specs.Timers.{rank, timer_cmp}
 use Rattle.pim_types.proofs.Keys.{equal_keys, equal_numbers, key_cmp_total}
 use Rattle.pim_types.proofs.Timers.{timer_exact}
@@ -18,7 +18,8 @@ use Rattle.pim_timers.specs.Dues.{Due, IsFirst}
 use Rattle.pim_timers.specs.Ends.{same_timer}
 use Rattle.pim_timers.proofs.Armed.{Owes, all_owed, armed_after, no_end_armed, none_armed, none_owed, none_real, owed_less, right_after}
 use Rattle.pim_timers.proofs.Ranks.{kind_ties, nat_ties}
-use Rattle.pim_model.specs.Tables.{Table, row_at}
+use Rattle.pim_model.specs.Tables.{Table, drop_where, row_at}
+use Rattle.pim_tables.proofs.Lookups.{row_at-drop_on}
 use Rattle.pim_tables.specs.Ends.{InStep, IsRowArmed, Kinds, end_of, ends_in, ends_under, is_second, most_ends, same_kind, timer_of}
 
 -- ---- one timer
@@ -208,6 +209,16 @@ module _ {R : Type 0} (kinds : Kinds) (ends : R → Option ℕ × Option ℕ) wh
       → same_key due.1.key k ≡ false → ends_in kinds ends rows due.1 ≡ Some due.0
   still_right rows k h0 h1 grows =
       right_after (λ t. same_key t.key k) (ends_in kinds ends rows) (ends_in kinds ends rows) h0 h1 (λ t other. refl) grows
+
+  -- those of an interface went
+  pub fewer_armed : (rows after : Table R) (i : ℕ) (h : Due → Bool) → after ≡ drop_where (is_on i) rows
+      → AreArmed (ends_in kinds ends rows) h → AreArmed (ends_in kinds ends after) h
+  fewer_armed rows after i h same armed t m is =
+      go (is_on i t.key) (ap (λ (u : Table R). row_at u t.key) same ∙ row_at-drop_on i t.key rows)
+    where
+      go : (b : Bool) → row_at after t.key ≡ cond b None (row_at rows t.key) → (e : ℕ) × (e ≤ m) × (h (e, t) ≡ true)
+      go true gone = let no : None ≡ Some m = sym (ap (λ (o : Option R). end_of kinds ends o t.kind) gone) ∙ is in cc
+      go false stays = armed t m (sym (ap (λ (o : Option R). end_of kinds ends o t.kind) stays) ∙ is)
 
   -- no rows, and no entries
   pub none_in_step : (queue : Entries) (rows : Table R) → queue.dues ≡ [] → rows ≡ [] → InStep kinds ends queue rows

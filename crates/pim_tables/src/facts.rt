@@ -10,7 +10,6 @@ ghost use Rattle.pim_tables.specs.RowsOf.{first_key};
 use crate::change::Change;
 use crate::ended::arm_row;
 use crate::ends::Ends;
-use crate::group_rows::{GroupRows, RptKeys, push_keys};
 use crate::keeping::Keeping;
 use crate::rows_of::RowsOf;
 use pim_ip::Addr;
@@ -87,18 +86,22 @@ impl<R> Facts<R> {
         self.rows.iter()
     }
 
-    /// The facts of a group on an interface, by rising key. No other fact but the next one is looked at.
-    pub fn of_group(&self, iface: IfaceId, group: Addr) -> GroupRows<'_, R>
-        ensures { result ≡ filter (λ e. is_on iface.number e.0 && is_of_group group.bits e.0) self.now }
+    // Puts the keys of the (S,G,rpt) facts of the group on the interface behind the others, by rising key.
+    fn push_rpt_keys_at(
+        &self,
+        iface: IfaceId,
+        group: Addr,
+        keys: &mut Vec<Key>,
+    ) -> Result<(), AllocError>
+        ensures { OnOk result (keys.new.items ≡ keys.old.items
+            ++ filter (λ k. is_on iface.number k && k.rpt && is_of_group group.bits k) (keys_in self.now)) }
     {
-        GroupRows::of(&self.rows, iface, group)
-    }
-
-    /// The keys of the (S,G,rpt) facts of a group on an interface, ascending by source.
-    pub fn rpt_keys(&self, iface: IfaceId, group: Addr) -> RptKeys<'_, R>
-        ensures { result ≡ filter (λ k. is_on iface.number k && k.rpt && is_of_group group.bits k) (keys_in self.now) }
-    {
-        RptKeys::among(GroupRows::of(&self.rows, iface, group))
+        for (key, _) in self.rows_at(iface, group) {
+            if key.rpt {
+                keys.push(*key)?;
+            }
+        }
+        Ok(())
     }
 
     /// Puts the keys of the (S,G,rpt) facts of these groups on an interface behind the others, by rising key. No fact
@@ -117,7 +120,7 @@ impl<R> Facts<R> {
         // It tells that the groups rise.
         let _ = groups.len();
         for group in groups {
-            push_keys(self.rpt_keys(iface, *group), keys)?;
+            self.push_rpt_keys_at(iface, *group, keys)?;
         }
         Ok(())
     }
@@ -129,7 +132,7 @@ impl<R> Facts<R> {
         RowsOf::among(&self.rows, iface, None)
     }
 
-    /// The facts of the group on the interface, by rising key.
+    /// The facts of the group on the interface, by rising key. No other fact but the next one is looked at.
     pub fn rows_at(&self, iface: IfaceId, group: Addr) -> RowsOf<'_, R>
         ensures { result ≡ filter (λ e. is_at_group iface.number group.bits e.0) self.now }
     {
@@ -208,23 +211,8 @@ impl<R: Copy> Facts<R> {
         count
     }
 
-    // Changes the fact under the key, where there is one, in its place; what it was.
-    pub(crate) fn update<C: Change<R>>(&mut self, key: Key, change: C) -> Option<R>
-        ensures before { result ≡ row_at self.old key }
-        ensures changed { self.new ≡ change_row (λ before. Some (C.after change before)) key self.old }
-    {
-        match self.rows.get_mut(&key) {
-            Some(place) => {
-                let before = *place;
-                *place = change.after(before);
-                Some(before)
-            }
-            None => None,
-        }
-    }
-
     // The key of the interface's first fact.
-    pub(crate) fn first_on(&self, iface: IfaceId) -> Option<Key>
+    fn first_on(&self, iface: IfaceId) -> Option<Key>
         ensures { result ≡ first_key (rows_on iface.number self.now) }
     {
         let (key, _) = self.rows_on(iface).next()?;
@@ -269,7 +257,14 @@ impl<R: Ends> Keeping<R> for Facts<R> {
     }
 
     fn replace<C: Change<R>>(&mut self, _hint: Option<usize>, key: Key, change: C) -> Option<R> {
-        self.update(key, change)
+        match self.rows.get_mut(&key) {
+            Some(place) => {
+                let before = *place;
+                *place = change.after(before);
+                Some(before)
+            }
+            None => None,
+        }
     }
 
     fn take(&mut self, key: Key) -> Option<R> {

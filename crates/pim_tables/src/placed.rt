@@ -1,8 +1,8 @@
 //! Rows that keep their places, so that one whose place is known is found with no look-up of its key.
-ghost use Rattle.std.specs.Prelude.{◌≡◌, ◌≢◌, ℕ, IfSome, IsSome, IsTrue, Option, Some, None, OnOk, OnErr, option_map, true};
+ghost use Rattle.std.specs.Prelude.{◌≡◌, ◌≢◌, ℕ, IfSome, IsSome, IsTrue, Option, Some, None, OnOk, OnErr, is_some, option_map, true};
 ghost use Rattle.std.specs.Iterator.{YieldsFirstBy, item_count};
 ghost use Rattle.slab.specs.Slab.{get};
-ghost use Rattle.pim_model.specs.Tables.{change_row, drop_at, put, row_at};
+ghost use Rattle.pim_model.specs.Tables.{change_row, drop_at, has_row, put, row_at};
 ghost use Rattle.pim_tables.specs.Places.{ArePlaced, key_of, standing};
 ghost use Rattle.pim_tables.specs.RowsOf.{row_seen};
 ghost use Rattle.pim_types.specs.declared.fact.Key.{Key as KeyValue};
@@ -150,13 +150,16 @@ fn take_placed<R: Copy>(places: &mut Facts<usize>, rows: &mut Slab<(Key, R)>, ke
 }
 
 impl<R> Placed<R> {
-    /// The place of the row under the key. A call that changes a row takes it for a hint, so that nothing rests on it.
-    pub fn place(&self, key: Key) -> Option<usize> {
+    /// The place of the row under the key, if there is one, while it stands there. A call that changes a row takes it for a
+    /// hint, so that nothing rests on which it is.
+    pub fn place(&self, key: Key) -> Option<usize>
+        ensures { is_some result ≡ has_row self.now key }
+    {
         self.places.get(key)
     }
 
     /// The rows, by rising key.
-    pub fn rows(&self) -> PlacedRows<'_, R>
+    pub fn iter(&self) -> PlacedRows<'_, R>
         ensures { result ≡ self.now }
     {
         PlacedRows {
@@ -211,7 +214,7 @@ impl<R: Ends> Keeping<R> for Placed<R> {
     }
 
     fn arm_all(&self, queue: &mut Queue) {
-        for (key, row) in self.rows() {
+        for (key, row) in self.iter() {
             arm_row(queue, *key, *row);
         }
     }

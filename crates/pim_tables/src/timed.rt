@@ -1,31 +1,22 @@
 //! A table whose rows end. A queue of the ends that the rows know stands beside them, so that no caller sets a timer.
-ghost use Rattle.std.specs.Prelude.{◌≡◌, ◌==◌, ◌++◌, ◌↔◌, ◌&&◌, [], false, filter, length, IsTrue, IfOk, IfSome, OnOk, OnErr, Option, Some, None, option_map};
-ghost use Rattle.std.specs.List.{list_any};
+ghost use Rattle.std.specs.Prelude.{◌≡◌, [], false, length, IfOk, IfSome, OnOk, OnErr, Option, Some, None, option_map};
 ghost use Rattle.std.specs.List.Sorted.{IsStrictlySortedBy};
 ghost use Rattle.pim_model.specs.Clearing.{first_by};
-ghost use Rattle.pim_model.specs.Records.{is_at_group};
-ghost use Rattle.pim_model.specs.Tables.{keys_in, row_at, has_row, put, drop_at, drop_where, set_row, change_row, rows_on};
+ghost use Rattle.pim_model.specs.Tables.{keys_in, row_at, has_row, put, drop_at, drop_where, set_row, change_row};
 ghost use Rattle.pim_model.specs.Timers.{is_ending_first};
 ghost use Rattle.pim_timers.specs.Armed.{AreArmed, holds};
 ghost use Rattle.pim_timers.specs.Dues.{Due, IsFirst};
-ghost use Rattle.pim_types.specs.Keys.{group_in, is_of_group, key_cmp, is_on, same_key};
+ghost use Rattle.pim_types.specs.Keys.{key_cmp, is_on, same_key};
 ghost use Rattle.pim_tables.specs.Ends.{InStep, back_at, due_of, ends_in, left_at, row_endings};
-ghost use Rattle.pim_tables.specs.RowsOf.{first_key};
 
 use crate::change::{Change, To};
 use crate::ended::{Ended, arm_ends, settle};
 use crate::ends::Ends;
 use crate::facts::Facts;
-use crate::group_rows::{GroupRows, RptKeys};
 use crate::keeping::Keeping;
-use crate::placed::{Placed, PlacedRows};
-use crate::rows_of::RowsOf;
-use pim_ip::Addr;
 use pim_timers::Queue;
 use pim_types::{IfaceId, Key, Timer};
 use std::alloc::{AllocError, Global};
-use std::collections::BTreeSet;
-use std::collections::btree_map::Iter;
 use std::marker::{Model, PhantomData};
 
 /// The facts of one kind, which end.
@@ -169,6 +160,13 @@ impl<R: Ends, K: Keeping<R>> Timed<R, K> {
         }
     }
 
+    /// The facts as they are kept.
+    pub fn rows(&self) -> &K
+        ensures { K.table result.now ≡ self.now }
+    {
+        &self.ended.rows
+    }
+
     /// How many facts there are.
     pub fn len(&self) -> usize
         ensures count { result ≡ length self.now }
@@ -231,8 +229,8 @@ impl<R: Ends, K: Keeping<R>> Timed<R, K> {
     }
 
     /// Changes the fact under the key, where there is one, in its place, and answers what it was. The fact is looked up
-    /// once, or not at all where the hint is its place (`place`); whatever the hint is, the same is done. An error is want of
-    /// memory, and leaves what one of `put` leaves.
+    /// once, or not at all where the hint is its place (`place` of `Placed`); whatever the hint is, the same is done. An
+    /// error is want of memory, and leaves what one of `put` leaves.
     pub fn update<C: Change<R>>(
         &mut self,
         hint: Option<usize>,
@@ -285,100 +283,14 @@ impl<R: Ends, K: Keeping<R>> Timed<R, K> {
     }
 }
 
-// What a table in an ordered map tells besides.
+// A table in an ordered map.
 impl<R: Ends> Timed<R> {
-    /// Whether there is no fact.
-    pub fn is_empty(&self) -> bool
-        ensures { IsTrue result ↔ (self.now ≡ []) }
-    {
-        self.ended.rows.is_empty()
-    }
-
-    /// The facts, by rising key.
-    pub fn iter(&self) -> Iter<'_, Key, R>
-        ensures { result ≡ self.now }
-    {
-        self.ended.rows.iter()
-    }
-
-    /// The facts of a group on an interface, by rising key. No other fact but the next one is looked at.
-    pub fn of_group(&self, iface: IfaceId, group: Addr) -> GroupRows<'_, R>
-        ensures { result ≡ filter (λ e. is_on iface.number e.0 && is_of_group group.bits e.0) self.now }
-    {
-        self.ended.rows.of_group(iface, group)
-    }
-
-    /// The keys of the (S,G,rpt) facts of a group on an interface, ascending by source.
-    pub fn rpt_keys(&self, iface: IfaceId, group: Addr) -> RptKeys<'_, R>
-        ensures { result ≡ filter (λ k. is_on iface.number k && k.rpt && is_of_group group.bits k) (keys_in self.now) }
-    {
-        self.ended.rows.rpt_keys(iface, group)
-    }
-
-    /// Puts the keys of the (S,G,rpt) facts of these groups on an interface behind the others, by rising key. No fact
-    /// of another group is looked at, but for one after each of them.
-    pub fn push_rpt_keys(
-        &self,
-        iface: IfaceId,
-        groups: &BTreeSet<Addr>,
-        keys: &mut Vec<Key>,
-    ) -> Result<(), AllocError>
-        ensures { OnOk result (keys.new.items ≡ keys.old.items
-            ++ filter (λ k. is_on iface.number k && k.rpt && list_any (λ a. group_in k == a.bits) groups.now.keys)
-            (keys_in self.now)) }
-    {
-        self.ended.rows.push_rpt_keys(iface, groups, keys)
-    }
-
-    /// The facts of the interface, by rising key.
-    pub fn rows_on(&self, iface: IfaceId) -> RowsOf<'_, R>
-        ensures { result ≡ rows_on iface.number self.now }
-    {
-        self.ended.rows.rows_on(iface)
-    }
-
-    /// The facts of the group on the interface, by rising key.
-    pub fn rows_at(&self, iface: IfaceId, group: Addr) -> RowsOf<'_, R>
-        ensures { result ≡ filter (λ e. is_at_group iface.number group.bits e.0) self.now }
-    {
-        self.ended.rows.rows_at(iface, group)
-    }
-
-    /// How many facts are of the interface.
-    pub fn count_on(&self, iface: IfaceId) -> usize
-        ensures { result ≡ length (rows_on iface.number self.now) }
-    {
-        self.ended.rows.count_on(iface)
-    }
-
-    // The key of the interface's first fact.
-    fn first_on(&self, iface: IfaceId) -> Option<Key>
-        ensures { result ≡ first_key (rows_on iface.number self.now) }
-    {
-        self.ended.rows.first_on(iface)
-    }
-
     /// Takes the facts of the interface away. Of the others one is looked at.
     pub fn drop_on(&mut self, iface: IfaceId)
         ensures { self.new ≡ drop_where (is_on iface.number) self.old }
     {
-        while let Some(first) = self.first_on(iface) {
-            self.remove(first);
-        }
-    }
-}
-
-// What a table whose rows keep their places tells besides.
-impl<R: Ends> Timed<R, Placed<R>> {
-    /// The place of the fact under the key, while it stands there: a hint for `update`.
-    pub fn place(&self, key: Key) -> Option<usize> {
-        self.ended.rows.place(key)
-    }
-
-    /// The facts, by rising key.
-    pub fn rows(&self) -> PlacedRows<'_, R>
-        ensures { result ≡ self.now }
-    {
-        self.ended.rows.rows()
+        self.ended.rows.drop_on(iface);
+        // What ends first may have gone.
+        self.queue.settle(&self.ended, false);
     }
 }

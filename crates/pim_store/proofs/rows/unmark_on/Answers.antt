@@ -5,7 +5,7 @@ use Rattle.pim_store.proofs.rows.unmark_on.Goals as goal
 pub loop-key-init : goal.loop-key-init
 loop-key-init g c = record {
   unmarked = at_first g.R.TellsMarks.tells g.R.TellsMarks.says g.R.TellsMarks.fits c.args.iface.number _ _ _
-      (c.into_iter-key-iterator.ensures.into_iter_gives ∙ c.iter-key-items.ensures) c.requires;
+      (c.into_iter-key-iterator.ensures.into_iter_gives ∙ c.iter-key-items.ensures ∙ c.rows.ensures) c.requires;
   rises = omega arith;
 }
 

@@ -6,7 +6,7 @@ use Rattle.pim_membership.proofs.membership.Membership.change_source_record.Goal
 pub invariant_of-self-2 : goal.invariant_of-self-2
 invariant_of-self-2 c = (
   c.self.invariant.0,
-  subst (λ t. HaveRecords c.self.inside.unrecorded t c.self.inside.sendings) (sym c.in_ok-change_at.ensures.changed)
+  subst (λ t. HaveRecords c.self.inside.unrecorded t c.self.inside.sendings) (sym c.in_ok-change.ensures.to)
       (record_changed c.self.inside.unrecorded c.self.inside.source_records c.self.inside.sendings c.args.key c.args.row
       c.self.invariant.1),
 )

@@ -10,21 +10,21 @@ pub returns-then-has_source-clause-any : goal.returns-then-has_source-clause-any
 returns-then-has_source-clause-any c =
     first_tells c.has_source.result _ _ _
     (c.has_source.ensures.any
-    ∙ ap (λ (m : MembershipTables). list_any (names_source c.args.group.bits c.args.source.bits) (keys_in m.source_records))
+    ∙ ap (λ (m : MembershipTables). list_any (names_source c.args.name.group.bits c.args.name.source.bits) (keys_in m.source_records))
     c.self.view_is)
     c.if-has_source.true
-    (any_member c.args.group.bits c.args.source.bits c.args.self.now c.recall_keyed.ensures.records
+    (any_member c.args.name.group.bits c.args.name.source.bits c.args.self.now c.recall_keyed.ensures.records
     c.recall_keyed.ensures.group_repeats c.recall_keyed.ensures.source_repeats)
 
 pub returns-else-has_source-clause-any : goal.returns-else-has_source-clause-any
 returns-else-has_source-clause-any c =
     second_tells c.has_source.result c.has_source-else-has_source.result _ _ _
     (c.has_source.ensures.any
-    ∙ ap (λ (m : MembershipTables). list_any (names_source c.args.group.bits c.args.source.bits) (keys_in m.source_records))
+    ∙ ap (λ (m : MembershipTables). list_any (names_source c.args.name.group.bits c.args.name.source.bits) (keys_in m.source_records))
     c.self.view_is)
     c.if-has_source.false
     (c.has_source-else-has_source.ensures
-    ∙ ap (λ (m : MembershipTables). list_any (names_source c.args.group.bits c.args.source.bits) (keys_in m.sendings))
+    ∙ ap (λ (m : MembershipTables). list_any (names_source c.args.name.group.bits c.args.name.source.bits) (keys_in m.sendings))
     c.self.view_is)
-    (any_member c.args.group.bits c.args.source.bits c.args.self.now c.recall_keyed.ensures.records
+    (any_member c.args.name.group.bits c.args.name.source.bits c.args.self.now c.recall_keyed.ensures.records
     c.recall_keyed.ensures.group_repeats c.recall_keyed.ensures.source_repeats)

@@ -11,8 +11,8 @@ returns-clause-interfaces c = rw (← c.self.view_is) (λ i.
     ∙ c.intersection.ensures.interfaces i
     ∙ (λ j. c.minus-include.ensures.interfaces i j && c.listed-sources.ensures.there i j)
     ∙ (λ j. (c.listed-groups.ensures.there i j && not (c.listed-groups.ensures.running i j))
-    && has_row c.self.inside.source_records (source_key i c.args.group.bits c.args.source.bits))
-    ∙ included_is c.self.inside.group_records c.self.inside.source_records c.args.group.bits c.args.source.bits i)
+    && has_row c.self.inside.source_records (source_key i c.args.name.group.bits c.args.name.source.bits))
+    ∙ included_is c.self.inside.group_records c.self.inside.source_records c.args.name.group.bits c.args.name.source.bits i)
 
 pub returns-clause-at_least : goal.returns-clause-at_least
 returns-clause-at_least c = rw (← c.self.view_is)

@@ -5,7 +5,7 @@ use Rattle.pim_membership.proofs.records.Records.has_source.Goals as goal
 
 pub returns-clause-any : goal.returns-clause-any
 returns-clause-any g c =
-    told_by_set c.args.group.bits c.args.source.bits 120 c.args.self.now c.recall_rising.ensures
+    told_by_set c.args.name.group.bits c.args.name.source.bits 120 c.args.self.now c.recall_rising.ensures
     (plain_records c.args.self.now c.recall_kind.ensures.fit) (near_records c.args.self.now c.recall_kind.ensures.fit)
     c.is_empty.result _ _ c.is_empty.ensures c.without_tunnel.ensures.tunnel
     (λ i. c.without_tunnel.ensures.interfaces i ∙ c.listed-listed.ensures.there i)

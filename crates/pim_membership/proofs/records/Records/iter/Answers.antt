@@ -6,5 +6,5 @@ use Rattle.pim_membership.proofs.records.Records.iter.Goals as goal
 
 pub returns-clause-below : goal.returns-clause-below
 returns-clause-below g c =
-    ap (λ t. list_all (λ e. nat_lt (iface_in e.0) 120) t) c.iter.ensures
+    ap (λ t. list_all (λ e. nat_lt (iface_in e.0) 120) t) (c.iter.ensures ∙ c.rows.ensures)
     ∙ all_below c.self.inside.rows c.self.invariant.fit

@@ -6,5 +6,5 @@ use Rattle.pim_store.proofs.store.Store.downstream_rows.Goals as goal
 
 pub returns-clause-below : goal.returns-clause-below
 returns-clause-below c =
-    ap (λ t. list_all (λ e. nat_lt (iface_in e.0) 120) t) c.iter.ensures
+    ap (λ t. list_all (λ e. nat_lt (iface_in e.0) 120) t) (c.iter.ensures ∙ c.rows.ensures)
     ∙ all_fit (λ k. nat_lt (iface_in k) 120) c.self.inside.downstream c.self.invariant.downstream.fit

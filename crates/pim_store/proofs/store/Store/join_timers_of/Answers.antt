@@ -1,11 +1,12 @@
-use Rattle.std.proofs.Common.{◌∙◌}
+use Rattle.std.proofs.Common.{ap, filter, ◌∙◌}
 use Rattle.pim_types.specs.Keys.{is_of_group, is_on}
+use Rattle.pim_model.specs.Records.{is_at_group}
 use Rattle.pim_store.proofs.Fitting.{all_fit, of_router_when_plain, passed_by_all}
 use Rattle.pim_store.proofs.store.Store.join_timers_of.Goals as goal
 
 pub returns : goal.returns
 returns c = rw (← c.self.view_is)
-    (c.of_group.ensures
+    (c.rows_at.ensures ∙ ap (filter (λ e. is_at_group 0 c.args.group.bits e.0)) c.rows.ensures
     ∙ passed_by_all (λ e. is_on 0 e.0) (λ e. is_of_group c.args.group.bits e.0) c.self.inside.join_timers
     (all_fit (is_on 0) c.self.inside.join_timers
     (λ k there. of_router_when_plain k (c.self.invariant.join_timers.fit k there))))

@@ -12,13 +12,13 @@ pub returns-then-branch-clause-state : goal.returns-then-branch-clause-state
 returns-then-branch-clause-state c = rw (← c.self.view_is)
     (ap (λ (t : Table SourceRow). record (tables_of c.self.inside) { sources = t })
     (c.in_ok-update_row.ensures.changed
-    ∙ alive_there c.args.end c.source-key.result c.self.inside.sources c.recall_rising.ensures
+    ∙ alive_there c.args.end c.key-key.result c.self.inside.sources c.recall_rising.ensures
     (sym c.in_ok-update_row.ensures.there ∙ c.if-branch.true)
-    ∙ ap (λ k. put c.self.inside.sources k (kept_alive c.args.end (row_at c.self.inside.sources k))) c.source-key.ensures))
+    ∙ ap (λ k. put c.self.inside.sources k (kept_alive c.args.end (row_at c.self.inside.sources k))) c.key-key.ensures))
 
 pub returns-then-branch-clause-kept : goal.returns-then-branch-clause-kept
 returns-then-branch-clause-kept c = rw (← c.self.view_is)
-    (alive_kept c.args.end c.source-key.result c.self.inside.sources _ c.source-key.ensures
+    (alive_kept c.args.end c.key-key.result c.self.inside.sources _ c.key-key.ensures
     (λ before at. c.in_ok-update_row.ensures.alike before at (λ x told. refl)))
 
 pub returns-clause-state : goal.returns-clause-state
@@ -26,25 +26,25 @@ returns-clause-state c = rw (← c.self.view_is)
     (same_on_ok c.put_row.result (λ (t : Table SourceRow). record (tables_of c.self.inside) { sources = t })
     c.put_row.new.rows _
     (subst (λ t. OnOk c.put_row.result (c.put_row.new.rows ≡ t))
-    (ap (λ t. put t c.source-key.result (record { keepalive = Some c.args.end; spt = false }))
+    (ap (λ t. put t c.key-key.result (record { keepalive = Some c.args.end; spt = false }))
     (c.in_ok-update_row.ensures.changed
-    ∙ sym (nothing_changed c.source-key.result c.self.inside.sources (λ row. Some (with_end c.args.end row))
+    ∙ sym (nothing_changed c.key-key.result c.self.inside.sources (λ row. Some (with_end c.args.end row))
     (sym c.in_ok-update_row.ensures.there ∙ c.if-branch.false)))
-    ∙ alive_new c.args.end c.source-key.result c.self.inside.sources
+    ∙ alive_new c.args.end c.key-key.result c.self.inside.sources
     (sym c.in_ok-update_row.ensures.there ∙ c.if-branch.false)
-    ∙ ap (λ k. put c.self.inside.sources k (kept_alive c.args.end (row_at c.self.inside.sources k))) c.source-key.ensures)
+    ∙ ap (λ k. put c.self.inside.sources k (kept_alive c.args.end (row_at c.self.inside.sources k))) c.key-key.ensures)
     c.put_row.ensures.put))
 
 pub returns-then-branch-clause-new : goal.returns-then-branch-clause-new
 returns-then-branch-clause-new c = rw (← c.self.view_is)
-    (not_missing c.self.inside.sources c.source-key.result _ c.source-key.ensures
+    (not_missing c.self.inside.sources c.key-key.result _ c.key-key.ensures
     (sym c.in_ok-update_row.ensures.there ∙ c.if-branch.true))
 
 pub returns-clause-new : goal.returns-clause-new
 returns-clause-new c = rw (← c.self.view_is)
-    (looked_up_new _ _ c.self.invariant _ _ c.source-key.ensures _ _ c.put_row.result c.self.inside.sources _ c.source-key.ensures
-    (looked_up_unchanged c.put_row.result c.source-key.result _ _ _ _ _ _ _ (c.in_ok-update_row.ensures.index c.if-branch.false)
+    (looked_up_new _ _ c.self.invariant _ _ c.key-key.ensures _ _ c.put_row.result c.self.inside.sources _ c.key-key.ensures
+    (looked_up_unchanged c.put_row.result c.key-key.result _ _ _ _ _ _ _ (c.in_ok-update_row.ensures.index c.if-branch.false)
     (c.in_ok-update_row.ensures.changed
-    ∙ sym (nothing_changed c.source-key.result c.self.inside.sources (λ row. Some (with_end c.args.end row))
+    ∙ sym (nothing_changed c.key-key.result c.self.inside.sources (λ row. Some (with_end c.args.end row))
     (sym c.in_ok-update_row.ensures.there ∙ c.if-branch.false)))
     (c.in_ok-update_row.ensures.meter c.if-branch.false) c.put_row.ensures.new))

@@ -10,9 +10,9 @@ invariant_of-self c = after_override_timers c.self.invariant c.set_row.ensures.o
 
 pub returns-clause-new : goal.returns-clause-new
 returns-clause-new c = rw (← c.self.view_is)
-    (looked_up_new _ _ c.self.invariant _ _ c.source_rpt-key.ensures _ _ c.set_row.result c.self.inside.override_timers _ c.source_rpt-key.ensures
+    (looked_up_new _ _ c.self.invariant _ _ c.rpt_key-key.ensures _ _ c.set_row.result c.self.inside.override_timers _ c.rpt_key-key.ensures
     c.set_row.ensures.new)
 
 pub returns-clause-gone : goal.returns-clause-gone
 returns-clause-gone c = rw (← c.self.view_is) (λ none.
-    looked_up _ _ c.self.invariant _ _ c.source_rpt-key.ensures _ _ (c.set_row.ensures.gone none))
+    looked_up _ _ c.self.invariant _ _ c.rpt_key-key.ensures _ _ (c.set_row.ensures.gone none))

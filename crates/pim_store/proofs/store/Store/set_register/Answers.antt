@@ -10,9 +10,9 @@ invariant_of-self c = after_registers c.self.invariant c.set_row.ensures.others 
 
 pub returns-clause-new : goal.returns-clause-new
 returns-clause-new c = rw (← c.self.view_is)
-    (looked_up_new _ _ c.self.invariant _ _ c.source-key.ensures _ _ c.set_row.result c.self.inside.registers _ c.source-key.ensures
+    (looked_up_new _ _ c.self.invariant _ _ c.key-key.ensures _ _ c.set_row.result c.self.inside.registers _ c.key-key.ensures
     c.set_row.ensures.new)
 
 pub returns-clause-gone : goal.returns-clause-gone
 returns-clause-gone c = rw (← c.self.view_is) (λ none.
-    looked_up _ _ c.self.invariant _ _ c.source-key.ensures _ _ (c.set_row.ensures.gone none))
+    looked_up _ _ c.self.invariant _ _ c.key-key.ensures _ _ (c.set_row.ensures.gone none))

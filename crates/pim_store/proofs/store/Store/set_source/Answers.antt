@@ -13,14 +13,14 @@ invariant_of-self c = after_sources c.self.invariant c.set_row.ensures.others c.
 pub returns-clause-kept : goal.returns-clause-kept
 returns-clause-kept c =
     rw (← c.self.view_is)
-    (kept_there c.set_row.result c.self.inside.sources _ _ c.args.row _ c.source-key.ensures
+    (kept_there c.set_row.result c.self.inside.sources _ _ c.args.row _ c.key-key.ensures
     (λ x after before told. refl) c.set_row.ensures.alike)
 
 pub returns-clause-new : goal.returns-clause-new
 returns-clause-new c = rw (← c.self.view_is)
-    (looked_up_new _ _ c.self.invariant _ _ c.source-key.ensures _ _ c.set_row.result c.self.inside.sources _ c.source-key.ensures
+    (looked_up_new _ _ c.self.invariant _ _ c.key-key.ensures _ _ c.set_row.result c.self.inside.sources _ c.key-key.ensures
     c.set_row.ensures.new)
 
 pub returns-clause-gone : goal.returns-clause-gone
 returns-clause-gone c = rw (← c.self.view_is) (λ none.
-    looked_up _ _ c.self.invariant _ _ c.source-key.ensures _ _ (c.set_row.ensures.gone none))
+    looked_up _ _ c.self.invariant _ _ c.key-key.ensures _ _ (c.set_row.ensures.gone none))

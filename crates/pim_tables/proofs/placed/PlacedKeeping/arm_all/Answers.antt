@@ -6,7 +6,7 @@ use Rattle.pim_tables.proofs.placed.PlacedKeeping.arm_all.Goals as goal
 
 pub loop-key-init : goal.loop-key-init
 loop-key-init g c =
-    let is = c.into_iter-key-iterator.ensures.into_iter_gives ∙ c.rows-key-items.ensures in
+    let is = c.into_iter-key-iterator.ensures.into_iter_gives ∙ c.iter-key-items.ensures in
     let same = ap (λ t. most_ends g.R.Ends.kinds.1 (length t)) is in
     record {
       owes = rows_owed g.R.Ends.kinds g.R.Ends.ends c.args.self.now c.into_iter-key-iterator.result (holds c.args.queue.now) is;

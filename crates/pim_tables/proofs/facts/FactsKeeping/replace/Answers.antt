@@ -2,8 +2,8 @@ use Rattle.std.proofs.Common.{◌∙◌, Some, ap, sym}
 use Rattle.std.specs.Option.{option_copied_mut}
 use Rattle.pim_model.specs.Tables.{keys_in, row_at}
 use Rattle.pim_types.specs.Keys.{addr_cmp, key_cmp}
-use Rattle.pim_tables.proofs.facts.Facts.update.Goals as goal
-use Rattle.pim_tables.proofs.facts.Facts.update.Goals.{in-None, in-Some}
+use Rattle.pim_tables.proofs.facts.FactsKeeping.replace.Goals as goal
+use Rattle.pim_tables.proofs.facts.FactsKeeping.replace.Goals.{in-None, in-Some}
 use Rattle.pim_tables.proofs.Rows.{absent_is_unchanged, changed_to, written_is_changed}
 
 pub returns-clause-changed : goal.returns-clause-changed
