@@ -8,7 +8,7 @@ use Rattle.pim_model.specs.Hellos.{is_generation_changed}
 use Rattle.pim_model.specs.State.{State}
 use Rattle.pim_model.specs.Unicast.{rp_of, rp_route}
 use Rattle.pim_model.specs.Upstream.{fact_keys, groups_of, sources_of}
-use Rattle.pim_adjacent.specs.Adjacent.{is_still_neighbour, leads_to}
+use Rattle.pim_adjacent.specs.Adjacent.{is_still_neighbour, leads_to, may_lead}
 use Rattle.pim_mrib.specs.Routes.{rp_nodes}
 use Rattle.pim_world.specs.Visits.{path_nodes, sight_nodes, sources_nodes}
 
@@ -41,9 +41,10 @@ led_nodes s i address g =
     + (if not (leads_to i address (rp_route s g))
     then sources_nodes s (addr g) + sum_by (source_path_nodes s) (sources_of g (fact_keys s)) else 0)
 
--- of each group with any fact
+-- of each group with any fact; none is asked where no path may lead to the neighbour
 unfoldable pub towards_nodes : State → ℕ → ℕ → ℕ
-towards_nodes s i address = sum_by (led_nodes s i address) (groups_of (fact_keys s))
+towards_nodes s i address =
+    if may_lead s address then sum_by (led_nodes s i address) (groups_of (fact_keys s)) else 0
 
 -- of a Hello
 abbrev pub hello_keys_nodes : State → ℕ → ℕ → HelloValue → ℕ

@@ -6,7 +6,7 @@ ghost use Rattle.pim_model.specs.Neighbours.{is_better_dr};
 ghost use Rattle.pim_model.specs.State.{my_address, my_priority};
 ghost use Rattle.pim_types.specs.Keys.{same_key};
 
-use pim_neighbours::holdtime_end;
+use pim_neighbours::{holdtime_end, is_better_dr};
 use pim_types::fact::NeighbourRow;
 use pim_types::{Addr, IfaceId, InterfaceConfig, Key};
 use pim_wire::{DEFAULT_HOLDTIME, Hello};
@@ -21,21 +21,6 @@ fn own(world: &World, iface: IfaceId) -> InterfaceConfig
         .interfaces()
         .config(iface)
         .unwrap_or(InterfaceConfig::UNCONFIGURED)
-}
-
-// Whether a neighbour comes before the router in the election of the DR.
-#[tactic(auto, unfolding(pim_model::specs::Neighbours::is_better_dr))]
-fn is_better(by_priority: bool, own: &InterfaceConfig, key: Key, row: NeighbourRow) -> bool
-    ensures { result ≡ is_better_dr by_priority own.now.priority own.now.address.bits (key, row) }
-{
-    let priority = row.priority.unwrap_or(0);
-    if by_priority && priority != own.priority {
-        return own.priority < priority;
-    }
-    match key.source {
-        Some(address) => own.address.bits < address.bits,
-        None => false,
-    }
 }
 
 // Whether both are the same key.
@@ -63,7 +48,7 @@ fn is_other_better(
 ) -> bool
     ensures { result ≡ is_other key (is_better_dr by_priority own.now.priority own.now.address.bits) (other, row) }
 {
-    !is_same(key, other) && is_better(by_priority, own, other, row)
+    !is_same(key, other) && is_better_dr(by_priority, own, &other, &row)
 }
 
 // Whether another neighbour on the interface of the key announced no priority.
@@ -120,7 +105,7 @@ fn some_are_better(
     ensures { result ≡ (is_better_dr by_priority own.now.priority own.now.address.bits (key, row)
         || some_other key (is_better_dr by_priority own.now.priority own.now.address.bits) world.now.neighbours) }
 {
-    is_better(by_priority, own, key, row) || some_other_better(world, by_priority, own, key)
+    is_better_dr(by_priority, own, &key, &row) || some_other_better(world, by_priority, own, key)
 }
 
 // Whether it is the DR where the neighbour with the key has this row.

@@ -2,7 +2,7 @@
 //! asserts that the router lost to it.
 ghost use Rattle.std.specs.List.{flat_map};
 ghost use Rattle.std.specs.Prelude.{◌≡◌, ◌≤◌, ◌++◌, IfOk, OnOk, filter, map, sum_by};
-ghost use Rattle.pim_adjacent.specs.Adjacent.{keys_of_hello, keys_towards, leads_to, led_of_group};
+ghost use Rattle.pim_adjacent.specs.Adjacent.{keys_of_hello, keys_towards, leads_to, led_keys, led_of_group, may_lead};
 ghost use Rattle.pim_hello.specs.Visits.{hello_keys_nodes, led_nodes, rp_path_nodes, source_path_nodes, towards_nodes};
 ghost use Rattle.pim_model.specs.Unicast.{route, rp_route};
 ghost use Rattle.pim_types.specs.Keys.{source_key};
@@ -10,7 +10,8 @@ ghost use Rattle.pim_world.specs.Groups.{numbers_of};
 ghost use Rattle.pim_world.specs.Visits.{raised};
 
 use crate::restarted::asserts_lost_to;
-use pim_types::{Addr, Hop, IfaceId, Key, Path};
+use pim_adjacent::laws::leads_nowhere;
+use pim_types::{Addr, Hop, IfaceId, Key, Path, SourceGroup};
 use pim_wire::{DEFAULT_HOLDTIME, Hello};
 use pim_world::{Meter, Turn, World};
 use std::alloc::{AllocError, Global};
@@ -62,7 +63,11 @@ fn put_sources(
 {
     for (source, ()) in sources.iter() {
         if is_source_led(world, meter, neighbour, *source) {
-            keys.push(Key::source(IfaceId::NONE, group, *source))?;
+            let named = SourceGroup {
+                source: *source,
+                group,
+            };
+            keys.push(named.key())?;
         }
     }
     Ok(())
@@ -111,8 +116,38 @@ fn keys_of_groups(
     Ok(keys)
 }
 
-/// The keys of what looks to the neighbour, of which there are facts. The meter rises by the nodes that the look-ups visit, at
-/// least those of the RP of each group and of the routes that are asked for.
+// Whether a path may lead to a neighbour with the address: it is a route's next hop, a range's RP, or a source of which
+// there is a fact.
+#[tactic(auto, unfolding(pim_adjacent::specs::Adjacent::may_lead))]
+fn may_lead(world: &World, address: Addr) -> bool
+    ensures { result ≡ may_lead world.now address.bits }
+{
+    world.is_next_hop(address) || world.is_some_rp(address) || world.is_source(address)
+}
+
+// The groups to whose RP it leads, and the sources to which it leads. Where no path may lead to it, no group is asked.
+#[tactic(auto, unfolding(pim_adjacent::specs::Adjacent::led_keys))]
+fn keys_by_paths(
+    world: &World,
+    alloc: Global,
+    meter: &mut Meter,
+    neighbour: Hop,
+) -> Result<Vec<Key>, AllocError>
+    ensures keys { IfOk result (λ keys. keys.items
+        ≡ led_keys world.now neighbour.iface.number neighbour.address.bits) }
+    ensures at_least { OnOk result (raised meter.old
+        (towards_nodes world.now neighbour.iface.number neighbour.address.bits) ≤ meter.new) }
+{
+    if !may_lead(world, neighbour.address) {
+        leads_nowhere();
+        return Ok(Vec::new(alloc));
+    }
+    let groups = world.groups(alloc)?;
+    keys_of_groups(world, alloc, meter, neighbour, &groups)
+}
+
+/// The keys of what looks to the neighbour, of which there are facts. The meter rises by the nodes that the look-ups
+/// visit; where a path may lead to it, at least those of the RP of each group and of the routes that are asked for.
 #[tactic(auto, unfolding(pim_adjacent::specs::Adjacent::keys_towards))]
 pub fn keys_towards(
     world: &World,
@@ -125,8 +160,7 @@ pub fn keys_towards(
     ensures at_least { OnOk result (raised meter.old
         (towards_nodes world.now neighbour.iface.number neighbour.address.bits) ≤ meter.new) }
 {
-    let groups = world.groups(turn.alloc)?;
-    let mut keys = keys_of_groups(world, turn.alloc, meter, neighbour, &groups)?;
+    let mut keys = keys_by_paths(world, turn.alloc, meter, neighbour)?;
     let lost = asserts_lost_to(world, turn, neighbour)?;
     keys.extend_from_slice(&lost)?;
     Ok(keys)

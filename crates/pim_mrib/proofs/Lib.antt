@@ -1,5 +1,6 @@
 pub mod Accepted
 pub mod Filled
+mod Hops
 pub mod Inserted
 pub mod Longest
 mod Preferences

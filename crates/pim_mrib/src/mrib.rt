@@ -1,10 +1,12 @@
 //! The unicast routes and the RP ranges of a router.
-ghost use Rattle.std.specs.Prelude.{◌≡◌, ◌<◌, ◌≤◌, ◌^◌, ◌↔◌, [], Ok, Err, IfOk, IfErr, IfSome, IsTrue, OnErr, if◌then◌else◌, option_map, ℕ, List};
+ghost use Rattle.std.specs.List.{list_any};
+ghost use Rattle.std.specs.Prelude.{◌≡◌, ◌==◌, ◌<◌, ◌≤◌, ◌^◌, ◌↔◌, [], Ok, Err, IfOk, IfErr, IfSome, IsTrue, OnErr, if◌then◌else◌, option_map, ℕ, List};
 ghost use Rattle.pim_ip.specs.declared.fault.Fault.{Fault};
 ghost use Rattle.pim_ip.specs.declared.refusal.Refusal.{Refusal};
 ghost use Rattle.pim_trie.specs.Meter.{raised};
 ghost use Rattle.pim_model.specs.Limits.{are_routes, are_rps};
 ghost use Rattle.pim_model.specs.Unicast.{link_path, route_among, route_path, rp_among};
+ghost use Rattle.pim_mrib.specs.Hops.{AreHops};
 ghost use Rattle.pim_mrib.specs.Routes.{route_nodes, rp_nodes};
 ghost use Rattle.pim_model.specs.Tables.{Table};
 ghost use Rattle.pim_types.specs.declared.config.InterfaceConfig.{InterfaceConfig};
@@ -15,7 +17,8 @@ use crate::prefix_list::{PrefixList, Prefixed};
 use pim_ifaces::Interfaces;
 use pim_trie::Meter;
 use pim_types::{Addr, Fault, IfaceId, Path, Prefix, Refusal, Route, RpRange};
-use std::alloc::Global;
+use std::alloc::{AllocError, Global};
+use std::collections::BTreeSet;
 use std::marker::Model;
 
 impl Prefixed for Route {
@@ -48,29 +51,35 @@ impl Prefixed for RpRange {
 
 /// The unicast routes and the RP ranges of a router, each in the order in which they were given.
 pub struct Mrib {
+    alloc: Global,
     routes: PrefixList<Route>,
     ranges: PrefixList<RpRange>,
+    // The next hops of the routes, each once.
+    hops: BTreeSet<Addr>,
 }
 
 // Written out, so that it is proved once (docs/PROOF_NOTES.md, Drops).
 impl Drop for Mrib {
     fn drop(self) {
         let Mrib {
+            alloc: _,
             routes: _,
             ranges: _,
+            hops: _,
         } = self;
     }
 }
 
 impl Model for Mrib {
     ghost use Rattle.std.specs.Prelude.{◌≡◌, true};
+    ghost use Rattle.pim_mrib.specs.Hops.{AreHops};
     ghost use Rattle.pim_mrib.specs.Routes.{RouteTable, are_preferred};
 
     ghost Value = { RouteTable };
 
     ghost view = { λ a. record { routes = a.routes; ranges = a.ranges } };
 
-    ghost invariant = { λ a. are_preferred a.routes ≡ true };
+    ghost invariant = { λ a. (are_preferred a.routes ≡ true) × AreHops a.routes a.hops.keys };
 }
 
 impl Mrib {
@@ -79,23 +88,11 @@ impl Mrib {
         ensures { result ≡ record { routes = []; ranges = [] } }
     {
         Mrib {
+            alloc,
             routes: PrefixList::new(alloc),
             ranges: PrefixList::new(alloc),
+            hops: BTreeSet::new(alloc),
         }
-    }
-
-    /// The unicast routes.
-    pub fn routes(&self) -> &[Route]
-        ensures { result.now ≡ self.now.routes }
-    {
-        self.routes.as_slice()
-    }
-
-    /// The RP ranges.
-    pub fn ranges(&self) -> &[RpRange]
-        ensures { result.now ≡ self.now.ranges }
-    {
-        self.ranges.as_slice()
     }
 
     /// Puts these routes in the place of the others, or refuses them, and then nothing has
@@ -116,9 +113,11 @@ impl Mrib {
         if !each_is_route(interfaces, routes) {
             return Ok(Err(Refusal::BadRoutes));
         }
+        let hops = next_hops(self.alloc, routes)?;
         if !self.routes.replace(routes)? {
             return Ok(Err(Refusal::BadRoutes));
         }
+        self.hops = hops;
         Ok(Ok(()))
     }
 
@@ -155,19 +154,47 @@ impl Mrib {
         self.ranges.are(ranges)
     }
 
+    /// Whether a route has the address as its next hop.
+    pub fn is_next_hop(&self, address: Addr) -> bool
+        ensures { result ≡ list_any (λ route. route.next_hop.bits == address.bits) self.now.routes }
+    {
+        self.hops.contains(&address)
+    }
+
+    /// Whether a range has the address as its RP.
+    pub fn is_some_rp(&self, address: Addr) -> bool
+        ensures { result ≡ list_any (λ range. range.rp.bits == address.bits) self.now.ranges }
+    {
+        self.ranges
+            .as_slice()
+            .iter()
+            .any(|range| range.rp == address)
+    }
+
     /// Takes the routes of another in the place of its own.
     pub fn take_routes(&mut self, other: Mrib)
         ensures { self.new ≡ record self.old { routes = other.routes } }
     {
-        let Mrib { routes, ranges: _ } = other;
+        let Mrib {
+            alloc: _,
+            routes,
+            ranges: _,
+            hops,
+        } = other;
         self.routes = routes;
+        self.hops = hops;
     }
 
     /// Takes the RP ranges of another in the place of its own.
     pub fn take_ranges(&mut self, other: Mrib)
         ensures { self.new ≡ record self.old { ranges = other.ranges } }
     {
-        let Mrib { routes: _, ranges } = other;
+        let Mrib {
+            alloc: _,
+            routes: _,
+            ranges,
+            hops: _,
+        } = other;
         self.ranges = ranges;
     }
 
@@ -216,6 +243,17 @@ impl Mrib {
         let range = self.ranges.longest(group, meter)?;
         Some(range.rp)
     }
+}
+
+// The next hops of the routes, each once.
+fn next_hops(alloc: Global, routes: &[Route]) -> Result<BTreeSet<Addr>, AllocError>
+    ensures { IfOk result (λ hops. AreHops routes.now hops.keys) }
+{
+    let mut hops = BTreeSet::new(alloc);
+    for route in routes {
+        hops.insert(route.next_hop)?;
+    }
+    Ok(hops)
 }
 
 // Whether they are the same prefix.

@@ -66,9 +66,10 @@ pub fn holdtime_end(present: u64, holdtime: u16) -> Option<u64>
     }
 }
 
-// Whether the neighbour comes before the router in the election of the DR.
+/// Whether the neighbour comes before the router in the election of the DR (RFC 7761, section 4.3.2): by the priorities,
+/// where those count, and else by the addresses.
 #[tactic(auto, unfolding(pim_model::specs::Neighbours::is_better_dr))]
-fn is_better_dr(by_priority: bool, own: &InterfaceConfig, key: &Key, row: &NeighbourRow) -> bool
+pub fn is_better_dr(by_priority: bool, own: &InterfaceConfig, key: &Key, row: &NeighbourRow) -> bool
     ensures { result
         ≡ is_better_dr by_priority own.now.priority own.now.address.bits (key.now, row.now) }
 {
@@ -76,10 +77,7 @@ fn is_better_dr(by_priority: bool, own: &InterfaceConfig, key: &Key, row: &Neigh
     if by_priority && priority != own.priority {
         return own.priority < priority;
     }
-    match key.source {
-        Some(address) => own.address.bits < address.bits,
-        None => false,
-    }
+    own.address.bits < key.address().bits
 }
 
 impl Neighbours {
@@ -108,7 +106,7 @@ impl Neighbours {
     pub fn is_empty(&self) -> bool
         ensures { IsTrue result ↔ (self.now ≡ []) }
     {
-        self.rows.is_empty()
+        self.rows.rows().is_empty()
     }
 
     /// Which neighbour ends first, and when, in ms: the least end by its moment and its key. `None` where none
@@ -125,21 +123,21 @@ impl Neighbours {
     pub fn iter(&self) -> Iter<'_, Key, NeighbourRow>
         ensures { result ≡ self.now }
     {
-        self.rows.iter()
+        self.rows.rows().iter()
     }
 
     /// The neighbours on the interface, by address.
     pub fn iter_on(&self, iface: IfaceId) -> RowsOf<'_, NeighbourRow>
         ensures { result ≡ rows_on iface.number self.now }
     {
-        self.rows.rows_on(iface)
+        self.rows.rows().rows_on(iface)
     }
 
     /// How many neighbours there are on the interface.
     pub fn count_on(&self, iface: IfaceId) -> usize
         ensures { result ≡ length (rows_on iface.number self.now) }
     {
-        self.rows.count_on(iface)
+        self.rows.rows().count_on(iface)
     }
 
     /// What the neighbour with the address on the interface announced.

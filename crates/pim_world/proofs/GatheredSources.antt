@@ -86,17 +86,17 @@ no_number xs ns is = ap (λ (ys : List ℕ). gathered ys ns) is
 
 -- the facts of membership, and then those of the store
 module _ (s : State) where
-  abbrev member_keys : List Key
+  abbrev pub member_keys : List Key
   member_keys =
       keys_in s.group_records ++ keys_in s.source_records ++ keys_in s.group_repeats ++ keys_in s.source_repeats
       ++ keys_in s.sendings
 
-  abbrev stored_keys : List Key
+  abbrev pub stored_keys : List Key
   stored_keys =
       keys_in s.downstream ++ keys_in s.asserts ++ keys_in s.join_timers ++ keys_in s.override_timers ++ keys_in s.sources
       ++ keys_in s.registers
 
-  both_are_all : member_keys ++ stored_keys ≡ fact_keys s
+  pub both_are_all : member_keys ++ stored_keys ≡ fact_keys s
   unfolding fact_keys
   both_are_all =
       of_eleven (keys_in s.group_records) (keys_in s.source_records) (keys_in s.group_repeats) (keys_in s.source_repeats)

@@ -6,6 +6,7 @@ pub mod Gathering
 pub mod GatheredSources
 pub mod Lent
 mod LoweredRows
+mod Named
 mod NextEnding
 mod Options
 mod Short

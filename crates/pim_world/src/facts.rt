@@ -12,7 +12,7 @@ ghost use Rattle.pim_world.specs.Visits.{mark_nodes};
 use crate::world::World;
 use pim_trie::Meter;
 use pim_types::fact::SourceRow;
-use pim_types::{Addr, IfaceId, Key};
+use pim_types::{Addr, SourceGroup};
 use std::alloc::AllocError;
 
 // Keepalive_Period (RFC 7761, section 4.11), also at the RP, in ms.
@@ -45,16 +45,16 @@ impl World {
         ensures rises { OnOk result (meter.old ≤ meter.new) }
     {
         let end = self.present() + KEEPALIVE_PERIOD;
-        self.store.keep_alive(group, source, end, hint, meter)
+        let name = SourceGroup { source, group };
+        self.store.keep_alive(name, end, hint, meter)
     }
 
     // When KAT(S,G) ends, if it runs, in ms.
-    fn keepalive_end(&self, group: Addr, source: Addr) -> Option<u64>
+    fn keepalive_end(&self, name: SourceGroup) -> Option<u64>
         ensures { result ≡ option_and_then (λ (r : Row). r.keepalive)
-            (row_at self.now.sources (source_key 0 group.bits source.bits)) }
+            (row_at self.now.sources (source_key 0 name.group.bits name.source.bits)) }
     {
-        let key = Key::source(IfaceId::NONE, group, source);
-        self.store.source(key)?.keepalive
+        self.store.source(name.key())?.keepalive
     }
 
     /// Sets SPTbit(S,G). The meter stays where the source has a row, and rises by the nodes that lead to its PIM facts where it
@@ -74,7 +74,7 @@ impl World {
         ensures rises { OnOk result (meter.old ≤ meter.new) }
     {
         let row = SourceRow {
-            keepalive: self.keepalive_end(group, source),
+            keepalive: self.keepalive_end(SourceGroup { source, group }),
             spt: true,
         };
         self.store.set_source(group, source, Some(row), meter)

@@ -2,13 +2,16 @@
 ghost use Rattle.std.specs.Prelude.{◌≡◌, IfOk, OnOk, map};
 ghost use Rattle.pim_model.specs.Upstream.{fact_keys, groups_of};
 ghost use Rattle.pim_model.specs.Tables.{keys_in};
+ghost use Rattle.pim_membership.specs.MembershipTables.{membership_keys};
+ghost use Rattle.pim_store.specs.PimTables.{stored_keys};
 ghost use Rattle.pim_types.specs.Keys.{group_in};
 ghost use Rattle.pim_world.specs.Groups.{numbers_of, gathered};
 ghost use Rattle.pim_world.specs.Touches.{touched_keys};
 
 use crate::touched::Touched;
 use crate::world::World;
-use pim_tables::PlacedRows;
+use pim_membership::Membership;
+use pim_store::Store;
 use pim_types::{Addr, Key};
 use std::alloc::{AllocError, Global};
 use std::collections::BTreeMap;
@@ -44,36 +47,42 @@ impl World {
     fn gather_groups(&self, found: &mut BTreeMap<Addr, (), Global>) -> Result<(), AllocError>
         ensures { OnOk result (numbers_of found.new.entries ≡ gathered (map group_in (fact_keys self.now)) (numbers_of found.old.entries)) }
     {
-        gather(self.membership.group_record_rows(), found)?;
-        gather(self.membership.source_record_rows(), found)?;
-        gather(self.membership.group_repeat_rows(), found)?;
-        gather(self.membership.source_repeat_rows(), found)?;
-        gather(self.membership.sending_rows(), found)?;
-        gather(self.store.downstream_rows(), found)?;
-        gather(self.store.assert_rows(), found)?;
-        gather(self.store.join_timer_rows(), found)?;
-        gather(self.store.override_timer_rows(), found)?;
-        gather_placed(self.store.source_rows(), found)?;
-        gather(self.store.register_rows(), found)
+        gather_members(&self.membership, found)?;
+        gather_stored(&self.store, found)
     }
+}
+
+// Puts the groups of the facts of IGMP into a set of groups.
+fn gather_members(
+    membership: &Membership,
+    found: &mut BTreeMap<Addr, (), Global>,
+) -> Result<(), AllocError>
+    ensures { OnOk result (numbers_of found.new.entries
+        ≡ gathered (map group_in (membership_keys membership.now)) (numbers_of found.old.entries)) }
+{
+    gather(membership.group_record_rows(), found)?;
+    gather(membership.source_record_rows(), found)?;
+    gather(membership.group_repeat_rows(), found)?;
+    gather(membership.source_repeat_rows(), found)?;
+    gather(membership.sending_rows(), found)
+}
+
+// Puts those of the facts of PIM into a set of groups; the store knows them.
+fn gather_stored(store: &Store, found: &mut BTreeMap<Addr, (), Global>) -> Result<(), AllocError>
+    ensures { OnOk result (numbers_of found.new.entries
+        ≡ gathered (map group_in (stored_keys store.now)) (numbers_of found.old.entries)) }
+{
+    // It tells that the groups of the set rise.
+    let _ = found.len();
+    for group in store.groups() {
+        found.insert(group, ())?;
+    }
+    Ok(())
 }
 
 // Puts the groups of facts into a set of groups.
 fn gather<R>(
     facts: Iter<'_, Key, R>,
-    found: &mut BTreeMap<Addr, (), Global>,
-) -> Result<(), AllocError>
-    ensures { OnOk result (numbers_of found.new.entries ≡ gathered (map group_in (keys_in facts.entry)) (numbers_of found.old.entries)) }
-{
-    for (key, _) in facts {
-        found.insert(key.group, ())?;
-    }
-    Ok(())
-}
-
-// The same of facts that keep their places.
-fn gather_placed<R>(
-    facts: PlacedRows<'_, R>,
     found: &mut BTreeMap<Addr, (), Global>,
 ) -> Result<(), AllocError>
     ensures { OnOk result (numbers_of found.new.entries ≡ gathered (map group_in (keys_in facts.entry)) (numbers_of found.old.entries)) }

@@ -4,16 +4,22 @@ ghost use Rattle.std.specs.Prelude.{◌≡◌, ◌≤◌, [], ◌∷◌, IfOk, O
 ghost use Rattle.pim_types.specs.Keys.{is_of_group, names_source};
 ghost use Rattle.pim_model.specs.Upstream.{fact_keys, sources_of};
 ghost use Rattle.pim_world.specs.Groups.{gathered, numbers_of};
-ghost use Rattle.pim_world.specs.Sources.{sources_among};
+ghost use Rattle.pim_membership.specs.MembershipTables.{membership_keys};
+ghost use Rattle.pim_model.specs.Tables.{keys_in};
+ghost use Rattle.pim_store.specs.PimTables.{stored_keys};
+ghost use Rattle.pim_world.specs.Sources.{is_from, sources_among};
 ghost use Rattle.pim_world.specs.Visits.{fact_nodes, sources_nodes};
 ghost use Rattle.pim_trie.specs.Meter.{raised};
 
 use crate::world::World;
-use pim_store::Sources;
+use pim_membership::Membership;
+use pim_store::{Sources, Store};
+use pim_tables::PlacedRows;
 use pim_trie::Meter;
-use pim_types::{Addr, Key};
+use pim_types::{Addr, Key, SourceGroup};
 use std::alloc::{AllocError, Global};
 use std::collections::BTreeMap;
+use std::collections::btree_map::Iter;
 
 impl World {
     /// The sources of the group that have any fact, ascending. The meter rises by the nodes that are visited, at least those
@@ -39,9 +45,77 @@ impl World {
         ensures value { result ≡ list_any (names_source group.bits source.bits) (fact_keys self.now) }
         ensures at_least { raised meter.old (fact_nodes self.now group source) ≤ meter.new }
     {
-        self.membership.has_facts(group, source, meter)
+        self.membership
+            .has_facts(SourceGroup { source, group }, meter)
             || self.store.has_facts(group, source, meter)
     }
+
+    /// Whether a fact names the address as its source, of whichever group. It goes over the keys of all facts.
+    #[tactic(auto, using(crate::proofs::Named::any_from), unfolding(pim_membership::specs::MembershipTables::membership_keys, pim_store::specs::PimTables::stored_keys))]
+    pub fn is_source(&self, address: Addr) -> bool
+        ensures { result ≡ list_any (is_from address.bits) (fact_keys self.now) }
+    {
+        is_source_of_members(&self.membership, address) || is_source_of_store(&self.store, address)
+    }
+}
+
+// Whether a fact of IGMP names the address as its source.
+#[tactic(auto, using(crate::proofs::Named::any_of_five), unfolding(pim_membership::specs::MembershipTables::membership_keys))]
+fn is_source_of_members(membership: &Membership, address: Addr) -> bool
+    ensures { result ≡ list_any (is_from address.bits) (membership_keys membership.now) }
+{
+    is_source_among(membership.group_record_rows(), address)
+        || is_source_among(membership.source_record_rows(), address)
+        || is_source_among(membership.group_repeat_rows(), address)
+        || is_source_among(membership.source_repeat_rows(), address)
+        || is_source_among(membership.sending_rows(), address)
+}
+
+// Whether one of PIM does.
+#[tactic(auto, using(crate::proofs::Named::any_of_six), unfolding(pim_store::specs::PimTables::stored_keys))]
+fn is_source_of_store(store: &Store, address: Addr) -> bool
+    ensures { result ≡ list_any (is_from address.bits) (stored_keys store.now) }
+{
+    is_source_among(store.downstream_rows(), address)
+        || is_source_among(store.assert_rows(), address)
+        || is_source_among(store.join_timer_rows(), address)
+        || is_source_among(store.override_timer_rows(), address)
+        || is_source_among_placed(store.source_rows(), address)
+        || is_source_among(store.register_rows(), address)
+}
+
+// Whether the key does.
+fn is_from(key: Key, address: Addr) -> bool
+    ensures { result ≡ is_from address.bits key }
+{
+    match key.source {
+        Some(source) => source == address,
+        None => false,
+    }
+}
+
+// Whether one of these facts does.
+fn is_source_among<R>(facts: Iter<'_, Key, R>, address: Addr) -> bool
+    ensures { result ≡ list_any (is_from address.bits) (keys_in facts.entry) }
+{
+    for (key, _) in facts {
+        if is_from(*key, address) {
+            return true;
+        }
+    }
+    false
+}
+
+// The same of facts that keep their places.
+fn is_source_among_placed<R>(facts: PlacedRows<'_, R>, address: Addr) -> bool
+    ensures { result ≡ list_any (is_from address.bits) (keys_in facts.entry) }
+{
+    for (key, _) in facts {
+        if is_from(*key, address) {
+            return true;
+        }
+    }
+    false
 }
 
 // Puts the sources into a set of sources.

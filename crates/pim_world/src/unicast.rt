@@ -1,5 +1,6 @@
 //! Unicast routes and RPs, by the state as it is (RFC 7761, section 4.1.5).
-ghost use Rattle.std.specs.Prelude.{◌≡◌, ℕ, option_map};
+ghost use Rattle.std.specs.List.{list_any};
+ghost use Rattle.std.specs.Prelude.{◌≡◌, ◌==◌, ℕ, option_map};
 ghost use Rattle.pim_model.specs.Unicast.{is_rp, route, rp_of, rp_route};
 ghost use Rattle.pim_mrib.specs.Routes.{route_nodes, rp_nodes};
 ghost use Rattle.pim_trie.specs.Meter.{raised};
@@ -53,6 +54,20 @@ impl World {
             Some(rp) => self.route(rp, meter),
             None => None,
         }
+    }
+
+    /// Whether a route has the address as its next hop.
+    pub fn is_next_hop(&self, address: Addr) -> bool
+        ensures { result ≡ list_any (λ route. route.next_hop.bits == address.bits) self.now.routes }
+    {
+        self.mrib.is_next_hop(address)
+    }
+
+    /// Whether a range has the address as its RP.
+    pub fn is_some_rp(&self, address: Addr) -> bool
+        ensures { result ≡ list_any (λ range. range.rp.bits == address.bits) self.now.ranges }
+    {
+        self.mrib.is_some_rp(address)
     }
 
     /// The preferences of all routes have 31 bits.
