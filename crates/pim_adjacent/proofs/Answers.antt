@@ -15,14 +15,14 @@ use Rattle.pim_model.specs.Sets.{assert_source, assert_star, is_beaten, is_loser
 use Rattle.pim_model.specs.State.{State}
 use Rattle.pim_model.specs.Tables.{Table, has_row, same_bool, same_hop, same_option}
 use Rattle.pim_model.specs.Unicast.{route, rp_of, rp_route, rpf_interface, rpf_interface_rp}
-use Rattle.pim_reach.specs.Named.{is_named, is_same_beside, is_same_fact, is_same_sight, is_same_star, same_set}
-use Rattle.pim_adjacent.specs.Adjacent.{with_neighbours}
+use Rattle.pim_reach.specs.Named.{is_source_named, is_same_beside, is_same_fact, is_same_sight, is_same_star, same_set}
+use Rattle.pim_adjacent.specs.Adjacent.{with_neighbour_rows}
 use Rattle.pim_adjacent.proofs.OtherNeighbours.{beaten_as, connected_as, could_register_so, could_so, could_star_so, desired_so, dr_so, exclude_as, has_receivers_so, immediate_so, inherited_empty_so, inherited_rpt_empty_so, inherited_rpt_so, inherited_so, joins_as, joins_star_as, local_exclude_as, local_include_as, may_register_so, prunes_as, route_as, rp_as, rp_route_as, rpf_as, rpf_interface_as, rpf_interface_rp_as, rpf_source_so, rpf_star_so, rpt_winner_as, source_winner_as, spt_as, star_winner_as, tunnel_as}
 
-module _ (t : State) (rows : Table NeighbourRow) (dr : (i : ℕ) → is_dr t i ≡ is_dr (with_neighbours t rows) i)
+module _ (t : State) (rows : Table NeighbourRow) (dr : (i : ℕ) → is_dr t i ≡ is_dr (with_neighbour_rows t rows) i)
     (g src : ℕ) where
   abbrev u : State
-  u = with_neighbours t rows
+  u = with_neighbour_rows t rows
 
   contested_so : is_contested t g src ≡ is_contested u g src
   unfolding is_contested
@@ -129,6 +129,6 @@ module _ (t : State) (rows : Table NeighbourRow) (dr : (i : ℕ) → is_dr t i �
           && same_both same_register_state (register_state o g src) (register_state t g src)
           && same_bool (join_desired o g src) (desired_so t rows dr g src j)
 
-      pub named_so : is_named g src o t ≡ is_named g src o u
-      unfolding is_named
+      pub named_so : is_source_named g src o t ≡ is_source_named g src o u
+      unfolding is_source_named
       named_so = λ j. not (is_same_fact g src o t && same_sight_so j && same_beside_so j)

@@ -34,8 +34,8 @@ use Rattle.pim_locality.proofs.Touches.{touching_is_closed}
 use Rattle.pim_locality.proofs.Turns.{same_repetition}
 use Rattle.pim_locality.proofs.UntoldKeys.{same_by_scope}
 use Rattle.pim_reach.proofs.Configured.{configured_beside}
-use Rattle.pim_reach.proofs.SameRows.{flags}
-use Rattle.pim_adjacent.specs.Adjacent.{AdjoinsAlone, keeps_winner, with_neighbours}
+use Rattle.pim_locality.proofs.SameRows.{flags}
+use Rattle.pim_adjacent.specs.Adjacent.{AdjoinsAlone, keeps_winner, with_neighbour_rows}
 use Rattle.pim_adjacent.proofs.OtherNeighbours.{could_at_so, could_register_so, desired_so, metric_at_so, rpf_at_so, tracking_at_so}
 
 -- ---- a lost assert
@@ -56,7 +56,7 @@ module _ (keys : List Key) (o c : State) (quiet : IsQuiet o) (adjoins : AdjoinsA
 
   -- with the neighbours that there were
   abbrev pub before : State → State
-  before t = with_neighbours t o.neighbours
+  before t = with_neighbour_rows t o.neighbours
 
   -- of the states on the way
   pub record OnTheWay (t : State) : Type 0 where
@@ -175,14 +175,14 @@ module _ (keys : List Key) (o c : State) (quiet : IsQuiet o) (adjoins : AdjoinsA
       cond (could_register_so c o.neighbours (dr_now c begun) (group_in k) (source_in k) j)
       (cond (has_row u k) u (put u k (record { state = RegisterState.Join }))) (drop_at u k)
 
-  registers_as : settle_registers c ≡ with_neighbours (settle_registers (before c)) c.neighbours
+  registers_as : settle_registers c ≡ with_neighbour_rows (settle_registers (before c)) c.neighbours
   unfolding settle_registers
   registers_as = λ j. record c {
     registers = fold (λ t k. register_as k t j) c.registers (keys_in c.sources ++ keys_in c.registers);
   }
 
   touched_registers_as : touched_registers touched c
-      ≡ with_neighbours (touched_registers touched (before c)) c.neighbours
+      ≡ with_neighbour_rows (touched_registers touched (before c)) c.neighbours
   unfolding touched_registers
   touched_registers_as = λ j. record c {
     registers = fold (λ t k. register_as k t j) c.registers (filter touched (keys_in c.sources ++ keys_in c.registers));
@@ -191,7 +191,7 @@ module _ (keys : List Key) (o c : State) (quiet : IsQuiet o) (adjoins : AdjoinsA
   registers_so : settle_registers c ≡ touched_registers touched c
   registers_so =
       registers_as
-      ∙ ap (λ (t : State). with_neighbours t c.neighbours)
+      ∙ ap (λ (t : State). with_neighbour_rows t c.neighbours)
       (registers_of_touched touched (touching_is_closed keys) o quiet (before c) adjoins.agrees)
       ∙ sym touched_registers_as
 

@@ -31,7 +31,7 @@ use Rattle.pim_laws.proofs.Parts.{Asserts, JoinTimers}
 use Rattle.pim_laws.proofs.RowLaws.{has_row_put}
 use Rattle.pim_locality.specs.Locality.{AgreesBut, touching}
 use Rattle.pim_locality.specs.Scopes.{only_up, only_winner, reads, scope}
-use Rattle.pim_adjacent.specs.Adjacent.{AdjoinsAlone, end_keeps_dr, has_same_hop, hello_keeps_dr, is_still_neighbour, is_taken, keys_of_hello, keys_towards, lost_keys, with_neighbours}
+use Rattle.pim_adjacent.specs.Adjacent.{AdjoinsAlone, end_keeps_dr, has_same_hop, hello_keeps_dr, is_still_neighbour, is_touched_where_hop_differs, keys_of_hello, keys_towards, lost_keys, with_neighbour_rows}
 use Rattle.pim_adjacent.proofs.OneRow.{SetsOne, dr_kept, same_next_hop}
 use Rattle.pim_adjacent.proofs.Towards.{all_taken, all_winners, led_among, lost_among}
 
@@ -174,7 +174,7 @@ module _ (s : State) (i a w : ℕ) (h : HelloValue) where
   unfolding hellos_triggered
   up_so end = all_up i end s.interfaces
 
-  agrees : (triggers restarts : Bool) → AgreesBut (touching (lost_keys s i a)) s (with_neighbours (after triggers restarts) s.neighbours)
+  agrees : (triggers restarts : Bool) → AgreesBut (touching (lost_keys s i a)) s (with_neighbour_rows (after triggers restarts) s.neighbours)
   unfolding hello_triggered neighbour_replaced neighbour_restarted scope touching rows_where keys_in
   agrees true true q out = sym (λ j. record (scope (reads q) s) {
     interfaces = up_so (s.present + delay_in 1 triggered_hello_delay w) j;
@@ -245,10 +245,10 @@ module _ (s : State) (i a w : ℕ) (h : HelloValue) where
 
     -- with the same next hops all is taken, whatever is touched
     with_hops : ((path : Option Path) → has_same_hop s c path ≡ true) → (keys : List Key)
-        → list_all (is_taken keys s c) (fact_keys s) ≡ true
+        → list_all (is_touched_where_hop_differs keys s c) (fact_keys s) ≡ true
     with_hops same keys =
-        list_of_each (is_taken keys s c) (fact_keys s)
-        (each_of_all (λ k. is_taken keys s c k ≡ true) (λ k.
+        list_of_each (is_touched_where_hop_differs keys s c) (fact_keys s)
+        (each_of_all (λ k. is_touched_where_hop_differs keys s c k ≡ true) (λ k.
         both_true
         (or_left (has_same_hop s c (rp_route s (group_in k))) _ (same (rp_route s (group_in k))))
         (in_middle (is_star k) (has_same_hop s c (route s (source_in k))) _ (same (route s (source_in k)))))
@@ -260,7 +260,7 @@ module _ (s : State) (i a w : ℕ) (h : HelloValue) where
         in_middle false false d e = cc
 
     taken_by : (still : Bool) → is_still_neighbour s i a h ≡ still
-        → list_all (is_taken (keys_of_hello s i a h) s c) (fact_keys s) ≡ true
+        → list_all (is_touched_where_hop_differs (keys_of_hello s i a h) s c) (fact_keys s) ≡ true
     unfolding keys_of_hello
     taken_by true is =
         with_hops (λ path. same_next_hop s c path

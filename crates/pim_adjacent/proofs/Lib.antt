@@ -2,9 +2,9 @@ pub mod Answers
 pub mod Fewer
 pub mod Goes
 pub mod Hellos
+pub mod Nowhere
 pub mod OneRow
 pub mod OtherNeighbours
 pub mod Settles
 pub mod Stays
-pub mod Told
 pub mod Towards

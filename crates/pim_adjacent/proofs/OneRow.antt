@@ -4,16 +4,16 @@ use Rattle.std.proofs.Common.{◌≡◌, ◌==◌, ◌&&◌, ◌||◌, ℕ, Bool
 use Rattle.std.specs.Cmp.Derive.{both_true}
 use Rattle.pim_types.specs.declared.fact.Key.{Key}
 use Rattle.pim_types.specs.declared.fact.NeighbourRow.{NeighbourRow}
-use Rattle.pim_types.specs.declared.path.Hop.{Hop}
 use Rattle.pim_types.specs.declared.path.Path.{Path}
 use Rattle.pim_types.specs.Keys.{iface_in, is_on, neighbour_key, same_key, source_in}
 use Rattle.pim_types.proofs.Keys.{equal_keys}
 use Rattle.pim_model.specs.Neighbours.{is_dr, is_dr_among, is_neighbour, nbr, nbr_among}
 use Rattle.pim_model.specs.State.{State, address_among, value_among}
-use Rattle.pim_model.specs.Tables.{Table, has_row, rows_on, rows_where, same_bool, same_hop, set_row}
+use Rattle.pim_model.specs.Tables.{Table, has_row, rows_on, rows_where, same_bool, set_row}
 use Rattle.pim_laws.proofs.RowChanges.{set_elsewhere}
 use Rattle.pim_laws.proofs.RowLaws.{has_row_put, has_row_without}
-use Rattle.pim_reach.proofs.SameRows.{flags}
+use Rattle.pim_locality.proofs.SameRows.{flags}
+use Rattle.pim_reach.proofs.Sights.{hops_same}
 use Rattle.pim_adjacent.specs.Adjacent.{has_same_hop, leads_to}
 
 -- the key of another neighbour
@@ -26,13 +26,6 @@ other_key k i address apart = go (same_key (neighbour_key i address) k) refl
         let same : neighbour_key i address ≡ k = equal_keys (neighbour_key i address) k e in
         sym (both_true (eq-eqb i (iface_in k) (ap iface_in same)) (eq-eqb address (source_in k) (ap source_in same))) ∙ apart
     go false e = refl
-
-hop_itself : (h : Option Hop) → same_hop h h ≡ true
-hop_itself None = refl
-hop_itself (Some h) = both_true (eq-eqb h.iface.number h.iface.number refl) (eq-eqb h.address.bits h.address.bits refl)
-
-pub hops_same : (a b : Option Hop) → a ≡ b → same_hop a b ≡ true
-hops_same a b e = ap (same_hop a) (sym e) ∙ hop_itself a
 
 -- the next hop of a path is a neighbour as before where whether it is one is
 pub same_next_hop : (s c : State) (path : Option Path)

@@ -20,11 +20,11 @@ use Rattle.pim_model.specs.Sets.{assert_source, assert_star, immediate_olist, im
 use Rattle.pim_model.specs.State.{State}
 use Rattle.pim_model.specs.Tables.{Table, same_hop}
 use Rattle.pim_model.specs.Unicast.{is_connected, is_rpf_interface, is_rpf_interface_rp, route, rp_of, rp_route, rpf_interface, rpf_interface_rp}
-use Rattle.pim_adjacent.specs.Adjacent.{with_neighbours}
+use Rattle.pim_adjacent.specs.Adjacent.{with_neighbour_rows}
 
 module _ (t : State) (rows : Table NeighbourRow) where
   abbrev u : State
-  u = with_neighbours t rows
+  u = with_neighbour_rows t rows
 
   -- ---- what reads no neighbours
 

@@ -1,12 +1,11 @@
 -- All that follows of a change of neighbours follows of the keys that take what it moves: the views of what isn't touched are as
 -- they were. So is what is asked of sources that aren't touched.
-use Rattle.std.proofs.Common.{◌≡◌, ◌==◌, ◌&&◌, ◌||◌, ℕ, Bool, true, false, not, List, [], ◌++◌, Option, Some, None, option_map, refl, sym, ap, ◌∙◌, eq-eqb, eqb-true}
+use Rattle.std.proofs.Common.{◌≡◌, ◌&&◌, ◌||◌, ℕ, Bool, true, false, not, List, [], ◌++◌, Option, option_map, refl, sym, ap, ◌∙◌, eq-eqb}
 use Rattle.std.specs.Cmp.{first_so, second_so}
 use Rattle.std.specs.List.{AllByRecursion, list_all, list_any}
 use Rattle.pim_ip.specs.Addr.{addr}
 use Rattle.pim_types.specs.declared.fact.Key.{Key}
 use Rattle.pim_types.specs.declared.fact.NeighbourRow.{NeighbourRow}
-use Rattle.pim_types.specs.declared.path.Hop.{Hop}
 use Rattle.pim_types.specs.declared.path.Path.{Path}
 use Rattle.pim_types.specs.declared.upstream.StarView.{StarView}
 use Rattle.pim_types.specs.Keys.{group_in, is_star, source_in, source_key, star_key}
@@ -15,10 +14,9 @@ use Rattle.pim_model.specs.Firing.{settled}
 use Rattle.pim_model.specs.Messages.{Message}
 use Rattle.pim_model.specs.Neighbours.{is_dr, nbr, nbr_among}
 use Rattle.pim_model.specs.State.{State}
-use Rattle.pim_model.specs.Tables.{Table, same_hop}
+use Rattle.pim_model.specs.Tables.{Table}
 use Rattle.pim_model.specs.Unicast.{route, rp_route}
 use Rattle.pim_model.specs.Upstream.{fact_keys, nothing_told, source_upstream, source_view, star_told, star_view, upstream}
-use Rattle.pim_model.specs.Writing.{write_all}
 use Rattle.pim_laws.proofs.ListLaws.{each_append, each_more, each_of_list}
 use Rattle.pim_locality.specs.Locality.{AgreesOn, IsQuiet, own_settled, own_upstream, touching}
 use Rattle.pim_locality.specs.Scopes.{reads}
@@ -26,34 +24,25 @@ use Rattle.pim_locality.proofs.SharedMacros.{route_local, rp_route_local}
 use Rattle.pim_locality.proofs.Touches.{touching_is_closed}
 use Rattle.pim_locality.proofs.TouchedUpstream.{reads_star}
 use Rattle.pim_locality.proofs.UntoldKeys.{same_by_scope, source_untold_where_agreed, source_view_at, star_untold_where_agreed, star_view_at}
-use Rattle.pim_reach.proofs.Taken.{isnt_star}
-use Rattle.pim_adjacent.specs.Adjacent.{AdjoinsAlone, has_same_hop, is_taken, with_neighbours}
+use Rattle.pim_reach.proofs.FactsThere.{isnt_star}
+use Rattle.pim_reach.proofs.Told.{IsTaken, none_fails, own_told, settles_as, swap}
+use Rattle.pim_reach.proofs.Reached.{all_of_none}
+use Rattle.pim_reach.proofs.Kept.{hop_equal}
+use Rattle.pim_adjacent.specs.Adjacent.{AdjoinsAlone, has_same_hop, is_touched_where_hop_differs, with_neighbour_rows}
 use Rattle.pim_adjacent.proofs.Fewer.{clearing_fewer}
 use Rattle.pim_adjacent.proofs.Goes.{OnTheWay, adjoins_goes, dr_now, end_is_on_the_way}
 use Rattle.pim_adjacent.proofs.OtherNeighbours.{desired_so, desired_star_so, rpf_rpt_so, rpf_source_so, route_as, rp_as, rp_route_as, rpf_star_so, tree_state_so}
-use Rattle.pim_adjacent.proofs.Told.{IsTaken, all_pass, any_fails, own_told}
 
 -- ---- next hops
-
-hops : (a b : Option Hop) → same_hop a b ≡ true → a ≡ b
-hops None None e = refl
-hops None (Some h) e = cc
-hops (Some h) None e = cc
-hops (Some h) (Some k) e =
-    let number : h.iface.number ≡ k.iface.number =
-    eqb-true h.iface.number k.iface.number (first_so (h.iface.number == k.iface.number) (h.address.bits == k.address.bits) e) in
-    let bits : h.address.bits ≡ k.address.bits =
-    eqb-true h.address.bits k.address.bits (second_so (h.iface.number == k.iface.number) (h.address.bits == k.address.bits) e) in
-    λ j. Some (record { iface = record { number = number j }; address = record { bits = bits j } })
 
 -- where no more fails, all pass
 all_stay : {X : Type 0} (p : X → Bool) (xs ys : List X)
     → (list_any (λ x. not (p x)) ys ≡ true → list_any (λ x. not (p x)) xs ≡ true) → list_all p xs ≡ true
     → list_all p ys ≡ true
-all_stay p xs ys less all = all_pass p ys (none (list_any (λ x. not (p x)) ys) refl)
+all_stay p xs ys less all = all_of_none p ys (none (list_any (λ x. not (p x)) ys) refl)
   where
     none : (b : Bool) → list_any (λ x. not (p x)) ys ≡ b → b ≡ false
-    none true e = sym (less e) ∙ any_fails p xs all
+    none true e = sym (less e) ∙ none_fails p xs all
     none false e = refl
 
 module _ (keys : List Key) (o c : State) (quiet : IsQuiet o) (adjoins : AdjoinsAlone keys o c) where
@@ -61,7 +50,7 @@ module _ (keys : List Key) (o c : State) (quiet : IsQuiet o) (adjoins : AdjoinsA
 
   module _ (t : State) (way : OnTheWay keys o c quiet adjoins t) where
     abbrev back : State
-    back = with_neighbours t o.neighbours
+    back = with_neighbour_rows t o.neighbours
 
     dr : (i : ℕ) → is_dr t i ≡ is_dr back i
     dr i = dr_now keys o c quiet adjoins t way i
@@ -71,7 +60,7 @@ module _ (keys : List Key) (o c : State) (quiet : IsQuiet o) (adjoins : AdjoinsA
     unfolding nbr
     hop_now path same =
         ap (λ (rows : Table NeighbourRow). nbr_among rows path) (sym way.neighbours)
-        ∙ sym (hops (nbr_among o.neighbours path) (nbr_among c.neighbours path) same)
+        ∙ sym (hop_equal (nbr_among o.neighbours path) (nbr_among c.neighbours path) same)
 
     -- ---- what isn't touched reads the same
 
@@ -169,12 +158,6 @@ module _ (keys : List Key) (o c : State) (quiet : IsQuiet o) (adjoins : AdjoinsA
     abbrev pub TakenHere : Key → Type 0
     TakenHere = IsTaken keys o end w calm_star calm star_idle source_idle
 
-    swap : (a b : Bool) → (a || b) ≡ true → (b || a) ≡ true
-    swap true true e = refl
-    swap true false e = refl
-    swap false true e = refl
-    swap false false e = cc
-
     -- a touched (*,G) touches its sources
     of_source : (st so a b n : Bool) → (st ≡ true → so ≡ true) → (a || st) ≡ true → (n || b || so) ≡ true → n ≡ false
         → (so || (a && b)) ≡ true
@@ -185,7 +168,7 @@ module _ (keys : List Key) (o c : State) (quiet : IsQuiet o) (adjoins : AdjoinsA
     of_source false false true false false up e f g = cc
     of_source false false false b n up e f g = cc
 
-    pub taken_so : (k : Key) → is_taken keys o c k ≡ true → TakenHere k
+    pub taken_so : (k : Key) → is_touched_where_hop_differs keys o c k ≡ true → TakenHere k
     taken_so k is = record {
       star = swap (calm_star (group_in k)) (touching keys (star_key 0 (group_in k))) (first_so _ _ is);
       source = λ there. of_source (touching keys (star_key 0 (group_in k)))
@@ -200,21 +183,17 @@ module _ (keys : List Key) (o c : State) (quiet : IsQuiet o) (adjoins : AdjoinsA
     facts_taken : AllByRecursion TakenHere (fact_keys o ++ fact_keys end)
     facts_taken =
         each_append TakenHere (fact_keys o) (fact_keys end)
-        (each_more (λ k. is_taken keys o c k ≡ true) TakenHere taken_so (fact_keys o)
-        (each_of_list (is_taken keys o c) (fact_keys o) adjoins.taken))
-        (each_more (λ k. is_taken keys o c k ≡ true) TakenHere taken_so (fact_keys end)
-        (each_of_list (is_taken keys o c) (fact_keys end)
-        (all_stay (is_taken keys o c) (fact_keys o) (fact_keys end)
-        (λ e. adjoins.facts (λ k. not (is_taken keys o c k))
-        ((clearing_fewer o c).passed (λ k. not (is_taken keys o c k)) e)) adjoins.taken)))
+        (each_more (λ k. is_touched_where_hop_differs keys o c k ≡ true) TakenHere taken_so (fact_keys o)
+        (each_of_list (is_touched_where_hop_differs keys o c) (fact_keys o) adjoins.taken))
+        (each_more (λ k. is_touched_where_hop_differs keys o c k ≡ true) TakenHere taken_so (fact_keys end)
+        (each_of_list (is_touched_where_hop_differs keys o c) (fact_keys end)
+        (all_stay (is_touched_where_hop_differs keys o c) (fact_keys o) (fact_keys end)
+        (λ e. adjoins.facts (λ k. not (is_touched_where_hop_differs keys o c k))
+        ((clearing_fewer o c).passed (λ k. not (is_touched_where_hop_differs keys o c k)) e)) adjoins.taken)))
 
     told : upstream o end w ≡ own_upstream keys o end w
     told = own_told keys o end w calm_star calm star_idle source_idle facts_taken
 
   pub adjoins_settles : (messages : List Message) (w : ℕ)
       → settled o (c, messages) w ≡ own_settled keys o (c, messages) w
-  unfolding settled own_settled
-  adjoins_settles messages w =
-      ap (λ (told : State × List Message). write_all told.0 (messages ++ (clear o c).1 ++ told.1)) (told w)
-      ∙ ap (λ (after : State × List Message). write_all (own_upstream keys o after.0 w).0
-      (messages ++ after.1 ++ (own_upstream keys o after.0 w).1)) (adjoins_goes keys o c quiet adjoins)
+  adjoins_settles messages w = settles_as keys o c messages w (adjoins_goes keys o c quiet adjoins) (told w)

@@ -19,19 +19,17 @@ use Rattle.pim_locality.specs.Scopes.{only_priority, scope}
 use Rattle.pim_locality.proofs.QuietStates.{frame_packets, frame_upstream}
 use Rattle.pim_locality.proofs.Touches.{agrees_then}
 use Rattle.pim_locality.proofs.UntoldKeys.{join_desired_at, same_by_scope}
-use Rattle.pim_reach.specs.Named.{is_named}
+use Rattle.pim_reach.specs.Named.{is_source_named}
+use Rattle.pim_reach.proofs.AbsentSources.{absent_unwanted}
 use Rattle.pim_reach.proofs.Agreed.{agreed_is_unnamed}
 use Rattle.pim_reach.proofs.Calm.{settled_same}
 use Rattle.pim_reach.proofs.Configured.{configured_beside}
-use Rattle.pim_adjacent.specs.Adjacent.{AdjoinsAlone, is_taken, with_neighbours}
+use Rattle.pim_reach.proofs.Told.{second_left}
+use Rattle.pim_adjacent.specs.Adjacent.{AdjoinsAlone, is_touched_where_hop_differs, with_neighbour_rows}
 use Rattle.pim_adjacent.proofs.Answers.{answers_so, hops_reach, named_so, reaches, unwanted_reaches}
-use Rattle.pim_adjacent.proofs.Fewer.{absent_unwanted, clearing_fewer}
+use Rattle.pim_adjacent.proofs.Fewer.{clearing_fewer}
 use Rattle.pim_adjacent.proofs.Goes.{OnTheWay, dr_now}
 use Rattle.pim_adjacent.proofs.Settles.{calm, calm_star, rp_hop_now, source_hop_now, taken_so, way_end}
-
-second_left : (b d : Bool) → (b || d) ≡ true → b ≡ false → d ≡ true
-second_left true d e f = cc
-second_left false d e f = e
 
 module _ (keys : List Key) (o c : State) (quiet : IsQuiet o) (adjoins : AdjoinsAlone keys o c) where
   -- what has a fact and isn't touched has the same next hops
@@ -42,8 +40,8 @@ module _ (keys : List Key) (o c : State) (quiet : IsQuiet o) (adjoins : AdjoinsA
       → touching keys (source_key 0 g src) ≡ false → calm_here g src ≡ true
   unfolding names_source
   calm_fact g src there out =
-      any_among_all (λ k. is_taken keys o c k ≡ true) (names_source g src) of_key (fact_keys o)
-      (each_of_list (is_taken keys o c) (fact_keys o) adjoins.taken) there
+      any_among_all (λ k. is_touched_where_hop_differs keys o c k ≡ true) (names_source g src) of_key (fact_keys o)
+      (each_of_list (is_touched_where_hop_differs keys o c) (fact_keys o) adjoins.taken) there
     where
       same : (k : Key) → (group_in k ≡ g) → (source_in k ≡ src)
           → (touching keys (source_key 0 (group_in k) (source_in k)) || calm_here (group_in k) (source_in k)) ≡ true
@@ -52,7 +50,7 @@ module _ (keys : List Key) (o c : State) (quiet : IsQuiet o) (adjoins : AdjoinsA
           second_left (touching keys (source_key 0 g src)) (calm_here g src)
           (sym (λ j. touching keys (source_key 0 (group j) (source j)) || calm_here (group j) (source j)) ∙ e) out
 
-      of_key : (k : Key) → is_taken keys o c k ≡ true → names_source g src k ≡ true → calm_here g src ≡ true
+      of_key : (k : Key) → is_touched_where_hop_differs keys o c k ≡ true → names_source g src k ≡ true → calm_here g src ≡ true
       of_key k is e =
           let both : ((group_in k == g) && is_some k.source) ≡ true =
           first_so ((group_in k == g) && is_some k.source) (source_in k == src) e in
@@ -65,12 +63,12 @@ module _ (keys : List Key) (o c : State) (quiet : IsQuiet o) (adjoins : AdjoinsA
   module _ (t : State) (way : OnTheWay keys o c quiet adjoins t) (g src : ℕ)
       (out : touching keys (source_key 0 g src) ≡ false) where
     abbrev back : State
-    back = with_neighbours t o.neighbours
+    back = with_neighbour_rows t o.neighbours
 
     dr : (i : ℕ) → is_dr t i ≡ is_dr back i
     dr i = dr_now keys o c quiet adjoins t way i
 
-    unnamed_before : is_named g src o back ≡ false
+    unnamed_before : is_source_named g src o back ≡ false
     unnamed_before = agreed_is_unnamed g src o back (way.agrees (source_key 0 g src) out)
 
     module _ (same : calm_here g src ≡ true) where
@@ -84,14 +82,14 @@ module _ (keys : List Key) (o c : State) (quiet : IsQuiet o) (adjoins : AdjoinsA
           source_hop_now keys o c quiet adjoins t way (source_key 0 g src) out src
           (second_so (calm_star keys o c quiet adjoins g) _ same)
 
-      unnamed : is_named g src o t ≡ false
+      unnamed : is_source_named g src o t ≡ false
       unnamed = named_so t o.neighbours dr g src rp_hop hop o ∙ unnamed_before
 
       reached : reaches t o.neighbours dr g src t ≡ reaches t o.neighbours dr g src back
       reached = hops_reach t o.neighbours dr g src rp_hop hop
 
   pub adjoins_names : (g src : ℕ) → list_any (names_source g src) (fact_keys o) ≡ true
-      → touching keys (source_key 0 g src) ≡ false → is_named g src o (clear o c).0 ≡ false
+      → touching keys (source_key 0 g src) ≡ false → is_source_named g src o (clear o c).0 ≡ false
   adjoins_names g src there out =
       unnamed (clear o c).0 (way_end keys o c quiet adjoins) g src out (calm_fact g src there out)
 
@@ -141,13 +139,13 @@ module _ (keys : List Key) (o c : State) (quiet : IsQuiet o) (adjoins : AdjoinsA
 
       same_reaches : (b : Bool) → list_any (names_source g src) (fact_keys o) ≡ b
           → reaches last o.neighbours (dr last way_last g src out) g src last
-          ≡ reaches last o.neighbours (dr last way_last g src out) g src (with_neighbours last o.neighbours)
+          ≡ reaches last o.neighbours (dr last way_last g src out) g src (with_neighbour_rows last o.neighbours)
       same_reaches true there = reached last way_last g src out (calm_fact g src there out)
       same_reaches false none =
           unwanted_reaches last o.neighbours (dr last way_last g src out) g src (unwanted none)
 
-      pub adjoins_stays : (is_named g src o (with_neighbours last o.neighbours) ≡ false)
-          × (answers (with_neighbours last o.neighbours) g src ≡ answers last g src)
+      pub adjoins_stays : (is_source_named g src o (with_neighbour_rows last o.neighbours) ≡ false)
+          × (answers (with_neighbour_rows last o.neighbours) g src ≡ answers last g src)
       adjoins_stays = (
         unnamed_before last way_last g src out,
         sym (answers_so last o.neighbours (dr last way_last g src out) g src

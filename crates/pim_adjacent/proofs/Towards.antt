@@ -1,73 +1,32 @@
 -- The keys of what looks to a neighbour take all that its coming and going moves.
-use Rattle.std.proofs.Common.{◌≡◌, ◌==◌, ◌&&◌, ◌||◌, ℕ, Bool, true, false, List, [], ◌∷◌, filter, map, Option, Some, None, is_none, is_some, refl, sym, subst, ◌∙◌, eq-eqb, eqb-true}
+use Rattle.std.proofs.Common.{◌≡◌, ◌==◌, ◌&&◌, ◌||◌, ℕ, Bool, true, false, List, filter, Some, is_some, refl, sym, subst, ◌∙◌, eq-eqb, eqb-true}
 use Rattle.std.proofs.lemmas.Bool.{or_left, or_right}
 use Rattle.std.proofs.lemmas.List.Folds.{list_any-append}
 use Rattle.std.specs.Cmp.{first_so, second_so}
 use Rattle.std.specs.Cmp.Derive.{both_true}
-use Rattle.std.specs.List.{AllByRecursion, flat_map, list_all, list_any}
-use Rattle.pim_ip.specs.declared.addr.Addr.{Addr}
+use Rattle.std.specs.List.{list_all, list_any}
 use Rattle.pim_types.specs.declared.fact.AssertRole.{AssertRole}
 use Rattle.pim_types.specs.declared.fact.AssertRow.{AssertRow}
 use Rattle.pim_types.specs.declared.fact.Key.{Key}
-use Rattle.pim_types.specs.Keys.{group_in, iface_in, is_of_group, is_star, source_in, source_key, star_key}
+use Rattle.pim_types.specs.Keys.{group_in, iface_in, is_star, source_in, source_key, star_key}
 use Rattle.pim_model.specs.Hellos.{is_lost_to}
 use Rattle.pim_model.specs.Sets.{is_loser, is_winner}
 use Rattle.pim_model.specs.State.{State}
 use Rattle.pim_model.specs.Tables.{keys_in}
 use Rattle.pim_model.specs.Unicast.{route, rp_route}
 use Rattle.pim_model.specs.Upstream.{fact_keys, groups_of, sources_of}
-use Rattle.pim_laws.proofs.ListLaws.{any_more, each_more, either, list_of_each}
-use Rattle.pim_laws.proofs.Numbers.{any_ascending}
+use Rattle.pim_laws.proofs.ListLaws.{any_more, each_more, list_of_each}
 use Rattle.pim_laws.proofs.TableLaws.{any_in_filter, any_of_map}
 use Rattle.pim_locality.specs.Locality.{touching}
 use Rattle.pim_locality.specs.Scopes.{reads}
 use Rattle.pim_locality.proofs.Asserts.{reads_itself}
 use Rattle.pim_locality.proofs.TouchedUpstream.{reads_star}
-use Rattle.pim_reach.proofs.Sights.{bools_same}
-use Rattle.pim_adjacent.specs.Adjacent.{is_taken, keeps_winner, keys_towards, leads_to, led_keys, led_of_group, led_sources, lost_keys}
+use Rattle.pim_reach.proofs.FactsThere.{IsThere, each_is_there, group_there, in_each, some_source, source_there, unless_star}
+use Rattle.pim_locality.proofs.SameRows.{flags_same}
+use Rattle.pim_adjacent.specs.Adjacent.{is_touched_where_hop_differs, keeps_winner, keys_towards, leads_to, led_keys, led_of_group, led_sources, lost_keys}
 use Rattle.pim_adjacent.proofs.OneRow.{SetsOne, others, unled}
 
--- ---- lists
-
--- what passes any test says that one of the list does
-each_is_there : {X : Type 0} (xs : List X) → AllByRecursion (λ x. (p : X → Bool) → p x ≡ true → list_any p xs ≡ true) xs
-each_is_there [] = tt
-each_is_there (x ∷ xs) = (
-  λ p e. or_left (p x) (list_any p xs) e,
-  each_more _ _ (λ y f p e. or_right (p x) (list_any p xs) (f p e)) xs (each_is_there xs),
-)
-
-in_each : (p : Key → Bool) (f : ℕ → List Key) (g : ℕ) (gs : List ℕ) → list_any (λ m. m == g) gs ≡ true
-    → list_any p (f g) ≡ true → list_any p (flat_map f gs) ≡ true
-in_each p f g [] there e = cc
-in_each p f g (h ∷ hs) there e =
-    list_any-append p (f h) (flat_map f hs)
-    ∙ either (h == g) (list_any (λ m. m == g) hs)
-    (λ same. or_left (list_any p (f h)) (list_any p (flat_map f hs))
-    ((λ j. list_any p (f (eqb-true h g same j))) ∙ e))
-    (λ later. or_right (list_any p (f h)) (list_any p (flat_map f hs)) (in_each p f g hs later e)) there
-
--- there is such a key
-abbrev IsThere : List Key → Key → Type 0
-IsThere ks k = (p : Key → Bool) → p k ≡ true → list_any p ks ≡ true
-
-group_there : (ks : List Key) (k : Key) → IsThere ks k → list_any (λ m. m == group_in k) (groups_of ks) ≡ true
-unfolding groups_of
-group_there ks k there =
-    any_ascending (λ m. m == group_in k) (map group_in ks)
-    ∙ any_of_map (λ m. m == group_in k) group_in ks
-    ∙ there (λ q. group_in q == group_in k) (eq-eqb (group_in k) (group_in k) refl)
-
-source_there : (ks : List Key) (k : Key) → IsThere ks k → is_some k.source ≡ true
-    → list_any (λ m. m == source_in k) (sources_of (group_in k) ks) ≡ true
-unfolding sources_of
-source_there ks k there some =
-    let of_it : Key → Bool = λ q. is_of_group (group_in k) q && is_some q.source in
-    any_ascending (λ m. m == source_in k) (map source_in (filter of_it ks))
-    ∙ any_of_map (λ m. m == source_in k) source_in (filter of_it ks)
-    ∙ any_in_filter of_it (λ q. source_in q == source_in k) ks
-    ∙ there (λ q. of_it q && (source_in q == source_in k))
-    (both_true (both_true (eq-eqb (group_in k) (group_in k) refl) some) (eq-eqb (source_in k) (source_in k) refl))
+-- ---- either way
 
 if_led : (b x y : Bool) → (b ≡ false → x ≡ true) → (b ≡ true → y ≡ true) → (x || y) ≡ true
 if_led true x true f h = last x
@@ -78,14 +37,6 @@ if_led true x true f h = last x
 if_led true x false f h = cc (h refl)
 if_led false true y f h = refl
 if_led false false y f h = cc (f refl)
-
-unless_star : (n x y : Bool) → (n ≡ false → (x || y) ≡ true) → (n || x || y) ≡ true
-unless_star true x y f = refl
-unless_star false x y f = f refl
-
-some_source : (o : Option Addr) → is_none o ≡ false → is_some o ≡ true
-some_source None e = cc
-some_source (Some a) e = refl
 
 by_role : (r : AssertRole) → elim r [ AssertRole.Loser ↦ true | AssertRole.Winner ↦ false ] ≡ false
     → elim r [ AssertRole.Winner ↦ true | AssertRole.Loser ↦ false ] ≡ true
@@ -165,7 +116,7 @@ module _ (s c : State) (k : Key) (sets : SetsOne k s c) (keys : List Key) where
   a = source_in k
 
   one_taken : ((q : Key) → touching (led_keys s i a) q ≡ true → touching keys q ≡ true) → (q : Key)
-      → IsThere (fact_keys s) q → is_taken keys s c q ≡ true
+      → IsThere (fact_keys s) q → is_touched_where_hop_differs keys s c q ≡ true
   one_taken within q there =
       both_true
       (if_led (leads_to i a (rp_route s (group_in q))) _ _ (unled s c k sets (rp_route s (group_in q)))
@@ -176,10 +127,10 @@ module _ (s c : State) (k : Key) (sets : SetsOne k s c) (keys : List Key) where
       (source_led s i a q there (some_source q.source e) led))))
 
   pub all_taken : ((q : Key) → touching (led_keys s i a) q ≡ true → touching keys q ≡ true)
-      → list_all (is_taken keys s c) (fact_keys s) ≡ true
+      → list_all (is_touched_where_hop_differs keys s c) (fact_keys s) ≡ true
   all_taken within =
-      list_of_each (is_taken keys s c) (fact_keys s)
-      (each_more (IsThere (fact_keys s)) (λ q. is_taken keys s c q ≡ true) (one_taken within) (fact_keys s)
+      list_of_each (is_touched_where_hop_differs keys s c) (fact_keys s)
+      (each_more (IsThere (fact_keys s)) (λ q. is_touched_where_hop_differs keys s c q ≡ true) (one_taken within) (fact_keys s)
       (each_is_there (fact_keys s)))
 
   -- a winner that is another neighbour is one as before
@@ -203,7 +154,7 @@ module _ (s c : State) (k : Key) (sets : SetsOne k s c) (keys : List Key) where
         (within e.0 (lost_is_touched s i a e there (lost_to_it lost its))))
     of_loser false apart lost =
         or_right (touching keys e.0 || is_winner (Some e.1)) _
-        (bools_same _ _ (others s c k sets (iface_in e.0) winner_at apart))
+        (flags_same _ _ (others s c k sets (iface_in e.0) winner_at apart))
 
     of_either : (b : Bool) → is_loser (Some e.1) ≡ b → keeps_winner keys s c e ≡ true
     of_either true lost = of_loser is_its refl lost

@@ -1,7 +1,9 @@
 -- A change of neighbours that leaves on which interfaces the router is the DR. It moves what looks to another upstream
 -- neighbour after it, and no more: all that follows of it follows of keys that touch that, of which there are facts.
 use Rattle.std.specs.List.{flat_map, list_all, list_any}
-use Rattle.std.specs.Prelude.{Bool, List, None, Option, Some, [], false, filter, if◌then◌else◌, map, not, true, ℕ, ◌&&◌, ◌++◌, ◌==◌, ◌||◌, ◌≡◌, ◌∷◌}
+use Rattle.std.specs.Prelude.{Bool, List, None, Option, Some, [], false, filter, if◌then◌else◌, is_some, map, not, true, ℕ, ◌&&◌, ◌++◌, ◌==◌, ◌||◌, ◌≡◌, ◌∷◌}
+use Rattle.pim_types.specs.declared.config.Route.{Route}
+use Rattle.pim_types.specs.declared.config.RpRange.{RpRange}
 use Rattle.pim_types.specs.declared.fact.AssertRow.{AssertRow}
 use Rattle.pim_types.specs.declared.fact.Key.{Key}
 use Rattle.pim_types.specs.declared.fact.NeighbourRow.{NeighbourRow}
@@ -23,13 +25,13 @@ use Rattle.pim_model.specs.Timers.{Ending}
 use Rattle.pim_model.specs.Unicast.{route, rp_route}
 use Rattle.pim_model.specs.Upstream.{fact_keys, groups_of, sources_of}
 use Rattle.pim_locality.specs.Locality.{AgreesBut, IsQuiet, own_settled, touched_clear, touched_registers, touching}
-use Rattle.pim_reach.specs.Named.{is_named}
+use Rattle.pim_reach.specs.Named.{is_source_named}
 
 -- ---- any such change
 
 -- with these neighbours
-abbrev pub with_neighbours : State → Table NeighbourRow → State
-with_neighbours s rows = record s { neighbours = rows }
+abbrev pub with_neighbour_rows : State → Table NeighbourRow → State
+with_neighbour_rows s rows = record s { neighbours = rows }
 
 -- the next hop of the path is a neighbour in both states, or in neither
 abbrev pub has_same_hop : State → State → Option Path → Bool
@@ -37,8 +39,8 @@ has_same_hop o c path = same_hop (nbr o path) (nbr c path)
 
 -- the keys touch the machines of (*,G) where another neighbour leads to RP(G), and those of a source where another leads
 -- to it
-abbrev pub is_taken : List Key → State → State → Key → Bool
-is_taken keys o c k =
+abbrev pub is_touched_where_hop_differs : List Key → State → State → Key → Bool
+is_touched_where_hop_differs keys o c k =
     (has_same_hop o c (rp_route o (group_in k)) || touching keys (star_key 0 (group_in k)))
     && (is_star k || has_same_hop o c (route o (source_in k))
     || touching keys (source_key 0 (group_in k) (source_in k)))
@@ -52,10 +54,10 @@ keeps_winner keys o c e =
 
 -- a change of neighbours, and keys that touch all else that it changes, and all that it moves of which there are facts
 pub record AdjoinsAlone (keys : List Key) (o c : State) : Type 0 where
-  pub agrees : AgreesBut (touching keys) o (with_neighbours c o.neighbours)
+  pub agrees : AgreesBut (touching keys) o (with_neighbour_rows c o.neighbours)
   pub dr : (i : ℕ) → is_dr o i ≡ is_dr c i
   pub winners : list_all (keeps_winner keys o c) o.asserts ≡ true
-  pub taken : list_all (is_taken keys o c) (fact_keys o) ≡ true
+  pub taken : list_all (is_touched_where_hop_differs keys o c) (fact_keys o) ≡ true
   pub facts : (p : Key → Bool) → list_any p (fact_keys c) ≡ true → list_any p (fact_keys o) ≡ true
 
 -- from a quiet state what goes, and which registers are settled, is of the touched keys
@@ -72,7 +74,7 @@ AdjoinsSettles = (keys : List Key) (o c : State) → IsQuiet o → AdjoinsAlone 
 abbrev pub AdjoinsNames : Type 0
 AdjoinsNames = (keys : List Key) (o c : State) → IsQuiet o → AdjoinsAlone keys o c → (g src : ℕ)
     → list_any (names_source g src) (fact_keys o) ≡ true → touching keys (source_key 0 g src) ≡ false
-    → is_named g src o (clear o c).0 ≡ false
+    → is_source_named g src o (clear o c).0 ≡ false
 
 -- one that isn't touched, with a fact or without, is answered in the end as with the neighbours that there were, with
 -- which it isn't named
@@ -80,8 +82,8 @@ abbrev pub AdjoinsStays : Type 0
 AdjoinsStays = (keys : List Key) (o c : State) → IsQuiet o → AdjoinsAlone keys o c → (messages : List Message)
     (w g src : ℕ) → touching keys (source_key 0 g src) ≡ false
     → (let end : State = (settled o (c, messages) w).0 in
-    (is_named g src o (with_neighbours end o.neighbours) ≡ false)
-    × (answers (with_neighbours end o.neighbours) g src ≡ answers end g src))
+    (is_source_named g src o (with_neighbour_rows end o.neighbours) ≡ false)
+    × (answers (with_neighbour_rows end o.neighbours) g src ≡ answers end g src))
 
 -- ---- one neighbour
 
@@ -106,6 +108,17 @@ led_keys s i address = flat_map (led_of_group s i address) (groups_of (fact_keys
 -- the asserts that the router lost to it
 abbrev pub lost_keys : State → ℕ → ℕ → List Key
 lost_keys s i address = keys_in (filter (is_lost_to i address) s.asserts)
+
+-- a path may lead to the address: a route has it as its next hop, or a range as its RP, or a fact as its source
+unfoldable pub may_lead : State → ℕ → Bool
+may_lead s address =
+    list_any (λ (r : Route). r.next_hop.bits == address) s.routes
+    || list_any (λ (r : RpRange). r.rp.bits == address) s.ranges
+    || list_any (λ k. is_some k.source && (source_in k == address)) (fact_keys s)
+
+-- to another address none does
+abbrev pub LeadsNowhere : Type 0
+LeadsNowhere = (s : State) (i address : ℕ) → may_lead s address ≡ false → led_keys s i address ≡ []
 
 -- all that looks to it
 unfoldable pub keys_towards : State → ℕ → ℕ → List Key

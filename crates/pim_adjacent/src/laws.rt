@@ -1,6 +1,6 @@
 //! Laws of the definitions, each the contract of a function with nothing to do.
 
-ghost use Rattle.pim_adjacent.specs.Adjacent.{AdjoinsGoes, AdjoinsNames, AdjoinsSettles, AdjoinsStays, EndAdjoins, HelloAdjoins};
+ghost use Rattle.pim_adjacent.specs.Adjacent.{AdjoinsGoes, AdjoinsNames, AdjoinsSettles, AdjoinsStays, EndAdjoins, HelloAdjoins, LeadsNowhere};
 
 /// What goes after a change of neighbours is of the keys that take what it moves.
 pub fn adjoins_goes()
@@ -30,4 +30,9 @@ pub fn hello_adjoins()
 /// So does a neighbour's end.
 pub fn end_adjoins()
     ensures { EndAdjoins }
+{}
+
+/// No path leads to a neighbour whose address is no next hop, no RP and no source with a fact.
+pub fn leads_nowhere()
+    ensures { LeadsNowhere }
 {}

@@ -18,12 +18,12 @@ use Rattle.pim_asked.proofs.Steps.{run_is_asked}
 
 -- ---- what a write in a list leaves
 
-get_written : {A : Type 0} (xs : List A) (i : ℕ) (x y : A) → slice_get xs i ≡ Some x → slice_get (set xs i y) i ≡ Some y
+pub get_written : {A : Type 0} (xs : List A) (i : ℕ) (x y : A) → slice_get xs i ≡ Some x → slice_get (set xs i y) i ≡ Some y
 get_written [] i x y e = cc e
 get_written (z ∷ zs) zero x y e = refl
 get_written (z ∷ zs) (suc i) x y e = get_written zs i x y e
 
-get_beside : {A : Type 0} (xs : List A) (i j : ℕ) (y : A) → i ≢ j → slice_get (set xs i y) j ≡ slice_get xs j
+pub get_beside : {A : Type 0} (xs : List A) (i j : ℕ) (y : A) → i ≢ j → slice_get (set xs i y) j ≡ slice_get xs j
 get_beside [] i j y off = refl
 get_beside (z ∷ zs) zero zero y off = absurd (off refl)
 get_beside (z ∷ zs) zero (suc j) y off = refl

@@ -1,5 +1,5 @@
 -- What changes none of the rows by which packets are asked for: what follows from a change, and most events and timers.
-use Rattle.std.proofs.Common.{◌≡◌, ◌∙◌, ℕ, List, refl, arith}
+use Rattle.std.proofs.Common.{◌≡◌, ℕ, List, refl, ap, arith}
 use Rattle.pim_types.specs.declared.fact.AssertMetric.{AssertMetric}
 use Rattle.pim_types.specs.declared.fact.AssertRow.{AssertRow}
 use Rattle.pim_types.specs.declared.fact.DownstreamRow.{DownstreamRow}
@@ -10,20 +10,17 @@ use Rattle.pim_types.specs.declared.fact.SourceRecordRow.{SourceRecordRow}
 use Rattle.pim_wire.specs.Values.{JoinPrune}
 use Rattle.pim_wire.specs.declared.assert.Assert.{Assert as AssertMessage}
 use Rattle.pim_wire.specs.declared.hello.Hello.{Hello as HelloValue}
-use Rattle.pim_model.specs.Asserts.{assert_as_loser, assert_as_winner, assert_at, assert_due, assert_forgotten, assert_in_no_info, assert_received, data_seen, loses, loses_first, wins, wins_again, with_spt_bit, without_spt_bit}
-use Rattle.pim_model.specs.Clearing.{clear}
+use Rattle.pim_model.specs.Asserts.{assert_as_loser, assert_as_winner, assert_at, assert_due, assert_forgotten, assert_in_no_info, assert_received, data_seen, loses, loses_first, wins, wins_again, with_spt_bit}
 use Rattle.pim_model.specs.Firing.{settled}
 use Rattle.pim_model.specs.Forwarding.{source_here, source_joined, spt_updated, watched}
 use Rattle.pim_model.specs.Hellos.{hello_received, hello_triggered, neighbour_replaced, neighbour_restarted}
 use Rattle.pim_model.specs.Messages.{Message}
-use Rattle.pim_model.specs.Registers.{register_due, register_stop_seen, settle_register, settle_registers, with_keepalive}
+use Rattle.pim_model.specs.Registers.{register_due, register_stop_seen, settle_register, with_keepalive}
 use Rattle.pim_model.specs.Seen.{cancel_override_timer, lower_join_timer, lower_override_timer, raise_join_timer, seen}
 use Rattle.pim_model.specs.State.{State}
 use Rattle.pim_model.specs.Tables.{Table}
-use Rattle.pim_model.specs.Upstream.{moved_join_timer, moved_override_timer, upstream}
-use Rattle.pim_model.specs.Writing.{write_all}
-use Rattle.pim_laws.proofs.SettlingLaws.{kept_by_clearing, kept_by_telling}
 use Rattle.pim_ready.proofs.SeenLaws.{kept_by_seen}
+use Rattle.pim_ready.proofs.Unsettled.{Unsettled, settling_leaves}
 
 -- the rows by which packets are asked for
 pub record Rows : Type 0 where
@@ -39,22 +36,13 @@ Same s t = rows_of t ≡ rows_of s
 
 -- ---- what follows from a change
 
-clear_same : (o s : State) → Same s (clear o s).0
-unfolding settle_registers assert_forgotten without_spt_bit
-clear_same o s = kept_by_clearing (Same s) (λ t k f. f) (λ t k f. f) o s refl
-
-upstream_same : (o a : State) (w : ℕ) → Same a (upstream o a w).0
-unfolding moved_join_timer moved_override_timer
-upstream_same o a w =
-    kept_by_telling (λ n. Unit {0}) a w (λ d some. tt) (Same a) (λ s k change fair f. f) (λ s k change fair f. f) o refl
-
-writing_same : (s : State) (messages : List Message) → Same s (write_all s messages).0
-unfolding write_all
-writing_same s messages = refl
-
 pub settled_same : (o : State) (change : State × List Message) (w : ℕ) → Same change.0 (settled o change w).0
-unfolding settled
-settled_same o change w = writing_same _ _ ∙ (upstream_same o _ w ∙ clear_same o change.0)
+settled_same o change w =
+    ap (λ (u : Unsettled). let rows : Rows = record {
+      downstream = u.downstream;
+      groups = u.group_records;
+      sources = u.source_records;
+    } in rows) (settling_leaves o change w)
 
 -- ---- asserts
 

@@ -1,5 +1,5 @@
 -- A plain event is one that the answers decide: each packet that they don't decide leaves something else behind.
-use Rattle.std.proofs.Common.{◌≡◌, ◌⊎◌, inl, inr, ℕ, Bool, true, false, not, ◌&&◌, cond, List, [], Option, Some, option_and_then, is_some, refl, sym, ap, subst, ◌∙◌}
+use Rattle.std.proofs.Common.{◌≡◌, ◌⊎◌, inl, inr, ℕ, Bool, true, false, not, ◌&&◌, cond, List, [], Option, Some, option_and_then, refl, sym, ap, subst, ◌∙◌}
 use Rattle.std.proofs.lemmas.Bool.{or_left}
 use Rattle.std.specs.Cmp.{first_so, second_so}
 use Rattle.std.specs.List.{AllByRecursion, list_all}
@@ -34,7 +34,7 @@ use Rattle.pim_cached.proofs.KeptAlive.{its_key, kept_row}
 use Rattle.pim_cached.proofs.NothingFollows.{asserts_now, could_assert_now, could_at, its_register, registers_now, registers_stay, sources_pass}
 use Rattle.pim_cached.proofs.Opened.{opened}
 use Rattle.pim_cached.proofs.PlainSteps.{at, desired_at, opens, reached_at, sees_at, stray_key}
-use Rattle.pim_cached.proofs.Puts.{found_where_sorted}
+use Rattle.pim_cached.proofs.Puts.{found_where_sorted, rows_are_there}
 use Rattle.pim_cached.proofs.SptSets.{could_as_before, now_set, still_desired}
 use Rattle.pim_cached.proofs.Wins
 use Rattle.pim_cached.proofs.Wins.{source_stays, star_stays, winner}
@@ -97,10 +97,7 @@ module _ (g src i : ℕ) (s : State) (rests : IsAtRest s) (there : has_row s.sou
       s.sources (found_where_sorted s.sources rests.settled.ordered.sources)
 
   asserts_in : AllByRecursion (λ (e : Key × AssertRow). has_row s.asserts e.0 ≡ true) s.asserts
-  unfolding has_row
-  asserts_in =
-      each_more (λ (e : Key × AssertRow). row_at s.asserts e.0 ≡ Some e.1) _ (λ e f. ap is_some f) s.asserts
-      (found_where_sorted s.asserts rests.settled.ordered.asserts)
+  asserts_in = rows_are_there s.asserts rests.settled.ordered.asserts
 
   -- ---- the tunnel
 

@@ -1,5 +1,5 @@
 -- What is cleared first stays cleared to the end. So where the end has all asserts and SPTbits that may go, nothing went.
-use Rattle.std.proofs.Common.{◌≡◌, ℕ, Bool, true, false, not, ◌&&◌, ◌++◌, ◌⊎◌, cond, List, [], Option, Some, None, option_map, is_some, ⊎_elim, refl, sym, ap, subst, ◌∙◌}
+use Rattle.std.proofs.Common.{◌≡◌, ℕ, Bool, true, false, not, ◌&&◌, ◌⊎◌, cond, List, [], Option, Some, None, option_map, is_some, ⊎_elim, refl, sym, ap, subst, ◌∙◌}
 use Rattle.std.proofs.lemmas.Bool.{false_from_ne_true}
 use Rattle.std.specs.Cmp.{first_so, second_so}
 use Rattle.std.specs.Cmp.Derive.{both_true}
@@ -19,14 +19,12 @@ use Rattle.pim_model.specs.Registers.{settle_registers}
 use Rattle.pim_model.specs.Repeat.{and_then}
 use Rattle.pim_model.specs.State.{State}
 use Rattle.pim_model.specs.Tables.{Table, change_row, changed_entry, has_row, row_at}
-use Rattle.pim_model.specs.Upstream.{TimerChange, moved_join_timer, moved_override_timer, upstream}
-use Rattle.pim_model.specs.Writing.{write_all}
 use Rattle.pim_laws.proofs.ClearingLaws.{clear_unrolls, is_set_at}
 use Rattle.pim_laws.proofs.ListLaws.{any_among_all, each_passing, find_member, first_of_all}
 use Rattle.pim_laws.proofs.RowLaws.{has_row_without}
-use Rattle.pim_laws.proofs.SettlingLaws.{kept_by_telling}
 use Rattle.pim_laws.proofs.TableLaws.{any_of_changed, any_of_filter_map, none_passes, row_is_there}
 use Rattle.pim_laws.proofs.TurnLaws.{kept_to_the_end, same_when_none}
+use Rattle.pim_ready.proofs.Unsettled.{Untold, cleared_in_the_end}
 
 -- SPTbit of the row at a key
 abbrev pub spt_at : Table SourceRow → Key → Bool
@@ -44,32 +42,13 @@ abbrev pub kept_of : State → Kept
 kept_of s = record { asserts = s.asserts; sources = s.sources; registers = s.registers }
 
 module _ (o : State) (w : ℕ) where
-  told_keeps : (a : State) → kept_of (upstream o a w).0 ≡ kept_of a
-  unfolding moved_join_timer moved_override_timer
-  told_keeps a =
-      kept_by_telling (λ n. Unit {0}) a w (λ d some. tt) (λ t. kept_of t ≡ kept_of a) (λ s k change fair f. joins s k change f)
-      (λ s k change fair f. overrides s k change f) o refl
-    where
-      joins : (s : State) (k : Key) (change : TimerChange) → kept_of s ≡ kept_of a
-          → kept_of (moved_join_timer s k change) ≡ kept_of a
-      joins s k change f = f
-
-      overrides : (s : State) (k : Key) (change : TimerChange) → kept_of s ≡ kept_of a
-          → kept_of (moved_override_timer s k change) ≡ kept_of a
-      overrides s k change f = f
-
-  written_keeps : (a : State) (messages : List Message) → kept_of (write_all a messages).0 ≡ kept_of a
-  unfolding write_all
-  written_keeps a messages = refl
-
   -- the end has the tables that clearing leaves
   pub end_keeps : (change : State × List Message)
       → kept_of (settled o change w).0 ≡ kept_of (clear_all o (settle_registers change.0)).0
-  unfolding settled clear
+  unfolding clear
   end_keeps change =
-      let after : State × List Message = clear_all o (settle_registers change.0) in
-      let told : State × List Message = upstream o after.0 w in
-      written_keeps told.0 (change.1 ++ after.1 ++ told.1) ∙ told_keeps after.0
+      ap (λ (u : Untold). let kept : Kept = record { asserts = u.asserts; sources = u.sources; registers = u.registers } in kept)
+      (cleared_in_the_end o change w)
 
 -- ---- what is gone stays gone
 

@@ -21,7 +21,7 @@ use Rattle.pim_locality.specs.Rest.{IsAtRest}
 use Rattle.pim_locality.specs.Sees.{SeesSource}
 use Rattle.pim_locality.proofs.SameMacros.{is_immediate_empty_same, is_inherited_empty_same, join_desired_same}
 use Rattle.pim_locality.proofs.SameSights.{source_at}
-use Rattle.pim_reach.proofs.SameRows.{flags}
+use Rattle.pim_locality.proofs.SameRows.{flags}
 use Rattle.pim_cached.proofs.SameAnswers.{answers_same}
 
 -- what all entries of a table pass, the row at a key passes

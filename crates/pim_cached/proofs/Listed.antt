@@ -11,7 +11,7 @@ use Rattle.pim_model.specs.State.{State}
 use Rattle.pim_model.specs.Tables.{Table, has_row, keys_in}
 use Rattle.pim_laws.proofs.RowLaws.{has_row_any}
 use Rattle.pim_laws.proofs.TableLaws.{any_of_map}
-use Rattle.pim_reach.specs.Named.{is_named, named}
+use Rattle.pim_reach.specs.Named.{is_source_named, named}
 use Rattle.pim_cached.specs.Kept.{is_listed}
 
 module _ (g src : ℕ) (o a : State) where
@@ -45,7 +45,7 @@ module _ (g src : ℕ) (o a : State) where
       ∙ (ap (λ b. b || among (filter is_new (keys_in a.sources))) (sym (keys_of_rows o.sources))
       ∙ among_new (has_row o.sources its_key) refl)
 
-  pub listed : is_named g src o a ≡ true
+  pub listed : is_source_named g src o a ≡ true
       → is_listed (named o a) g src ≡ (has_row o.sources its_key || has_row a.sources its_key)
   unfolding is_listed named
-  listed e = in_filter (λ k. is_named (group_in k) (source_in k) o a) e (with_facts o a) ∙ among_facts
+  listed e = in_filter (λ k. is_source_named (group_in k) (source_in k) o a) e (with_facts o a) ∙ among_facts

@@ -1,11 +1,10 @@
 -- A packet that opens the register tunnel leaves its register behind.
-use Rattle.std.proofs.Common.{◌≡◌, ℕ, Bool, true, false, not, ◌&&◌, ◌||◌, ◌++◌, cond, List, [], Option, Some, None, option_and_then, is_some, refl, sym, ap, subst, ◌∙◌}
+use Rattle.std.proofs.Common.{◌≡◌, ℕ, Bool, true, false, not, ◌&&◌, ◌||◌, ◌++◌, cond, List, [], refl, sym, ap, subst, ◌∙◌}
 use Rattle.std.proofs.lemmas.Bool.{or_left}
 use Rattle.std.specs.Option.{option_map_or}
 use Rattle.pim_types.specs.declared.fact.Key.{Key}
 use Rattle.pim_types.specs.declared.fact.RegisterRow.{RegisterRow}
 use Rattle.pim_types.specs.declared.fact.RegisterState.{RegisterState}
-use Rattle.pim_types.specs.declared.fact.SourceRow.{SourceRow}
 use Rattle.pim_types.specs.Keys.{group_in, same_key, source_in, source_key, star_key}
 use Rattle.pim_types.proofs.Keys.{equal_keys, same_key_same}
 use Rattle.pim_model.specs.Asserts.{could_assert_at, data_seen, wins, with_spt_bit}
@@ -16,11 +15,12 @@ use Rattle.pim_model.specs.Neighbours.{is_dr}
 use Rattle.pim_model.specs.Registers.{could_register, has_other_rp, is_dr_of_path, is_spt_wanted, settle_register, settle_registers, settled_register, with_keepalive}
 use Rattle.pim_model.specs.Sets.{Set, inherited_olist, inherited_olist_rpt, is_kept_alive, spt_bit, tunnel}
 use Rattle.pim_model.specs.State.{State}
-use Rattle.pim_model.specs.Tables.{Table, drop_at, has_row, keys_in, put, row_at}
+use Rattle.pim_model.specs.Tables.{Table, drop_at, has_row, keys_in, put}
 use Rattle.pim_model.specs.Unicast.{is_connected, is_rpf_interface, is_rpf_interface_rp, route, rp_of}
-use Rattle.pim_laws.proofs.RowLaws.{has_row_put, has_row_without, row_put}
+use Rattle.pim_laws.proofs.RowLaws.{has_row_put, has_row_without}
 use Rattle.pim_laws.proofs.TurnLaws.{kept_by_fold}
 use Rattle.pim_cached.proofs.KeptAlive.{now_kept}
+use Rattle.pim_cached.proofs.SptSets.{alive_as_before}
 
 module _ (g src : ℕ) where
   abbrev key : Key
@@ -53,14 +53,8 @@ module _ (g src : ℕ) where
   spt_open s is = record {
     row = is.row;
     may = is.may;
-    alive = ap (λ (o : Option SourceRow). option_map_or (λ (r : SourceRow). is_some r.keepalive) o false)
-        (row_put key _ s.sources) ∙ (go (row_at s.sources key) ∙ is.alive);
+    alive = alive_as_before g src s ∙ is.alive;
   }
-    where
-      go : (o : Option SourceRow) → is_some (option_and_then (λ (r : SourceRow). r.keepalive) o)
-          ≡ option_map_or (λ (r : SourceRow). is_some r.keepalive) o false
-      go None = refl
-      go (Some r) = refl
 
   wins_open : (s : State) (k : Key) → IsOpen s → IsOpen (wins s k).0
   unfolding wins may_register route is_dr has_other_rp rp_of is_kept_alive

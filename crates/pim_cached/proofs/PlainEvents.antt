@@ -28,7 +28,7 @@ use Rattle.pim_model.specs.Writing.{copies_of, leaves, on_link, pim_to, register
 use Rattle.pim_laws.proofs.ListLaws.{each_map, each_of_all}
 use Rattle.pim_laws.proofs.UnchangedLaws.{full_or_taken}
 use Rattle.pim_locality.specs.Rest.{IsAtRest}
-use Rattle.pim_cached.specs.Decided.{IsDecided, decided, kept_if, plainly_taken}
+use Rattle.pim_cached.specs.Decided.{IsDecided, decided_by_answers, kept_if, plainly_taken}
 use Rattle.pim_cached.proofs.Converse.{makes_no_assert, opens_no_tunnel, sets_no_spt}
 use Rattle.pim_cached.proofs.FirstCleared.{end_keeps, kept_of}
 use Rattle.pim_cached.proofs.Forwards.{closed, keeps, on_its_tree}
@@ -211,7 +211,7 @@ module _ (s : State) (e : Event) (rests : IsAtRest s) (is : IsPlainEvent s e) wh
   decides false false false t false true x y z e f h k = cc (k refl refl)
   decides false false false t false false x y z e f h k = refl
 
-  pub plain_is_decided : is_some (decided s is.iif p) ≡ true
+  pub plain_is_decided : is_some (decided_by_answers s is.iif p) ≡ true
   unfolding plain answers
   plain_is_decided =
       decides (opens_tunnel (answers s g src) i) (sets_spt (answers s g src) i)

@@ -23,10 +23,11 @@ use Rattle.pim_model.specs.Tables.{Table, has_row}
 use Rattle.pim_laws.proofs.RowLaws.{has_row_put}
 use Rattle.pim_locality.specs.Rest.{IsAtRest}
 use Rattle.pim_locality.specs.Sees.{SeesSource}
-use Rattle.pim_reach.specs.Named.{is_named, is_same_beside, named, named_by, named_of}
+use Rattle.pim_reach.specs.Named.{is_source_named, is_same_beside, named, named_by, named_of}
 use Rattle.pim_reach.proofs.Agreed.{register_itself}
-use Rattle.pim_reach.proofs.Sights.{all_pass, bools_same, source_sight}
-use Rattle.pim_cached.specs.Decided.{decided}
+use Rattle.pim_locality.proofs.SameRows.{flags_same}
+use Rattle.pim_reach.proofs.Sights.{all_pass, source_sight}
+use Rattle.pim_cached.specs.Decided.{decided_by_answers}
 use Rattle.pim_cached.proofs.KeptAlive.{its_key, kept_row}
 use Rattle.pim_cached.proofs.NothingFollows.{could_at, no_clearing, none_left, registers_now}
 use Rattle.pim_cached.proofs.PlainPackets.{Forwards, forwards}
@@ -54,29 +55,29 @@ module _ (g src : ℕ) (s : State) (rests : IsAtRest s) (there : has_row s.sourc
       ∙ sym (has_row_put k (source_key 0 g src) (kept_row g src s) s.sources)
 
   module _ (b : Bool) (closed : (b && opens g src s rests there) ≡ false) where
-    none_named : (h x : ℕ) → is_named h x s (now b) ≡ false
-    unfolding is_named is_same_beside
+    none_named : (h x : ℕ) → is_source_named h x s (now b) ≡ false
+    unfolding is_source_named is_same_beside
     none_named h x =
         let sees : SeesSource h x s (now b) = sees_at g src s rests there b h x in
         ap not (both_true (both_true
-        (bools_same _ _ (fact_now b (source_key 0 h x)))
+        (flags_same _ _ (fact_now b (source_key 0 h x)))
         (source_sight h x s (now b) sees))
         (both_true (both_true (both_true
-        (bools_same _ _ (may_register_same h x s (now b) sees))
-        (bools_same _ _ (could_at g src s rests there b closed h x)))
+        (flags_same _ _ (may_register_same h x s (now b) sees))
+        (flags_same _ _ (could_at g src s rests there b closed h x)))
         (ap (λ (t : Table RegisterRow). same_both same_register_state (register_state s h x) (register_state (record s { registers = t }) h x)) (sym (registers_now g src s rests there b closed b)) ∙ state_itself (register_state s h x)))
-        (bools_same _ _ (desired_at g src s rests there b h x))))
+        (flags_same _ _ (desired_at g src s rests there b h x))))
 
     names_none : named_by s (now b) ≡ []
     unfolding named_by named
     names_none =
         ap (λ (after : State × List Message). named s after.0) (no_clearing g src s rests there b closed)
-        ∙ none_left (λ k. is_named (group_in k) (source_in k) s (now b)) (with_facts s (now b))
-        (all_pass (λ k. not (is_named (group_in k) (source_in k) s (now b)))
+        ∙ none_left (λ k. is_source_named (group_in k) (source_in k) s (now b)) (with_facts s (now b))
+        (all_pass (λ k. not (is_source_named (group_in k) (source_in k) s (now b)))
         (λ k. ap not (none_named (group_in k) (source_in k))) (with_facts s (now b)))
 
 pub plain_names_none : (s : State) (w : ℕ) (i : IfaceId) (p : Packet) (how : Plain) → IsAtRest s
-    → has_row s.sources (fact_key p) ≡ true → decided s i p ≡ Some how → named_of s w (Accepted.Data i p) ≡ []
+    → has_row s.sources (fact_key p) ≡ true → decided_by_answers s i p ≡ Some how → named_of s w (Accepted.Data i p) ≡ []
 unfolding named_of change
 plain_names_none s w i p how rests there e =
     let f : Forwards p.destination p.source s rests there i.number p.time_to_live how =

@@ -26,7 +26,7 @@ use Rattle.pim_model.specs.Writing.{copies_of, tunnel_of}
 use Rattle.pim_laws.proofs.RowLaws.{has_row_put}
 use Rattle.pim_laws.proofs.UnchangedLaws.{full_or_taken}
 use Rattle.pim_locality.specs.Rest.{IsAtRest}
-use Rattle.pim_cached.specs.Decided.{IsDecided, decided, kept_if, plainly_taken}
+use Rattle.pim_cached.specs.Decided.{IsDecided, decided_by_answers, kept_if, plainly_taken}
 use Rattle.pim_cached.proofs.Forwards.{closed, keeps, on_its_tree, on_neither, on_shared_tree, settled_anyway, watches}
 use Rattle.pim_cached.proofs.KeptAlive.{its_key, kept_row, no_answer_changed}
 use Rattle.pim_cached.proofs.NothingFollows.{nothing_follows}
@@ -163,7 +163,7 @@ module _ (s : State) (p : Packet) (rests : IsAtRest s) (there : has_row s.source
         state = sent.0;
       })
 
-  pub plain_is_taken : (w : ℕ) (i : IfaceId) (how : Plain) → decided s i p ≡ Some how
+  pub plain_is_taken : (w : ℕ) (i : IfaceId) (how : Plain) → decided_by_answers s i p ≡ Some how
       → taken s w (Accepted.Data i p) ≡ plainly_taken s p how
   unfolding taken change plainly_taken
   plain_is_taken w i how e =

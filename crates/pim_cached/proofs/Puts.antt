@@ -1,6 +1,6 @@
 -- Tables whose keys stand once: each entry is the row that is found at its key. A row put twice is put once, and one put where it is
 -- changes nothing.
-use Rattle.std.proofs.Common.{◌≡◌, Bool, true, false, cond, [], ◌∷◌, Some, refl, ap, sym, ◌∙◌}
+use Rattle.std.proofs.Common.{◌≡◌, Bool, true, false, cond, [], ◌∷◌, Some, is_some, refl, ap, sym, ◌∙◌}
 use Rattle.std.specs.BTreeMap.{insert_entry, is_at}
 use Rattle.std.specs.declared.cmp.Ordering.{Ordering}
 use Rattle.std.specs.declared.cmp.Ordering.TheVariants.{Equal, Greater, Less}
@@ -83,3 +83,9 @@ module _ {R : Type 0} where
   pub found_where_sorted : (t : Table R) → IsStrictlySortedBy key_cmp (keys_in t)
       → AllByRecursion (λ e. row_at t e.0 ≡ Some e.1) t
   found_where_sorted t rises = entries_found t (once_where_sorted t rises)
+
+  -- so there is a row at the key of each
+  pub rows_are_there : (t : Table R) → IsStrictlySortedBy key_cmp (keys_in t) → AllByRecursion (λ e. has_row t e.0 ≡ true) t
+  unfolding has_row
+  rows_are_there t rises =
+      each_more (λ e. row_at t e.0 ≡ Some e.1) _ (λ e f. ap is_some f) t (found_where_sorted t rises)

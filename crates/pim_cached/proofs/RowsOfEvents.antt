@@ -16,13 +16,14 @@ use Rattle.pim_model.specs.Tables.{Table, has_row}
 use Rattle.pim_model.specs.Timers.{Ending}
 use Rattle.pim_locality.specs.Locality.{touching}
 use Rattle.pim_locality.proofs.OwnKeys.{present_touches_none}
-use Rattle.pim_reach.specs.Named.{is_named, is_same_beside, is_same_fact, is_same_sight, named, named_by}
+use Rattle.pim_reach.specs.Named.{is_source_named, is_same_beside, is_same_fact, is_same_sight, named, named_by}
 use Rattle.pim_reach.proofs.Agreed.{agreed_is_unnamed}
 use Rattle.pim_reach.proofs.Calm.{settled_same}
 use Rattle.pim_reach.proofs.Configured.{change_configured, firing_configured}
 use Rattle.pim_reach.proofs.Kept.{unnamed_keeps}
 use Rattle.pim_reach.proofs.Reached.{IsConfigured}
-use Rattle.pim_reach.proofs.SameRows.{both_of, flags, not_false}
+use Rattle.pim_locality.proofs.SameRows.{flags}
+use Rattle.pim_reach.proofs.SameRows.{both_of, not_false}
 use Rattle.pim_reach.proofs.Settled.{settled_configured, settled_keeps}
 use Rattle.pim_cached.specs.Kept.{Cache, IsCached, SameRow, is_listed, refreshed}
 use Rattle.pim_cached.proofs.Listed.{listed}
@@ -33,9 +34,9 @@ no_facts true b x y e f = let none : ⊥ = cc in absurd none
 no_facts false true x y e f = let none : ⊥ = cc in absurd none
 no_facts false false x y e f = tt
 
-unnamed_fact : (g src : ℕ) (o a : State) → is_named g src o a ≡ false
+pub unnamed_fact : (g src : ℕ) (o a : State) → is_source_named g src o a ≡ false
     → has_row o.sources (source_key 0 g src) ≡ has_row a.sources (source_key 0 g src)
-unfolding is_named
+unfolding is_source_named
 unnamed_fact g src o a e =
     let all : _ = both_of (is_same_fact g src o a && is_same_sight g src o a) (is_same_beside g src o a) (not_false _ e) in
     flags _ _ (both_of (is_same_fact g src o a) (is_same_sight g src o a) all.0).0
@@ -51,7 +52,7 @@ module _ (o : State) (change : State × List Message) (w : ℕ) (is : IsConfigur
   end_fact : (g src : ℕ) → has_row after.sources (source_key 0 g src) ≡ has_row end.sources (source_key 0 g src)
   end_fact g src = ap (λ (t : Table SourceRow). has_row t (source_key 0 g src)) (settled_same o change w).sources_same
 
-  its_row : (g src : ℕ) (l n : Bool) → is_listed (named o after) g src ≡ l → is_named g src o after ≡ n
+  its_row : (g src : ℕ) (l n : Bool) → is_listed (named o after) g src ≡ l → is_source_named g src o after ≡ n
       → SameRow (cond l (cached end g src) (c g src)) (cached end g src)
   unfolding cached
   its_row g src true n e f = row_itself (cached end g src)

@@ -17,7 +17,7 @@ use Rattle.pim_model.specs.Tables.{has_row}
 use Rattle.pim_laws.proofs.Accepted.{few_interfaces}
 use Rattle.pim_locality.specs.Rest.{IsAtRest}
 use Rattle.pim_reach.specs.Named.{named_of}
-use Rattle.pim_cached.specs.Decided.{IsDecided, decided}
+use Rattle.pim_cached.specs.Decided.{IsDecided, decided_by_answers}
 use Rattle.pim_cached.specs.Kept.{Cache, IsCached, cache_after, cache_at_end, cache_concluded, cache_taken, cache_unless_full, is_listed, no_rows, refreshed}
 use Rattle.pim_cached.proofs.PlainEvents.{plain_is_decided}
 use Rattle.pim_cached.proofs.PlainNames.{plain_names_none}
@@ -35,7 +35,7 @@ run_keeps_cache s (e ∷ es) c few held =
 
 -- ---- the opening
 
-few_opening : (c : Config) → config_test c ≡ Ok tt → length (opening c).configured ≤ most_ifaces
+pub few_opening : (c : Config) → config_test c ≡ Ok tt → length (opening c).configured ≤ most_ifaces
 unfolding opening
 few_opening c e = few_interfaces c e
 
@@ -56,7 +56,7 @@ module _ (s : State) (e : Event) (p : Packet) (how : Plain) (rests : IsAtRest s)
       (plain_names_none s e.draw is.iif p how rests is.known is.answered))
 
 module _ (s : State) (e : Event) (rests : IsAtRest s) (is : IsPlainEvent s e) where
-  plain_event : (o : Option Plain) → decided s is.iif is.packet ≡ o → is_some o ≡ true
+  plain_event : (o : Option Plain) → decided_by_answers s is.iif is.packet ≡ o → is_some o ≡ true
       → named_of s e.draw (Accepted.Data is.iif is.packet) ≡ []
   unfolding has_row
   plain_event None f h = cc
@@ -64,4 +64,4 @@ module _ (s : State) (e : Event) (rests : IsAtRest s) (is : IsPlainEvent s e) wh
       plain_names_none s e.draw is.iif is.packet how rests (ap (λ (r : Option SourceRow). is_some r) is.known) f
 
   pub plain_event_names_none : named_of s e.draw (Accepted.Data is.iif is.packet) ≡ []
-  plain_event_names_none = plain_event (decided s is.iif is.packet) refl (plain_is_decided s e rests is)
+  plain_event_names_none = plain_event (decided_by_answers s is.iif is.packet) refl (plain_is_decided s e rests is)

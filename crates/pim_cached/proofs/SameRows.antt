@@ -1,7 +1,5 @@
 -- Where the macros answer the same, the rows do; and what is the same through a third is the same.
-use Rattle.std.proofs.Common.{◌≡◌, ℕ, ◌≤◌, Bool, true, false, not, ◌&&◌, ◌||◌, cond, length, Option, Some, None, is_some, option_map, refl, sym, ap, ◌∙◌, arith}
-use Rattle.std.proofs.lemmas.Bool.Decides.{nat_tests}
-use Rattle.std.specs.List.{list_any}
+use Rattle.std.proofs.Common.{◌≡◌, ℕ, ◌≤◌, Bool, true, false, not, ◌&&◌, ◌||◌, cond, length, Option, Some, None, is_some, option_map, refl, sym, ap, ◌∙◌}
 use Rattle.std.specs.Option.{option_map_or}
 use Rattle.pim_types.specs.declared.config.SptSwitch.{SptSwitch}
 use Rattle.pim_types.specs.declared.fact.RegisterRow.{RegisterRow}
@@ -11,11 +9,11 @@ use Rattle.pim_model.specs.Forwarding.{is_spt_reached}
 use Rattle.pim_model.specs.Limits.{most_ifaces}
 use Rattle.pim_model.specs.Registers.{is_spt_wanted}
 use Rattle.pim_model.specs.Rows.{same_register_state}
-use Rattle.pim_model.specs.Sets.{Set, assert_source, assert_star, inherited_olist_rpt, is_empty}
+use Rattle.pim_model.specs.Sets.{assert_source, assert_star, inherited_olist_rpt}
 use Rattle.pim_model.specs.State.{State}
-use Rattle.pim_model.specs.Tables.{below, has_row, row_at, same_hop, same_option}
+use Rattle.pim_model.specs.Tables.{has_row, row_at, same_hop, same_option}
 use Rattle.pim_reach.specs.Keeps.{KeepsAnswers}
-use Rattle.pim_reach.proofs.Kept.{Low, any_same}
+use Rattle.pim_reach.proofs.Kept.{empty_same, Low}
 use Rattle.pim_reach.proofs.Reached.{IsConfigured}
 use Rattle.pim_reach.proofs.SameRows.{there_alike}
 use Rattle.pim_cached.specs.Kept.{SameAnswers, SameRow}
@@ -84,13 +82,6 @@ facts_same false false x y e same = tt
 
 module _ (g src : ℕ) (o a : State) (config : IsConfigured o a) (few : length o.configured ≤ most_ifaces)
     (kept : KeepsAnswers g src o a) where
-  empty_same : (f h : Set) → ((i : ℕ) → Low i → f i ≡ h i) → is_empty o f ≡ is_empty a h
-  unfolding is_empty
-  empty_same f h same =
-      ap not
-      (any_same f h 0 (length o.configured) (λ i low high. same i (grind (arith, nat_tests, few, high)))
-      ∙ (λ j. list_any h (below (length (config.configured j)))))
-
   some_state : (r : Option RegisterRow) → is_some (option_map (λ (x : RegisterRow). x.state) r) ≡ is_some r
   some_state None = refl
   some_state (Some r) = refl
@@ -129,7 +120,7 @@ module _ (g src : ℕ) (o a : State) (config : IsConfigured o a) (few : length o
       same_option (kept.rpf_interface j) (Some i) && kept.join_desired j
       && (kept.is_connected j
       || not (same_option (kept.rpf_interface j) (kept.rpf_interface_rp j))
-      || empty_same (inherited_olist_rpt o g src) (inherited_olist_rpt a g src) (λ k l. (kept.on k l).inherited_olist_rpt) j
+      || empty_same g o a config few (inherited_olist_rpt o g src) (inherited_olist_rpt a g src) (λ k l. (kept.on k l).inherited_olist_rpt) j
       || (is_some (kept.rpf_source j) && same_hop (kept.rpf_source j) (kept.rpf_star j))
       || (kept.on i low).is_loser j)
 

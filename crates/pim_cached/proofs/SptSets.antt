@@ -33,7 +33,7 @@ module _ (g src : ℕ) (s : State) where
   now_set = ap (λ (o : Option SourceRow). option_map_or (λ (r : SourceRow). r.spt) o false) (row_put key set_row s.sources)
 
   -- the timer runs as before
-  alive_as_before : is_kept_alive set g src ≡ is_kept_alive s g src
+  pub alive_as_before : is_kept_alive set g src ≡ is_kept_alive s g src
   unfolding with_spt_bit is_kept_alive
   alive_as_before =
       ap (λ (o : Option SourceRow). option_map_or (λ (r : SourceRow). is_some r.keepalive) o false)

@@ -15,8 +15,8 @@ use Rattle.pim_model.specs.Step.{Answered}
 use Rattle.pim_model.specs.Tables.{has_row}
 use Rattle.pim_model.specs.Writing.{copies_of}
 
-abbrev pub decided : State → IfaceId → Packet → Option Plain
-decided s i p = plain (answers s p.destination p.source) i.number p.time_to_live
+abbrev pub decided_by_answers : State → IfaceId → Packet → Option Plain
+decided_by_answers s i p = plain (answers s p.destination p.source) i.number p.time_to_live
 
 -- the state with the keepalive timer of a source set, or as it is
 abbrev pub kept_if : Bool → State → ℕ → ℕ → State
@@ -37,4 +37,4 @@ pub record IsDecided (s : State) (e : Event) (p : Packet) (how : Plain) : Type 0
   pub iif : IfaceId
   pub heard : judged s e.kind ≡ Ok (Accepted.Data iif p)
   pub known : has_row s.sources (fact_key p) ≡ true
-  pub answered : decided s iif p ≡ Some how
+  pub answered : decided_by_answers s iif p ≡ Some how

@@ -16,7 +16,7 @@ use Rattle.pim_model.specs.Tables.{has_row}
 use Rattle.pim_model.specs.Timers.{Ending}
 use Rattle.pim_locality.specs.Rest.{IsAtRest}
 use Rattle.pim_reach.specs.Named.{named_by, named_of}
-use Rattle.pim_cached.specs.Decided.{IsDecided, decided}
+use Rattle.pim_cached.specs.Decided.{IsDecided, decided_by_answers}
 use Rattle.pim_cached.specs.Kept.{Cache, Held, IsCached, SameAnswers, SameDecision, cache_after, cache_at_end, cache_taken, held_all, no_rows, refreshed}
 
 -- an event other than Advance makes the named rows anew
@@ -63,7 +63,7 @@ OpeningIsCached = (c : Config) → IsCached no_rows (opening c)
 -- a plain packet names no source, so all rows stay as they were
 abbrev pub PlainNamesNone : Type 0
 PlainNamesNone = (s : State) (w : ℕ) (i : IfaceId) (p : Packet) (how : Plain) → IsAtRest s
-    → has_row s.sources (fact_key p) ≡ true → decided s i p ≡ Some how → named_of s w (Accepted.Data i p) ≡ []
+    → has_row s.sources (fact_key p) ≡ true → decided_by_answers s i p ≡ Some how → named_of s w (Accepted.Data i p) ≡ []
 
 -- so it is of a plain event by what it does
 abbrev pub PlainEventNamesNone : Type 0

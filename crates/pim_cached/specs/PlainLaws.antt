@@ -15,14 +15,14 @@ use Rattle.pim_model.specs.Step.{step, taken}
 use Rattle.pim_model.specs.Tables.{has_row}
 use Rattle.pim_locality.specs.Rest.{IsAtRest}
 use Rattle.pim_locality.specs.Sees.{SeesSource}
-use Rattle.pim_cached.specs.Decided.{IsDecided, decided, plainly_taken}
+use Rattle.pim_cached.specs.Decided.{IsDecided, decided_by_answers, plainly_taken}
 
 -- ---- a plain packet
 
 -- what the answers decide is what the machine does, with all that follows of it
 abbrev pub PlainIsTaken : Type 0
 PlainIsTaken = (s : State) (w : ℕ) (i : IfaceId) (p : Packet) (how : Plain) → IsAtRest s
-    → has_row s.sources (fact_key p) ≡ true → decided s i p ≡ Some how
+    → has_row s.sources (fact_key p) ≡ true → decided_by_answers s i p ≡ Some how
     → taken s w (Accepted.Data i p) ≡ plainly_taken s p how
 
 -- a source with a fact needs no room
@@ -47,7 +47,7 @@ DecidedIsPlain = (s : State) (e : Event) (p : Packet) (how : Plain) → IsAtRest
 
 abbrev pub PlainIsDecided : Type 0
 PlainIsDecided = (s : State) (e : Event) → IsAtRest s → (is : IsPlainEvent s e)
-    → is_some (decided s is.iif is.packet) ≡ true
+    → is_some (decided_by_answers s is.iif is.packet) ≡ true
 
 -- ---- what answers depend on
 

@@ -60,34 +60,33 @@ module _ {R : Type 0} (touches : Key → Bool) (p : Key × R → Bool) where
 
 -- ---- quiet beside the touched groups
 
-module _ {R : Type 0} (p : Key × R → Bool) where
-  tail_step : (sees : Key → Bool) (x : Key × R) (xs : Table R) (b : Bool)
-      → list_all p (cond b (x ∷ rows_where sees xs) (rows_where sees xs)) ≡ true
-      → list_all p (rows_where sees xs) ≡ true
-  tail_step sees x xs true e = second_so (p x) (list_all p (rows_where sees xs)) e
-  tail_step sees x xs false e = e
+-- each key sees its own rows
+module _ {R : Type 0} (p q : Key × R → Bool) (sees : Key → Key → Bool) (itself : (k : Key) → sees k k ≡ true)
+    (touches : Key → Bool) (moves : (e : Key × R) → touches e.0 ≡ false → p e ≡ true → q e ≡ true) where
+  tail_step : (test : Key → Bool) (x : Key × R) (xs : Table R) (b : Bool)
+      → list_all p (cond b (x ∷ rows_where test xs) (rows_where test xs)) ≡ true
+      → list_all p (rows_where test xs) ≡ true
+  tail_step test x xs true e = second_so (p x) (list_all p (rows_where test xs)) e
+  tail_step test x xs false e = e
 
-  head_step : (sees : Key → Bool) (x : Key × R) (xs : Table R) (b : Bool) → b ≡ true
-      → list_all p (cond b (x ∷ rows_where sees xs) (rows_where sees xs)) ≡ true
+  head_step : (test : Key → Bool) (x : Key × R) (xs : Table R) (b : Bool) → b ≡ true
+      → list_all p (cond b (x ∷ rows_where test xs) (rows_where test xs)) ≡ true
       → p x ≡ true
-  head_step sees x xs true f e = first_so (p x) (list_all p (rows_where sees xs)) e
-  head_step sees x xs false f e = cc
+  head_step test x xs true f e = first_so (p x) (list_all p (rows_where test xs)) e
+  head_step test x xs false f e = cc
 
-  module _ (touches : Key → Bool) (q : Key × R → Bool)
-      (moves : (e : Key × R) → touches e.0 ≡ false → p e ≡ true → q e ≡ true) where
-    all_beside : (t : Table R) → ((k : Key) → touches k ≡ false → list_all p (rows_where (reads k) t) ≡ true)
-        → list_all (λ e. touches e.0 || q e) t ≡ true
-    unfolding rows_where
-    all_beside [] quiet = refl
-    all_beside (x ∷ xs) quiet =
-        both_true
-        (here (touches x.0) refl)
-        (all_beside xs (λ k e. tail_step (reads k) x xs (reads k x.0) (quiet k e)))
-      where
-        here : (b : Bool) → touches x.0 ≡ b → (b || q x) ≡ true
-        here true e = refl
-        here false e =
-            moves x e (head_step (reads x.0) x xs (reads x.0 x.0) (reads_itself x.0) (quiet x.0 e))
+  pub all_beside : (t : Table R) → ((k : Key) → touches k ≡ false → list_all p (rows_where (sees k) t) ≡ true)
+      → list_all (λ e. touches e.0 || q e) t ≡ true
+  unfolding rows_where
+  all_beside [] quiet = refl
+  all_beside (x ∷ xs) quiet =
+      both_true
+      (here (touches x.0) refl)
+      (all_beside xs (λ k e. tail_step (sees k) x xs (sees k x.0) (quiet k e)))
+    where
+      here : (b : Bool) → touches x.0 ≡ b → (b || q x) ≡ true
+      here true e = refl
+      here false e = moves x e (head_step (sees x.0) x xs (sees x.0 x.0) (itself x.0) (quiet x.0 e))
 
 -- a test that rows pass as they pass it when they are cut down
 all_cut : {R : Type 0} (cut : R → R) (p : Key × R → Bool) → ((e : Key × R) → p (cut_entry cut e) ≡ p e) → (t : Table R)
@@ -106,7 +105,7 @@ pub all_agreed : {R : Type 0} (touches : Key → Bool) (cut : R → R) (p q : Ke
     → list_all (λ e. touches e.0 || q e) u ≡ true
 unfolding rows_where
 all_agreed touches cut p q fits moves t u same e =
-    all_beside p touches q moves u
+    all_beside p q reads reads_itself touches moves u
     (λ k f. sym (all_cut cut p fits (rows_where (reads k) u))
     ∙ (ap (list_all p) (sym (same k f))
     ∙ (all_cut cut p fits (rows_where (reads k) t) ∙ all_of_filter (λ x. reads k x.0) p t e)))

@@ -337,7 +337,7 @@ pub differing_settles : (o : State) → IsQuiet o → IsOrdered o → (change : 
 differing_settles o quiet before change w after shared =
     settling_is_own (differing o change.0) o quiet change w (differing_keys_cover o change.0 before after shared)
 
-none_left : {X : Type 0} (p : X → Bool) → ((x : X) → p x ≡ false) → (xs : List X) → filter p xs ≡ []
+pub none_left : {X : Type 0} (p : X → Bool) → ((x : X) → p x ≡ false) → (xs : List X) → filter p xs ≡ []
 none_left p none [] = refl
 none_left p none (x ∷ xs) = (λ j. cond (none x j) (x ∷ filter p xs) (filter p xs)) ∙ none_left p none xs
 

@@ -42,11 +42,11 @@ pub unequal : (k q : Key) → same_key k q ≡ false → q ≡ k → ⊥
 unequal k q e same = cc (ap (same_key k) same ∙ same_key_same k, e)
 
 module _ {R : Type 0} where
-  none_there : (o : Option R) → is_some o ≡ false → o ≡ None
+  pub none_there : (o : Option R) → is_some o ≡ false → o ≡ None
   none_there None e = refl
   none_there (Some r) e = cc
 
-  set_here : (k : Key) (t : Table R) (o : Option R) → row_at (set_row t k o) k ≡ o
+  pub set_here : (k : Key) (t : Table R) (o : Option R) → row_at (set_row t k o) k ≡ o
   unfolding set_row has_row
   set_here k t (Some r) = row_put k r t
   set_here k t None = none_there _ (has_row_without k k t ∙ rw (same_key_same k) refl)

@@ -18,17 +18,17 @@ use Rattle.pim_model.specs.Tables.{below, same_hop, same_option}
 use Rattle.pim_model.specs.Unicast.{is_connected, is_rpf_interface, is_rpf_interface_rp, rpf_interface, rpf_interface_rp}
 use Rattle.pim_locality.specs.Sees.{SeesSource, SeesStar}
 
-hop_by : (row : ℕ → Option AssertRow) (o : Option ℕ)
+pub hop_by : (row : ℕ → Option AssertRow) (o : Option ℕ)
     → winner_hop o row ≡ option_and_then (λ i. winner_hop (Some i) row) o
 hop_by row None = refl
 hop_by row (Some i) = refl
 
-hop_same : (row row' : ℕ → Option AssertRow) → ((i : ℕ) → winner_hop (Some i) row ≡ winner_hop (Some i) row')
+pub hop_same : (row row' : ℕ → Option AssertRow) → ((i : ℕ) → winner_hop (Some i) row ≡ winner_hop (Some i) row')
     → (o p : Option ℕ) → o ≡ p
     → winner_hop o row ≡ winner_hop p row'
 hop_same row row' same o p e = hop_by row o ∙ (λ j. option_and_then (λ i. same i j) (e j)) ∙ sym (hop_by row' p)
 
-by_winner : (mine : AssertMetric) (o : Option AssertRow)
+pub by_winner : (mine : AssertMetric) (o : Option AssertRow)
     → option_map_or (λ (r : AssertRow). is_better r.winner mine) o false ≡ option_map_or (λ m. is_better m mine)
     (option_map (λ (r : AssertRow). r.winner) o) false
 by_winner mine None = refl

@@ -14,18 +14,18 @@ use Rattle.pim_types.specs.declared.fact.SourceRow.{SourceRow}
 use Rattle.pim_model.specs.Rows.{same_assert, same_downstream, same_end, same_group_record, same_metric, same_register, same_register_state, same_source, same_source_record}
 use Rattle.pim_model.specs.Sets.{is_winner}
 use Rattle.pim_model.specs.Tables.{same_bool}
-use Rattle.pim_locality.specs.Scopes.{only_running, without_end}
+use Rattle.pim_locality.specs.Scopes.{only_running, state_without_end}
 use Rattle.pim_locality.proofs.SourceMacros.{cut_kept, cut_kind, cut_register, cut_source}
 use Rattle.pim_locality.proofs.StarMacros.{cut_assert, cut_group, some_cut}
 
 -- ---- values
 
-flags : (a b : Bool) → same_bool a b ≡ true → a ≡ b
+pub flags : (a b : Bool) → same_bool a b ≡ true → a ≡ b
 flags true b e = sym e
 flags false true e = cc
 flags false false e = refl
 
-flags_same : (a b : Bool) → a ≡ b → same_bool a b ≡ true
+pub flags_same : (a b : Bool) → a ≡ b → same_bool a b ≡ true
 flags_same true b e = sym e
 flags_same false true e = cc
 flags_same false false e = refl
@@ -41,7 +41,7 @@ ends_same a b e =
     flags_same (is_some a) (is_some b)
     (sym (some_cut a) ∙ (ap (λ (o : Option ℕ). is_some o) e ∙ some_cut b))
 
-metrics : (m n : AssertMetric) → same_metric m n ≡ true → m ≡ n
+pub metrics : (m n : AssertMetric) → same_metric m n ≡ true → m ≡ n
 metrics m n e =
     let three : (same_bool m.rpt n.rpt && (m.preference == n.preference) && (m.metric == n.metric)) ≡ true =
     first_so _ (m.address.bits == n.address.bits) e in
@@ -134,7 +134,7 @@ of_sources = record {
       (flags_same a.spt b.spt (ap (λ (r : SourceRow). r.spt) e));
 }
 
-states : (a b : RegisterState) → same_register_state a b ≡ true → without_end a ≡ without_end b
+states : (a b : RegisterState) → same_register_state a b ≡ true → state_without_end a ≡ state_without_end b
 states RegisterState.Join RegisterState.Join e = refl
 states RegisterState.Join (RegisterState.JoinPending n) e = cc
 states RegisterState.Join (RegisterState.Prune n) e = cc
@@ -145,7 +145,7 @@ states (RegisterState.Prune m) RegisterState.Join e = cc
 states (RegisterState.Prune m) (RegisterState.JoinPending n) e = cc
 states (RegisterState.Prune m) (RegisterState.Prune n) e = refl
 
-states_same : (a b : RegisterState) → without_end a ≡ without_end b → same_register_state a b ≡ true
+states_same : (a b : RegisterState) → state_without_end a ≡ state_without_end b → same_register_state a b ≡ true
 states_same RegisterState.Join RegisterState.Join e = refl
 states_same RegisterState.Join (RegisterState.JoinPending n) e = cc
 states_same RegisterState.Join (RegisterState.Prune n) e = cc

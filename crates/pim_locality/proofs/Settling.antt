@@ -16,7 +16,7 @@ use Rattle.pim_locality.proofs.Registers.{registers_agree, registers_of_touched}
 use Rattle.pim_locality.proofs.TouchedUpstream.{upstream_of_touched}
 
 module _ (touches : Key → Bool) (closed : IsClosed touches) (o : State) where
-  clear_agrees : (s : State) → AgreesBut touches o s → AgreesBut touches o (touched_clear touches o s).0
+  pub clear_agrees : (s : State) → AgreesBut touches o s → AgreesBut touches o (touched_clear touches o s).0
   unfolding touched_clear
   clear_agrees s agree =
       kept_to_the_end (touched_to_clear touches o) cleared (AgreesBut touches o)
@@ -24,7 +24,7 @@ module _ (touches : Key → Bool) (closed : IsClosed touches) (o : State) where
       agree
 
   module _ (quiet : IsQuiet o) where
-    cleared_of_touched : (s : State) → AgreesBut touches o s
+    pub cleared_of_touched : (s : State) → AgreesBut touches o s
         → clear o s ≡ touched_clear touches o (touched_registers touches s)
     unfolding clear
     cleared_of_touched s agree =

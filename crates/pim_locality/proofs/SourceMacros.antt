@@ -19,7 +19,7 @@ use Rattle.pim_model.specs.State.{State, is_own, my_address}
 use Rattle.pim_types.specs.Keys.{rpt_key, source_key, star_key}
 use Rattle.pim_model.specs.Tables.{has_row, row_at, rows_where, same_hop}
 use Rattle.pim_model.specs.Unicast.{route, rpf_interface, rpf_interface_rp}
-use Rattle.pim_locality.specs.Scopes.{only_kind, only_running, only_side, scope, without_end}
+use Rattle.pim_locality.specs.Scopes.{only_kind, only_running, only_side, scope, state_without_end}
 use Rattle.pim_laws.proofs.RowLaws.{has_row_map}
 use Rattle.pim_locality.proofs.SharedMacros.{is_dr_local, nbr_local, route_local, rpf_interface_local, rpf_interface_rp_local}
 use Rattle.pim_locality.proofs.Rows.{read_of_cut, row_at_cut, row_in_scope, has_row_in_scope}
@@ -42,7 +42,7 @@ abbrev pub cut_kept : SourceRow → SourceRow
 cut_kept r = record { keepalive = only_running r.keepalive; spt = r.spt }
 
 abbrev pub cut_register : RegisterRow → RegisterRow
-cut_register r = record { state = without_end r.state }
+cut_register r = record { state = state_without_end r.state }
 
 tunnel_cut : (o : Option RegisterRow)
     → is_register_join (option_map (λ (r : RegisterRow). r.state) (option_map cut_register o))
@@ -51,7 +51,7 @@ tunnel_cut None = refl
 tunnel_cut (Some r) = go r.state
   where
     go : (state : RegisterState)
-        → is_register_join (Some (without_end state)) ≡ is_register_join (Some state)
+        → is_register_join (Some (state_without_end state)) ≡ is_register_join (Some state)
     go RegisterState.Join = refl
     go (RegisterState.JoinPending end) = refl
     go (RegisterState.Prune end) = refl

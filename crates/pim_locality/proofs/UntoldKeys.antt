@@ -25,16 +25,16 @@ pub same_by_scope : {A : Type 0} (k : Key) (f : State → A) → ((s : State) �
     → (o a : State) → AgreesOn k o a → f o ≡ f a
 same_by_scope k f local o a e = sym (local o) ∙ (ap f e ∙ local a)
 
-hops_same : (h : Option Hop) → same_hop h h ≡ true
-hops_same None = refl
-hops_same (Some h) = rw (eq-eqb h.iface.number h.iface.number refl, eq-eqb h.address.bits h.address.bits refl) refl
+pub hop_itself : (h : Option Hop) → same_hop h h ≡ true
+hop_itself None = refl
+hop_itself (Some h) = rw (eq-eqb h.iface.number h.iface.number refl, eq-eqb h.address.bits h.address.bits refl) refl
 
-options_same : (n : Option ℕ) → same_option n n ≡ true
-options_same None = refl
-options_same (Some n) = eq-eqb n n refl
+pub option_itself : (n : Option ℕ) → same_option n n ≡ true
+option_itself None = refl
+option_itself (Some n) = eq-eqb n n refl
 
 addresses_same : (a : Option Addr) → same_address a a ≡ true
-addresses_same a = options_same (option_map (λ (x : Addr). x.bits) a)
+addresses_same a = option_itself (option_map (λ (x : Addr). x.bits) a)
 
 -- joined before and after, or neither
 told_if : (b : Bool) (stays joins prunes : Told) → stays ≡ nothing_told
@@ -47,7 +47,7 @@ told_if false stays joins prunes f = refl
 module _ (a : State) (w g : ℕ) where
   star_as_it_was : (v : StarView) → star_stays a w g v v ≡ nothing_told
   unfolding star_stays
-  star_as_it_was v = rw (hops_same v.upstream, addresses_same v.rp) refl
+  star_as_it_was v = rw (hop_itself v.upstream, addresses_same v.rp) refl
 
   star_untold : (v : StarView) → star_told a w g v v ≡ nothing_told
   unfolding star_told
@@ -56,7 +56,7 @@ module _ (a : State) (w g : ℕ) where
   module _ (src : ℕ) (v : SourceView) where
     source_as_it_was : source_stays a w g src v v ≡ nothing_told
     unfolding source_stays
-    source_as_it_was = rw (hops_same v.upstream) refl
+    source_as_it_was = rw (hop_itself v.upstream) refl
 
     source_untold : source_told a w g src v v ≡ nothing_told
     unfolding source_told

@@ -159,12 +159,12 @@ NextToClearIsLocal = (touches : Key → Bool) (o : State) → IsQuiet o → (s :
 -- ---- registers
 
 -- the touched sources
-abbrev pub touched_sources : (Key → Bool) → State → List Key
-touched_sources touches s = filter touches (keys_in s.sources ++ keys_in s.registers)
+abbrev pub touched_source_keys : (Key → Bool) → State → List Key
+touched_source_keys touches s = filter touches (keys_in s.sources ++ keys_in s.registers)
 
 unfoldable pub touched_registers : (Key → Bool) → State → State
 touched_registers touches s =
-    record s { registers = fold (λ t k. settled_register s k t) s.registers (touched_sources touches s) }
+    record s { registers = fold (λ t k. settled_register s k t) s.registers (touched_source_keys touches s) }
 
 abbrev pub RegistersAreLocal : Type 0
 RegistersAreLocal =

@@ -54,13 +54,13 @@ only_winner e = (e.0, record e.1 { end = 0 })
 abbrev pub only_kept : Key × SourceRow → Key × SourceRow
 only_kept e = (e.0, record { keepalive = only_running (e.1).keepalive; spt = (e.1).spt })
 
-abbrev pub without_end : RegisterState → RegisterState
-without_end RegisterState.Join = RegisterState.Join
-without_end (RegisterState.JoinPending end) = RegisterState.JoinPending 0
-without_end (RegisterState.Prune end) = RegisterState.Prune 0
+abbrev pub state_without_end : RegisterState → RegisterState
+state_without_end RegisterState.Join = RegisterState.Join
+state_without_end (RegisterState.JoinPending end) = RegisterState.JoinPending 0
+state_without_end (RegisterState.Prune end) = RegisterState.Prune 0
 
 abbrev pub only_registered : Key × RegisterRow → Key × RegisterRow
-only_registered e = (e.0, record { state = without_end (e.1).state })
+only_registered e = (e.0, record { state = state_without_end (e.1).state })
 
 -- the state as macros see it that read these keys alone; they read no present, no timer of an upstream state, and
 -- nothing of queriers

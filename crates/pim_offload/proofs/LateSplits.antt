@@ -20,7 +20,8 @@ use Rattle.pim_offload.proofs.Ends.{no_ends}
 use Rattle.pim_offload.proofs.Orders.{ended_at, heard_at, late_follows}
 use Rattle.pim_offload.proofs.Passes.{Passed, ended_by}
 use Rattle.pim_offload.proofs.Splits.{Follows, Goes, caught, opening_is_early, step_goes, step_stays_early, whole_follows}
-use Rattle.pim_offload.proofs.ToldRows.{few_opening, opening_is_told, step_keeps_told}
+use Rattle.pim_cached.proofs.RowsOfRuns.{few_opening}
+use Rattle.pim_offload.proofs.ToldRows.{opening_is_told, step_keeps_told}
 
 module _ (x : Split) (r : State) (f : Follows x r) where
   -- what is owed came once more

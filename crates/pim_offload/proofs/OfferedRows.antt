@@ -5,7 +5,7 @@ use Rattle.pim_model.specs.Cache.{Answers, answers, away_from, cached}
 use Rattle.pim_model.specs.Forwarding.{no_interface}
 use Rattle.pim_model.specs.Full.{is_full, source_is_full}
 use Rattle.pim_model.specs.Tables.{has_row}
-use Rattle.pim_offload.specs.Offload.{Handling, Row, handled, handling, handling_unknown, is_incoming, offload, unknown_of}
+use Rattle.pim_offload.specs.Offload.{Handling, handled, handling, handling_unknown, is_incoming, offload, unknown_of}
 use Rattle.pim_offload.specs.Offered.{KnownIsTold, Offered, OfferedIsHandled, UnknownRowDecides, offered, unknown_row}
 use Rattle.pim_offload.specs.Split.{handled_at}
 

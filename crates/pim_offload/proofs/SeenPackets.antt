@@ -1,9 +1,8 @@
 -- A header alone is read as a packet, and does what any packet of its source and its group does, but for what leaves.
-use Rattle.std.proofs.Common.{◌≡◌, ◌++◌, ◌==◌, ◌<◌, ◌≤◌, ◌^◌, ℕ, Bool, true, false, ◌&&◌, ◌||◌, List, [], append-nil, length, nat_le, nat_lt, IsTrue, Ok, Result, refl, sym, ap, subst, ◌∙◌, arith}
+use Rattle.std.proofs.Common.{◌≡◌, ◌++◌, ◌==◌, ◌<◌, ◌≤◌, ◌^◌, ℕ, Bool, true, false, ◌&&◌, ◌||◌, List, [], append-nil, length, nat_lt, IsTrue, Ok, refl, sym, ap, subst, ◌∙◌, arith}
 use Rattle.std.proofs.lemmas.Bool.Decides.{nat_tests}
-use Rattle.pim_ip.specs.Checksum.{sum16, with_checksum}
-use Rattle.pim_ip.specs.Ipv4.{Packet, first_multicast, fragment_of, frame_limit, header_length_of, header_text, ipv4_reading, is_multicast, is_source, packet_limit, packet_of, protocol_igmp, protocol_of, source_of, total_length_of, version_of}
-use Rattle.pim_ip.specs.Tests.{expect, ◌>>◌}
+use Rattle.pim_ip.specs.Checksum.{with_checksum}
+use Rattle.pim_ip.specs.Ipv4.{Packet, first_multicast, frame_limit, header_text, ipv4_reading, is_multicast, is_source, packet_limit, packet_of, protocol_igmp}
 use Rattle.pim_ip.specs.View.{ReadsAs, written}
 use Rattle.pim_ip.specs.declared.refusal.Refusal.{Refusal}
 use Rattle.pim_ip.proofs.ViewLemmas.{written_reads}
@@ -20,31 +19,17 @@ use Rattle.pim_model.specs.Sets.{Set}
 use Rattle.pim_model.specs.State.{State}
 use Rattle.pim_model.specs.Step.{Answered, change, concluded, done, packet_forwarded, step, stopped, taken, taken_unless_full}
 use Rattle.pim_model.specs.Writing.{copies_of, leaves, tunnel_of}
+use Rattle.pim_ready.proofs.ReadPackets.{packet_is, passed}
 use Rattle.pim_offload.specs.OffloadLaws.{BringsData, IsData}
 use Rattle.pim_offload.specs.Seen.{IsAllBut, SeenIsStepped, bare_text, last_time_to_live, protocol_udp, seen_event}
 use Rattle.pim_offload.proofs.Planes.{data_is_heard, none_leave}
 
 -- ---- what is read may come from its source
 
-held : (b : Bool) (refusal : Refusal) (next : Result Packet Refusal) (p : Packet) → (expect b refusal >> next) ≡ Ok p
-    → (b ≡ true) × (next ≡ Ok p)
-held true refusal next p e = (refl, e)
-held false refusal next p e = cc
-
 its_source : (b : List ℕ) (p : Packet) → ipv4_reading b ≡ Ok p → is_source p.protocol p.source ≡ true
-unfolding ipv4_reading packet_of
+unfolding packet_of
 its_source b p e =
-    let t1 = held (nat_le (length b) packet_limit) _ _ p e in
-    let t2 = held (nat_le 20 (length b)) _ _ p t1.1 in
-    let t3 = held (version_of b == 4) _ _ p t2.1 in
-    let t4 = held (nat_le 20 (header_length_of b)) _ _ p t3.1 in
-    let t5 = held (nat_le (header_length_of b) (total_length_of b)) _ _ p t4.1 in
-    let t6 = held (nat_le (total_length_of b) (length b)) _ _ p t5.1 in
-    let t7 = held (sum16 _ == 0) _ _ p t6.1 in
-    let t8 = held (fragment_of b == 0) _ _ p t7.1 in
-    let t9 = held (is_source (protocol_of b) (source_of b)) _ _ p t8.1 in
-    let same : packet_of b ≡ p = cc t9.1 in
-    subst (λ (q : Packet). is_source q.protocol q.source ≡ true) same t9.0
+    subst (λ (q : Packet). is_source q.protocol q.source ≡ true) (sym (packet_is b p e)) (passed b p e).source
 
 -- ---- a header alone
 

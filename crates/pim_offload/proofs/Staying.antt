@@ -1,5 +1,5 @@
 -- What is offered of a source that isn't named stays, whether the source has a fact or not.
-use Rattle.std.proofs.Common.{◌≡◌, ◌≤◌, ◌+◌, ◌==◌, ℕ, Bool, true, false, not, ◌&&◌, ◌||◌, cond, List, [], ◌∷◌, length, Option, Some, None, is_some, nat_lt, option_map, unwrap_or, refl, sym, ap, subst, ◌∙◌, arith}
+use Rattle.std.proofs.Common.{◌≡◌, ◌+◌, ◌==◌, ℕ, Bool, true, false, not, ◌&&◌, ◌||◌, cond, List, [], ◌∷◌, length, Option, Some, None, is_some, nat_lt, option_map, unwrap_or, refl, sym, ap, subst, ◌∙◌, arith}
 use Rattle.std.proofs.lemmas.List.Sums.{sum_by-cons}
 use Rattle.std.proofs.lemmas.Map.Entries.{length-values_of, sum_by-insert_entry}
 use Rattle.std.specs.BTreeMap.{insert_entry, is_at}
@@ -9,12 +9,11 @@ use Rattle.pim_types.specs.declared.fact.Key.{Key}
 use Rattle.pim_types.proofs.Keys.{equal_keys, key_cmp_total}
 use Rattle.pim_types.specs.declared.fact.SourceRow.{SourceRow}
 use Rattle.pim_types.specs.Keys.{key_cmp, same_key, source_key}
-use Rattle.pim_model.specs.Cache.{Answers, Plain, answers}
+use Rattle.pim_model.specs.Cache.{Answers, answers}
 use Rattle.pim_model.specs.Clearing.{clear}
 use Rattle.pim_model.specs.Downstream.{is_named as is_named_key}
 use Rattle.pim_model.specs.Firing.{fire_once, fired, settled}
 use Rattle.pim_model.specs.Full.{counted, distinct, needed, once_more, passes_limit, source_is_full}
-use Rattle.pim_model.specs.Limits.{most_ifaces}
 use Rattle.pim_model.specs.Messages.{Message}
 use Rattle.pim_model.specs.Reach.{own_firing}
 use Rattle.pim_model.specs.Registers.{keepalive_period, with_keepalive}
@@ -25,14 +24,14 @@ use Rattle.pim_model.specs.Tables.{Table, has_row, keys_in, put, row_at}
 use Rattle.pim_laws.proofs.RowLaws.{has_row_put}
 use Rattle.pim_ready.specs.Ready.{IsOrdered, Rises}
 use Rattle.pim_locality.specs.Rest.{IsAtRest}
-use Rattle.pim_reach.specs.Named.{is_named, is_same_beside, is_same_fact, is_same_sight}
+use Rattle.pim_reach.specs.Named.{is_source_named}
 use Rattle.pim_reach.proofs.Calm.{settled_same}
-use Rattle.pim_reach.proofs.SameRows.{both_of, flags, not_false}
 use Rattle.pim_cached.specs.Decided.{kept_if, plainly_taken}
 use Rattle.pim_cached.specs.Kept.{SameAnswers, SameDecision}
 use Rattle.pim_cached.proofs.KeptAlive.{no_answer_changed}
 use Rattle.pim_cached.proofs.PlainPackets.{plain_is_stepped}
 use Rattle.pim_cached.proofs.SameRows.{answers_itself, row_through}
+use Rattle.pim_cached.proofs.RowsOfEvents.{unnamed_fact}
 use Rattle.pim_offload.specs.Keeping.{kept_until}
 use Rattle.pim_offload.specs.Offload.{Handling, decision, handling, handling_unknown, offload}
 use Rattle.pim_offload.specs.Offered.{Offered, offered, unknown_row}
@@ -86,14 +85,7 @@ offer_stays s t g src stays room =
 
 -- ---- what isn't named
 
-unnamed_fact : (g src : ℕ) (o a : State) → is_named g src o a ≡ false
-    → has_row o.sources (source_key 0 g src) ≡ has_row a.sources (source_key 0 g src)
-unfolding is_named
-unnamed_fact g src o a e =
-    let all : _ = both_of (is_same_fact g src o a && is_same_sight g src o a) (is_same_beside g src o a) (not_false _ e) in
-    flags _ _ (both_of (is_same_fact g src o a) (is_same_sight g src o a) all.0).0
-
-fact_at_end : (o : State) (changed : State × List Message) (w g src : ℕ) → is_named g src o (clear o changed.0).0 ≡ false
+fact_at_end : (o : State) (changed : State × List Message) (w g src : ℕ) → is_source_named g src o (clear o changed.0).0 ≡ false
     → has_row o.sources (source_key 0 g src) ≡ has_row (settled o changed w).0.sources (source_key 0 g src)
 fact_at_end o changed w g src unnamed =
     unnamed_fact g src o (clear o changed.0).0 unnamed

@@ -4,7 +4,6 @@ use Rattle.pim_ip.specs.Ipv4.{Packet, header_text}
 use Rattle.pim_types.specs.declared.config.IfaceId.{IfaceId}
 use Rattle.pim_types.specs.declared.event.Event.{Event}
 use Rattle.pim_types.specs.declared.event.EventKind.{EventKind}
-use Rattle.pim_types.specs.declared.outcome.Emission.{Emission}
 use Rattle.pim_model.specs.Sets.{Set}
 use Rattle.pim_model.specs.State.{State}
 use Rattle.pim_model.specs.Step.{Answered, step}

@@ -15,7 +15,7 @@ use Rattle.pim_model.specs.State.{State}
 use Rattle.pim_model.specs.Step.{change, done, step}
 use Rattle.pim_model.specs.Tables.{has_row}
 use Rattle.pim_model.specs.Timers.{Ending}
-use Rattle.pim_reach.specs.Named.{is_named}
+use Rattle.pim_reach.specs.Named.{is_source_named}
 use Rattle.pim_locality.specs.Rest.{IsAtRest}
 use Rattle.pim_cached.specs.Decided.{IsDecided}
 use Rattle.pim_cached.specs.Kept.{SameAnswers}
@@ -43,11 +43,11 @@ OfferStays = (s t : State) (g src : ℕ) → SourceStays g src s t → passes_li
 -- the test by which sources are named tells it of any source: of an event, of a timer's end, and of the present alone
 abbrev pub UnnamedSourceStays : Type 0
 UnnamedSourceStays = (s : State) (w : ℕ) (a : Accepted) → length s.configured ≤ most_ifaces → (g src : ℕ)
-    → is_named g src s (clear s (change s w a).state).0 ≡ false → SourceStays g src s (done s w (change s w a)).state
+    → is_source_named g src s (clear s (change s w a).state).0 ≡ false → SourceStays g src s (done s w (change s w a)).state
 
 abbrev pub FiringSourceStays : Type 0
 FiringSourceStays = (s : State) (w : ℕ) (e : Ending) → length s.configured ≤ most_ifaces → (g src : ℕ)
-    → is_named g src s (clear s (own_firing s e)).0 ≡ false → SourceStays g src s (fire_once w s e).0
+    → is_source_named g src s (clear s (own_firing s e)).0 ≡ false → SourceStays g src s (fire_once w s e).0
 
 abbrev pub TimeSourceStays : Type 0
 TimeSourceStays = (s : State) (m g src : ℕ) → SourceStays g src s (record s { present = m })

@@ -24,7 +24,7 @@ use Rattle.pim_model.specs.Registers.{registered_group}
 use Rattle.pim_model.specs.State.{State, iface_count, is_own, is_up, my_address}
 use Rattle.pim_model.specs.Step.{step}
 use Rattle.pim_model.specs.Unicast.{is_rp}
-use Rattle.pim_promises.specs.Brought.{Brings, InRegister, OnLink, PacketIsBrought}
+use Rattle.pim_promises.specs.Brought.{BringsPacket, InRegister, OnLink, PacketIsBrought}
 
 -- the packet of what was judged
 abbrev packet_of : Judged → Option Packet
@@ -193,7 +193,7 @@ module _ (s : State) (p : Packet) where
       let r : WasRead (ipv4_reading bytes) (unicast_packet_judged s) p = was_read (ipv4_reading bytes) (unicast_packet_judged s) p e in
       record { outer = r.value; reads = r.is; holds = of_pim r.value r.goes_on }
 
-  kind_brings : (kind : EventKind) (e : Event) → e.kind ≡ kind → packet_of (judged s kind) ≡ Some p → Brings e p
+  kind_brings : (kind : EventKind) (e : Event) → e.kind ≡ kind → packet_of (judged s kind) ≡ Some p → BringsPacket e p
   unfolding judged advance_judged up_judged down_judged routes_judged rps_judged
   kind_brings (EventKind.Frame i bytes) e is was = OnLink i bytes is (of_frame i bytes was)
   kind_brings (EventKind.Unicast bytes) e is was =

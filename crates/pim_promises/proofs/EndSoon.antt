@@ -22,8 +22,9 @@ use Rattle.pim_model.specs.Limits.{are_apart, are_routes, are_rps, config_test, 
 use Rattle.pim_model.specs.State.{State, opening}
 use Rattle.pim_model.specs.Step.{advanced, change, iface_down, iface_up, ran, rps_replaced, state_after, step}
 use Rattle.pim_laws.proofs.ListLaws.{each_more, each_of_list, list_of_each}
+use Rattle.pim_ready.proofs.Unsettled.{Unsettled, settling_leaves}
 use Rattle.pim_promises.specs.Uncounted.{EachOverrideEndsSoon, is_of_bytes, longest_override}
-use Rattle.pim_promises.proofs.Lasting.{Beside, Lasting, Unhailed, Unsettled, Whole, assert_whole, data_whole, hello_unhailed, query_lasting, register_whole, report_lasting, seen_beside, settled_same, to_me_whole}
+use Rattle.pim_promises.proofs.Lasting.{Beside, Lasting, Unhailed, Whole, assert_whole, data_whole, hello_unhailed, query_lasting, register_whole, report_lasting, seen_beside, to_me_whole}
 use Rattle.pim_promises.proofs.OverrideEnds.{IsBriefly, IsSoon, soon_changes, soon_fires, soon_follows, soon_moves}
 use Rattle.pim_promises.proofs.Said.{IsSaid, kind_said}
 use Rattle.pim_promises.proofs.Walks.{event_walks, time_walks}
@@ -89,7 +90,7 @@ time_soon s w moment le f =
 
 settled_soon : (o : State) (c : State × List Message) (w : ℕ) → EndsSoon c.0 → EndsSoon (settled o c w).0
 settled_soon o c w f =
-    subst (λ (n : ℕ). IsSoon n (settled o c w).0) (sym (ap (λ (u : Unsettled). u.present) (settled_same o c w)))
+    subst (λ (n : ℕ). IsSoon n (settled o c w).0) (sym (ap (λ (u : Unsettled). u.present) (settling_leaves o c w)))
     (soon_follows (c.0).present o c w f)
 
 changed_soon : (s : State) (w : ℕ) (a : Accepted) → IsBriefly a → EndsSoon s → EndsSoon (change s w a).state

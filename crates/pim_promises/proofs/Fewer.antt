@@ -26,11 +26,11 @@ use Rattle.pim_model.specs.State.{State}
 use Rattle.pim_model.specs.Step.{advanced}
 use Rattle.pim_model.specs.Tables.{Table, change_row, drop_where, row_at}
 use Rattle.pim_model.specs.Timers.{Ending, next_due, timers}
-use Rattle.pim_model.specs.Upstream.{join_timer_due, moved_join_timer, moved_override_timer, override_timer_due, upstream}
-use Rattle.pim_model.specs.Writing.{write_all}
+use Rattle.pim_model.specs.Upstream.{join_timer_due, override_timer_due}
 use Rattle.pim_laws.proofs.ListLaws.{by_cond, filter_shorter}
-use Rattle.pim_laws.proofs.SettlingLaws.{kept_by_clearing, kept_by_telling}
+use Rattle.pim_laws.proofs.SettlingLaws.{kept_by_clearing}
 use Rattle.pim_laws.proofs.TurnLaws.{kept_to_the_end}
+use Rattle.pim_ready.proofs.Unsettled.{Untold, cleared_in_the_end}
 use Rattle.pim_promises.specs.Bounded.{AddsNone, TimeAddsNone}
 use Rattle.pim_promises.proofs.Counting.{one_more, shorter_at, shorter_changed}
 
@@ -133,20 +133,22 @@ clear_none o s =
     (λ t k f. then_none s t _ f (with_sources t (change_row without_spt k t.sources) (shorter_changed without_spt k t.sources)))
     o s (adds_none s (settle_registers s) refl)
 
-upstream_same : (o a : State) (w : ℕ) → Same a (upstream o a w).0
-unfolding moved_join_timer moved_override_timer
-upstream_same o a w =
-    kept_by_telling (λ n. Unit {0}) a w (λ d some. tt) (Same a) (λ s k change fair f. f) (λ s k change fair f. f) o refl
-
-writing_same : (s : State) (messages : List Message) → Same s (write_all s messages).0
-unfolding write_all
-writing_same s messages = refl
+-- what is told and sent leaves them
+told_same : (o : State) (change : State × List Message) (w : ℕ) → Same (clear o change.0).0 (settled o change w).0
+told_same o change w =
+    ap (λ (u : Untold). let facts : Facts = record {
+      settings = u.unsettled.settings;
+      neighbours = u.unsettled.neighbours;
+      groups = u.unsettled.group_records;
+      members = u.unsettled.source_records;
+      downstream = u.unsettled.downstream;
+      sources = u.sources;
+    } in facts) (cleared_in_the_end o change w)
 
 pub settled_none : (o : State) (change : State × List Message) (w : ℕ) → AddsNone change.0 (settled o change w).0
-unfolding settled
 settled_none o change w =
     then_none change.0 (clear o change.0).0 _ (clear_none o change.0)
-    (adds_none (clear o change.0).0 _ (writing_same _ _ ∙ upstream_same o (clear o change.0).0 w))
+    (adds_none (clear o change.0).0 _ (told_same o change w))
 
 -- ---- the ends of rows
 

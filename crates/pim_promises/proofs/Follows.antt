@@ -37,7 +37,7 @@ use Rattle.pim_promises.specs.Answers.{AnswersAreBounded, HelloAgainIsSilent, On
 use Rattle.pim_promises.proofs.Cancels.{clearing_cancels}
 use Rattle.pim_promises.proofs.Independent.{taken_at_once}
 use Rattle.pim_promises.proofs.Made.{step_taken}
-use Rattle.pim_promises.proofs.Own.{none_member}
+use Rattle.pim_locality.proofs.Differing.{none_left}
 use Rattle.pim_promises.proofs.Sent.{writing_costs, writing_doubles}
 use Rattle.pim_promises.proofs.Told.{upstream_told}
 
@@ -268,7 +268,7 @@ nothing_sent (x ∷ xs) le = absurd (omega (arith, le))
 
 nothing_touched : (s : State) → cancels [] s ≡ 0
 unfolding cancels touching
-nothing_touched s = ap (λ (t : Table AssertRow). length t) (none_member (is_touched_winner []) (λ e. refl) s.asserts)
+nothing_touched s = ap (λ (t : Table AssertRow). length t) (none_left (is_touched_winner []) (λ e. refl) s.asserts)
 
 nothing_follows : (s t : State) → follows [] s t ≡ 0
 unfolding follows told_of_groups groups_of ascending

@@ -25,20 +25,16 @@ use Rattle.pim_model.specs.State.{State}
 use Rattle.pim_model.specs.Step.{change}
 use Rattle.pim_model.specs.Writing.{leaves, on_link, pim_to}
 use Rattle.pim_laws.proofs.ListLaws.{each_map}
-use Rattle.pim_promises.specs.Brought.{Brings, InRegister, OnLink}
+use Rattle.pim_ready.proofs.ReadPackets.{Passed, packet_is, passed}
+use Rattle.pim_promises.specs.Brought.{BringsPacket, InRegister, OnLink}
 use Rattle.pim_promises.specs.Copies.{happens}
 use Rattle.pim_promises.specs.Hops.{AsACopy, Comes, GoesOn, Hop, HopsEnd, InTheTunnel, OnALink, ToARouter}
 use Rattle.pim_promises.proofs.Brought.{packet_is_brought}
 use Rattle.pim_promises.proofs.Links.{each_contained, on_each}
 use Rattle.pim_promises.proofs.Made.{IsOf, IsRegister, registers_of, step_made}
-use Rattle.pim_promises.proofs.Read.{Passed, passed, read_is}
+use Rattle.pim_promises.proofs.Read.{read_is}
 
 -- ---- what is read
-
--- what is read is the packet of the bytes
-packet_is : (b : List ℕ) (p : Packet) → ipv4_reading b ≡ Ok p → p ≡ packet_of b
-unfolding ipv4_reading
-packet_is b p e = grind arith
 
 read_ttl : (b : List ℕ) (p : Packet) → ipv4_reading b ≡ Ok p → p.time_to_live ≡ slice_index b 8
 read_ttl b p e =
@@ -183,7 +179,7 @@ module _ (from to : ℕ) (t : List ℕ) where
 -- ---- hops
 
 -- what was brought has a header of 20 bytes and more
-pub brought_header : (e : Event) (p : Packet) → Brings e p → 20 ≤ length p.header
+pub brought_header : (e : Event) (p : Packet) → BringsPacket e p → 20 ≤ length p.header
 brought_header e p (OnLink i bytes kind is) = read_header bytes p is
 brought_header e p (InRegister bytes outer kind is inside) = read_header (drop 8 outer.payload) p (of_reading outer.payload p inside)
 
@@ -244,7 +240,7 @@ sent_as s e y p brought (InTheTunnel a done there) =
     (each_contained (IsRegister (Some a)) (change s e.draw a).registered y (round s e.draw a) there)
 
 -- the next router that it comes to brings a packet whose TTL is one lower
-pub falls : (p q : Packet) (y : Emission) (e : Event) → 20 ≤ length p.header → SentAs p y → Comes y e → Brings e q
+pub falls : (p q : Packet) (y : Emission) (e : Event) → 20 ≤ length p.header → SentAs p y → Comes y e → BringsPacket e q
     → q.time_to_live ≡ p.time_to_live - 1
 unfolding pim_to
 falls p q y e long (Copied link is) (OnALink i j bytes of kind) (OnLink k read kind' reads) =

@@ -1,5 +1,5 @@
 -- The keys of asserts, of what makes them possible, and of sources: none comes by what follows of a change, or by time.
-use Rattle.std.proofs.Common.{◌≡◌, ℕ, ◌+◌, ◌-◌, Bool, not, List, [], length, Option, Some, None, refl, sym, subst, arith}
+use Rattle.std.proofs.Common.{◌≡◌, ℕ, ◌+◌, ◌-◌, Bool, not, List, [], length, Option, Some, None, sym, ap, subst, arith}
 use Rattle.std.specs.List.{AllByRecursion}
 use Rattle.std.specs.Option.{option_map_or}
 use Rattle.pim_types.specs.Keys.{group_in, iface_in, same_key, source_in, star_key}
@@ -23,12 +23,13 @@ use Rattle.pim_model.specs.State.{State}
 use Rattle.pim_model.specs.Step.{advanced}
 use Rattle.pim_model.specs.Tables.{Table, change_row, drop_at, drop_where, put, row_at}
 use Rattle.pim_model.specs.Timers.{Ending, next_due, timers}
-use Rattle.pim_model.specs.Upstream.{join_timer_due, moved_join_timer, moved_override_timer, override_timer_due, upstream}
+use Rattle.pim_model.specs.Upstream.{join_timer_due, override_timer_due, upstream}
 use Rattle.pim_model.specs.Writing.{write_all}
 use Rattle.pim_laws.proofs.ListLaws.{by_cond, each_filter, each_filter_map}
 use Rattle.pim_laws.proofs.RowLaws.{changed_key, each_put}
-use Rattle.pim_laws.proofs.SettlingLaws.{kept_by_clearing, kept_by_telling}
+use Rattle.pim_laws.proofs.SettlingLaws.{kept_by_clearing}
 use Rattle.pim_laws.proofs.TurnLaws.{kept_to_the_end}
+use Rattle.pim_ready.proofs.Unsettled.{Untold, telling_leaves}
 
 -- the tables in question
 pub record Held : Type 0 where
@@ -100,9 +101,13 @@ module _ (P Q : Key → Type 0) where
       (record { asserts = f.asserts; downstream = f.downstream; groups = f.groups; sources = f.sources })
 
 upstream_holds : (o a : State) (w : ℕ) → Holds a (upstream o a w).0
-unfolding moved_join_timer moved_override_timer
 upstream_holds o a w =
-    kept_by_telling (λ n. Unit {0}) a w (λ d some. tt) (Holds a) (λ s k change fair f. f) (λ s k change fair f. f) o refl
+    ap (λ (u : Untold). let h : Held = record {
+      asserts = u.asserts;
+      downstream = u.unsettled.downstream;
+      groups = u.unsettled.group_records;
+      sources = u.sources;
+    } in h) (telling_leaves o a w)
 
 module _ (P Q : Key → Type 0) where
   pub settled_kept : (o : State) (change : State × List Message) (w : ℕ) → Kept P Q change.0 → Kept P Q (settled o change w).0

@@ -1,8 +1,10 @@
 -- Which tables what changes a state leaves alone: of IGMP's queries, and those that follow.
-use Rattle.std.proofs.Common.{◌≡◌, ◌∙◌, ℕ, not, Bool, List, filter, refl, arith}
+use Rattle.std.proofs.Common.{◌≡◌, ◌∙◌, ℕ, not, Bool, List, filter, refl, ap, arith}
 use Rattle.pim_ip.specs.Ipv4.{Packet}
 use Rattle.pim_types.specs.declared.config.InterfaceConfig.{InterfaceConfig}
 use Rattle.pim_types.specs.declared.fact.AssertMetric.{AssertMetric}
+use Rattle.pim_types.specs.declared.fact.AssertRow.{AssertRow}
+use Rattle.pim_types.specs.declared.fact.DownstreamRow.{DownstreamRow}
 use Rattle.pim_types.specs.declared.fact.InterfaceRow.{InterfaceRow}
 use Rattle.pim_types.specs.declared.fact.JoinTimerRow.{JoinTimerRow}
 use Rattle.pim_types.specs.declared.fact.Key.{Key}
@@ -13,25 +15,22 @@ use Rattle.pim_wire.specs.Values.{JoinPrune}
 use Rattle.pim_wire.specs.declared.assert.Assert.{Assert as AssertMessage}
 use Rattle.pim_wire.specs.declared.hello.Hello.{Hello as HelloValue}
 use Rattle.igmp_wire.specs.Values.{Query as QueryValue, Record}
-use Rattle.pim_model.specs.Asserts.{assert_as_loser, assert_as_winner, assert_at, assert_forgotten, assert_in_no_info, assert_received, data_seen, loses, loses_first, wins, wins_again, with_spt_bit, without_spt_bit}
-use Rattle.pim_model.specs.Clearing.{clear}
-use Rattle.pim_model.specs.Downstream.{asserts_after_joins, keys_taken, to_me}
+use Rattle.pim_model.specs.Asserts.{assert_as_loser, assert_as_winner, assert_at, assert_due, assert_forgotten, assert_in_no_info, assert_received, data_seen, loses, loses_first, wins, wins_again, with_spt_bit}
+use Rattle.pim_model.specs.Downstream.{asserts_after_joins, keys_taken, prune_pending_due, to_me}
 use Rattle.pim_model.specs.Firing.{settled}
 use Rattle.pim_model.specs.Forwarding.{forwarded, list_chosen, register_at_rp, register_received, source_here, source_joined, spt_updated, stray, watched}
 use Rattle.pim_model.specs.Hellos.{hello_received, hello_triggered, neighbour_replaced, neighbour_restarted}
 use Rattle.pim_model.specs.Messages.{Message}
 use Rattle.pim_model.specs.Querier.{is_querier, is_skipped, lower_group, lower_queried, lower_sources, querier_elected, query_asked, query_group, query_seen, query_sources, record_seen, report_seen, send_sources, sources_sent}
 use Rattle.pim_model.specs.Records.{Asked, with_members, with_record, with_repeats_of_rows}
-use Rattle.pim_model.specs.Registers.{settle_registers, with_keepalive}
+use Rattle.pim_model.specs.Registers.{with_keepalive}
 use Rattle.pim_model.specs.Seen.{cancel_override_timer, lower_join_timer, lower_override_timer, raise_join_timer, seen}
 use Rattle.pim_model.specs.State.{State}
 use Rattle.pim_model.specs.Tables.{Table}
-use Rattle.pim_model.specs.Upstream.{moved_join_timer, moved_override_timer, upstream}
-use Rattle.pim_model.specs.Writing.{write_all}
 use Rattle.pim_laws.proofs.ListLaws.{by_cond}
-use Rattle.pim_laws.proofs.SettlingLaws.{kept_by_clearing, kept_by_telling}
 use Rattle.pim_laws.proofs.TurnLaws.{kept_in_turn}
 use Rattle.pim_ready.proofs.SeenLaws.{kept_by_seen}
+use Rattle.pim_ready.proofs.Unsettled.{Unsettled, settling_leaves}
 use Rattle.pim_promises.proofs.Repeats.{Asking, asking}
 
 -- what only interfaces, Hellos, registering and time change
@@ -164,33 +163,24 @@ pub hello_unhailed : (s : State) (i address : ℕ) (h : HelloValue) (w : ℕ) �
 unfolding hello_received hello_triggered neighbour_replaced neighbour_restarted
 hello_unhailed s i address h w = grind arith
 
+-- ---- the ends of rows
+
+pub pending_lasting : (s : State) (k : Key) (r : DownstreamRow) → lasting (prune_pending_due s k r).0 ≡ lasting s
+unfolding prune_pending_due
+pending_lasting s k r = grind arith
+
+pub assert_lasting : (s : State) (k : Key) (r : AssertRow) → lasting (assert_due s k r).0 ≡ lasting s
+unfolding assert_due wins_again assert_forgotten
+assert_lasting s k r = grind arith
+
 -- ---- what follows from a change
 
-pub record Unsettled : Type 0 where
-  pub asking : Asking
-  pub present : ℕ
-  pub configured : List InterfaceConfig
-  pub neighbours : Table NeighbourRow
-
-abbrev pub unsettled : State → Unsettled
-unsettled s = record { asking = asking s; present = s.present; configured = s.configured; neighbours = s.neighbours }
-
-abbrev Same : State → State → Type 0
-Same s t = unsettled t ≡ unsettled s
-
-pub clear_same : (o s : State) → Same s (clear o s).0
-unfolding settle_registers assert_forgotten without_spt_bit
-clear_same o s = kept_by_clearing (Same s) (λ t k f. f) (λ t k f. f) o s refl
-
-upstream_same : (o a : State) (w : ℕ) → Same a (upstream o a w).0
-unfolding moved_join_timer moved_override_timer
-upstream_same o a w =
-    kept_by_telling (λ n. Unit {0}) a w (λ d some. tt) (Same a) (λ s k change fair f. f) (λ s k change fair f. f) o refl
-
-writing_same : (s : State) (messages : List Message) → Same s (write_all s messages).0
-unfolding write_all
-writing_same s messages = refl
-
-pub settled_same : (o : State) (change : State × List Message) (w : ℕ) → Same change.0 (settled o change w).0
-unfolding settled
-settled_same o change w = writing_same _ _ ∙ (upstream_same o _ w ∙ clear_same o change.0)
+pub settled_asking : (o : State) (change : State × List Message) (w : ℕ) → asking (settled o change w).0 ≡ asking change.0
+settled_asking o change w =
+    ap (λ (u : Unsettled). let a : Asking = record {
+      groups = u.group_records;
+      members = u.source_records;
+      group_repeats = u.group_repeats;
+      source_repeats = u.source_repeats;
+      sendings = u.sendings;
+    } in a) (settling_leaves o change w)

@@ -46,7 +46,7 @@ use Rattle.pim_ready.proofs.Steps.{opening_is_settled, step_is_settled}
 use Rattle.pim_promises.specs.Uncounted.{EachLiesUnder, LiesUnder, is_of_interface}
 use Rattle.pim_promises.proofs.Keyed.{Kept, Under, fired_kept, settled_kept, under_changed, under_put, under_where}
 use Rattle.pim_promises.proofs.KeyedChanges.{Names, change_kept}
-use Rattle.pim_promises.proofs.Lasting.{Beside, Lasting, Unhailed, Unsettled, Whole, assert_whole, data_whole, hello_unhailed, query_lasting, register_whole, report_lasting, seen_beside, settled_same, to_me_whole}
+use Rattle.pim_promises.proofs.Lasting.{Beside, Lasting, Unhailed, Whole, assert_whole, data_whole, hello_unhailed, query_lasting, register_whole, report_lasting, seen_beside, settled_asking, to_me_whole}
 use Rattle.pim_promises.proofs.Placed.{IsIn, IsPlaced, kind_is_placed}
 use Rattle.pim_promises.proofs.Registered.{OfIface, Own, Rests, is_kept, register_own, settled_rests}
 use Rattle.pim_promises.proofs.Repeats.{Asking, Fits, FitsIn, asking, group_repeated, sources_repeated}
@@ -299,7 +299,7 @@ module _ (n : ℕ) where
 
   follows : (o : State) (c : State × List Message) (w : ℕ) → Mid c.0 → Between (settled o c w).0
   follows o c w f = record {
-    fits = subst (λ (u : Unsettled). FitsIn u.asking) (sym (settled_same o c w)) f.fits;
+    fits = subst FitsIn (sym (settled_asking o c w)) f.fits;
     rests = settled_rests n o c w f.keyed.sources f.rows.own f.rows.of_iface;
     keyed = settled_kept Any Own o c w f.keyed;
   }

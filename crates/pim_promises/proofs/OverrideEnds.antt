@@ -7,8 +7,6 @@ use Rattle.pim_ip.specs.declared.lan.LanDelay.{LanDelay}
 use Rattle.pim_types.specs.Keys.{is_on, neighbour_key, rpt_key, same_key, source_key}
 use Rattle.pim_types.specs.declared.config.IfaceId.{IfaceId}
 use Rattle.pim_types.specs.declared.config.InterfaceConfig.{InterfaceConfig}
-use Rattle.pim_types.specs.declared.fact.AssertRow.{AssertRow}
-use Rattle.pim_types.specs.declared.fact.DownstreamRow.{DownstreamRow}
 use Rattle.pim_types.specs.declared.fact.Key.{Key}
 use Rattle.pim_types.specs.declared.fact.NeighbourRow.{NeighbourRow}
 use Rattle.pim_types.specs.declared.fact.OverrideTimerRow.{OverrideTimerRow}
@@ -19,9 +17,9 @@ use Rattle.pim_types.specs.declared.upstream.TreeState.{TreeState}
 use Rattle.pim_wire.specs.Values.{Encapsulated, JoinPrune, Null}
 use Rattle.pim_wire.specs.declared.hello.Hello.{Hello as HelloValue}
 use Rattle.pim_model.specs.declared.accepted.Accepted.{Accepted}
-use Rattle.pim_model.specs.Asserts.{assert_due, assert_forgotten, wins_again, without_spt_bit}
+use Rattle.pim_model.specs.Asserts.{assert_forgotten, without_spt_bit}
 use Rattle.pim_model.specs.Clearing.{clear}
-use Rattle.pim_model.specs.Downstream.{downstream_expired, prune_pending_due}
+use Rattle.pim_model.specs.Downstream.{downstream_expired}
 use Rattle.pim_model.specs.Firing.{fire_row, fired, keepalive_due, settled}
 use Rattle.pim_model.specs.Forwarding.{source_here}
 use Rattle.pim_model.specs.Hellos.{hello_due, hello_holdtime_of, hello_received, hello_triggered, is_generation_changed, neighbour_due, neighbour_replaced, neighbour_restarted, neighbours_replaced}
@@ -42,9 +40,10 @@ use Rattle.pim_laws.proofs.SettlingLaws.{IsFair, kept_by_clearing, moved_overrid
 use Rattle.pim_laws.proofs.TableLaws.{row_of_each}
 use Rattle.pim_laws.proofs.TurnLaws.{kept_in_turn}
 use Rattle.pim_ready.proofs.SeenLaws.{kept_by_seen}
+use Rattle.pim_ready.proofs.Unsettled.{Unsettled, clearing_leaves, settling_leaves}
 use Rattle.pim_promises.specs.Uncounted.{longest_override}
 use Rattle.pim_promises.proofs.LiesUnder.{row_fires}
-use Rattle.pim_promises.proofs.Lasting.{Beside, Lasting, Unsettled, Whole, assert_whole, clear_same, data_whole, lasting, query_lasting, register_whole, report_lasting, seen_beside, settled_same, to_me_whole}
+use Rattle.pim_promises.proofs.Lasting.{Beside, Lasting, Whole, assert_lasting, assert_whole, data_whole, lasting, pending_lasting, query_lasting, register_whole, report_lasting, seen_beside, to_me_whole}
 
 -- ---- how long an override takes at most
 
@@ -220,26 +219,18 @@ module _ (last : ℕ) where
   unfolding settled write_all
   settled_by o c w f =
       let after : State = (clear o c.0).0 in
-      upstream_by after w (subst (λ (u : Unsettled). u.present ≤ last) (sym (clear_same o c.0)) f.now)
-      (subst (λ (u : Unsettled). IsBrief u.configured u.neighbours) (sym (clear_same o c.0)) f.brief) o
+      upstream_by after w (subst (λ (u : Unsettled). u.present ≤ last) (sym (clearing_leaves o c.0)) f.now)
+      (subst (λ (u : Unsettled). IsBrief u.configured u.neighbours) (sym (clearing_leaves o c.0)) f.brief) o
       (subst EndBy (sym (clear_by o c.0)) f.ends)
 
   pub soon_follows : (o : State) (c : State × List Message) (w : ℕ) → IsSoon c.0 → IsSoon (settled o c w).0
   soon_follows o c w f = record {
-    now = subst (λ (u : Unsettled). u.present ≤ last) (sym (settled_same o c w)) f.now;
-    brief = subst (λ (u : Unsettled). IsBrief u.configured u.neighbours) (sym (settled_same o c w)) f.brief;
+    now = subst (λ (u : Unsettled). u.present ≤ last) (sym (settling_leaves o c w)) f.now;
+    brief = subst (λ (u : Unsettled). IsBrief u.configured u.neighbours) (sym (settling_leaves o c w)) f.brief;
     ends = settled_by o c w f;
   }
 
   -- ---- the ends of rows
-
-  pending_lasting : (s : State) (k : Key) (r : DownstreamRow) → lasting (prune_pending_due s k r).0 ≡ lasting s
-  unfolding prune_pending_due
-  pending_lasting s k r = grind arith
-
-  assert_lasting : (s : State) (k : Key) (r : AssertRow) → lasting (assert_due s k r).0 ≡ lasting s
-  unfolding assert_due wins_again assert_forgotten
-  assert_lasting s k r = grind arith
 
   abbrev SoonIn : Lasting → Type 0
   SoonIn l = Soon (l.still).present (l.still).configured (l.still).neighbours l.override_timers

@@ -1,5 +1,5 @@
 -- What an event answers itself, in numbers.
-use Rattle.std.proofs.Common.{◌≡◌, ℕ, ◌≤◌, ◌==◌, not, ◌&&◌, ◌||◌, ◌⊎◌, inl, inr, Bool, true, false, cond, List, [], ◌∷◌, ◌++◌, filter, length, Option, Some, None, is_some, refl, ap, arith, length-append}
+use Rattle.std.proofs.Common.{◌≡◌, ℕ, ◌≤◌, ◌==◌, not, ◌&&◌, ◌||◌, ◌⊎◌, inl, inr, Bool, true, false, cond, List, [], ◌++◌, filter, length, Option, Some, None, is_some, refl, ap, arith, length-append}
 use Rattle.std.specs.List.{range_with_len}
 use Rattle.std.specs.Option.{option_map_or}
 use Rattle.std.proofs.lemmas.List.{length-map}
@@ -27,14 +27,11 @@ use Rattle.pim_model.specs.Unicast.{is_rp, is_rpf_interface, is_rpf_interface_rp
 use Rattle.pim_model.specs.Writing.{copies_of, leaves, on_link, register_of_packet, tunnel_of}
 use Rattle.pim_laws.proofs.ListLaws.{by_cond, filter_shorter}
 use Rattle.pim_laws.proofs.RowLaws.{row_put}
+use Rattle.pim_locality.proofs.Differing.{none_left}
 use Rattle.pim_promises.specs.Answers.{AssertGivesOne, CopiesOrAssert, DataGivesCopiesOrAssert, OthersGiveNone, RegisterGivesCopiesAndStop}
 use Rattle.pim_promises.proofs.Made.{Configured, forwarded_configured, register_configured}
 
 -- ---- packets
-
-pub none_member : {X : Type 0} (p : X → Bool) → ((x : X) → p x ≡ false) → (xs : List X) → filter p xs ≡ []
-none_member p never [] = refl
-none_member p never (x ∷ xs) = rw (never x) (none_member p never xs)
 
 module _ (s : State) (p : Packet) (list : Set) where
   copies_few : length (copies_of s p list) ≤ iface_count s
@@ -48,7 +45,7 @@ module _ (s : State) (p : Packet) (list : Set) where
 
   no_copies : ((i : ℕ) → list i ≡ false) → copies_of s p list ≡ []
   unfolding copies_of members
-  no_copies never = rw (none_member list never (range_with_len 0 (iface_count s))) (by_cond (λ (es : List Emission). es ≡ []) (leaves p) _ _ refl refl)
+  no_copies never = rw (none_left list never (range_with_len 0 (iface_count s))) (by_cond (λ (es : List Emission). es ≡ []) (leaves p) _ _ refl refl)
 
 tunnel_one : (s : State) (p : Packet) (to_tunnel : Bool) → length (tunnel_of s p to_tunnel) ≤ 1
 unfolding tunnel_of register_of_packet

@@ -1,6 +1,5 @@
 -- How many messages are told upstream of a change.
-use Rattle.std.proofs.Common.{◌≡◌, ◌∙◌, ℕ, ◌*◌, ◌≤◌, not, Bool, true, false, cond, List, [], ◌∷◌, ◌++◌, length, Option, Some, None, option_map, is_none, refl, ap, subst, arith, length-append, eq-eqb}
-use Rattle.std.specs.Cmp.Derive.{both_true}
+use Rattle.std.proofs.Common.{◌≡◌, ◌∙◌, ℕ, ◌*◌, ◌≤◌, not, Bool, true, false, cond, List, [], ◌∷◌, ◌++◌, length, Option, Some, None, option_map, is_none, refl, ap, subst, arith, length-append}
 use Rattle.std.specs.List.{filter}
 use Rattle.pim_ip.specs.Addr.{addr}
 use Rattle.pim_ip.specs.declared.addr.Addr.{Addr}
@@ -17,14 +16,14 @@ use Rattle.pim_model.specs.Messages.{Message}
 use Rattle.pim_model.specs.Neighbours.{nbr}
 use Rattle.pim_model.specs.Querier.{each_in_turn}
 use Rattle.pim_model.specs.State.{State}
-use Rattle.pim_model.specs.Tables.{same_address, same_hop, same_iface, same_option}
+use Rattle.pim_model.specs.Tables.{same_address, same_hop, same_iface}
 use Rattle.pim_model.specs.Unicast.{route, rp_of, rp_route}
 use Rattle.pim_model.specs.Upstream.{Told, TimerChange, becomes_star, group_upstream, groups_of, if_neighbour, join_prune_to, join_star_to, prune_star_to, rpt_told, rpt_told_from, source_stays, source_told, source_upstream, source_view, sources_of, star_stays, star_told, star_view, with_join_timer}
 use Rattle.pim_laws.proofs.ListLaws.{by_cond}
 use Rattle.pim_locality.specs.Locality.{AgreesBut, own_keys, own_upstream, touching}
 use Rattle.pim_locality.specs.Scopes.{reads, scope}
 use Rattle.pim_locality.proofs.SharedMacros.{nbr_local, route_local, rp_of_local, rp_route_local}
-use Rattle.pim_locality.proofs.UntoldKeys.{same_by_scope, star_untold_where_agreed}
+use Rattle.pim_locality.proofs.UntoldKeys.{hop_itself, option_itself, same_by_scope, star_untold_where_agreed}
 use Rattle.pim_reach.proofs.Configured.{beyond, untouched}
 use Rattle.pim_promises.specs.Answers.{told_of_group, told_of_groups}
 
@@ -108,14 +107,6 @@ module _ (a : State) (w g : ℕ) where
 
 -- ---- where a change touches some keys alone, the routes are as they were
 
-same_numbers : (o : Option ℕ) → same_option o o ≡ true
-same_numbers None = refl
-same_numbers (Some n) = eq-eqb n n refl
-
-same_hops : (h : Option Hop) → same_hop h h ≡ true
-same_hops None = refl
-same_hops (Some h) = both_true (eq-eqb h.iface.number h.iface.number refl) (eq-eqb h.address.bits h.address.bits refl)
-
 module _ (keys : List Key) (o a : State) (agree : AgreesBut (touching keys) o a) where
   abbrev other : Key
   other = star_key 0 (beyond keys)
@@ -128,7 +119,7 @@ module _ (keys : List Key) (o a : State) (agree : AgreesBut (touching keys) o a)
   same_rp g =
       subst (λ (x : Option ℕ). same_address (option_map addr (rp_of o g)) (option_map addr x) ≡ true)
       (shared (λ s. rp_of s g) (λ s. rp_of_local (reads other) s g))
-      (same_numbers (option_map (λ (x : Addr). x.bits) (option_map addr (rp_of o g))))
+      (option_itself (option_map (λ (x : Addr). x.bits) (option_map addr (rp_of o g))))
 
   abbrev iface_of : Option Path → Option IfaceId
   iface_of p = option_map (λ (x : Path). x.iface) p
@@ -138,7 +129,7 @@ module _ (keys : List Key) (o a : State) (agree : AgreesBut (touching keys) o a)
   same_star_iface g =
       subst (λ (p : Option Path). same_iface (iface_of (rp_route o g)) (iface_of p) ≡ true)
       (shared (λ s. rp_route s g) (λ s. rp_route_local (reads other) s g))
-      (same_numbers (option_map (λ (x : IfaceId). x.number) (iface_of (rp_route o g))))
+      (option_itself (option_map (λ (x : IfaceId). x.number) (iface_of (rp_route o g))))
 
   same_star_hop : (g : ℕ) → same_hop (star_view o g).next_hop (star_view a g).next_hop ≡ true
   unfolding star_view
@@ -146,14 +137,14 @@ module _ (keys : List Key) (o a : State) (agree : AgreesBut (touching keys) o a)
       subst (λ (h : Option Hop). same_hop (nbr o (rp_route o g)) h ≡ true)
       (shared (λ s. nbr s (rp_route s g))
       (λ s. nbr_local (reads other) s _ ∙ ap (nbr s) (rp_route_local (reads other) s g)))
-      (same_hops (nbr o (rp_route o g)))
+      (hop_itself (nbr o (rp_route o g)))
 
   same_source_iface : (g src : ℕ) → same_iface (source_view o g src).iface (source_view a g src).iface ≡ true
   unfolding source_view
   same_source_iface g src =
       subst (λ (p : Option Path). same_iface (iface_of (route o src)) (iface_of p) ≡ true)
       (shared (λ s. route s src) (λ s. route_local (reads other) s src))
-      (same_numbers (option_map (λ (x : IfaceId). x.number) (iface_of (route o src))))
+      (option_itself (option_map (λ (x : IfaceId). x.number) (iface_of (route o src))))
 
   same_source_hop : (g src : ℕ) → same_hop (source_view o g src).next_hop (source_view a g src).next_hop ≡ true
   unfolding source_view
@@ -161,7 +152,7 @@ module _ (keys : List Key) (o a : State) (agree : AgreesBut (touching keys) o a)
       subst (λ (h : Option Hop). same_hop (nbr o (route o src)) h ≡ true)
       (shared (λ s. nbr s (route s src))
       (λ s. nbr_local (reads other) s _ ∙ ap (nbr s) (route_local (reads other) s src)))
-      (same_hops (nbr o (route o src)))
+      (hop_itself (nbr o (route o src)))
 
   -- ---- what is told
 

@@ -2,8 +2,6 @@
 use Rattle.std.proofs.Common.{◌≡◌, ℕ, ◌≤◌, not, ◌||◌, Bool, true, false, cond, List, Option, Some, None, refl, sym, subst, arith}
 use Rattle.pim_types.specs.declared.config.Config.{Config}
 use Rattle.pim_types.specs.declared.event.Event.{Event}
-use Rattle.pim_types.specs.declared.fact.AssertRow.{AssertRow}
-use Rattle.pim_types.specs.declared.fact.DownstreamRow.{DownstreamRow}
 use Rattle.pim_types.specs.declared.fact.JoinTimerRow.{JoinTimerRow}
 use Rattle.pim_types.specs.declared.fact.Key.{Key}
 use Rattle.pim_types.specs.declared.fact.RegisterState.{RegisterState}
@@ -11,8 +9,7 @@ use Rattle.pim_types.specs.declared.timer.TimerKind.{TimerKind}
 use Rattle.pim_wire.specs.Values.{Encapsulated, JoinPrune, Null}
 use Rattle.pim_wire.specs.declared.hello.Hello.{Hello as HelloValue}
 use Rattle.pim_model.specs.declared.accepted.Accepted.{Accepted}
-use Rattle.pim_model.specs.Asserts.{assert_due, assert_forgotten, wins_again}
-use Rattle.pim_model.specs.Downstream.{downstream_expired, prune_pending_due}
+use Rattle.pim_model.specs.Downstream.{downstream_expired}
 use Rattle.pim_model.specs.Firing.{fire_row, fired, keepalive_due}
 use Rattle.pim_model.specs.Forwarding.{source_here}
 use Rattle.pim_model.specs.Hellos.{hello_due, hello_received, hello_triggered, is_generation_changed, neighbour_due, neighbour_replaced, neighbour_restarted}
@@ -31,20 +28,12 @@ use Rattle.pim_laws.proofs.TableLaws.{row_of_each}
 use Rattle.pim_ready.proofs.SeenLaws.{kept_by_seen}
 use Rattle.pim_locality.proofs.OwnKeys.{present_touches_none}
 use Rattle.pim_promises.proofs.Keyed.{Under, under_at, under_changed, under_put}
-use Rattle.pim_promises.proofs.Lasting.{Lasting, Whole, assert_whole, data_whole, lasting, query_lasting, register_whole, report_lasting, to_me_whole}
+use Rattle.pim_promises.proofs.Lasting.{Lasting, Whole, assert_lasting, assert_whole, data_whole, pending_lasting, query_lasting, register_whole, report_lasting, to_me_whole}
 use Rattle.pim_promises.proofs.LiesUnder.{row_fires}
 use Rattle.pim_promises.proofs.Walks.{event_walks, time_walks}
 use Rattle.pim_promises.proofs.Wanted.{Wanted, settled_wanted, still_wanted}
 
 -- ---- what moves the ends of Join timers, or drops them, keeps what is said of their keys
-
-pending_lasting : (s : State) (k : Key) (r : DownstreamRow) → lasting (prune_pending_due s k r).0 ≡ lasting s
-unfolding prune_pending_due
-pending_lasting s k r = grind arith
-
-assert_lasting : (s : State) (k : Key) (r : AssertRow) → lasting (assert_due s k r).0 ≡ lasting s
-unfolding assert_due wins_again assert_forgotten
-assert_lasting s k r = grind arith
 
 here_joins : (s : State) (g src iif : ℕ) → (source_here s g src iif).join_timers ≡ s.join_timers
 unfolding source_here settle_register with_keepalive

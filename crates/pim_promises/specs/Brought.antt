@@ -12,10 +12,10 @@ use Rattle.pim_model.specs.State.{State}
 use Rattle.pim_promises.specs.Copies.{happens}
 
 -- as the packet that came on a link, or as the one inside a Register that came to the router
-pub data Brings (e : Event) (p : Packet) : Type 0 where
-  OnLink : (i : IfaceId) (bytes : List ℕ) → e.kind ≡ EventKind.Frame i bytes → ipv4_reading bytes ≡ Ok p → Brings e p
+pub data BringsPacket (e : Event) (p : Packet) : Type 0 where
+  OnLink : (i : IfaceId) (bytes : List ℕ) → e.kind ≡ EventKind.Frame i bytes → ipv4_reading bytes ≡ Ok p → BringsPacket e p
   InRegister : (bytes : List ℕ) (outer : Packet) → e.kind ≡ EventKind.Unicast bytes → ipv4_reading bytes ≡ Ok outer
-      → pim_reading outer.payload ≡ Ok (PimView.Register (Encapsulated p)) → Brings e p
+      → pim_reading outer.payload ≡ Ok (PimView.Register (Encapsulated p)) → BringsPacket e p
 
 abbrev pub PacketIsBrought : Type 0
-PacketIsBrought = (s : State) (e : Event) (p : Packet) → packet_in (done_as (happens s e)) ≡ Some p → Brings e p
+PacketIsBrought = (s : State) (e : Event) (p : Packet) → packet_in (done_as (happens s e)) ≡ Some p → BringsPacket e p

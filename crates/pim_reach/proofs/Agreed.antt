@@ -26,7 +26,7 @@ use Rattle.pim_locality.proofs.SameRows.{IsOfCut, of_asserts, of_downstream, of_
 use Rattle.pim_locality.proofs.SourceMacros.{cut_kept, cut_kind, cut_register, cut_source}
 use Rattle.pim_locality.proofs.StarMacros.{cut_assert, cut_group}
 use Rattle.pim_locality.proofs.UntoldKeys.{same_by_scope}
-use Rattle.pim_reach.specs.Named.{is_named}
+use Rattle.pim_reach.specs.Named.{is_source_named}
 use Rattle.pim_reach.proofs.Reached.{same_is_unnamed}
 use Rattle.pim_reach.proofs.Sights.{bool_itself, options_same, paths_same}
 use Rattle.pim_reach.proofs.Unreached.{Around}
@@ -237,7 +237,7 @@ module _ (g src : ℕ) (s t : State) (agree : AgreesOn (source_key 0 g src) s t)
     priorities = ap (λ (u : State). u.neighbours) agree;
   }
 
-  pub agreed_is_unnamed : is_named g src s t ≡ false
+  pub agreed_is_unnamed : is_source_named g src s t ≡ false
   agreed_is_unnamed =
       let k : Key = source_key 0 g src in
       same_is_unnamed g src s t agreed_around

@@ -5,7 +5,7 @@ use Rattle.pim_types.specs.Keys.{group_in, source_in}
 use Rattle.pim_model.specs.Clearing.{clear}
 use Rattle.pim_model.specs.Reach.{with_facts}
 use Rattle.pim_model.specs.State.{State}
-use Rattle.pim_reach.specs.Named.{is_named, named, named_by, named_where}
+use Rattle.pim_reach.specs.Named.{is_source_named, named, named_by, named_where}
 
 module _ {X : Type 0} (p q : X → Bool) (none : (x : X) → q x ≡ false → p x ≡ false) where
   filter_step : (x : X) (xs : List X) (b c : Bool) → p x ≡ b → q x ≡ c → filter p xs ≡ filter p (filter q xs)
@@ -20,9 +20,9 @@ module _ {X : Type 0} (p q : X → Bool) (none : (x : X) → q x ≡ false → p
   filter_first (x ∷ xs) = filter_step x xs (p x) (q x) refl refl (filter_first xs)
 
 pub asked_alone : (o changed : State) (asked : Key → Bool)
-    → ((k : Key) → asked k ≡ false → is_named (group_in k) (source_in k) o (clear o changed).0 ≡ false)
+    → ((k : Key) → asked k ≡ false → is_source_named (group_in k) (source_in k) o (clear o changed).0 ≡ false)
     → named_by o changed ≡ named_where asked o changed
 unfolding named_by named named_where
 asked_alone o changed asked none =
-    filter_first (λ k. is_named (group_in k) (source_in k) o (clear o changed).0) asked none
+    filter_first (λ k. is_source_named (group_in k) (source_in k) o (clear o changed).0) asked none
     (with_facts o (clear o changed).0)

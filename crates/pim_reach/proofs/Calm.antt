@@ -132,7 +132,7 @@ pub record SameFacts (s t : State) : Type 0 where
   pub around : SameAround s t
   pub sources_same : s.sources ≡ t.sources
 
-through : (s t u : State) → SameFacts s t → SameFacts t u → SameFacts s u
+pub through : (s t u : State) → SameFacts s t → SameFacts t u → SameFacts s u
 through s t u f h = record {
   around = record {
     generations_same = f.around.generations_same ∙ h.around.generations_same;

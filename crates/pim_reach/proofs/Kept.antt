@@ -24,9 +24,10 @@ use Rattle.pim_model.specs.State.{State, is_own, is_own_among, my_address}
 use Rattle.pim_model.specs.Tables.{below, same_bool, same_hop, same_option}
 use Rattle.pim_model.specs.Unicast.{is_connected, is_rpf_interface, is_rpf_interface_rp, route, rp_of, rp_route, rpf_interface, rpf_interface_rp}
 use Rattle.pim_reach.specs.Keeps.{KeepsAnswers, KeepsAt}
-use Rattle.pim_reach.specs.Named.{is_named, is_same_beside, is_same_fact, is_same_sight, is_same_star, same_set}
+use Rattle.pim_reach.specs.Named.{is_source_named, is_same_beside, is_same_fact, is_same_sight, is_same_star, same_set}
 use Rattle.pim_reach.proofs.Reached.{IsConfigured}
-use Rattle.pim_reach.proofs.SameRows.{both_of, flags, not_false, options, paths, tunnel_alike}
+use Rattle.pim_locality.proofs.SameRows.{flags}
+use Rattle.pim_reach.proofs.SameRows.{both_of, not_false, options, paths, tunnel_alike}
 
 abbrev pub Low : ℕ → Type 0
 Low i = nat_lt i most_ifaces ≡ true
@@ -57,7 +58,7 @@ set_at f h same i low =
     flags (f i) (h i)
     (all_at (λ m. same_bool (f m) (h m)) 0 most_ifaces i same (omega arith) (grind (arith, nat_tests, low)))
 
-hop_equal : (a b : Option Hop) → same_hop a b ≡ true → a ≡ b
+pub hop_equal : (a b : Option Hop) → same_hop a b ≡ true → a ≡ b
 hop_equal None None e = refl
 hop_equal None (Some k) e = cc
 hop_equal (Some h) None e = cc
@@ -152,7 +153,7 @@ same_source g src o a e =
 -- ---- (*,G)
 
 module _ (g : ℕ) (o a : State) (config : IsConfigured o a) (few : length o.configured ≤ most_ifaces) where
-  empty_same : (f h : Set) → ((i : ℕ) → Low i → f i ≡ h i) → is_empty o f ≡ is_empty a h
+  pub empty_same : (f h : Set) → ((i : ℕ) → Low i → f i ≡ h i) → is_empty o f ≡ is_empty a h
   unfolding is_empty
   empty_same f h same =
       ap not
@@ -396,8 +397,8 @@ module _ (g : ℕ) (o a : State) (config : IsConfigured o a) (few : length o.con
     }
 
 pub unnamed_keeps : (g src : ℕ) (o a : State) → o.settings ≡ a.settings → o.configured ≡ a.configured
-    → length o.configured ≤ most_ifaces → is_named g src o a ≡ false → KeepsAnswers g src o a
-unfolding is_named is_same_beside
+    → length o.configured ≤ most_ifaces → is_source_named g src o a ≡ false → KeepsAnswers g src o a
+unfolding is_source_named is_same_beside
 unnamed_keeps g src o a settings configured few unnamed =
     let all : _ = both_of (is_same_fact g src o a && is_same_sight g src o a) (is_same_beside g src o a)
     (not_false _ unnamed) in

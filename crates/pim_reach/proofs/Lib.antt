@@ -1,9 +1,11 @@
+pub mod AbsentSources
 pub mod Advance
 pub mod Agreed
 pub mod Asked
 pub mod Calm
 pub mod CalmFiring
 pub mod Configured
+pub mod FactsThere
 pub mod Few
 pub mod Kept
 pub mod Masks
@@ -17,6 +19,7 @@ pub mod Settled
 pub mod Sights
 pub mod Through
 pub mod Taken
+pub mod Told
 pub mod Touched
 pub mod Unreached
 pub mod Within

@@ -11,7 +11,7 @@ use Rattle.pim_model.specs.Sets.{Set}
 use Rattle.pim_model.specs.Tables.{same_bool}
 use Rattle.pim_reach.specs.Named.{IsMask, same_set}
 use Rattle.pim_reach.proofs.Kept.{Low, set_at}
-use Rattle.pim_reach.proofs.Sights.{bools_same}
+use Rattle.pim_locality.proofs.SameRows.{flags_same}
 
 all_from : (p : ℕ → Bool) (a n : ℕ) → ((i : ℕ) → a ≤ i → i < a + n → p i ≡ true) → list_all p (range_with_len a n) ≡ true
 all_from p a zero each = refl
@@ -23,7 +23,7 @@ set_of_all : (f h : Set) → ((i : ℕ) → Low i → f i ≡ h i) → same_set 
 unfolding same_set
 set_of_all f h same =
     all_from (λ i. same_bool (f i) (h i)) 0 most_ifaces
-    (λ i low high. bools_same (f i) (h i) (same i (grind (arith, nat_tests, high))))
+    (λ i low high. flags_same (f i) (h i) (same i (grind (arith, nat_tests, high))))
 
 same_digit : (x y : ℕ) → x < 2 → y < 2 → (x == 1) ≡ (y == 1) → x ≡ y
 same_digit x y p q e = grind (arith, nat_tests)

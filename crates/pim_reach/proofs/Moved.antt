@@ -14,7 +14,6 @@ use Rattle.pim_model.specs.Registers.{could_register, settle_registers, settled_
 use Rattle.pim_model.specs.State.{State}
 use Rattle.pim_model.specs.Tables.{Table, change_row, changed_entry, drop_at, drop_where, has_row, keys_in, put}
 use Rattle.pim_model.specs.Upstream.{fact_keys, upstream}
-use Rattle.pim_model.specs.Writing.{write_all}
 use Rattle.pim_laws.proofs.ListLaws.{any_among_all, each_append, each_both, each_filter, each_filter_map, each_map, each_more, each_of_list, list_of_each}
 use Rattle.pim_laws.proofs.RowLaws.{changed_key, each_put}
 use Rattle.pim_laws.proofs.TurnLaws.{kept_to_the_end}
@@ -22,10 +21,12 @@ use Rattle.pim_locality.specs.Locality.{IsQuiet, is_register_settled, own_settle
 use Rattle.pim_locality.proofs.Clearing.{found_narrowed, narrowed}
 use Rattle.pim_locality.proofs.Turns.{same_repetition}
 use Rattle.pim_reach.specs.Moved.{HaveSources, IsRerouted, MovesAlone, is_moved}
-use Rattle.pim_reach.specs.Named.{has_same_routes, is_named, is_rerouted}
-use Rattle.pim_reach.proofs.MovedTold.{own_told}
+use Rattle.pim_reach.specs.Named.{has_same_routes, is_source_named, is_rerouted}
+use Rattle.pim_reach.proofs.MovedTold.{moved_told}
 use Rattle.pim_reach.proofs.Rerouted.{Beside, Stays, after_registers, all_idle, around_rerouted, asserts_beside, beside_after, desired_same, goes_beside, idle, is_idle, rerouted_beside, rerouted_unnamed, source_sees, spts_beside, star_sees, turn}
-use Rattle.pim_reach.proofs.Taken.{AreTaken, Taken, both, fact_stays, facts_taken, first, isnt_star, keys_of_rows, moved_is_touched, new_facts_taken, rerouted_is_touched, rows_of_keys, second, source_stays}
+use Rattle.pim_reach.proofs.FactsThere.{isnt_star}
+use Rattle.pim_reach.proofs.Taken.{AreTaken, Taken, both, fact_stays, facts_taken, first, keys_of_rows, moved_is_touched, new_facts_taken, rerouted_is_touched, rows_of_keys, second, source_stays}
+use Rattle.pim_reach.proofs.Told.{settles_as}
 use Rattle.pim_reach.proofs.Unreached.{Around}
 
 wider : (a b x : Bool) → (a ≡ true → b ≡ true) → (a || x) ≡ true → (b || x) ≡ true
@@ -264,26 +265,22 @@ module _ (keys : List Key) (o c : State) (quiet : IsQuiet o) (moves : MovesAlone
       (each_more (λ e. SourceTaken e.0) (λ e. KeyTaken e.0) (λ e f. f.0) end.sources way.sources)))
       (keys_of_rows keys o c end.registers way.registers))
 
-  moved_told : (w : ℕ) → upstream o end w ≡ own_upstream keys o end w
-  moved_told w =
+  told_at_end : (w : ℕ) → upstream o end w ≡ own_upstream keys o end w
+  told_at_end w =
       let beside : Beside o c around end = end_is_on_the_way.beside in
-      own_told keys o c end w (star_sees o c around end beside) (source_sees o c around end beside)
+      moved_told keys o c end w (star_sees o c around end beside) (source_sees o c around end beside)
       (desired_same o c around end beside)
       (both keys o c (fact_keys o) (fact_keys end) (facts_taken keys o c moves) end_facts)
 
   pub moved_settles : (messages : List Message) (w : ℕ)
       → settled o (c, messages) w ≡ own_settled keys o (c, messages) w
-  unfolding settled own_settled
-  moved_settles messages w =
-      ap (λ (told : State × List Message). write_all told.0 (messages ++ (clear o c).1 ++ told.1)) (moved_told w)
-      ∙ ap (λ (after : State × List Message). write_all (own_upstream keys o after.0 w).0
-      (messages ++ after.1 ++ (own_upstream keys o after.0 w).1)) moved_goes
+  moved_settles messages w = settles_as keys o c messages w moved_goes (told_at_end w)
 
 -- ---- who is named
 
 pub moved_names : (keys : List Key) (o c : State) → IsQuiet o → MovesAlone keys o c → (g src : ℕ)
     → list_any (names_source g src) (fact_keys o) ≡ true → touching keys (source_key 0 g src) ≡ false
-    → is_named g src o (clear o c).0 ≡ false
+    → is_source_named g src o (clear o c).0 ≡ false
 moved_names keys o c quiet moves g src there out =
     rerouted_unnamed o c (around_rerouted o c moves.rerouted) (rerouted_beside o c moves.rerouted) quiet g src
     (any_among_all (Taken keys o c) (names_source g src) (λ k is names. fact_stays keys o c g src k is names out)

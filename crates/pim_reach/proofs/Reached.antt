@@ -14,8 +14,9 @@ use Rattle.pim_model.specs.State.{State}
 use Rattle.pim_laws.proofs.TurnLaws.{kept_to_the_end}
 use Rattle.pim_reach.specs.Calm.{is_calm}
 use Rattle.pim_reach.specs.Laws.{IsUnreached}
-use Rattle.pim_reach.specs.Named.{is_named, named, named_by}
-use Rattle.pim_reach.proofs.Sights.{bools_same, source_beside, source_sight}
+use Rattle.pim_reach.specs.Named.{is_source_named, named, named_by}
+use Rattle.pim_locality.proofs.SameRows.{flags_same}
+use Rattle.pim_reach.proofs.Sights.{source_beside, source_sight}
 use Rattle.pim_reach.proofs.Unreached.{Alike, Around, alike, alike_sees, around_kept, fact_same, kept_alive_same, register_same}
 
 -- ---- what clearing keeps
@@ -113,7 +114,7 @@ neither : (a b : Bool) → (a || b) ≡ false → a ≡ false
 neither true b e = cc
 neither false b e = refl
 
-all_of_none : {X : Type 0} (p : X → Bool) (xs : List X) → list_any (λ x. not (p x)) xs ≡ false
+pub all_of_none : {X : Type 0} (p : X → Bool) (xs : List X) → list_any (λ x. not (p x)) xs ≡ false
     → list_all p xs ≡ true
 all_of_none p [] e = refl
 all_of_none p (x ∷ xs) e = step (p x) (list_any (λ y. not (p y)) xs) (all_of_none p xs) e
@@ -133,12 +134,12 @@ none_differs g src o changed none =
     (neither _ (differs_among g src (changed ∷ later o changed)) none)))
 
 pub same_is_unnamed : (g src : ℕ) (o a : State) → Around o a → is_same_for g src o a ≡ true
-    → is_named g src o a ≡ false
-unfolding is_named
+    → is_source_named g src o a ≡ false
+unfolding is_source_named
 same_is_unnamed g src o a around same =
     let parts : Alike g src o a = alike g src o a same in
     ap not (both_true (both_true
-    (bools_same _ _ (fact_same g src o a around parts))
+    (flags_same _ _ (fact_same g src o a around parts))
     (source_sight g src o a (alike_sees g src o a around parts)))
     (source_beside g src o a (alike_sees g src o a around parts) (kept_alive_same g src o a around parts)
     (register_same g src o a around parts)))
@@ -170,10 +171,10 @@ module _ (o changed : State) (is : IsConfigured o changed) where
       around_kept o (clear o changed).0 (is.settings ∙ kept.settings) (is.configured ∙ kept.configured)
       (calm_end o changed calm)
 
-  pub named_is_reached : is_calm o changed ≡ true → (g src : ℕ) → is_named g src o (clear o changed).0 ≡ true
+  pub named_is_reached : is_calm o changed ≡ true → (g src : ℕ) → is_source_named g src o (clear o changed).0 ≡ true
       → differs_among g src (passes o changed) ≡ true
   named_is_reached calm g src =
-      by_case (is_named g src o (clear o changed).0) (differs_among g src (passes o changed))
+      by_case (is_source_named g src o (clear o changed).0) (differs_among g src (passes o changed))
       (λ none. same_is_unnamed g src o (clear o changed).0 (end_around calm) (none_differs g src o changed none))
 
   pub unreached_keeps : is_calm o changed ≡ true → (g src : ℕ) → differs_among g src (passes o changed) ≡ false
@@ -184,6 +185,6 @@ module _ (o changed : State) (is : IsConfigured o changed) where
   pub named_within : is_calm o changed ≡ true → length (named_by o changed) ≤ length (reach o changed)
   unfolding named_by named reach
   named_within calm =
-      fewer (λ k. is_named (group_in k) (source_in k) o (clear o changed).0)
+      fewer (λ k. is_source_named (group_in k) (source_in k) o (clear o changed).0)
       (λ k. differs_among (group_in k) (source_in k) (passes o changed))
       (λ k. named_is_reached calm (group_in k) (source_in k)) (with_facts o (clear o changed).0)

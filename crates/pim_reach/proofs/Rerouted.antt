@@ -1,11 +1,11 @@
 -- Where routes change, a source with the same routes isn't named: what goes, and which registers change, is of others.
-use Rattle.std.proofs.Common.{◌≡◌, ◌==◌, ℕ, Bool, true, false, not, ◌&&◌, ◌||◌, cond, List, [], ◌∷◌, ◌++◌, filter, fold, map, Option, Some, None, is_none, is_some, option_and_then, option_map, refl, sym, ap, subst, ◌∙◌, eq-eqb, eqb-true}
+use Rattle.std.proofs.Common.{◌≡◌, ◌==◌, ℕ, Bool, true, false, not, ◌&&◌, ◌||◌, cond, List, [], ◌∷◌, ◌++◌, filter, fold, map, Option, Some, None, is_some, option_and_then, option_map, refl, sym, ap, subst, ◌∙◌, eq-eqb, eqb-true}
 use Rattle.std.proofs.lemmas.List.Folds.{list_all-append}
 use Rattle.std.specs.Cmp.{first_so, second_so}
 use Rattle.std.specs.Cmp.Derive.{both_true}
 use Rattle.std.specs.List.{AllByRecursion, find, list_all}
 use Rattle.std.specs.Option.{option_map_or, option_or}
-use Rattle.pim_ip.specs.declared.addr.Addr.{Addr}
+use Rattle.std.proofs.lemmas.Bool.{false_from_ne_true}
 use Rattle.pim_types.specs.declared.config.Route.{Route}
 use Rattle.pim_types.specs.declared.config.RpRange.{RpRange}
 use Rattle.pim_types.specs.declared.fact.AssertRow.{AssertRow}
@@ -34,15 +34,18 @@ use Rattle.pim_laws.proofs.TurnLaws.{kept_to_the_end}
 use Rattle.pim_locality.specs.Locality.{IsQuiet, is_register_settled}
 use Rattle.pim_locality.specs.Scopes.{only_priority}
 use Rattle.pim_locality.specs.Sees.{SeesSource, SeesStar}
+use Rattle.pim_locality.proofs.Clearing.{all_beside}
 use Rattle.pim_locality.proofs.Registers.{all_keys, nothing_dropped}
 use Rattle.pim_locality.proofs.Rows.{has_row_in_scope, row_in_scope}
 use Rattle.pim_locality.proofs.SameMacros.{could_assert_same, could_assert_star_same, could_register_same, is_tracking_same, is_tracking_star_same, join_desired_same, my_metric_same, my_metric_star_same, rpf_at_same, rpf_rp_at_same}
 use Rattle.pim_reach.specs.Moved.{IsRerouted, is_moved, is_of_place}
-use Rattle.pim_reach.specs.Named.{has_same_routes, has_same_rp, is_named, is_rerouted, named_by, named_where}
+use Rattle.pim_reach.specs.Named.{has_same_routes, has_same_rp, is_source_named, is_rerouted, named_by, named_where}
 use Rattle.pim_reach.proofs.Agreed.{SameSourceRows, SameStarRows, rows_within, same_with_rows}
 use Rattle.pim_reach.proofs.Asked.{asked_alone}
+use Rattle.pim_reach.proofs.FactsThere.{isnt_star, some_source}
 use Rattle.pim_reach.proofs.Reached.{Keeps, one_cleared, same_is_unnamed}
-use Rattle.pim_reach.proofs.SameRows.{flags, not_false, options, paths}
+use Rattle.pim_locality.proofs.SameRows.{flags}
+use Rattle.pim_reach.proofs.SameRows.{not_false, options, paths}
 use Rattle.pim_reach.proofs.Unreached.{Around, alike, alike_sees, dr_around, kept_alive_same, nbr_around, neighbour_around}
 
 -- ---- either way
@@ -56,45 +59,16 @@ both_picked : {X : Type 0} (b : Bool) (x y x' y' : X) → (b ≡ true → x ≡ 
 both_picked true x y x' y' f h = f refl
 both_picked false x y x' y' f h = h refl
 
-never : (b : Bool) → (b ≡ true → ⊥) → b ≡ false
-never true f = absurd (f refl)
-never false f = refl
-
 -- ---- rows that stay beside others
 
 module _ {R : Type 0} (p q : Key × R → Bool) (sees : Key → Key → Bool) (itself : (k : Key) → sees k k ≡ true)
     (touched : Key → Bool)
     (moves : (e : Key × R) → touched e.0 ≡ false → p e ≡ true → q e ≡ true) where
-  tail_step : (test : Key → Bool) (x : Key × R) (xs : Table R) (b : Bool)
-      → list_all p (cond b (x ∷ rows_where test xs) (rows_where test xs)) ≡ true
-      → list_all p (rows_where test xs) ≡ true
-  tail_step test x xs true e = second_so (p x) (list_all p (rows_where test xs)) e
-  tail_step test x xs false e = e
-
-  head_step : (test : Key → Bool) (x : Key × R) (xs : Table R) (b : Bool) → b ≡ true
-      → list_all p (cond b (x ∷ rows_where test xs) (rows_where test xs)) ≡ true
-      → p x ≡ true
-  head_step test x xs true f e = first_so (p x) (list_all p (rows_where test xs)) e
-  head_step test x xs false f e = cc
-
-  all_beside : (t : Table R) → ((k : Key) → touched k ≡ false → list_all p (rows_where (sees k) t) ≡ true)
-      → list_all (λ e. touched e.0 || q e) t ≡ true
-  unfolding rows_where
-  all_beside [] quiet = refl
-  all_beside (x ∷ xs) quiet =
-      both_true
-      (here (touched x.0) refl)
-      (all_beside xs (λ k e. tail_step (sees k) x xs (sees k x.0) (quiet k e)))
-    where
-      here : (b : Bool) → touched x.0 ≡ b → (b || q x) ≡ true
-      here true e = refl
-      here false e = moves x e (head_step (sees x.0) x xs (sees x.0 x.0) (itself x.0) (quiet x.0 e))
-
   all_kept : (t u : Table R) → ((k : Key) → touched k ≡ false → rows_where (sees k) t ≡ rows_where (sees k) u)
       → list_all p t ≡ true → list_all (λ e. touched e.0 || q e) u ≡ true
   unfolding rows_where
   all_kept t u same e =
-      all_beside u (λ k f. ap (list_all p) (sym (same k f)) ∙ all_of_filter (λ x. sees k x.0) p t e)
+      all_beside p q sees itself touched moves u (λ k f. ap (list_all p) (sym (same k f)) ∙ all_of_filter (λ x. sees k x.0) p t e)
 
 -- of rows none of which passes beside the touched ones, those that pass are touched
 module _ {R : Type 0} (touched : Key → Bool) (p : Key × R → Bool) where
@@ -132,21 +106,13 @@ module _ {R : Type 0} (touched : Key → Bool) (p : Key × R → Bool) where
 abbrev names : Key → Key → Bool
 names k = cond (is_star k) (names_star (group_in k)) (names_source (group_in k) (source_in k))
 
-has_source : (o : Option Addr) → is_none o ≡ false → is_some o ≡ true
-has_source None e = cc
-has_source (Some x) e = refl
-
-no_source : (o : Option Addr) → is_some o ≡ true → is_none o ≡ false
-no_source None e = cc
-no_source (Some x) e = refl
-
 names_itself : (k : Key) → names k k ≡ true
 unfolding names_source
 names_itself k =
     pick (λ (f : Key → Bool). f k ≡ true) (is_star k) (names_star (group_in k))
     (names_source (group_in k) (source_in k))
     (λ e. both_true (eq-eqb (group_in k) (group_in k) refl) e)
-    (λ e. both_true (both_true (eq-eqb (group_in k) (group_in k) refl) (has_source k.source e))
+    (λ e. both_true (both_true (eq-eqb (group_in k) (group_in k) refl) (some_source k.source e))
     (eq-eqb (source_in k) (source_in k) refl))
 
 place_itself : (k : Key) → is_of_place (group_in k) (source_in k) k ≡ true
@@ -201,7 +167,7 @@ module _ (o c : State) (around : Around o c) where
 
   star_apart : (g : ℕ) (k : Key) → touches k ≡ true → has_same_rp g o c ≡ true → names_star g k ≡ false
   star_apart g k e calm =
-      never (names_star g k)
+      false_from_ne_true (names_star g k)
       (λ f. touched_star (is_star k) (has_same_rp (group_in k) o c) (has_same_routes (group_in k) (source_in k) o c) e
       (second_so (group_in k == g) (is_star k) f)
       (ap (λ m. has_same_rp m o c) (eqb-true (group_in k) g (first_so (group_in k == g) (is_star k) f)) ∙ calm))
@@ -217,9 +183,9 @@ module _ (o c : State) (around : Around o c) where
       → names_source g src k ≡ false
   unfolding names_source
   source_apart g src k e calm =
-      never (names_source g src k)
+      false_from_ne_true (names_source g src k)
       (λ f. touched_source (is_star k) (has_same_rp (group_in k) o c) (has_same_routes (group_in k) (source_in k) o c) e
-      (no_source k.source
+      (isnt_star k.source
       (second_so (group_in k == g) (is_some k.source)
       (first_so ((group_in k == g) && is_some k.source) (source_in k == src) f)))
       (same_place g src k (named_place g src k f) calm))
@@ -227,7 +193,7 @@ module _ (o c : State) (around : Around o c) where
   place_apart : (g src : ℕ) (k : Key) → touches_place k ≡ true → has_same_routes g src o c ≡ true
       → is_of_place g src k ≡ false
   place_apart g src k e calm =
-      never (is_of_place g src k)
+      false_from_ne_true (is_of_place g src k)
       (λ f. never_not (has_same_routes (group_in k) (source_in k) o c) e (same_place g src k f calm))
 
   -- where the routes of a source are the same, so is its RP
@@ -604,7 +570,7 @@ module _ (o c : State) (around : Around o c) where
         (λ t d beside e. beside_after t beside quiet d (goes_beside t beside quiet d e))
         (clearable_count (settle_registers c)) (settle_registers c) after_registers
 
-    pub rerouted_unnamed : (g src : ℕ) → has_same_routes g src o c ≡ true → is_named g src o (clear o c).0 ≡ false
+    pub rerouted_unnamed : (g src : ℕ) → has_same_routes g src o c ≡ true → is_source_named g src o (clear o c).0 ≡ false
     rerouted_unnamed g src calm =
         same_is_unnamed g src o (clear o c).0 (around_now (clear o c).0 beside_end)
         (nothing_differs (clear o c).0 beside_end g src calm)

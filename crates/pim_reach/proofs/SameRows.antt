@@ -17,6 +17,7 @@ use Rattle.pim_model.specs.Sets.{is_loser, is_register_join, is_winner}
 use Rattle.pim_model.specs.Tables.{Table, hop_at, row_at, rows_where, same_bool, same_option}
 use Rattle.pim_locality.specs.Scopes.{only_priority}
 use Rattle.pim_locality.proofs.Rows.{row_in_scope}
+use Rattle.pim_locality.proofs.SameRows.{flags, metrics}
 
 -- ---- what is found
 
@@ -74,11 +75,6 @@ module _ {R : Type 0} (same : R → R → Bool) where
 
 -- ---- equal values
 
-pub flags : (a b : Bool) → same_bool a b ≡ true → a ≡ b
-flags true b e = sym e
-flags false true e = cc
-flags false false e = refl
-
 pub not_false : (b : Bool) → not b ≡ false → b ≡ true
 not_false true e = refl
 not_false false e = cc
@@ -117,17 +113,6 @@ paths None None e = refl
 paths None (Some q) e = cc
 paths (Some p) None e = cc
 paths (Some p) (Some q) e = ap (λ x. Some x) (path_alike p q e)
-
-metrics : (m n : AssertMetric) → same_metric m n ≡ true → m ≡ n
-metrics m n e =
-    let e3 : _ = both_of (same_bool m.rpt n.rpt && (m.preference == n.preference) && (m.metric == n.metric)) (m.address.bits == n.address.bits) e in
-    let e2 : _ = both_of (same_bool m.rpt n.rpt && (m.preference == n.preference)) (m.metric == n.metric) e3.0 in
-    let e1 : _ = both_of (same_bool m.rpt n.rpt) (m.preference == n.preference) e2.0 in
-    let r : m.rpt ≡ n.rpt = flags _ _ e1.0 in
-    let p : m.preference ≡ n.preference = eqb-true _ _ e1.1 in
-    let c : m.metric ≡ n.metric = eqb-true _ _ e2.1 in
-    let a : m.address.bits ≡ n.address.bits = eqb-true _ _ e3.1 in
-    λ j. record { rpt = r j; preference = p j; metric = c j; address = record { bits = a j } }
 
 -- ---- asserts
 

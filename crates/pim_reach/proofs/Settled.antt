@@ -17,7 +17,7 @@ use Rattle.pim_locality.specs.Locality.{AgreesBut, touching}
 use Rattle.pim_locality.proofs.QuietStates.{frame_packets, frame_upstream}
 use Rattle.pim_locality.proofs.Touches.{agrees_then}
 use Rattle.pim_reach.specs.Keeps.{KeepsAnswers}
-use Rattle.pim_reach.specs.Named.{is_named}
+use Rattle.pim_reach.specs.Named.{is_source_named}
 use Rattle.pim_reach.proofs.Agreed.{agreed_is_unnamed}
 use Rattle.pim_reach.proofs.Configured.{change_configured, configured_beside, firing_configured}
 use Rattle.pim_reach.proofs.Kept.{unnamed_keeps}
@@ -53,7 +53,7 @@ module _ (o : State) (change : State × List Message) (w : ℕ) (is : IsConfigur
     configured = after_configured.configured ∙ end_configured.configured;
   }
 
-  module _ (few : length o.configured ≤ most_ifaces) (g src : ℕ) (unnamed : is_named g src o after ≡ false) where
+  module _ (few : length o.configured ≤ most_ifaces) (g src : ℕ) (unnamed : is_source_named g src o after ≡ false) where
     pub settled_keeps : KeepsAnswers g src o end
     unfolding touching
     settled_keeps =
@@ -74,14 +74,14 @@ fire_configured s w e =
     settled_configured s (fired (record s { present = e.end }) e.timer.kind e.timer.key) w (firing_configured s e)
 
 pub event_keeps : (s : State) (w : ℕ) (a : Accepted) → length s.configured ≤ most_ifaces → (g src : ℕ)
-    → is_named g src s (clear s (change s w a).state).0 ≡ false
+    → is_source_named g src s (clear s (change s w a).state).0 ≡ false
     → KeepsAnswers g src s (done s w (change s w a)).state
 unfolding done
 event_keeps s w a few g src unnamed =
     settled_keeps s ((change s w a).state, (change s w a).messages) w (change_configured s w a) few g src unnamed
 
 pub firing_keeps : (s : State) (w : ℕ) (e : Ending) → length s.configured ≤ most_ifaces → (g src : ℕ)
-    → is_named g src s (clear s (own_firing s e)).0 ≡ false → KeepsAnswers g src s (fire_once w s e).0
+    → is_source_named g src s (clear s (own_firing s e)).0 ≡ false → KeepsAnswers g src s (fire_once w s e).0
 unfolding fire_once own_firing
 firing_keeps s w e few g src unnamed =
     settled_keeps s (fired (record s { present = e.end }) e.timer.kind e.timer.key) w (firing_configured s e) few g src

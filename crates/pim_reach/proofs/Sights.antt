@@ -1,14 +1,11 @@
 -- Where a source reads the same, its sight is the same, and so is what is asked beside.
-use Rattle.std.proofs.Common.{◌≡◌, ℕ, Bool, true, false, ◌&&◌, List, Option, Some, None, option_and_then, option_map, refl, sym, ap, ◌∙◌, eq-eqb}
+use Rattle.std.proofs.Common.{◌≡◌, ℕ, Bool, true, false, ◌&&◌, List, Option, Some, None, refl, sym, ap, ◌∙◌, eq-eqb}
 use Rattle.std.specs.Cmp.Derive.{both_true}
 use Rattle.std.specs.List.{list_all}
 use Rattle.std.specs.Option.{option_map_or}
-use Rattle.pim_types.specs.declared.fact.AssertMetric.{AssertMetric}
-use Rattle.pim_types.specs.declared.fact.AssertRow.{AssertRow}
 use Rattle.pim_types.specs.declared.path.Hop.{Hop}
 use Rattle.pim_types.specs.declared.path.Path.{Path}
 use Rattle.pim_model.specs.Cache.{may_register}
-use Rattle.pim_model.specs.Desires.{winner_hop}
 use Rattle.pim_model.specs.Limits.{most_ifaces}
 use Rattle.pim_model.specs.Receivers.{is_exclude, local_receiver_exclude, local_receiver_exclude_among}
 use Rattle.pim_model.specs.Rows.{same_both, same_path, same_register_state}
@@ -17,7 +14,9 @@ use Rattle.pim_model.specs.State.{State}
 use Rattle.pim_model.specs.Tables.{below, same_bool, same_hop, same_option}
 use Rattle.pim_laws.proofs.ListLaws.{each_of_all, list_of_each}
 use Rattle.pim_locality.specs.Sees.{SeesSource, SeesStar}
-use Rattle.pim_locality.proofs.SameMacros.{could_register_same, has_other_rp_same, join_desired_same, local_include_same, rpf_interface_rp_same, rpf_interface_same, spt_metric_same}
+use Rattle.pim_locality.proofs.SameMacros.{by_winner, could_register_same, has_other_rp_same, hop_same, join_desired_same, local_include_same, rpf_interface_rp_same, rpf_interface_same, spt_metric_same}
+use Rattle.pim_locality.proofs.UntoldKeys.{hop_itself, option_itself}
+use Rattle.pim_locality.proofs.SameRows.{flags_same}
 use Rattle.pim_reach.specs.Named.{is_same_beside, is_same_sight, is_same_star, same_set}
 
 -- ---- equal values are the same
@@ -26,21 +25,10 @@ pub bool_itself : (b : Bool) → same_bool b b ≡ true
 bool_itself true = refl
 bool_itself false = refl
 
-pub bools_same : (a b : Bool) → a ≡ b → same_bool a b ≡ true
-bools_same a b e = ap (same_bool a) (sym e) ∙ bool_itself a
-
-option_itself : (n : Option ℕ) → same_option n n ≡ true
-option_itself None = refl
-option_itself (Some n) = eq-eqb n n refl
-
 pub options_same : (a b : Option ℕ) → a ≡ b → same_option a b ≡ true
 options_same a b e = ap (same_option a) (sym e) ∙ option_itself a
 
-hop_itself : (h : Option Hop) → same_hop h h ≡ true
-hop_itself None = refl
-hop_itself (Some h) = rw (eq-eqb h.iface.number h.iface.number refl, eq-eqb h.address.bits h.address.bits refl) refl
-
-hops_same : (a b : Option Hop) → a ≡ b → same_hop a b ≡ true
+pub hops_same : (a b : Option Hop) → a ≡ b → same_hop a b ≡ true
 hops_same a b e = ap (same_hop a) (sym e) ∙ hop_itself a
 
 path_itself : (p : Option Path) → same_both same_path p p ≡ true
@@ -62,24 +50,7 @@ all_pass p e xs = list_of_each p xs (each_of_all (λ x. p x ≡ true) e xs)
 
 sets_same : (a b : Set) → ((i : ℕ) → a i ≡ b i) → same_set a b ≡ true
 unfolding same_set
-sets_same a b e = all_pass (λ i. same_bool (a i) (b i)) (λ i. bools_same (a i) (b i) (e i)) (below most_ifaces)
-
--- ---- winners
-
-hop_by : (row : ℕ → Option AssertRow) (o : Option ℕ)
-    → winner_hop o row ≡ option_and_then (λ i. winner_hop (Some i) row) o
-hop_by row None = refl
-hop_by row (Some i) = refl
-
-hop_same : (row row' : ℕ → Option AssertRow) → ((i : ℕ) → winner_hop (Some i) row ≡ winner_hop (Some i) row')
-    → (o p : Option ℕ) → o ≡ p → winner_hop o row ≡ winner_hop p row'
-hop_same row row' same o p e = hop_by row o ∙ ((λ j. option_and_then (λ i. same i j) (e j)) ∙ sym (hop_by row' p))
-
-by_winner : (mine : AssertMetric) (o : Option AssertRow)
-    → option_map_or (λ (r : AssertRow). is_better r.winner mine) o false ≡ option_map_or (λ m. is_better m mine)
-    (option_map (λ (r : AssertRow). r.winner) o) false
-by_winner mine None = refl
-by_winner mine (Some r) = refl
+sets_same a b e = all_pass (λ i. same_bool (a i) (b i)) (λ i. flags_same (a i) (b i) (e i)) (below most_ifaces)
 
 -- ---- sights
 
@@ -128,7 +99,7 @@ module _ (g src : ℕ) (o a : State) (sees : SeesSource g src o a) where
       (sets_same _ _ beaten_same))
       (sets_same _ _ (λ i. ap (λ (f : Set). f i) (local_include_same g src o a sees))))
       (sets_same _ _ excluded_same))
-      (bools_same _ _ sees.spt)
+      (flags_same _ _ sees.spt)
 
   can_same : may_register o g src ≡ may_register a g src
   unfolding may_register
@@ -142,6 +113,6 @@ module _ (g src : ℕ) (o a : State) (sees : SeesSource g src o a) where
   unfolding is_same_beside
   source_beside kept register =
       both_true (both_true (both_true
-      (bools_same _ _ can_same)
-      (bools_same _ _ (could_register_same g src o a sees kept))) register)
-      (bools_same _ _ (join_desired_same g src o a sees kept))
+      (flags_same _ _ can_same)
+      (flags_same _ _ (could_register_same g src o a sees kept))) register)
+      (flags_same _ _ (join_desired_same g src o a sees kept))

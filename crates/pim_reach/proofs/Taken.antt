@@ -12,9 +12,10 @@ use Rattle.pim_model.specs.Upstream.{fact_keys}
 use Rattle.pim_laws.proofs.ListLaws.{each_append, each_of_list}
 use Rattle.pim_locality.specs.Locality.{touching}
 use Rattle.pim_locality.specs.Scopes.{reads}
-use Rattle.pim_reach.specs.Moved.{MovesAlone, is_moved, is_taken}
+use Rattle.pim_reach.specs.Moved.{MovesAlone, is_moved, is_touched_where_rerouted}
 use Rattle.pim_reach.specs.Named.{has_same_routes, has_same_rp, is_rerouted}
 use Rattle.pim_reach.proofs.Rerouted.{pick}
+use Rattle.pim_reach.proofs.FactsThere.{isnt_star}
 
 -- ---- either way
 
@@ -37,10 +38,6 @@ no_source : (o : Option Addr) → is_none o ≡ true → option_map_or (λ (a : 
 no_source None e = refl
 no_source (Some a) e = cc
 
-pub isnt_star : (o : Option Addr) → is_some o ≡ true → is_none o ≡ false
-isnt_star None e = cc
-isnt_star (Some a) e = refl
-
 -- ---- keys
 
 module _ (keys : List Key) (o c : State) where
@@ -48,7 +45,7 @@ module _ (keys : List Key) (o c : State) where
   touched = touching keys
 
   abbrev pub Taken : Key → Type 0
-  Taken k = is_taken keys o c k ≡ true
+  Taken k = is_touched_where_rerouted keys o c k ≡ true
 
   as_star : (k : Key) → is_star k ≡ true → touched k ≡ touched (star_key 0 (group_in k))
   unfolding touching reads
@@ -162,7 +159,7 @@ module _ (keys : List Key) (o c : State) where
         ++ keys_in o.override_timers ++ keys_in o.sources ++ ks) (moves.rerouted).keys
 
     pub facts_taken : AreTaken (fact_keys o)
-    facts_taken = record { each = each_of_list (is_taken keys o c) (fact_keys o) moves.taken }
+    facts_taken = record { each = each_of_list (is_touched_where_rerouted keys o c) (fact_keys o) moves.taken }
 
     pub new_facts_taken : AreTaken (fact_keys c)
     new_facts_taken = subst AreTaken (sym facts_stay) facts_taken

@@ -2,7 +2,7 @@
 use Rattle.std.proofs.Common.{◌≡◌, ℕ, Bool, true, false, List, Some, [], refl, sym, ap, ◌∙◌}
 use Rattle.pim_types.specs.declared.fact.Key.{Key}
 use Rattle.pim_types.specs.Keys.{group_in, source_in, source_key}
-use Rattle.pim_model.specs.Clearing.{clear, clear_all, clearable_count, cleared}
+use Rattle.pim_model.specs.Clearing.{clear}
 use Rattle.pim_model.specs.declared.accepted.Accepted.{Accepted}
 use Rattle.pim_model.specs.Firing.{fired}
 use Rattle.pim_model.specs.Messages.{Message}
@@ -10,44 +10,29 @@ use Rattle.pim_model.specs.Reach.{own_firing}
 use Rattle.pim_model.specs.State.{State}
 use Rattle.pim_model.specs.Step.{change}
 use Rattle.pim_model.specs.Timers.{Ending}
-use Rattle.pim_laws.proofs.TurnLaws.{kept_to_the_end}
 use Rattle.pim_locality.specs.Events.{touched_by_event}
-use Rattle.pim_locality.specs.Locality.{AgreesBut, IsClosed, IsQuiet, touched_clear, touched_registers, touched_to_clear, touching}
+use Rattle.pim_locality.specs.Locality.{AgreesBut, IsClosed, IsQuiet, touched_registers, touching}
 use Rattle.pim_locality.specs.Scopes.{reads, scope}
 use Rattle.pim_locality.specs.Touches.{isnt_neighbour, touched_by}
 use Rattle.pim_locality.proofs.EventLaws.{change_touches}
 use Rattle.pim_locality.proofs.OwnKeys.{present_touches_none}
-use Rattle.pim_locality.proofs.Registers.{registers_agree, registers_of_touched}
+use Rattle.pim_locality.proofs.Registers.{registers_agree}
+use Rattle.pim_locality.proofs.Settling.{clear_agrees, cleared_of_touched}
 use Rattle.pim_locality.proofs.SilentEvents.{timer_touches}
-use Rattle.pim_locality.proofs.TouchedClearing.{chosen_is_touched, clear_of_touched, cleared_agrees}
 use Rattle.pim_locality.proofs.Touches.{agrees_then, touching_is_closed, widened}
-use Rattle.pim_reach.specs.Named.{is_named, named_by, named_where}
+use Rattle.pim_reach.specs.Named.{is_source_named, named_by, named_where}
 use Rattle.pim_reach.proofs.Agreed.{agreed_is_unnamed}
 use Rattle.pim_reach.proofs.Asked.{asked_alone}
 
 module _ (touches : Key → Bool) (closed : IsClosed touches) (o : State) where
-  clear_agrees : (s : State) → AgreesBut touches o s → AgreesBut touches o (touched_clear touches o s).0
-  unfolding touched_clear
-  clear_agrees s agree =
-      kept_to_the_end (touched_to_clear touches o) cleared (AgreesBut touches o)
-      (λ t c kept e. cleared_agrees touches o closed t c (chosen_is_touched touches o t c e) kept) (clearable_count s) s
-      agree
-
-  cleared_of_touched : IsQuiet o → (s : State) → AgreesBut touches o s
-      → clear o s ≡ touched_clear touches o (touched_registers touches s)
-  unfolding clear
-  cleared_of_touched quiet s agree =
-      ap (clear_all o) (registers_of_touched touches closed o quiet s agree)
-      ∙ clear_of_touched touches o closed quiet (touched_registers touches s)
-      (registers_agree touches closed o s agree)
-
   pub end_agrees : IsQuiet o → (s : State) → AgreesBut touches o s → AgreesBut touches o (clear o s).0
   end_agrees quiet s agree k out =
-      clear_agrees (touched_registers touches s) (registers_agree touches closed o s agree) k out
-      ∙ ap (λ (after : State × List Message). scope (reads k) after.0) (sym (cleared_of_touched quiet s agree))
+      clear_agrees touches closed o (touched_registers touches s) (registers_agree touches closed o s agree) k out
+      ∙ ap (λ (after : State × List Message). scope (reads k) after.0)
+      (sym (cleared_of_touched touches closed o quiet s agree))
 
 pub touched_names : (keys : List Key) (o changed : State) → IsQuiet o → AgreesBut (touching keys) o changed
-    → (g src : ℕ) → touching keys (source_key 0 g src) ≡ false → is_named g src o (clear o changed).0 ≡ false
+    → (g src : ℕ) → touching keys (source_key 0 g src) ≡ false → is_source_named g src o (clear o changed).0 ≡ false
 touched_names keys o changed quiet agree g src out =
     agreed_is_unnamed g src o (clear o changed).0
     (end_agrees (touching keys) (touching_is_closed keys) o quiet changed agree (source_key 0 g src) out)

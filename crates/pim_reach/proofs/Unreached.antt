@@ -20,7 +20,8 @@ use Rattle.pim_model.specs.Unicast.{route, rp_of, rp_route}
 use Rattle.pim_locality.specs.Scopes.{only_priority, scope}
 use Rattle.pim_locality.specs.Sees.{SeesSource}
 use Rattle.pim_locality.proofs.SharedMacros.{is_dr_local, is_neighbour_local}
-use Rattle.pim_reach.proofs.SameRows.{alike_at, ends_none, flag_alike, flags, hop_same, loser_same, metric_same, options, paths, priorities_same, states_alike, there_alike, tunnel_alike, winner_same}
+use Rattle.pim_locality.proofs.SameRows.{flags}
+use Rattle.pim_reach.proofs.SameRows.{alike_at, ends_none, flag_alike, hop_same, loser_same, metric_same, options, paths, priorities_same, states_alike, there_alike, tunnel_alike, winner_same}
 
 -- ---- what all groups share
 

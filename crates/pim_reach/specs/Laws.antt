@@ -25,7 +25,7 @@ use Rattle.pim_locality.specs.Sees.{SeesSource}
 use Rattle.pim_locality.specs.Touches.{isnt_neighbour, touched_by}
 use Rattle.pim_reach.specs.Calm.{is_calm, is_calm_event}
 use Rattle.pim_reach.specs.Keeps.{KeepsAnswers}
-use Rattle.pim_reach.specs.Named.{IsMask, event_named, is_named, is_rerouted, named_by, named_of, named_where, same_set}
+use Rattle.pim_reach.specs.Named.{IsMask, event_named, is_source_named, is_rerouted, named_by, named_of, named_where, same_set}
 
 -- where nothing differs that counts for the source, its macros read the same
 abbrev pub UnreachedSees : Type 0
@@ -49,7 +49,7 @@ UnreachedIsSame = (s : State) (w : ℕ) (a : Accepted) → is_calm s (change s w
 -- of an event's own change
 abbrev pub NamedIsReached : Type 0
 NamedIsReached = (s : State) (w : ℕ) (a : Accepted) → is_calm s (change s w a).state ≡ true → (g src : ℕ)
-    → is_named g src s (clear s (change s w a).state).0 ≡ true
+    → is_source_named g src s (clear s (change s w a).state).0 ≡ true
     → differs_among g src (passes s (change s w a).state) ≡ true
 
 -- so it is at the end of what was accepted, of an Advance over all its firings
@@ -65,7 +65,7 @@ EventNamesFew = (s : State) → IsLawful s → (e : Event) → keeps_neighbours 
 -- and of a firing
 abbrev pub FiredIsReached : Type 0
 FiredIsReached = (s : State) (e : Ending) → is_calm s (own_firing s e) ≡ true → (g src : ℕ)
-    → is_named g src s (clear s (own_firing s e)).0 ≡ true → differs_among g src (passes s (own_firing s e)) ≡ true
+    → is_source_named g src s (clear s (own_firing s e)).0 ≡ true → differs_among g src (passes s (own_firing s e)) ≡ true
 
 abbrev pub FiredAreFew : Type 0
 FiredAreFew = (s : State) (e : Ending) → is_calm s (own_firing s e) ≡ true
@@ -74,17 +74,17 @@ FiredAreFew = (s : State) (e : Ending) → is_calm s (own_firing s e) ≡ true
 -- a source that isn't named keeps its answers
 abbrev pub UnnamedKeeps : Type 0
 UnnamedKeeps = (g src : ℕ) (o a : State) → o.settings ≡ a.settings → o.configured ≡ a.configured
-    → length o.configured ≤ most_ifaces → is_named g src o a ≡ false → KeepsAnswers g src o a
+    → length o.configured ≤ most_ifaces → is_source_named g src o a ≡ false → KeepsAnswers g src o a
 
 -- to the end of the event, and of a firing
 abbrev pub EventKeeps : Type 0
 EventKeeps = (s : State) (w : ℕ) (a : Accepted) → length s.configured ≤ most_ifaces → (g src : ℕ)
-    → is_named g src s (clear s (change s w a).state).0 ≡ false
+    → is_source_named g src s (clear s (change s w a).state).0 ≡ false
     → KeepsAnswers g src s (done s w (change s w a)).state
 
 abbrev pub FiringKeeps : Type 0
 FiringKeeps = (s : State) (w : ℕ) (e : Ending) → length s.configured ≤ most_ifaces → (g src : ℕ)
-    → is_named g src s (clear s (own_firing s e)).0 ≡ false → KeepsAnswers g src s (fire_once w s e).0
+    → is_source_named g src s (clear s (own_firing s e)).0 ≡ false → KeepsAnswers g src s (fire_once w s e).0
 
 -- from a quiet state it is enough to ask the sources that an event touches
 abbrev pub TouchedNames : Type 0

@@ -17,7 +17,7 @@ use Rattle.pim_model.specs.Tables.{Table, keys_in, rows_where, same_option}
 use Rattle.pim_model.specs.Unicast.{route, rp_of}
 use Rattle.pim_model.specs.Upstream.{fact_keys, groups_of, sources_of}
 use Rattle.pim_locality.specs.Locality.{IsQuiet, own_settled, touched_clear, touched_registers, touching}
-use Rattle.pim_reach.specs.Named.{has_same_routes, has_same_rp, is_named, is_rerouted}
+use Rattle.pim_reach.specs.Named.{has_same_routes, has_same_rp, is_source_named, is_rerouted}
 
 -- ---- the change
 
@@ -45,13 +45,13 @@ abbrev pub is_moved : State → State → Key → Bool
 is_moved o c k = if is_star k then not (has_same_rp (group_in k) o c) else is_rerouted o c k
 
 -- the sources of a group with any fact, each of which has another route
-unfoldable pub moved_sources : State → State → ℕ → List ℕ
-moved_sources o c g =
+unfoldable pub rerouted_sources : State → State → ℕ → List ℕ
+rerouted_sources o c g =
     filter (λ src. not (same_both same_path (route o src) (route c src))) (sources_of g (fact_keys o))
 
 -- of new routes: the groups with any fact whose RP has another route, and those sources of the other groups
 unfoldable pub moved_of_group : State → State → ℕ → List Key
-moved_of_group o c g = if has_same_rp g o c then map (source_key 0 g) (moved_sources o c g) else star_key 0 g ∷ []
+moved_of_group o c g = if has_same_rp g o c then map (source_key 0 g) (rerouted_sources o c g) else star_key 0 g ∷ []
 
 unfoldable pub keys_by_routes : State → State → List Key
 keys_by_routes o c = flat_map (moved_of_group o c) (groups_of (fact_keys o))
@@ -62,8 +62,8 @@ keys_by_rps o c =
     map (star_key 0) (filter (λ g. not (same_option (rp_of o g) (rp_of c g))) (groups_of (fact_keys o)))
 
 -- the keys touch the machines of (*,G), and those of the source, where they are moved
-abbrev pub is_taken : List Key → State → State → Key → Bool
-is_taken keys o c k =
+abbrev pub is_touched_where_rerouted : List Key → State → State → Key → Bool
+is_touched_where_rerouted keys o c k =
     (has_same_rp (group_in k) o c || touching keys (star_key 0 (group_in k)))
     && (is_star k || has_same_routes (group_in k) (source_in k) o c
     || touching keys (source_key 0 (group_in k) (source_in k)))
@@ -71,7 +71,7 @@ is_taken keys o c k =
 -- a change of routes or RP ranges, and keys that touch all that it moves of which there are facts
 pub record MovesAlone (keys : List Key) (o c : State) : Type 0 where
   pub rerouted : IsRerouted o c
-  pub taken : list_all (is_taken keys o c) (fact_keys o) ≡ true
+  pub taken : list_all (is_touched_where_rerouted keys o c) (fact_keys o) ≡ true
 
 abbrev pub RoutesMove : Type 0
 RoutesMove = (s : State) (w : ℕ) (routes : List Route)
@@ -102,4 +102,4 @@ MovedSettles = (keys : List Key) (o c : State) → IsQuiet o → MovesAlone keys
 abbrev pub MovedNames : Type 0
 MovedNames = (keys : List Key) (o c : State) → IsQuiet o → MovesAlone keys o c → (g src : ℕ)
     → list_any (names_source g src) (fact_keys o) ≡ true → touching keys (source_key 0 g src) ≡ false
-    → is_named g src o (clear o c).0 ≡ false
+    → is_source_named g src o (clear o c).0 ≡ false

@@ -81,11 +81,11 @@ abbrev pub is_same_fact : ℕ → ℕ → State → State → Bool
 is_same_fact g src o a = same_bool (has_row o.sources (source_key 0 g src)) (has_row a.sources (source_key 0 g src))
 
 -- the fact is in one alone, or something that is compared differs
-unfoldable pub is_named : ℕ → ℕ → State → State → Bool
-is_named g src o a = not (is_same_fact g src o a && is_same_sight g src o a && is_same_beside g src o a)
+unfoldable pub is_source_named : ℕ → ℕ → State → State → Bool
+is_source_named g src o a = not (is_same_fact g src o a && is_same_sight g src o a && is_same_beside g src o a)
 
 unfoldable pub named : State → State → List Key
-named o a = filter (λ k. is_named (group_in k) (source_in k) o a) (with_facts o a)
+named o a = filter (λ k. is_source_named (group_in k) (source_in k) o a) (with_facts o a)
 
 -- of an event or a firing, by the opening and the own change: the opening is compared with what clearing leaves
 unfoldable pub named_by : State → State → List Key
@@ -95,7 +95,7 @@ named_by o changed = named o (clear o changed).0
 unfoldable pub named_where : (Key → Bool) → State → State → List Key
 named_where asked o changed =
     let after : State = (clear o changed).0 in
-    filter (λ k. is_named (group_in k) (source_in k) o after) (filter asked (with_facts o after))
+    filter (λ k. is_source_named (group_in k) (source_in k) o after) (filter asked (with_facts o after))
 
 -- of what was accepted; of an Advance those of its firings, one after the other
 unfoldable pub named_of : State → ℕ → Accepted → List Key

@@ -20,3 +20,5 @@ pub mod LawfulStates
 pub mod SettledStates
 pub mod LawfulFiring
 pub mod Steps
+pub mod Unsettled
+pub mod ReadPackets

@@ -1,6 +1,6 @@
 -- A Join timer runs exactly where its tree is wanted.
 use Rattle.std.proofs.Common.{◌≡◌, ◌∙◌, ℕ, ◌==◌, ◌||◌, ◌⊎◌, inl, inr, Bool, true, false, cond, List, [], ◌∷◌, ◌++◌, Option, Some, None, is_some, option_map, refl, sym, ap, subst, eq-eqb, eqb-true}
-use Rattle.std.proofs.lemmas.Bool.{both_ways, false_from_ne_true}
+use Rattle.std.proofs.lemmas.Bool.{both_ways, false_from_ne_true, or_parts}
 use Rattle.std.proofs.lemmas.List.Folds.{list_any-append}
 use Rattle.std.specs.List.{list_any}
 use Rattle.pim_types.specs.Keys.{group_in, is_of_group, names_source, same_key, source_in, source_key, star_key}
@@ -18,7 +18,7 @@ use Rattle.pim_model.specs.Upstream.{Cancel, Keep, LowerTo, SetTo, TimerChange, 
 use Rattle.pim_laws.proofs.ListLaws.{by_cond}
 use Rattle.pim_laws.proofs.TurnLaws.{kept_in_turn}
 use Rattle.pim_served.proofs.Leaves.{group_is_listed, wanted_is_fact}
-use Rattle.pim_served.proofs.Sources.{its_group_is_listed, neither, source_is_listed, wanted_is_named}
+use Rattle.pim_served.proofs.Sources.{its_group_is_listed, source_is_listed, wanted_is_named}
 use Rattle.pim_served.proofs.Timers.{SameTimers, has_row_set}
 
 -- ---- one timer
@@ -252,7 +252,7 @@ module _ (o a : State) (w : ℕ) where
     absent : list_any (λ n. n == g) (groups_of keys) ≡ false → (was ≡ false) × (is ≡ false)
     absent none =
         let both : (list_any (λ k. is_of_group g k) (fact_keys o) ≡ false) × (list_any (λ k. is_of_group g k) (fact_keys a) ≡ false) =
-        neither _ _ (sym (list_any-append (λ k. is_of_group g k) (fact_keys o) (fact_keys a)) ∙ (sym (group_is_listed g keys) ∙ none)) in
+        or_parts _ _ (sym (list_any-append (λ k. is_of_group g k) (fact_keys o) (fact_keys a)) ∙ (sym (group_is_listed g keys) ∙ none)) in
         (unwanted o both.0, unwanted a both.1)
 
     pub star_told_so : star_runs a ≡ was → star_runs (upstream o a w).0 ≡ is
@@ -347,7 +347,7 @@ module _ (o a : State) (w : ℕ) where
     source_absent : is_listed ≡ false → (was_wanted ≡ false) × (is_wanted ≡ false)
     source_absent none =
         let both : (list_any (names_source g src) (fact_keys o) ≡ false) × (list_any (names_source g src) (fact_keys a) ≡ false) =
-        neither _ _ (sym (list_any-append (names_source g src) (fact_keys o) (fact_keys a)) ∙ (sym (source_is_listed g src keys) ∙ none)) in
+        or_parts _ _ (sym (list_any-append (names_source g src) (fact_keys o) (fact_keys a)) ∙ (sym (source_is_listed g src keys) ∙ none)) in
         (not_wanted o both.0, not_wanted a both.1)
 
     pub source_told_so : source_runs a ≡ was_wanted → source_runs (upstream o a w).0 ≡ is_wanted

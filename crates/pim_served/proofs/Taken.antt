@@ -26,21 +26,23 @@ use Rattle.pim_model.specs.Step.{change, done}
 use Rattle.pim_model.specs.Tables.{Table, drop_at, has_row, keys_in, later_end, row_at, rows_where, set_row}
 use Rattle.pim_model.specs.Unicast.{is_rpf_interface, is_rpf_interface_rp}
 use Rattle.pim_laws.proofs.ListLaws.{each_passes}
-use Rattle.pim_laws.proofs.RowLaws.{has_row_any, has_row_without, row_drop_away, row_put, row_put_away, still_absent}
+use Rattle.pim_laws.proofs.RowLaws.{has_row_any, has_row_without, row_drop_away, row_put_away, still_absent}
 use Rattle.pim_laws.proofs.SettlingLaws.{kept_by_clearing}
 use Rattle.pim_laws.proofs.TableLaws.{any_in_filter, any_of_map, row_of_each}
 use Rattle.pim_laws.proofs.TurnLaws.{kept_by_fold}
+use Rattle.pim_ready.proofs.Unsettled.{Unsettled, settling_leaves}
 use Rattle.pim_locality.specs.Scopes.{reads, scope}
 use Rattle.pim_locality.proofs.Asserts.{place_read, stars_read}
 use Rattle.pim_locality.proofs.Rows.{row_at_cut, row_in_scope}
 use Rattle.pim_locality.proofs.SourceMacros.{spt_bit_local}
 use Rattle.pim_locality.proofs.StarMacros.{cut_assert, loser_cut}
 use Rattle.pim_locality.proofs.UntoldKeys.{same_by_scope}
+use Rattle.pim_locality.proofs.JoinPrunes.{none_there, set_here}
 use Rattle.pim_asked.proofs.Same.{Rows, settled_same}
 use Rattle.pim_promises.proofs.Links.{is_below}
 use Rattle.pim_promises.proofs.Made.{step_taken}
 use Rattle.pim_served.specs.Joins.{JoinsSource, JoinsStar, JoinsTree, SourceJoinIsTaken, StarJoinIsTaken, TakesSource, TakesStar}
-use Rattle.pim_served.proofs.Leaves.{ends_configured, rest_agrees, taken_is_done, untouched}
+use Rattle.pim_served.proofs.Leaves.{rest_agrees, taken_is_done, untouched}
 
 -- ---- the row of a key that is set
 
@@ -48,18 +50,9 @@ pub apart_keys : (k q : Key) → same_key q k ≡ false → k ≡ q → ⊥
 apart_keys k q e same = both_ways (same_key q k) e (ap (same_key q) same ∙ same_key_same q)
 
 module _ {R : Type 0} where
-  pub no_row : (o : Option R) → is_some o ≡ false → o ≡ None
-  no_row None e = refl
-  no_row (Some r) e = cc
-
   row_gone : (k : Key) (t : Table R) → row_at (drop_at t k) k ≡ None
   unfolding has_row
-  row_gone k t = no_row _ (has_row_without k k t ∙ rw (same_key_same k) refl)
-
-  row_set : (k : Key) (t : Table R) (o : Option R) → row_at (set_row t k o) k ≡ o
-  unfolding set_row
-  row_set k t None = row_gone k t
-  row_set k t (Some r) = row_put k r t
+  row_gone k t = none_there _ (has_row_without k k t ∙ rw (same_key_same k) refl)
 
   row_set_away : (k q : Key) → same_key q k ≡ false → (t : Table R) (o : Option R)
       → row_at (set_row t k o) q ≡ row_at t q
@@ -79,7 +72,7 @@ module _ {R : Type 0} where
         go : (b : Bool) → same_key q k ≡ b → row_at (sets t k) q ≡ rule q
         go false off = row_set_away k q off t (rule k) ∙ is
         go true same =
-            subst (λ (x : Key). row_at (sets t x) q ≡ rule q) (equal_keys q k same) (row_set q t (rule q))
+            subst (λ (x : Key). row_at (sets t x) q ≡ rule q) (equal_keys q k same) (set_here q t (rule q))
 
     -- where it was as the rule says it stays so
     pub stays_set : (ks : List Key) (t : Table R) → row_at t q ≡ rule q → row_at (fold sets t ks) q ≡ rule q
@@ -97,7 +90,7 @@ module _ {R : Type 0} where
         go false off f later = later f
         go true same f later =
             stays_set ks (sets t k)
-            (subst (λ (x : Key). row_at (sets t x) q ≡ rule q) (equal_keys q k same) (row_set q t (rule q)))
+            (subst (λ (x : Key). row_at (sets t x) q ≡ rule q) (equal_keys q k same) (set_here q t (rule q)))
 
 -- ---- the rows after a Join/Prune
 
@@ -231,7 +224,7 @@ module _ (s : State) (i g : ℕ) (m : JoinPrune) (f : JoinsStar s i g m) where
         go true there = becomes_set rule tree (touched_keys s i joined pruned) s.downstream (tree_is_touched there) ∙ tree_rule
         go false none =
             stays_set rule tree (touched_keys s i joined pruned) s.downstream
-            (no_row (row_at s.downstream tree) none ∙ sym tree_rule) ∙ tree_rule
+            (none_there (row_at s.downstream tree) none ∙ sym tree_rule) ∙ tree_rule
 
 -- ---- what clearing leaves
 
@@ -290,15 +283,12 @@ module _ (o : State) (c : State × List Message) (w : ℕ) where
       (λ x. spt_bit_local (reads (source_key 0 g src)) x g src (place_read (source_key 0 g src))) cleared_state end_state
       (rest_agrees o c w (source_key 0 g src) (untouched o c w (source_key 0 g src))))
       ∙ ap (λ (x : Option SourceRow). option_map_or (λ (r : SourceRow). r.spt) x false)
-      (no_row (row_at (cleared_state).sources (source_key 0 g src))
+      (none_there (row_at (cleared_state).sources (source_key 0 g src))
       (kept_by_clearing (λ t. has_row t.sources (source_key 0 g src) ≡ false) (λ t k f. f)
       (λ t k f. still_absent (source_key 0 g src) without_spt k t.sources f) o c.0 none))
 
   pub still_configured : (end_state).configured ≡ (c.0).configured
-  unfolding settle_registers assert_forgotten without_spt_bit
-  still_configured =
-      ends_configured o c w
-      ∙ kept_by_clearing (λ t. t.configured ≡ (c.0).configured) (λ t k f. f) (λ t k f. f) o c.0 refl
+  still_configured = ap (λ (u : Unsettled). u.configured) (settling_leaves o c w)
 
   pub same_downstream : (end_state).downstream ≡ (c.0).downstream
   same_downstream = ap (λ (r : Rows). r.downstream) (settled_same o c w)

@@ -7,21 +7,26 @@ use Rattle.std.specs.Cmp.Derive.{both_true}
 use Rattle.std.specs.List.{AllByRecursion, list_all, list_any}
 use Rattle.pim_types.specs.declared.fact.Key.{Key}
 use Rattle.pim_types.specs.Keys.{group_in, is_of_group, source_in, source_key, star_key}
+use Rattle.pim_model.specs.Clearing.{clear}
+use Rattle.pim_model.specs.Firing.{settled}
 use Rattle.pim_model.specs.Messages.{Message}
 use Rattle.pim_model.specs.Querier.{each_in_turn}
 use Rattle.pim_model.specs.State.{State}
 use Rattle.pim_model.specs.Tables.{ascending}
 use Rattle.pim_model.specs.Upstream.{Told, fact_keys, group_upstream, groups_of, nothing_told, source_upstream, sources_of, star_told, star_view, upstream, with_join_timer}
+use Rattle.pim_model.specs.Writing.{write_all}
 use Rattle.pim_laws.proofs.AbsentGroups.{absent_is_undesired, names, no_sources}
 use Rattle.pim_laws.proofs.ListLaws.{any_among_all, any_more, any_of_filter, each_map, each_more, each_of_all, each_of_list, each_passing, list_of_each}
 use Rattle.pim_laws.proofs.Numbers.{any_ascending}
 use Rattle.pim_laws.proofs.TableLaws.{any_in_filter, any_of_map}
-use Rattle.pim_locality.specs.Locality.{own_keys, own_upstream, touching}
+use Rattle.pim_locality.specs.Locality.{own_keys, own_settled, own_upstream, touched_clear, touched_registers, touching}
 use Rattle.pim_locality.specs.Scopes.{reads}
 use Rattle.pim_locality.proofs.OwnKeys.{own_touched}
 use Rattle.pim_locality.proofs.Touches.{touching_is_closed}
 use Rattle.pim_locality.proofs.TouchedUpstream.{filtered_order, first_implies, reads_star, touched_sources_of}
 use Rattle.pim_locality.proofs.Turns.{turns_filtered}
+use Rattle.pim_reach.proofs.Reached.{all_of_none}
+use Rattle.pim_reach.proofs.SameRows.{not_false}
 
 -- ---- lists
 
@@ -30,24 +35,28 @@ same_filters : {X : Type 0} (p q : X → Bool) (xs : List X) → AllByRecursion 
 same_filters p q [] e = refl
 same_filters p q (x ∷ xs) e = λ j. cond (e.0 j) (x ∷ same_filters p q xs e.1 j) (same_filters p q xs e.1 j)
 
-pub any_fails : {X : Type 0} (p : X → Bool) (xs : List X) → list_all p xs ≡ true → list_any (λ x. not (p x)) xs ≡ false
-any_fails p [] e = refl
-any_fails p (x ∷ xs) e = step (p x) (list_all p xs) (list_any (λ y. not (p y)) xs) (any_fails p xs) e
+pub none_fails : {X : Type 0} (p : X → Bool) (xs : List X) → list_all p xs ≡ true → list_any (λ x. not (p x)) xs ≡ false
+none_fails p [] e = refl
+none_fails p (x ∷ xs) e = step (p x) (list_all p xs) (list_any (λ y. not (p y)) xs) (none_fails p xs) e
   where
     step : (b d f : Bool) → (d ≡ true → f ≡ false) → (b && d) ≡ true → (not b || f) ≡ false
     step true d f later g = later g
     step false d f later g = cc
 
-pub all_pass : {X : Type 0} (p : X → Bool) (xs : List X) → list_any (λ x. not (p x)) xs ≡ false → list_all p xs ≡ true
-all_pass p [] e = refl
-all_pass p (x ∷ xs) e = step (p x) (list_all p xs) (list_any (λ y. not (p y)) xs) (all_pass p xs) e
-  where
-    step : (b d f : Bool) → (f ≡ false → d ≡ true) → (not b || f) ≡ false → (b && d) ≡ true
-    step true d f later g = later g
-    step false d f later g = cc
-
 all_ascending : (p : ℕ → Bool) (ns : List ℕ) → list_all p ns ≡ true → list_all p (ascending ns) ≡ true
-all_ascending p ns e = all_pass p (ascending ns) (any_ascending (λ n. not (p n)) ns ∙ any_fails p ns e)
+all_ascending p ns e = all_of_none p (ascending ns) (any_ascending (λ n. not (p n)) ns ∙ none_fails p ns e)
+
+-- ---- either way
+
+pub second_left : (b d : Bool) → (b || d) ≡ true → b ≡ false → d ≡ true
+second_left true d e f = cc
+second_left false d e f = e
+
+pub swap : (a b : Bool) → (a || b) ≡ true → (b || a) ≡ true
+swap true true e = refl
+swap true false e = refl
+swap false true e = refl
+swap false false e = cc
 
 -- ---- the turns
 
@@ -109,11 +118,7 @@ module _ (keys : List Key) (o a : State) (w : ℕ) (calm_star : ℕ → Bool) (c
       idle : (s : State) (src : ℕ) → asked src ≡ false → source_upstream o a w g s src ≡ (s, [])
       idle s src e =
           let parts : (of_touched src ≡ false) × (not (calm g src) ≡ false) = or_parts (of_touched src) (not (calm g src)) e in
-          source_idle g src parts.0 (shown (calm g src) parts.1) s
-        where
-          shown : (b : Bool) → not b ≡ false → b ≡ true
-          shown true f = refl
-          shown false f = cc
+          source_idle g src parts.0 (not_false (calm g src) parts.1) s
 
       own_sources : (s : State)
           → each_in_turn (source_upstream o a w g) s (sources_of g facts)
@@ -144,10 +149,6 @@ module _ (keys : List Key) (o a : State) (w : ℕ) (calm_star : ℕ → Bool) (c
               (λ q f. both_true (touching_is_closed keys (star_key 0 g) q e (reads_star g q f)) f) facts there in
               cc (any_in_filter (touching keys) (is_of_group g) facts, passes, none)
           go false e = refl
-
-      second_left : (b d : Bool) → (b || d) ≡ true → b ≡ false → d ≡ true
-      second_left true d e f = cc
-      second_left false d e f = e
 
       star_calm : names g facts ≡ true → touching keys (star_key 0 g) ≡ false → calm_star g ≡ true
       star_calm there out =
@@ -236,3 +237,16 @@ module _ (keys : List Key) (o a : State) (w : ℕ) (calm_star : ℕ → Bool) (c
         (same_groups facts (λ n. any_of_filter (touching keys) (is_of_group n) facts) ∙ sym (same_groups keys named_by_key))
         ∙ sym (turns_filtered (λ s g. turn touched s g) is_told idle_turn (groups_of keys) a)
         ∙ sym (λ j. each_in_turn (λ s g. own_turn s g j) a (groups_of keys))
+
+-- ---- all that follows
+
+-- what goes, and what is told then
+pub settles_as : (keys : List Key) (o c : State) (messages : List Message) (w : ℕ)
+    → clear o c ≡ touched_clear (touching keys) o (touched_registers (touching keys) c)
+    → upstream o (clear o c).0 w ≡ own_upstream keys o (clear o c).0 w
+    → settled o (c, messages) w ≡ own_settled keys o (c, messages) w
+unfolding settled own_settled
+settles_as keys o c messages w goes told =
+    ap (λ (sent : State × List Message). write_all sent.0 (messages ++ (clear o c).1 ++ sent.1)) told
+    ∙ ap (λ (after : State × List Message). write_all (own_upstream keys o after.0 w).0
+    (messages ++ after.1 ++ (own_upstream keys o after.0 w).1)) goes
