@@ -99,15 +99,6 @@ none_goes full (Some end) RecordType.Block (Until n) keeps gone = cc
 none_goes full timer RecordType.IsExclude f keeps gone = cc
 none_goes full timer RecordType.ToExclude f keeps gone = cc
 
-timer_stays : (full : ℕ) (timer : Option ℕ) (type : RecordType) → keeps_others type ≡ true
-    → timer_after full timer type ≡ timer
-timer_stays full timer RecordType.IsInclude keeps = refl
-timer_stays full timer RecordType.Allow keeps = refl
-timer_stays full timer RecordType.ToInclude keeps = refl
-timer_stays full timer RecordType.Block keeps = refl
-timer_stays full timer RecordType.IsExclude keeps = cc
-timer_stays full timer RecordType.ToExclude keeps = cc
-
 -- ---- who is a member
 
 abbrev pub is_member : Fate → Bool

@@ -42,9 +42,6 @@ module _ (i : ℕ) where
     pub groups_left : groups ++ reported_groups i left ≡ reported_groups i all
     pub sources_left : sources ++ reported_sources i left ≡ reported_sources i all
 
-  pub none_named : (all : List Record) → Names all [] [] all
-  none_named all = record { groups_left = refl; sources_left = refl }
-
   module _ (all : List Record) (groups sources : List Key) where
     pub one_named : (groups' sources' : List Key) (left rest : List Record) (r : Record) → left ≡ r ∷ rest
         → groups' ≡ groups ++ reported_groups i (r ∷ []) → sources' ≡ sources ++ reported_sources i (r ∷ [])

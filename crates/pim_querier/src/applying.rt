@@ -11,14 +11,24 @@ ghost use Rattle.pim_querier.specs.Reports.{asks_named, keeps_others, member_nam
 ghost use Rattle.pim_querier.specs.Visits.{apply_nodes, apply_to_all_nodes, apply_to_named_nodes, write_beside_nodes};
 ghost use Rattle.pim_world.specs.Visits.{raised};
 
+use crate::place::IfaceGroup;
 use crate::records::{drop_empty, drop_repeats, has_sources, put_members, record_of, set_record};
 use igmp_wire::RecordType;
 use pim_filters::{Asking, GroupRecord, Member};
+use pim_types::Addr;
 use pim_types::fact::GroupRecordRow;
-use pim_types::{Addr, IfaceId};
 use pim_world::{Meter, World};
 use std::alloc::{AllocError, Global};
 use std::collections::BTreeSet;
+
+/// A record of a report that came on an interface (RFC 3376, section 4.2.4), but for the sources that it names.
+#[derive(Clone, Copy)]
+pub struct SeenRecord {
+    pub place: IfaceGroup,
+    pub record_type: RecordType,
+    /// Until when the timers run that it sets, in ms.
+    pub full: u64,
+}
 
 // ---- what is known of the sources that are named
 
@@ -34,11 +44,13 @@ fn set_of(alloc: Global, sources: &[Addr]) -> Result<BTreeSet<Addr>, AllocError>
 }
 
 // What the group's record says of the source, where it has it.
-fn member_of(world: &World, iface: IfaceId, group: Addr, source: Addr) -> Option<Member>
+fn member_of(world: &World, place: IfaceGroup, source: Addr) -> Option<Member>
     ensures { option_map entry_of result
-        ≡ member_named iface.number group.bits world.now.source_records source.bits }
+        ≡ member_named place.iface.number place.group.bits world.now.source_records source.bits }
 {
-    let row = world.membership().source_record(iface, group, source)?;
+    let row = world
+        .membership()
+        .source_record(place.iface, place.group, source)?;
     Some(Member {
         source,
         end: row.end,
@@ -49,19 +61,18 @@ fn member_of(world: &World, iface: IfaceId, group: Addr, source: Addr) -> Option
 fn members_among(
     world: &World,
     alloc: Global,
-    iface: IfaceId,
-    group: Addr,
+    place: IfaceGroup,
     sources: &BTreeSet<Addr>,
 ) -> Result<Vec<Member>, AllocError>
     ensures members { IfOk result (λ members. entries_of members.items
-        ≡ members_named iface.number group.bits world.now.source_records (bits_of sources.now.keys)) }
+        ≡ members_named place.iface.number place.group.bits world.now.source_records (bits_of sources.now.keys)) }
     ensures ascending { IfOk result (λ members. IsAscending (entries_of members.items)) }
 {
     // It tells that the sources rise.
     let _ = sources.len();
     let mut members = Vec::new(alloc);
     for source in sources.iter() {
-        if let Some(member) = member_of(world, iface, group, *source) {
+        if let Some(member) = member_of(world, place, *source) {
             members.push(member)?;
         }
     }
@@ -72,35 +83,34 @@ fn members_among(
 fn named_record(
     world: &World,
     alloc: Global,
-    iface: IfaceId,
-    group: Addr,
+    place: IfaceGroup,
     sources: &[Addr],
 ) -> Result<GroupRecord, AllocError>
-    ensures timer { IfOk result (λ known. known.timer ≡ group_end world.now iface.number group.bits) }
+    ensures timer { IfOk result (λ known. known.timer ≡ group_end world.now place.iface.number place.group.bits) }
     ensures ascending { IfOk result (λ known. IsAscending known.members) }
     ensures fates { IfOk result (λ known. (src : ℕ) → fate_in known src
-        ≡ (if is_among src (bits_of sources.now) then fate_in (record_of world.now iface.number group.bits) src
-        else Gone)) }
+        ≡ (if is_among src (bits_of sources.now)
+        then fate_in (record_of world.now place.iface.number place.group.bits) src else Gone)) }
     ensures named { IfOk result (λ known. known
-        ≡ record_named world.now iface.number group.bits (bits_of sources.now)) }
+        ≡ record_named world.now place.iface.number place.group.bits (bits_of sources.now)) }
 {
     // It tells that each is under the key of a source.
     world.membership().recall_keyed_source_records();
     let named = set_of(alloc, sources)?;
     // It tells that the sources rise.
     let _ = named.len();
-    let members = members_among(world, alloc, iface, group, &named)?;
-    GroupRecord::with(alloc, world.group_end(iface, group), &members)
+    let members = members_among(world, alloc, place, &named)?;
+    GroupRecord::with(alloc, world.group_end(place.iface, place.group), &members)
 }
 
 // ---- what is written
 
 // Whether a group with this timer and its sources as they are has no record: INCLUDE of no source.
-fn is_none_left(world: &World, iface: IfaceId, group: Addr, timer: Option<u64>) -> bool
+fn is_none_left(world: &World, place: IfaceGroup, timer: Option<u64>) -> bool
     ensures { result ≡ (is_none timer
-        && not (list_any (λ e. is_at_group iface.number group.bits e.0) world.now.source_records)) }
+        && not (list_any (λ e. is_at_group place.iface.number place.group.bits e.0) world.now.source_records)) }
 {
-    timer.is_none() && !has_sources(world, iface, group)
+    timer.is_none() && !has_sources(world, place)
 }
 
 // Gives the group's record the timer of this one, and its sources beside those that it has. It goes where it is none.
@@ -108,55 +118,56 @@ fn write_beside(
     world: &mut World,
     meter: &mut Meter,
     alloc: Global,
-    iface: IfaceId,
-    group: Addr,
+    place: IfaceGroup,
     known: &GroupRecord,
 ) -> Result<(), AllocError>
-    requires { iface.number < 120 }
-    ensures beside { OnOk result (world.new ≡ beside iface.number group.bits world.old known.now) }
+    requires { place.iface.number < 120 }
+    ensures beside { OnOk result (world.new ≡ beside place.iface.number place.group.bits world.old known.now) }
     ensures at_least { OnOk result (raised meter.old
-        (write_beside_nodes iface.number group.bits world.old known.now) ≤ meter.new) }
+        (write_beside_nodes place.iface.number place.group.bits world.old known.now) ≤ meter.new) }
 {
     let end = known.timer();
     let row = GroupRecordRow { end };
     world
         .membership_mut()
-        .set_group_record(iface, group, Some(row), meter)?;
-    put_members(world, meter, iface, group, known.members())?;
-    let is_none = is_none_left(world, iface, group, end);
-    drop_empty(world, meter, iface, group, is_none);
-    drop_repeats(world, alloc, iface, group)
+        .set_group_record(place.iface, place.group, Some(row), meter)?;
+    put_members(world, meter, place, known.members())?;
+    let is_none = is_none_left(world, place, end);
+    drop_empty(world, meter, place, is_none);
+    drop_repeats(world, alloc, place)
 }
 
-// Applies a record of a report that leaves the sources that it doesn't name: their records aren't looked at. The queries
-// that it asks for are told where it asks for named sources alone.
+// Applies a record of a report that leaves the sources that it doesn't name: their records aren't looked at. The
+// queries that it asks for are told where it asks for named sources alone.
 fn apply_to_named(
     world: &mut World,
     meter: &mut Meter,
     alloc: Global,
-    iface: IfaceId,
-    group: Addr,
-    record_type: RecordType,
+    seen: SeenRecord,
     sources: &[Addr],
-    full: u64,
 ) -> Result<Asking, AllocError>
-    requires near { iface.number < 120 }
-    requires keeps { keeps_others record_type ≡ true }
-    ensures state { OnOk result (world.new ≡ with_record world.old iface.number group.bits
-        (apply_record full (record_of world.old iface.number group.bits) record_type (bits_of sources.now)).0) }
-    ensures asked { asks_named record_type ≡ true → IfOk result (λ asked. asked
-        ≡ (apply_record full (record_of world.old iface.number group.bits) record_type (bits_of sources.now)).1) }
+    requires near { seen.place.iface.number < 120 }
+    requires keeps { keeps_others seen.record_type ≡ true }
+    ensures state { OnOk result (world.new ≡ with_record world.old seen.place.iface.number seen.place.group.bits
+        (apply_record seen.full (record_of world.old seen.place.iface.number seen.place.group.bits) seen.record_type
+        (bits_of sources.now)).0) }
+    ensures asked { asks_named seen.record_type ≡ true → IfOk result (λ asked. asked
+        ≡ (apply_record seen.full (record_of world.old seen.place.iface.number seen.place.group.bits) seen.record_type
+        (bits_of sources.now)).1) }
     ensures at_least { OnOk result (raised meter.old
-        (apply_to_named_nodes full iface.number group.bits world.old record_type (bits_of sources.now)) ≤ meter.new) }
+        (apply_to_named_nodes seen.full seen.place.iface.number seen.place.group.bits world.old seen.record_type
+        (bits_of sources.now)) ≤ meter.new) }
 {
     // They tell that each source has one record, under its own key, and that the sources rise.
     world.membership().recall_rising_source_records();
     world.membership().recall_keyed_source_records();
-    let _ = world.membership().source_records_at(iface, group);
-    let mut known = named_record(world, alloc, iface, group, sources)?;
+    let _ = world
+        .membership()
+        .source_records_at(seen.place.iface, seen.place.group);
+    let mut known = named_record(world, alloc, seen.place, sources)?;
     let mut asked = Asking::new();
-    known.apply(record_type, sources, full, &mut asked)?;
-    write_beside(world, meter, alloc, iface, group, &known)?;
+    known.apply(seen.record_type, sources, seen.full, &mut asked)?;
+    write_beside(world, meter, alloc, seen.place, &known)?;
     Ok(asked)
 }
 
@@ -164,18 +175,16 @@ fn apply_to_named(
 fn asked_of_all(
     world: &World,
     alloc: Global,
-    iface: IfaceId,
-    group: Addr,
-    record_type: RecordType,
+    seen: SeenRecord,
     sources: &[Addr],
-    full: u64,
 ) -> Result<Asking, AllocError>
     ensures { IfOk result (λ asked. asked
-        ≡ (apply_record full (record_of world.now iface.number group.bits) record_type (bits_of sources.now)).1) }
+        ≡ (apply_record seen.full (record_of world.now seen.place.iface.number seen.place.group.bits) seen.record_type
+        (bits_of sources.now)).1) }
 {
-    let mut known = record_of(world, alloc, iface, group)?;
+    let mut known = record_of(world, alloc, seen.place)?;
     let mut asked = Asking::new();
-    known.apply(record_type, sources, full, &mut asked)?;
+    known.apply(seen.record_type, sources, seen.full, &mut asked)?;
     Ok(asked)
 }
 
@@ -184,24 +193,24 @@ fn apply_to_all(
     world: &mut World,
     meter: &mut Meter,
     alloc: Global,
-    iface: IfaceId,
-    group: Addr,
-    record_type: RecordType,
+    seen: SeenRecord,
     sources: &[Addr],
-    full: u64,
 ) -> Result<Asking, AllocError>
-    requires { iface.number < 120 }
-    ensures state { OnOk result (world.new ≡ with_record world.old iface.number group.bits
-        (apply_record full (record_of world.old iface.number group.bits) record_type (bits_of sources.now)).0) }
+    requires { seen.place.iface.number < 120 }
+    ensures state { OnOk result (world.new ≡ with_record world.old seen.place.iface.number seen.place.group.bits
+        (apply_record seen.full (record_of world.old seen.place.iface.number seen.place.group.bits) seen.record_type
+        (bits_of sources.now)).0) }
     ensures asked { IfOk result (λ asked. asked
-        ≡ (apply_record full (record_of world.old iface.number group.bits) record_type (bits_of sources.now)).1) }
+        ≡ (apply_record seen.full (record_of world.old seen.place.iface.number seen.place.group.bits) seen.record_type
+        (bits_of sources.now)).1) }
     ensures at_least { OnOk result (raised meter.old
-        (apply_to_all_nodes full iface.number group.bits world.old record_type (bits_of sources.now)) ≤ meter.new) }
+        (apply_to_all_nodes seen.full seen.place.iface.number seen.place.group.bits world.old seen.record_type
+        (bits_of sources.now)) ≤ meter.new) }
 {
-    let mut known = record_of(world, alloc, iface, group)?;
+    let mut known = record_of(world, alloc, seen.place)?;
     let mut asked = Asking::new();
-    known.apply(record_type, sources, full, &mut asked)?;
-    set_record(world, meter, alloc, iface, group, &known)?;
+    known.apply(seen.record_type, sources, seen.full, &mut asked)?;
+    set_record(world, meter, alloc, seen.place, &known)?;
     Ok(asked)
 }
 
@@ -222,62 +231,35 @@ fn asks_named(record_type: RecordType) -> bool
     )
 }
 
-/// Applies a record of a report, of an interface below 120, whose timers end then, in ms, where they are set. It tells the
-/// queries that the record asks for. Where it deletes no source, the records of those that it doesn't name aren't written.
-/// The meter rises by the nodes that its look-ups visit, at least those that lead to the group and the sources whose records
-/// come or go, or whose timers begin or end to run.
+/// Applies a record of a report, of an interface below 120, whose timers end then, in ms, where they are set. It tells
+/// the queries that the record asks for. Where it deletes no source, the records of those that it doesn't name aren't
+/// written. The meter rises by the nodes that its look-ups visit, at least those that lead to the group and the sources
+/// whose records come or go, or whose timers begin or end to run.
 pub fn apply(
     world: &mut World,
     meter: &mut Meter,
     alloc: Global,
-    iface: IfaceId,
-    group: Addr,
-    record_type: RecordType,
+    seen: SeenRecord,
     sources: &[Addr],
-    full: u64,
 ) -> Result<Asking, AllocError>
-    requires { iface.number < 120 }
-    ensures state { OnOk result (world.new ≡ with_record world.old iface.number group.bits
-        (apply_record full (record_of world.old iface.number group.bits) record_type (bits_of sources.now)).0) }
+    requires { seen.place.iface.number < 120 }
+    ensures state { OnOk result (world.new ≡ with_record world.old seen.place.iface.number seen.place.group.bits
+        (apply_record seen.full (record_of world.old seen.place.iface.number seen.place.group.bits) seen.record_type
+        (bits_of sources.now)).0) }
     ensures asked { IfOk result (λ asked. asked
-        ≡ (apply_record full (record_of world.old iface.number group.bits) record_type (bits_of sources.now)).1) }
+        ≡ (apply_record seen.full (record_of world.old seen.place.iface.number seen.place.group.bits) seen.record_type
+        (bits_of sources.now)).1) }
     ensures at_least { OnOk result (raised meter.old
-        (apply_nodes full iface.number group.bits world.old record_type (bits_of sources.now)) ≤ meter.new) }
+        (apply_nodes seen.full seen.place.iface.number seen.place.group.bits world.old seen.record_type
+        (bits_of sources.now)) ≤ meter.new) }
 {
-    if !keeps_others(record_type) {
-        return apply_to_all(
-            world,
-            meter,
-            alloc,
-            iface,
-            group,
-            record_type,
-            sources,
-            full,
-        );
+    if !keeps_others(seen.record_type) {
+        return apply_to_all(world, meter, alloc, seen, sources);
     }
-    if asks_named(record_type) {
-        return apply_to_named(
-            world,
-            meter,
-            alloc,
-            iface,
-            group,
-            record_type,
-            sources,
-            full,
-        );
+    if asks_named(seen.record_type) {
+        return apply_to_named(world, meter, alloc, seen, sources);
     }
-    let asked = asked_of_all(world, alloc, iface, group, record_type, sources, full)?;
-    apply_to_named(
-        world,
-        meter,
-        alloc,
-        iface,
-        group,
-        record_type,
-        sources,
-        full,
-    )?;
+    let asked = asked_of_all(world, alloc, seen, sources)?;
+    apply_to_named(world, meter, alloc, seen, sources)?;
     Ok(asked)
 }

@@ -8,11 +8,12 @@ ghost use Rattle.pim_querier.specs.Queries.{bits_of};
 
 use crate::intervals::{exceeds, last_member_query_interval, query_end, robustness};
 use crate::lowering::lower_sources;
+use crate::place::IfaceGroup;
 use crate::queries::specific_query;
 use crate::repeats::send_sources;
 use pim_filters::Asking;
+use pim_types::Addr;
 use pim_types::fact::{GroupRepeatRow, SendingRow};
-use pim_types::{Addr, IfaceId};
 use pim_world::{Meter, Turn, World};
 use std::alloc::{AllocError, Global};
 
@@ -23,113 +24,116 @@ fn query_group(
     world: &mut World,
     turn: &mut Turn,
     meter: &mut Meter,
-    iface: IfaceId,
-    group: Addr,
+    place: IfaceGroup,
 ) -> Result<(), AllocError>
-    ensures state { OnOk result (world.new ≡ (query_group world.old iface.number group.bits).0) }
-    ensures messages { OnOk result (turn.new ≡ saying turn.old (query_group world.old iface.number group.bits).1) }
+    ensures state { OnOk result (world.new ≡ (query_group world.old place.iface.number place.group.bits).0) }
+    ensures messages { OnOk result (turn.new
+        ≡ saying turn.old (query_group world.old place.iface.number place.group.bits).1) }
     ensures kept { OnOk result (meter.new ≡ meter.old) }
 {
-    let query = specific_query(world, iface, group, false);
+    let query = specific_query(world, place, false);
     let repeat = GroupRepeatRow {
         next: world.present() + last_member_query_interval(world),
-        left: u32::from(robustness(world, iface)).saturating_sub(1),
+        left: u32::from(robustness(world, place.iface)).saturating_sub(1),
     };
-    world.lower_group(iface, group, query_end(world, iface), meter)?;
+    world.lower_group(
+        place.iface,
+        place.group,
+        query_end(world, place.iface),
+        meter,
+    )?;
     world
         .membership_mut()
-        .set_group_repeat(iface, group, Some(repeat))?;
-    turn.out.query(iface, &query, &[])
+        .set_group_repeat(place.iface, place.group, Some(repeat))?;
+    turn.out.query(place.iface, &query, &[])
 }
 
 // Those of the sources whose timers run on past this moment, in ms.
 fn running_past(
     world: &World,
     alloc: Global,
-    iface: IfaceId,
-    group: Addr,
+    place: IfaceGroup,
     sources: &[Addr],
     moment: u64,
 ) -> Result<Vec<Addr>, AllocError>
     ensures { IfOk result (λ running. bits_of running.items
-        ≡ filter (λ src. exceeds moment (source_end world.now iface.number group.bits src)) (bits_of sources.now)) }
+        ≡ filter (λ src. exceeds moment (source_end world.now place.iface.number place.group.bits src))
+        (bits_of sources.now)) }
 {
     let mut running = Vec::new(alloc);
     for source in sources {
-        if exceeds(moment, world.source_end(iface, group, *source)) {
+        if exceeds(moment, world.source_end(place.iface, place.group, *source)) {
             running.push(*source)?;
         }
     }
     Ok(running)
 }
 
-// Each of the sources is to be named in so many queries.
+// Each of the sources is to be sent in so many queries.
 #[tactic(auto, unfolding(crate::specs::Changes::sending_put, crate::specs::Changes::sendings_put, pim_model::specs::Tables::set_row))]
 fn put_sendings(
     world: &mut World,
-    iface: IfaceId,
-    group: Addr,
+    place: IfaceGroup,
     sources: &[Addr],
     row: SendingRow,
 ) -> Result<(), AllocError>
-    ensures { OnOk result (world.new ≡ sendings_put iface.number group.bits row world.old sources.now) }
+    ensures { OnOk result (world.new ≡ sendings_put place.iface.number place.group.bits row world.old sources.now) }
 {
     for source in sources {
         world
             .membership_mut()
-            .set_sending(iface, group, *source, Some(row))?;
+            .set_sending(place.iface, place.group, *source, Some(row))?;
     }
     Ok(())
 }
 
 // Queries those of the group's sources whose timers run beyond what a query lowers them to, at once and again [Last
-// Member Query Count] - 1 times, with all others that are still to be named; lowers their timers (RFC 3376, section
+// Member Query Count] - 1 times, with all others that are still to be sent; lowers their timers (RFC 3376, section
 // 6.6.3.2).
 fn query_sources(
     world: &mut World,
     turn: &mut Turn,
     meter: &mut Meter,
-    iface: IfaceId,
-    group: Addr,
+    place: IfaceGroup,
     asked: &[Addr],
 ) -> Result<(), AllocError>
     ensures state { OnOk result (world.new
-        ≡ (query_sources world.old iface.number group.bits (bits_of asked.now)).0) }
+        ≡ (query_sources world.old place.iface.number place.group.bits (bits_of asked.now)).0) }
     ensures messages { OnOk result (turn.new
-        ≡ saying turn.old (query_sources world.old iface.number group.bits (bits_of asked.now)).1) }
+        ≡ saying turn.old (query_sources world.old place.iface.number place.group.bits (bits_of asked.now)).1) }
     ensures kept { OnOk result (meter.new ≡ meter.old) }
 {
-    let end = query_end(world, iface);
-    let sources = running_past(world, turn.alloc, iface, group, asked, end)?;
+    let end = query_end(world, place.iface);
+    let sources = running_past(world, turn.alloc, place, asked, end)?;
     if sources.is_empty() {
         return Ok(());
     }
     let row = SendingRow {
-        left: u32::from(robustness(world, iface)),
+        left: u32::from(robustness(world, place.iface)),
     };
-    lower_sources(world, meter, iface, group, &sources, end)?;
-    put_sendings(world, iface, group, &sources, row)?;
-    send_sources(world, turn, iface, group)
+    lower_sources(world, meter, place, &sources, end)?;
+    put_sendings(world, place, &sources, row)?;
+    send_sources(world, turn, place)
 }
 
 // Queries these sources of the group, if a query of sources is asked for.
 #[tactic(auto, unfolding(pim_model::specs::Querier::query_asked, pim_model::specs::Querier::each_in_turn))]
-fn query_named(
+fn query_asked_sources(
     world: &mut World,
     turn: &mut Turn,
     meter: &mut Meter,
-    iface: IfaceId,
-    group: Addr,
+    place: IfaceGroup,
     sources: Option<&[Addr]>,
 ) -> Result<(), AllocError>
-    ensures state { OnOk result (world.new ≡ (each_in_turn (query_asked iface.number group.bits) world.old
+    ensures state { OnOk result (world.new ≡ (each_in_turn (query_asked place.iface.number place.group.bits) world.old
         (source_queries (option_map (λ named. bits_of named.now) sources.entry))).0) }
-    ensures messages { OnOk result (turn.new ≡ saying turn.old (each_in_turn (query_asked iface.number group.bits)
-        world.old (source_queries (option_map (λ named. bits_of named.now) sources.entry))).1) }
+    ensures messages { OnOk result (turn.new ≡ saying turn.old
+        (each_in_turn (query_asked place.iface.number place.group.bits) world.old
+        (source_queries (option_map (λ named. bits_of named.now) sources.entry))).1) }
     ensures kept { OnOk result (meter.new ≡ meter.old) }
 {
     match sources {
-        Some(sources) => query_sources(world, turn, meter, iface, group, sources),
+        Some(sources) => query_sources(world, turn, meter, place, sources),
         None => Ok(()),
     }
 }
@@ -139,19 +143,18 @@ pub fn query_asked(
     world: &mut World,
     turn: &mut Turn,
     meter: &mut Meter,
-    iface: IfaceId,
-    group: Addr,
+    place: IfaceGroup,
     asked: &Asking,
 ) -> Result<(), AllocError>
     ensures state { OnOk result (world.new
-        ≡ (each_in_turn (query_asked iface.number group.bits) world.old asked.now).0) }
+        ≡ (each_in_turn (query_asked place.iface.number place.group.bits) world.old asked.now).0) }
     ensures messages { OnOk result (turn.new
-        ≡ saying turn.old (each_in_turn (query_asked iface.number group.bits) world.old asked.now).1) }
+        ≡ saying turn.old (each_in_turn (query_asked place.iface.number place.group.bits) world.old asked.now).1) }
     ensures kept { OnOk result (meter.new ≡ meter.old) }
 {
-    query_named(world, turn, meter, iface, group, asked.sources())?;
+    query_asked_sources(world, turn, meter, place, asked.sources())?;
     if asked.asks_group() {
-        return query_group(world, turn, meter, iface, group);
+        return query_group(world, turn, meter, place);
     }
     Ok(())
 }

@@ -8,9 +8,9 @@ ghost use Rattle.pim_querier.specs.Visits.{fired_nodes};
 ghost use Rattle.pim_world.specs.Visits.{raised};
 
 use crate::election::other_querier_gone;
+use crate::place::IfaceGroup;
 use crate::records::{group_record_due, source_record_due};
 use crate::repeats::{group_repeat_due, source_repeat_due};
-use crate::sendings::source_in;
 use crate::startup::general_query_due;
 use pim_types::fact::QuerierRole;
 use pim_types::{Key, TimerKind};
@@ -33,8 +33,12 @@ fn group_repeat_fired(world: &mut World, turn: &mut Turn, key: Key) -> Result<()
     ensures state { OnOk result (world.new ≡ (fired world.old TimerKind.GroupRepeat key).0) }
     ensures messages { OnOk result (turn.new ≡ saying turn.old (fired world.old TimerKind.GroupRepeat key).1) }
 {
+    let place = IfaceGroup {
+        iface: key.iface,
+        group: key.group,
+    };
     match world.membership().group_repeat_at(key) {
-        Some(row) => group_repeat_due(world, turn, key.iface, key.group, row.left),
+        Some(row) => group_repeat_due(world, turn, place, row.left),
         None => Ok(()),
     }
 }
@@ -52,8 +56,8 @@ fn general_query_fired(world: &mut World, turn: &mut Turn, key: Key) -> Result<(
 }
 
 /// A timer of a querier ends: of a group or a source of its records, of the other querier, or one by which a query
-/// leaves. The meter rises by the nodes that its look-ups visit, at least those that lead to a group and to sources whose
-/// records go or stop. Where memory is refused, some of what it changes may be changed.
+/// leaves. The meter rises by the nodes that its look-ups visit, at least those that lead to a group and to sources
+/// whose records go or stop. Where memory is refused, some of what it changes may be changed.
 #[tactic(auto, using(pim_world::proofs::Visits::raised_by_none), unfolding(pim_model::specs::Firing::fired))]
 pub fn fired(
     world: &mut World,
@@ -67,21 +71,22 @@ pub fn fired(
     ensures messages { OnOk result (turn.new ≡ saying turn.old (fired world.old kind key).1) }
     ensures at_least { OnOk result (raised meter.old (fired_nodes world.old kind key) ≤ meter.new) }
 {
+    let place = IfaceGroup {
+        iface: key.iface,
+        group: key.group,
+    };
     match kind {
-        TimerKind::GroupRecord => group_record_due(world, meter, turn.alloc, key.iface, key.group),
-        TimerKind::SourceRecord => {
-            source_record_due(
-                world,
-                meter,
-                turn.alloc,
-                key.iface,
-                key.group,
-                source_in(key),
-            )
-        }
+        TimerKind::GroupRecord => group_record_due(world, meter, turn.alloc, place),
+        TimerKind::SourceRecord => source_record_due(
+            world,
+            meter,
+            turn.alloc,
+            place,
+            key.address(),
+        ),
         TimerKind::OtherQuerier => other_querier_gone(world, turn, key.iface),
         TimerKind::GroupRepeat => group_repeat_fired(world, turn, key),
-        TimerKind::SourceRepeat => source_repeat_due(world, turn, key.iface, key.group),
+        TimerKind::SourceRepeat => source_repeat_due(world, turn, place),
         TimerKind::GeneralQuery => general_query_fired(world, turn, key),
         _ => unreachable!(),
     }

@@ -1,4 +1,7 @@
 //! The querier of an interface (RFC 3376, sections 6 and 8): how it starts, and what the ends of its timers change.
+//!
+//! Named is, here and in `pim_filters`, what a record of a report names: its group, the sources that it lists, and the
+//! keys of both. What a record makes the router query is asked, and what a query lists is sent.
 #![tactic(auto)]
 
 mod applying;
@@ -10,6 +13,7 @@ pub mod lowering;
 mod moving;
 pub mod named;
 pub mod overheard;
+pub mod place;
 pub mod queries;
 pub mod records;
 pub mod repeats;

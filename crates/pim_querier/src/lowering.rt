@@ -4,8 +4,9 @@ ghost use Rattle.pim_model.specs.Querier.{lower_sources};
 ghost use Rattle.pim_querier.specs.Changes.{each_lowered, one_lowered};
 ghost use Rattle.pim_querier.specs.Queries.{bits_of};
 
+use crate::place::IfaceGroup;
 use pim_types::fact::SourceRecordRow;
-use pim_types::{Addr, IfaceId, Key};
+use pim_types::{Addr, Key};
 use pim_world::querying::lowered;
 use pim_world::{Meter, World};
 use std::alloc::AllocError;
@@ -14,25 +15,29 @@ use std::alloc::AllocError;
 fn lower_source(
     world: &mut World,
     meter: &mut Meter,
-    iface: IfaceId,
-    group: Addr,
+    place: IfaceGroup,
     source: Addr,
     end: u64,
 ) -> Result<(), AllocError>
-    ensures lowered { OnOk result (world.new ≡ one_lowered iface.number group.bits end world.old source) }
+    ensures lowered { OnOk result (world.new ≡ one_lowered place.iface.number place.group.bits end world.old source) }
     ensures kept { OnOk result (meter.new ≡ meter.old) }
 {
     // It tells that each key stands once.
     world.membership().recall_rising_source_records();
-    let Some(row) = world.membership().source_record(iface, group, source) else {
+    let Some(row) = world
+        .membership()
+        .source_record(place.iface, place.group, source)
+    else {
         return Ok(());
     };
     let lowered = SourceRecordRow {
         end: lowered(row.end, end),
     };
-    world
-        .membership_mut()
-        .change_source_record(Key::source(iface, group, source), lowered, meter)
+    world.membership_mut().change_source_record(
+        Key::source(place.iface, place.group, source),
+        lowered,
+        meter,
+    )
 }
 
 // Lowers the timers of these sources, one after the other.
@@ -40,16 +45,16 @@ fn lower_source(
 fn lower_each(
     world: &mut World,
     meter: &mut Meter,
-    iface: IfaceId,
-    group: Addr,
+    place: IfaceGroup,
     sources: &[Addr],
     end: u64,
 ) -> Result<(), AllocError>
-    ensures lowered { OnOk result (world.new ≡ each_lowered iface.number group.bits end world.old sources.now) }
+    ensures lowered { OnOk result (world.new
+        ≡ each_lowered place.iface.number place.group.bits end world.old sources.now) }
     ensures kept { OnOk result (meter.new ≡ meter.old) }
 {
     for source in sources {
-        lower_source(world, meter, iface, group, *source, end)?;
+        lower_source(world, meter, place, *source, end)?;
     }
     Ok(())
 }
@@ -59,16 +64,15 @@ fn lower_each(
 pub fn lower_sources(
     world: &mut World,
     meter: &mut Meter,
-    iface: IfaceId,
-    group: Addr,
+    place: IfaceGroup,
     sources: &[Addr],
     end: u64,
 ) -> Result<(), AllocError>
     ensures lowered { OnOk result (world.new
-        ≡ lower_sources world.old iface.number group.bits (bits_of sources.now) end) }
+        ≡ lower_sources world.old place.iface.number place.group.bits (bits_of sources.now) end) }
     ensures kept { OnOk result (meter.new ≡ meter.old) }
 {
     // It tells that each is under the key of a source.
     world.membership().recall_keyed_source_records();
-    lower_each(world, meter, iface, group, sources, end)
+    lower_each(world, meter, place, sources, end)
 }

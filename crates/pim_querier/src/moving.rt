@@ -1,15 +1,16 @@
-//! Which sources a report moves (RFC 3376, section 6.4): those that come, go or change sides, where no group changes its
-//! mode. Of the others at most the ends of timers move.
+//! Which sources a report moves (RFC 3376, section 6.4): those that come, go or change sides, where no group changes
+//! its mode. Of the others at most the ends of timers move.
 ghost use Rattle.std.specs.Prelude.{◌≡◌, ◌++◌, [], ◌∷◌, IfOk, OnOk, filter, map};
 ghost use Rattle.pim_model.specs.Records.{is_at_group};
 ghost use Rattle.pim_querier.specs.Reports.{all_keep_modes, is_including, keeps_mode, moved_named, moved_others, moved_sources, stays};
 
 use crate::applying::keeps_others;
+use crate::place::IfaceGroup;
 use crate::records::has_sources;
 use crate::report::is_skipped;
 use igmp_wire::{RecordType, RecordView, ReportView};
 use pim_types::fact::SourceRecordRow;
-use pim_types::{Addr, IfaceId, Key, Series};
+use pim_types::{IfaceId, Key, Series};
 use pim_world::World;
 use std::alloc::{AllocError, Global};
 
@@ -38,14 +39,17 @@ fn stays(record_type: RecordType, row: Option<SourceRecordRow>) -> bool
 fn keeps_mode(world: &World, iface: IfaceId, group_record: &RecordView<'_>) -> bool
     ensures { result ≡ keeps_mode world.now iface.number group_record.now }
 {
-    let group = group_record.group();
-    world.has_group_record(iface, group)
-        && (world.group_end(iface, group).is_some()
-            || (keeps_others(group_record.record_type()) && has_sources(world, iface, group)))
+    let place = IfaceGroup {
+        iface,
+        group: group_record.group(),
+    };
+    world.has_group_record(place.iface, place.group)
+        && (world.group_end(place.iface, place.group).is_some()
+            || (keeps_others(group_record.record_type()) && has_sources(world, place)))
 }
 
-/// Whether the groups of all records of the report have records, which stay in their modes, but for the records that are
-/// skipped.
+/// Whether the groups of all records of the report have records, which stay in their modes, but for the records that
+/// are skipped.
 #[tactic(auto, unfolding(crate::specs::Reports::all_keep_modes))]
 pub fn all_keep_modes(world: &World, iface: IfaceId, report: &ReportView<'_>) -> bool
     ensures { result ≡ all_keep_modes world.now iface.number report.now }
@@ -79,16 +83,14 @@ fn push_named(
 }
 
 // Puts the keys of all sources of the group that have records behind the others.
-fn push_sources_at(
-    world: &World,
-    iface: IfaceId,
-    group: Addr,
-    keys: &mut Vec<Key>,
-) -> Result<(), AllocError>
-    ensures { OnOk result (keys.new.items ≡ keys.old.items
-        ++ map (λ e. e.0) (filter (λ e. is_at_group iface.number group.bits e.0) world.now.source_records)) }
+fn push_sources_at(world: &World, place: IfaceGroup, keys: &mut Vec<Key>) -> Result<(), AllocError>
+    ensures { OnOk result (keys.new.items ≡ keys.old.items ++ map (λ e. e.0)
+        (filter (λ e. is_at_group place.iface.number place.group.bits e.0) world.now.source_records)) }
 {
-    for (key, _) in world.membership().source_records_at(iface, group) {
+    for (key, _) in world
+        .membership()
+        .source_records_at(place.iface, place.group)
+    {
         keys.push(*key)?;
     }
     Ok(())
@@ -107,7 +109,11 @@ fn push_others(
     if keeps_others(group_record.record_type()) {
         return Ok(());
     }
-    push_sources_at(world, iface, group_record.group(), keys)
+    let place = IfaceGroup {
+        iface,
+        group: group_record.group(),
+    };
+    push_sources_at(world, place, keys)
 }
 
 // Puts the keys of the sources that the record moves behind the others, unless it is skipped.

@@ -1,11 +1,14 @@
 //! The keys that a report names, and whether there is room for its facts.
 ghost use Rattle.std.specs.Prelude.{◌≡◌, ◌++◌, ◌+◌, ◌<◌, ◌^◌, [], ◌∷◌, IfOk, IfSome, OnOk, false, map};
+ghost use Rattle.pim_model.specs.State.{State};
+ghost use Rattle.pim_model.specs.Tables.{Table, has_row};
 ghost use Rattle.pim_model.specs.Full.{needed, passes_limit, report_is_full, reported_groups, reported_sources};
 ghost use Rattle.pim_querier.specs.Reports.{named_count};
 ghost use Rattle.pim_types.specs.Keys.{source_key};
 
 use crate::report::is_skipped;
 use igmp_wire::{RecordView, ReportView};
+use pim_types::fact::{GroupRecordRow, SourceRecordRow};
 use pim_types::{IfaceId, Key, Series};
 use pim_world::World;
 use std::alloc::{AllocError, Global};
@@ -14,7 +17,7 @@ use std::collections::BTreeSet;
 // The keys of the groups, and of their sources, that the group records of a report name, in its order. Those that are
 // skipped name none.
 #[derive(Drop)]
-struct Reported {
+struct ReportedKeys {
     groups: Vec<Key>,
     sources: Vec<Key>,
 }
@@ -56,16 +59,20 @@ fn push_named(
 }
 
 // What the report names on an interface.
-fn named(alloc: Global, iface: IfaceId, report: &ReportView<'_>) -> Result<Reported, AllocError>
-    ensures groups { IfOk result (λ named. named.groups.items ≡ reported_groups iface.number report.now) }
-    ensures sources { IfOk result (λ named. named.sources.items ≡ reported_sources iface.number report.now) }
+fn reported(
+    alloc: Global,
+    iface: IfaceId,
+    report: &ReportView<'_>,
+) -> Result<ReportedKeys, AllocError>
+    ensures groups { IfOk result (λ keys. keys.groups.items ≡ reported_groups iface.number report.now) }
+    ensures sources { IfOk result (λ keys. keys.sources.items ≡ reported_sources iface.number report.now) }
 {
     let mut groups = Vec::new(alloc);
     let mut sources = Vec::new(alloc);
     for group_record in report.records() {
         push_named(iface, &group_record, &mut groups, &mut sources)?;
     }
-    Ok(Reported { groups, sources })
+    Ok(ReportedKeys { groups, sources })
 }
 
 /// The keys that a report names on an interface: of the groups of its records, and of their sources.
@@ -77,36 +84,48 @@ pub fn named_keys(
     ensures { IfOk result (λ keys. keys
         ≡ reported_groups iface.number report.now ++ reported_sources iface.number report.now) }
 {
-    let Reported {
+    let ReportedKeys {
         mut groups,
         sources,
-    } = named(alloc, iface, report)?;
+    } = reported(alloc, iface, report)?;
     groups.extend_from_slice(&sources)?;
     Ok(Series::from_vec(groups))
 }
 
-// How many of the keys have no group record, each counted once.
-fn missing_groups(world: &World, alloc: Global, keys: &[Key]) -> Result<usize, AllocError>
-    ensures missing { IfOk result (λ missing. missing ≡ needed world.now.group_records keys.now) }
-    ensures small { IfOk result (λ missing. missing < 2 ^ 63) }
-{
-    let mut missing = BTreeSet::new(alloc);
-    for key in keys {
-        if !world.membership().has_group_record(*key) {
-            missing.insert(*key)?;
-        }
-    }
-    Ok(missing.len())
+// A record that a report makes where there is none.
+trait Made {
+    // The table of such records.
+    ghost rows: { State → Table Self };
+
+    // Whether there is one under the key.
+    fn is_there(world: &World, key: Key) -> bool
+        ensures { result ≡ has_row (rows world.now) key };
 }
 
-// How many of the keys have no source record, each counted once.
-fn missing_sources(world: &World, alloc: Global, keys: &[Key]) -> Result<usize, AllocError>
-    ensures missing { IfOk result (λ missing. missing ≡ needed world.now.source_records keys.now) }
+impl Made for GroupRecordRow {
+    ghost rows = { λ s. s.group_records };
+
+    fn is_there(world: &World, key: Key) -> bool {
+        world.membership().has_group_record(key)
+    }
+}
+
+impl Made for SourceRecordRow {
+    ghost rows = { λ s. s.source_records };
+
+    fn is_there(world: &World, key: Key) -> bool {
+        world.membership().has_source_record(key)
+    }
+}
+
+// How many of the keys have no such record, each counted once.
+fn missing<R: Made>(world: &World, alloc: Global, keys: &[Key]) -> Result<usize, AllocError>
+    ensures missing { IfOk result (λ missing. missing ≡ needed (R.rows world.now) keys.now) }
     ensures small { IfOk result (λ missing. missing < 2 ^ 63) }
 {
     let mut missing = BTreeSet::new(alloc);
     for key in keys {
-        if !world.membership().has_source_record(*key) {
+        if !R::is_there(world, *key) {
             missing.insert(*key)?;
         }
     }
@@ -157,8 +176,8 @@ fn may_be_full(world: &World, report: &ReportView<'_>) -> bool
     }
 }
 
-/// Whether the records that a report would make on an interface pass the limit on facts. None is looked up where there is room
-/// for all that it names.
+/// Whether the records that a report would make on an interface pass the limit on facts. None is looked up where there
+/// is room for all that it names.
 #[tactic(auto, unfolding(pim_model::specs::Full::report_is_full))]
 pub fn is_full(
     world: &World,
@@ -171,8 +190,8 @@ pub fn is_full(
     if !may_be_full(world, report) {
         return Ok(false);
     }
-    let named = named(alloc, iface, report)?;
-    let groups = missing_groups(world, alloc, &named.groups)?;
-    let sources = missing_sources(world, alloc, &named.sources)?;
+    let reported = reported(alloc, iface, report)?;
+    let groups = missing::<GroupRecordRow>(world, alloc, &reported.groups)?;
+    let sources = missing::<SourceRecordRow>(world, alloc, &reported.sources)?;
     Ok(world.passes_limit(groups + sources))
 }

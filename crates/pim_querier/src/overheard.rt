@@ -7,6 +7,7 @@ ghost use Rattle.pim_querier.specs.Queries.{bits_of};
 use crate::election::querier_elected;
 use crate::intervals::query_end;
 use crate::lowering::lower_sources;
+use crate::place::IfaceGroup;
 use igmp_wire::{QueryView, code_value};
 use pim_types::{Addr, IfaceId};
 use pim_world::{Meter, Turn, World};
@@ -51,7 +52,7 @@ fn lower_queried(
     if sources.is_empty() {
         return world.lower_group(iface, group, end, meter);
     }
-    lower_sources(world, meter, iface, group, &sources, end)
+    lower_sources(world, meter, IfaceGroup { iface, group }, &sources, end)
 }
 
 // Takes the router that sent the query for the querier.
@@ -64,8 +65,8 @@ fn elect(world: &mut World, iface: IfaceId, query: &QueryView<'_>) -> Result<(),
 }
 
 /// Takes a query that came on an interface from an address: of a router with a lower address than the router's own it
-/// makes that one the querier, whose values are adopted, and with S clear it lowers the timers of what it asks for. The meter
-/// stays.
+/// makes that one the querier, whose values are adopted, and with S clear it lowers the timers of what it asks for. The
+/// meter stays.
 #[tactic(auto, unfolding(pim_model::specs::Querier::query_seen))]
 pub fn query_seen(
     world: &mut World,

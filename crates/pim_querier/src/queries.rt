@@ -5,6 +5,7 @@ ghost use Rattle.pim_world.specs.Turns.{saying};
 ghost use Rattle.pim_querier.specs.Queries.{all_queries, asking, bits_of, general_header, header_of, specific_header};
 
 use crate::intervals::{query_interval, robustness};
+use crate::place::IfaceGroup;
 use igmp_wire::{QueryHeader, value_code};
 use pim_messages::{MOST_SOURCES, Outbox};
 use pim_types::{Addr, IfaceId};
@@ -37,12 +38,12 @@ pub fn general_query(world: &World, iface: IfaceId) -> QueryHeader
 
 /// The query of a group, or of sources of it, before its sources (RFC 3376, section 4.1.11). With S set routers that
 /// hear it leave their timers as they are.
-pub fn specific_query(world: &World, iface: IfaceId, group: Addr, suppress: bool) -> QueryHeader
-    ensures header { result ≡ specific_header world.now iface.number group.bits suppress }
+pub fn specific_query(world: &World, place: IfaceGroup, suppress: bool) -> QueryHeader
+    ensures header { result ≡ specific_header world.now place.iface.number place.group.bits suppress }
     ensures robust { result.robustness < 8 }
 {
     let response = world.settings().last_member_query_interval;
-    header(world, iface, response, group, suppress)
+    header(world, place.iface, response, place.group, suppress)
 }
 
 // Puts the queries of these sources at the end, each of as many as a frame holds.
@@ -69,14 +70,13 @@ fn put_queries(
 pub fn say_sources(
     world: &World,
     turn: &mut Turn,
-    iface: IfaceId,
-    group: Addr,
+    place: IfaceGroup,
     suppress: bool,
     sources: &[Addr],
 ) -> Result<(), AllocError>
     ensures { OnOk result (turn.new ≡ saying turn.old
-        (specific_queries world.now iface.number group.bits suppress (bits_of sources.now))) }
+        (specific_queries world.now place.iface.number place.group.bits suppress (bits_of sources.now))) }
 {
-    let header = specific_query(world, iface, group, suppress);
-    put_queries(&mut turn.out, iface, &header, sources)
+    let header = specific_query(world, place, suppress);
+    put_queries(&mut turn.out, place.iface, &header, sources)
 }

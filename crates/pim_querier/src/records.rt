@@ -8,10 +8,10 @@ ghost use Rattle.pim_querier.specs.Changes.{members_put, with_excluded, without_
 ghost use Rattle.pim_querier.specs.Visits.{drop_source_nodes, empty_nodes, exclude_source_nodes, group_record_due_nodes, members_nodes, set_members_nodes, set_record_nodes, source_record_due_nodes};
 ghost use Rattle.pim_world.specs.Visits.{raised};
 
-use crate::sendings::source_in;
+use crate::place::IfaceGroup;
 use pim_filters::{GroupRecord, Member};
 use pim_types::fact::{GroupRecordRow, SourceRecordRow};
-use pim_types::{Addr, IfaceId, Key};
+use pim_types::{Addr, Key};
 use pim_world::{Meter, World};
 use std::alloc::{AllocError, Global};
 
@@ -19,21 +19,19 @@ use std::alloc::{AllocError, Global};
 
 // The sources of the group's record on the interface, by rising key. Where there is one, the interface is below 120.
 #[tactic(auto, unfolding(pim_model::specs::Records::record_of, pim_model::specs::Records::members_of))]
-fn members_at(
-    world: &World,
-    alloc: Global,
-    iface: IfaceId,
-    group: Addr,
-) -> Result<Vec<Member>, AllocError>
+fn members_at(world: &World, alloc: Global, place: IfaceGroup) -> Result<Vec<Member>, AllocError>
     ensures members { IfOk result (λ members. entries_of members.items
-        ≡ (record_of world.now iface.number group.bits).members) }
-    ensures near { IfOk result (λ members. 0 < length (entries_of members.items) → iface.number < 120) }
+        ≡ (record_of world.now place.iface.number place.group.bits).members) }
+    ensures near { IfOk result (λ members. 0 < length (entries_of members.items) → place.iface.number < 120) }
     ensures ascending { IfOk result (λ members. IsAscending (entries_of members.items)) }
 {
     let mut members = Vec::new(alloc);
-    for (key, row) in world.membership().source_records_at(iface, group) {
+    for (key, row) in world
+        .membership()
+        .source_records_at(place.iface, place.group)
+    {
         members.push(Member {
-            source: source_in(*key),
+            source: key.address(),
             end: row.end,
         })?;
     }
@@ -47,185 +45,179 @@ fn members_at(
 pub(crate) fn put_members(
     world: &mut World,
     meter: &mut Meter,
-    iface: IfaceId,
-    group: Addr,
+    place: IfaceGroup,
     members: &[Member],
 ) -> Result<(), AllocError>
-    requires { 0 < length members.now → iface.number < 120 }
-    ensures put { OnOk result (world.new ≡ members_put iface.number group.bits world.old members.now) }
+    requires { 0 < length members.now → place.iface.number < 120 }
+    ensures put { OnOk result (world.new ≡ members_put place.iface.number place.group.bits world.old members.now) }
     ensures at_least { OnOk result (raised meter.old
-        (members_nodes iface.number group.bits world.old (entries_of members.now)) ≤ meter.new) }
+        (members_nodes place.iface.number place.group.bits world.old (entries_of members.now)) ≤ meter.new) }
 {
     for member in members {
         let row = SourceRecordRow { end: member.end };
         world
             .membership_mut()
-            .set_source_record(iface, group, member.source, Some(row), meter)?;
+            .set_source_record(place.iface, place.group, member.source, Some(row), meter)?;
     }
     Ok(())
 }
 
 // Takes the group's record away, where it is none.
 #[tactic(auto, using(pim_world::proofs::Visits::raised_by_none))]
-pub(crate) fn drop_empty(
-    world: &mut World,
-    meter: &mut Meter,
-    iface: IfaceId,
-    group: Addr,
-    is_none: bool,
-)
-    ensures dropped { world.new ≡ without_empty is_none iface.number group.bits world.old }
-    ensures at_least { raised meter.old (empty_nodes is_none group.bits world.old) ≤ meter.new }
+pub(crate) fn drop_empty(world: &mut World, meter: &mut Meter, place: IfaceGroup, is_none: bool)
+    ensures dropped { world.new ≡ without_empty is_none place.iface.number place.group.bits world.old }
+    ensures at_least { raised meter.old (empty_nodes is_none place.group.bits world.old) ≤ meter.new }
 {
     if is_none {
         world
             .membership_mut()
-            .remove_group_record(iface, group, meter);
+            .remove_group_record(place.iface, place.group, meter);
     }
 }
 
 // Queries the group's sources no more, where none has sendings left.
-fn drop_source_repeat(world: &mut World, iface: IfaceId, group: Addr)
-    ensures { world.new ≡ without_source_repeat iface.number group.bits world.old }
+fn drop_source_repeat(world: &mut World, place: IfaceGroup)
+    ensures { world.new ≡ without_source_repeat place.iface.number place.group.bits world.old }
 {
-    if !world.has_sendings(iface, group) {
-        world.membership_mut().remove_source_repeat(iface, group);
+    if !world.has_sendings(place.iface, place.group) {
+        world
+            .membership_mut()
+            .remove_source_repeat(place.iface, place.group);
     }
 }
 
 // Queries the group no more, where it has no record.
-fn drop_group_repeat(world: &mut World, iface: IfaceId, group: Addr)
-    ensures { world.new ≡ without_group_repeat iface.number group.bits world.old }
+fn drop_group_repeat(world: &mut World, place: IfaceGroup)
+    ensures { world.new ≡ without_group_repeat place.iface.number place.group.bits world.old }
 {
-    if !world.has_group_record(iface, group) {
-        world.membership_mut().remove_group_repeat(iface, group);
+    if !world.has_group_record(place.iface, place.group) {
+        world
+            .membership_mut()
+            .remove_group_repeat(place.iface, place.group);
     }
 }
 
-// Ends what is repeated of sources and of the group, where they have no record any more. Where one source alone may have
-// lost its record, no other is looked at.
+// Ends what is repeated of sources and of the group, where they have no record any more. Where one source alone may
+// have lost its record, no other is looked at.
 pub(crate) fn drop_repeats(
     world: &mut World,
     alloc: Global,
-    iface: IfaceId,
-    group: Addr,
+    place: IfaceGroup,
 ) -> Result<(), AllocError>
-    ensures { OnOk result (world.new ≡ with_repeats_of_rows world.old iface.number group.bits) }
+    ensures { OnOk result (world.new ≡ with_repeats_of_rows world.old place.iface.number place.group.bits) }
 {
-    world.membership_mut().drop_unrecorded(alloc, iface, group)?;
-    drop_source_repeat(world, iface, group);
-    drop_group_repeat(world, iface, group);
+    world
+        .membership_mut()
+        .drop_unrecorded(alloc, place.iface, place.group)?;
+    drop_source_repeat(world, place);
+    drop_group_repeat(world, place);
     Ok(())
 }
 
-// Gives the group's record on the interface the sources of this one, whose timer it has. It goes with the last of them in
-// INCLUDE.
+// Gives the group's record on the interface the sources of this one, whose timer it has. It goes with the last of them
+// in INCLUDE.
 fn set_members(
     world: &mut World,
     meter: &mut Meter,
     alloc: Global,
-    iface: IfaceId,
-    group: Addr,
+    place: IfaceGroup,
     known: &GroupRecord,
 ) -> Result<(), AllocError>
-    requires { 0 < length known.now.members → iface.number < 120 }
-    ensures set { OnOk result (world.new ≡ with_members world.old iface.number group.bits known.now) }
+    requires { 0 < length known.now.members → place.iface.number < 120 }
+    ensures set { OnOk result (world.new ≡ with_members world.old place.iface.number place.group.bits known.now) }
     ensures at_least { OnOk result (raised meter.old
-        (set_members_nodes iface.number group.bits world.old known.now) ≤ meter.new) }
+        (set_members_nodes place.iface.number place.group.bits world.old known.now) ≤ meter.new) }
 {
-    drop_empty(world, meter, iface, group, known.is_no_record());
+    drop_empty(world, meter, place, known.is_no_record());
     world
         .membership_mut()
-        .drop_source_records(iface, group, meter);
-    put_members(world, meter, iface, group, known.members())?;
-    drop_repeats(world, alloc, iface, group)
+        .drop_source_records(place.iface, place.group, meter);
+    put_members(world, meter, place, known.members())?;
+    drop_repeats(world, alloc, place)
 }
 
 /// The group's record on the interface. Where it has sources, the interface is below 120.
 #[tactic(auto, unfolding(pim_model::specs::Records::record_of))]
-pub fn record_of(
-    world: &World,
-    alloc: Global,
-    iface: IfaceId,
-    group: Addr,
-) -> Result<GroupRecord, AllocError>
-    ensures known { IfOk result (λ known. known ≡ record_of world.now iface.number group.bits) }
-    ensures near { IfOk result (λ known. 0 < length known.members → iface.number < 120) }
+pub fn record_of(world: &World, alloc: Global, place: IfaceGroup) -> Result<GroupRecord, AllocError>
+    ensures known { IfOk result (λ known. known ≡ record_of world.now place.iface.number place.group.bits) }
+    ensures near { IfOk result (λ known. 0 < length known.members → place.iface.number < 120) }
 {
-    let members = members_at(world, alloc, iface, group)?;
-    GroupRecord::with(alloc, world.group_end(iface, group), &members)
+    let members = members_at(world, alloc, place)?;
+    GroupRecord::with(alloc, world.group_end(place.iface, place.group), &members)
 }
 
-/// Gives the group this record on the interface. The meter rises by the nodes that its look-ups visit, at least those that
-/// lead to the group where it comes or goes or its timer begins or ends to run, to each source that goes, and to each that
-/// comes.
+/// Gives the group this record on the interface. The meter rises by the nodes that its look-ups visit, at least those
+/// that lead to the group where it comes or goes or its timer begins or ends to run, to each source that goes, and to
+/// each that comes.
 #[tactic(auto, unfolding(pim_model::specs::Records::with_record, pim_model::specs::Tables::set_row))]
 pub fn set_record(
     world: &mut World,
     meter: &mut Meter,
     alloc: Global,
-    iface: IfaceId,
-    group: Addr,
+    place: IfaceGroup,
     known: &GroupRecord,
 ) -> Result<(), AllocError>
-    requires { iface.number < 120 }
-    ensures set { OnOk result (world.new ≡ with_record world.old iface.number group.bits known.now) }
+    requires { place.iface.number < 120 }
+    ensures set { OnOk result (world.new ≡ with_record world.old place.iface.number place.group.bits known.now) }
     ensures at_least { OnOk result (raised meter.old
-        (set_record_nodes iface.number group.bits world.old known.now) ≤ meter.new) }
+        (set_record_nodes place.iface.number place.group.bits world.old known.now) ≤ meter.new) }
 {
     let row = GroupRecordRow { end: known.timer() };
     world
         .membership_mut()
-        .set_group_record(iface, group, Some(row), meter)?;
-    set_members(world, meter, alloc, iface, group, known)
+        .set_group_record(place.iface, place.group, Some(row), meter)?;
+    set_members(world, meter, alloc, place, known)
 }
 
 // ---- the ends of its timers
 
-/// The group's timer ended: INCLUDE of the sources whose timers run past now (RFC 3376, section 6.5). The meter rises by the
-/// nodes that its look-ups visit, at least those that lead to the group, to each of its sources, and to each that is left.
+/// The group's timer ended: INCLUDE of the sources whose timers run past now (RFC 3376, section 6.5). The meter rises
+/// by the nodes that its look-ups visit, at least those that lead to the group, to each of its sources, and to each
+/// that is left.
 #[tactic(auto, unfolding(pim_model::specs::Querier::group_record_due))]
 pub fn group_record_due(
     world: &mut World,
     meter: &mut Meter,
     alloc: Global,
-    iface: IfaceId,
-    group: Addr,
+    place: IfaceGroup,
 ) -> Result<(), AllocError>
-    ensures state { OnOk result (world.new ≡ group_record_due world.old iface.number group.bits) }
+    ensures state { OnOk result (world.new ≡ group_record_due world.old place.iface.number place.group.bits) }
     ensures at_least { OnOk result (raised meter.old
-        (group_record_due_nodes iface.number group.bits world.old) ≤ meter.new) }
+        (group_record_due_nodes place.iface.number place.group.bits world.old) ≤ meter.new) }
 {
-    let mut known = record_of(world, alloc, iface, group)?;
+    let mut known = record_of(world, alloc, place)?;
     known.group_expired(world.present());
-    world
-        .membership_mut()
-        .change_group_record(iface, group, GroupRecordRow { end: None }, meter)?;
-    set_members(world, meter, alloc, iface, group, &known)
+    world.membership_mut().change_group_record(
+        place.iface,
+        place.group,
+        GroupRecordRow { end: None },
+        meter,
+    )?;
+    set_members(world, meter, alloc, place, &known)
 }
 
 // Whether a source of the group has a record on the interface.
-pub(crate) fn has_sources(world: &World, iface: IfaceId, group: Addr) -> bool
-    ensures { result ≡ list_any (λ e. is_at_group iface.number group.bits e.0) world.now.source_records }
+pub(crate) fn has_sources(world: &World, place: IfaceGroup) -> bool
+    ensures { result ≡ list_any (λ e. is_at_group place.iface.number place.group.bits e.0) world.now.source_records }
 {
     world
         .membership()
-        .source_records_at(iface, group)
+        .source_records_at(place.iface, place.group)
         .next()
         .is_some()
 }
 
 // Takes the source's record away, and that of the group with the last of them.
-fn drop_source(world: &mut World, meter: &mut Meter, iface: IfaceId, group: Addr, source: Addr)
-    ensures dropped { world.new ≡ without_source iface.number group.bits source.bits world.old }
+fn drop_source(world: &mut World, meter: &mut Meter, place: IfaceGroup, source: Addr)
+    ensures dropped { world.new ≡ without_source place.iface.number place.group.bits source.bits world.old }
     ensures at_least { raised meter.old
-        (drop_source_nodes iface.number group.bits source.bits world.old) ≤ meter.new }
+        (drop_source_nodes place.iface.number place.group.bits source.bits world.old) ≤ meter.new }
 {
     world
         .membership_mut()
-        .remove_source_record(iface, group, source, meter);
-    let is_none = !has_sources(world, iface, group);
-    drop_empty(world, meter, iface, group, is_none);
+        .remove_source_record(place.iface, place.group, source, meter);
+    let is_none = !has_sources(world, place);
+    drop_empty(world, meter, place, is_none);
 }
 
 // The source's packets are refused from now on, where it has a record.
@@ -233,15 +225,15 @@ fn drop_source(world: &mut World, meter: &mut Meter, iface: IfaceId, group: Addr
 fn exclude_source(
     world: &mut World,
     meter: &mut Meter,
-    iface: IfaceId,
-    group: Addr,
+    place: IfaceGroup,
     source: Addr,
 ) -> Result<(), AllocError>
-    ensures excluded { OnOk result (world.new ≡ with_excluded iface.number group.bits source.bits world.old) }
+    ensures excluded { OnOk result (world.new
+        ≡ with_excluded place.iface.number place.group.bits source.bits world.old) }
     ensures at_least { OnOk result (raised meter.old
-        (exclude_source_nodes iface.number group.bits source.bits world.old) ≤ meter.new) }
+        (exclude_source_nodes place.iface.number place.group.bits source.bits world.old) ≤ meter.new) }
 {
-    let key = Key::source(iface, group, source);
+    let key = Key::source(place.iface, place.group, source);
     world
         .membership_mut()
         .change_source_record(key, SourceRecordRow { end: None }, meter)
@@ -251,40 +243,40 @@ fn exclude_source(
 fn end_source(
     world: &mut World,
     meter: &mut Meter,
-    iface: IfaceId,
-    group: Addr,
+    place: IfaceGroup,
     source: Addr,
 ) -> Result<(), AllocError>
-    ensures ended { OnOk result (with_repeats_of_rows world.new iface.number group.bits
-        ≡ source_record_due world.old iface.number group.bits source.bits) }
+    ensures ended { OnOk result (with_repeats_of_rows world.new place.iface.number place.group.bits
+        ≡ source_record_due world.old place.iface.number place.group.bits source.bits) }
     ensures at_least { OnOk result (raised meter.old
-        (source_record_due_nodes iface.number group.bits source.bits world.old) ≤ meter.new) }
+        (source_record_due_nodes place.iface.number place.group.bits source.bits world.old) ≤ meter.new) }
 {
     // They tell that each source has one record, under its own key.
     world.membership().recall_rising_source_records();
     world.membership().recall_keyed_source_records();
-    if world.group_end(iface, group).is_some() {
-        return exclude_source(world, meter, iface, group, source);
+    if world.group_end(place.iface, place.group).is_some() {
+        return exclude_source(world, meter, place, source);
     }
-    drop_source(world, meter, iface, group, source);
+    drop_source(world, meter, place, source);
     Ok(())
 }
 
 /// The source's timer ended: in INCLUDE the source goes, in EXCLUDE its packets are refused from now on (RFC 3376,
-/// section 6.3). Of other sources neither records nor queries are looked at. The meter rises by the nodes that its look-ups visit, at least
-/// those that lead to the source where it goes or its timer ends to run, and to a group that goes with it.
+/// section 6.3). Of other sources neither records nor queries are looked at. The meter rises by the nodes that its
+/// look-ups visit, at least those that lead to the source where it goes or its timer ends to run, and to a group that
+/// goes with it.
 pub fn source_record_due(
     world: &mut World,
     meter: &mut Meter,
     alloc: Global,
-    iface: IfaceId,
-    group: Addr,
+    place: IfaceGroup,
     source: Addr,
 ) -> Result<(), AllocError>
-    ensures state { OnOk result (world.new ≡ source_record_due world.old iface.number group.bits source.bits) }
+    ensures state { OnOk result (world.new
+        ≡ source_record_due world.old place.iface.number place.group.bits source.bits) }
     ensures at_least { OnOk result (raised meter.old
-        (source_record_due_nodes iface.number group.bits source.bits world.old) ≤ meter.new) }
+        (source_record_due_nodes place.iface.number place.group.bits source.bits world.old) ≤ meter.new) }
 {
-    end_source(world, meter, iface, group, source)?;
-    drop_repeats(world, alloc, iface, group)
+    end_source(world, meter, place, source)?;
+    drop_repeats(world, alloc, place)
 }

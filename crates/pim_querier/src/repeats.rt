@@ -5,10 +5,10 @@ ghost use Rattle.pim_world.specs.Turns.{saying};
 ghost use Rattle.pim_querier.specs.Changes.{one_repeat_less};
 
 use crate::intervals::{exceeds, last_member_query_interval, query_end};
+use crate::place::IfaceGroup;
 use crate::queries::{say_sources, specific_query};
 use crate::sendings::{lessen, sendings_at, sources_by_end};
 use pim_types::fact::{GroupRepeatRow, SourceRepeatRow};
-use pim_types::{Addr, IfaceId};
 use pim_world::{Turn, World};
 use std::alloc::AllocError;
 
@@ -32,40 +32,38 @@ fn one_repeat_less(world: &World, left: u32) -> Option<GroupRepeatRow>
 pub fn group_repeat_due(
     world: &mut World,
     turn: &mut Turn,
-    iface: IfaceId,
-    group: Addr,
+    place: IfaceGroup,
     left: u32,
 ) -> Result<(), AllocError>
-    ensures state { OnOk result (world.new ≡ (group_repeat_due world.old iface.number group.bits left).0) }
+    ensures state { OnOk result (world.new ≡ (group_repeat_due world.old place.iface.number place.group.bits left).0) }
     ensures messages { OnOk result (turn.new
-        ≡ saying turn.old (group_repeat_due world.old iface.number group.bits left).1) }
+        ≡ saying turn.old (group_repeat_due world.old place.iface.number place.group.bits left).1) }
 {
-    let suppress = exceeds(query_end(world, iface), world.group_end(iface, group));
-    let query = specific_query(world, iface, group, suppress);
+    let suppress = exceeds(
+        query_end(world, place.iface),
+        world.group_end(place.iface, place.group),
+    );
+    let query = specific_query(world, place, suppress);
     let less = one_repeat_less(world, left);
     world
         .membership_mut()
-        .change_group_repeat(iface, group, less)?;
-    turn.out.query(iface, &query, &[])
+        .change_group_repeat(place.iface, place.group, less)?;
+    turn.out.query(place.iface, &query, &[])
 }
 
 /// Sends the sources of the group that have sendings left, those first whose timers run beyond what a query would lower
 /// them to, with S set, and counts one sending less of each (RFC 3376, section 6.6.3.2).
-pub fn send(
-    world: &mut World,
-    turn: &mut Turn,
-    iface: IfaceId,
-    group: Addr,
-) -> Result<(), AllocError>
-    ensures state { OnOk result (world.new ≡ (sources_sent world.old iface.number group.bits).0) }
-    ensures messages { OnOk result (turn.new ≡ saying turn.old (sources_sent world.old iface.number group.bits).1) }
+pub fn send(world: &mut World, turn: &mut Turn, place: IfaceGroup) -> Result<(), AllocError>
+    ensures state { OnOk result (world.new ≡ (sources_sent world.old place.iface.number place.group.bits).0) }
+    ensures messages { OnOk result (turn.new
+        ≡ saying turn.old (sources_sent world.old place.iface.number place.group.bits).1) }
 {
-    let end = query_end(world, iface);
-    let sendings = sendings_at(world, turn.alloc, iface, group)?;
-    let running = sources_by_end(world, turn.alloc, iface, group, &sendings, end, true)?;
-    let others = sources_by_end(world, turn.alloc, iface, group, &sendings, end, false)?;
-    say_sources(world, turn, iface, group, true, &running)?;
-    say_sources(world, turn, iface, group, false, &others)?;
+    let end = query_end(world, place.iface);
+    let sendings = sendings_at(world, turn.alloc, place)?;
+    let running = sources_by_end(world, turn.alloc, place, &sendings, end, true)?;
+    let others = sources_by_end(world, turn.alloc, place, &sendings, end, false)?;
+    say_sources(world, turn, place, true, &running)?;
+    say_sources(world, turn, place, false, &others)?;
     // It tells that each key stands once.
     world.membership().recall_rising_sendings();
     lessen(world, &sendings);
@@ -74,10 +72,10 @@ pub fn send(
 
 /// When the group's sources are sent again, if any has sendings left.
 #[tactic(auto, unfolding(pim_model::specs::Querier::next_sending))]
-pub fn next_sending(world: &World, iface: IfaceId, group: Addr) -> Option<SourceRepeatRow>
-    ensures { result ≡ next_sending world.now iface.number group.bits }
+pub fn next_sending(world: &World, place: IfaceGroup) -> Option<SourceRepeatRow>
+    ensures { result ≡ next_sending world.now place.iface.number place.group.bits }
 {
-    if !world.has_sendings(iface, group) {
+    if !world.has_sendings(place.iface, place.group) {
         return None;
     }
     let next = world.present() + last_member_query_interval(world);
@@ -86,18 +84,16 @@ pub fn next_sending(world: &World, iface: IfaceId, group: Addr) -> Option<Source
 
 /// Sends the sources of the group that have sendings left, and again while any has.
 #[tactic(auto, unfolding(pim_model::specs::Querier::send_sources))]
-pub fn send_sources(
-    world: &mut World,
-    turn: &mut Turn,
-    iface: IfaceId,
-    group: Addr,
-) -> Result<(), AllocError>
-    ensures state { OnOk result (world.new ≡ (send_sources world.old iface.number group.bits).0) }
-    ensures messages { OnOk result (turn.new ≡ saying turn.old (send_sources world.old iface.number group.bits).1) }
+pub fn send_sources(world: &mut World, turn: &mut Turn, place: IfaceGroup) -> Result<(), AllocError>
+    ensures state { OnOk result (world.new ≡ (send_sources world.old place.iface.number place.group.bits).0) }
+    ensures messages { OnOk result (turn.new
+        ≡ saying turn.old (send_sources world.old place.iface.number place.group.bits).1) }
 {
-    send(world, turn, iface, group)?;
-    let next = next_sending(world, iface, group);
-    world.membership_mut().set_source_repeat(iface, group, next)
+    send(world, turn, place)?;
+    let next = next_sending(world, place);
+    world
+        .membership_mut()
+        .set_source_repeat(place.iface, place.group, next)
 }
 
 /// The query of the group's sources is due again.
@@ -105,16 +101,15 @@ pub fn send_sources(
 pub fn source_repeat_due(
     world: &mut World,
     turn: &mut Turn,
-    iface: IfaceId,
-    group: Addr,
+    place: IfaceGroup,
 ) -> Result<(), AllocError>
-    ensures state { OnOk result (world.new ≡ (source_repeat_due world.old iface.number group.bits).0) }
+    ensures state { OnOk result (world.new ≡ (source_repeat_due world.old place.iface.number place.group.bits).0) }
     ensures messages { OnOk result (turn.new
-        ≡ saying turn.old (source_repeat_due world.old iface.number group.bits).1) }
+        ≡ saying turn.old (source_repeat_due world.old place.iface.number place.group.bits).1) }
 {
-    send(world, turn, iface, group)?;
-    let next = next_sending(world, iface, group);
+    send(world, turn, place)?;
+    let next = next_sending(world, place);
     world
         .membership_mut()
-        .change_source_repeat(iface, group, next)
+        .change_source_repeat(place.iface, place.group, next)
 }

@@ -8,10 +8,11 @@ ghost use Rattle.pim_querier.specs.Queries.{bits_of};
 ghost use Rattle.pim_querier.specs.Visits.{record_seen_nodes, report_seen_nodes};
 ghost use Rattle.pim_world.specs.Visits.{raised};
 
-use crate::applying::apply;
+use crate::applying::{SeenRecord, apply};
 use crate::asked::query_asked;
 use crate::election::is_querier;
 use crate::intervals::group_membership_interval;
+use crate::place::IfaceGroup;
 use igmp_wire::{RecordType, RecordView, ReportView};
 use pim_filters::Asking;
 use pim_types::{Addr, IfaceId};
@@ -47,17 +48,15 @@ fn apply_record(
 {
     let full = world.present() + group_membership_interval(world, iface);
     let sources = sources_of(alloc, group_record)?;
-    let (group, record_type) = (group_record.group(), group_record.record_type());
-    apply(
-        world,
-        meter,
-        alloc,
-        iface,
-        group,
-        record_type,
-        &sources,
+    let seen = SeenRecord {
+        place: IfaceGroup {
+            iface,
+            group: group_record.group(),
+        },
+        record_type: group_record.record_type(),
         full,
-    )
+    };
+    apply(world, meter, alloc, seen, &sources)
 }
 
 // Takes a group record in; what it asks for is queried, where the router is the querier.
@@ -80,7 +79,11 @@ fn record_seen(
     if !queries {
         return Ok(());
     }
-    query_asked(world, turn, meter, iface, group_record.group(), &asked)
+    let place = IfaceGroup {
+        iface,
+        group: group_record.group(),
+    };
+    query_asked(world, turn, meter, place, &asked)
 }
 
 /// Whether a group record is skipped: one that would exclude sources of a source-specific group (RFC 4604, section
@@ -110,7 +113,8 @@ pub fn report_seen(
     requires { iface.number < 120 }
     ensures state { OnOk result (world.new ≡ (report_seen world.old iface.number report.now).0) }
     ensures messages { OnOk result (turn.new ≡ saying turn.old (report_seen world.old iface.number report.now).1) }
-    ensures at_least { OnOk result (raised meter.old (report_seen_nodes world.old iface.number report.now) ≤ meter.new) }
+    ensures at_least { OnOk result (raised meter.old
+        (report_seen_nodes world.old iface.number report.now) ≤ meter.new) }
 {
     for group_record in report.records() {
         if !is_skipped(&group_record) {

@@ -1,14 +1,14 @@
-//! The sources that are still to be named in queries (RFC 3376, section 6.6.3.2).
+//! The sources that are still to be sent in queries (RFC 3376, section 6.6.3.2).
 ghost use Rattle.std.specs.Prelude.{◌≡◌, IfOk, filter};
 ghost use Rattle.pim_model.specs.Querier.{exceeds, is_sending, query_end, source_end};
 ghost use Rattle.pim_model.specs.Tables.{same_bool};
-ghost use Rattle.pim_types.specs.Keys.{source_in};
 ghost use Rattle.pim_querier.specs.Changes.{one_less, sendings_changed, sources_in};
 ghost use Rattle.pim_querier.specs.Queries.{bits_of};
 
 use crate::intervals::exceeds;
+use crate::place::IfaceGroup;
 use pim_types::fact::SendingRow;
-use pim_types::{Addr, IfaceId, Key};
+use pim_types::{Addr, Key};
 use pim_world::World;
 use std::alloc::{AllocError, Global};
 
@@ -16,44 +16,35 @@ use std::alloc::{AllocError, Global};
 pub fn sendings_at(
     world: &World,
     alloc: Global,
-    iface: IfaceId,
-    group: Addr,
+    place: IfaceGroup,
 ) -> Result<Vec<(Key, SendingRow)>, AllocError>
     ensures { IfOk result (λ sendings. sendings.items
-        ≡ filter (is_sending iface.number group.bits) world.now.sendings) }
+        ≡ filter (is_sending place.iface.number place.group.bits) world.now.sendings) }
 {
     let mut sendings = Vec::new(alloc);
-    for (key, row) in world.membership().sendings_at(iface, group) {
+    for (key, row) in world.membership().sendings_at(place.iface, place.group) {
         sendings.push((*key, *row))?;
     }
     Ok(sendings)
-}
-
-/// The source of the key, or 0.0.0.0.
-pub fn source_in(key: Key) -> Addr
-    ensures { result.bits ≡ source_in key }
-{
-    key.source.unwrap_or(Addr::NONE)
 }
 
 /// The sources of these sendings whose timers run on past this moment, in ms, or those whose timers don't.
 pub fn sources_by_end(
     world: &World,
     alloc: Global,
-    iface: IfaceId,
-    group: Addr,
+    place: IfaceGroup,
     sendings: &[(Key, SendingRow)],
     moment: u64,
     runs_on: bool,
 ) -> Result<Vec<Addr>, AllocError>
     ensures { IfOk result (λ sources. bits_of sources.items
-        ≡ filter (λ src. same_bool runs_on (exceeds moment (source_end world.now iface.number group.bits src)))
-        (sources_in sendings.now)) }
+        ≡ filter (λ src. same_bool runs_on
+        (exceeds moment (source_end world.now place.iface.number place.group.bits src))) (sources_in sendings.now)) }
 {
     let mut sources = Vec::new(alloc);
     for (key, _) in sendings {
-        let source = source_in(*key);
-        let end = world.source_end(iface, group, source);
+        let source = key.address();
+        let end = world.source_end(place.iface, place.group, source);
         if exceeds(moment, end) == runs_on {
             sources.push(source)?;
         }

@@ -8,7 +8,7 @@ use Rattle.pim_querier.proofs.applying.apply_to_named.Goals as goal
 
 pub returns-clause-state : goal.returns-clause-state
 returns-clause-state c =
-    few_written c.args.world.now c.args.iface.number c.args.group.bits c.args.full c.args.record_type
+    few_written c.args.world.now c.args.seen.place.iface.number c.args.seen.place.group.bits c.args.seen.full c.args.seen.record_type
     (bits_of c.args.sources.now) c.in_ok-known.known
     (rw c.membership.ensures at c.recall_rising_source_records.ensures)
     (rw c.membership-2.ensures at c.recall_keyed_source_records.ensures)
@@ -18,7 +18,7 @@ returns-clause-state c =
 
 pub returns-clause-asked : goal.returns-clause-asked
 returns-clause-asked c = λ asks.
-    few_asked c.args.world.now c.args.iface.number c.args.group.bits c.args.full c.args.record_type
+    few_asked c.args.world.now c.args.seen.place.iface.number c.args.seen.place.group.bits c.args.seen.full c.args.seen.record_type
     (bits_of c.args.sources.now) c.in_ok-known.known
     (rw c.membership.ensures at c.recall_rising_source_records.ensures)
     (rw c.membership-2.ensures at c.recall_keyed_source_records.ensures)
@@ -28,10 +28,10 @@ returns-clause-asked c = λ asks.
 
 pub returns-clause-at_least : goal.returns-clause-at_least
 returns-clause-at_least c =
-    let i = c.args.iface.number in
-    let g = c.args.group.bits in
+    let i = c.args.seen.place.iface.number in
+    let g = c.args.seen.place.group.bits in
     subst (λ (r : GroupRecord). raised c.args.meter.now (write_beside_nodes i g c.args.world.now r) ≤ c.write_beside.new.meter)
     (c.in_ok-apply.ensures.record_after
-    ∙ ap (λ (r : GroupRecord). (apply_record c.args.full r c.args.record_type (bits_of c.args.sources.now)).0)
+    ∙ ap (λ (r : GroupRecord). (apply_record c.args.seen.full r c.args.seen.record_type (bits_of c.args.sources.now)).0)
     c.in_ok-known.ensures.named)
     c.in_ok-write_beside.ensures.at_least

@@ -7,5 +7,5 @@ use Rattle.pim_querier.proofs.applying.members_among.Given as goal
 abbrev pub invariant-loop-source : goal.invariant-loop-source
 invariant-loop-source l =
     entries_of l.members.items
-    ++ members_named l.iface.number l.group.bits l.world.source_records (bits_of l.source-iterator)
-    ≡ members_named l.iface.number l.group.bits l.world.source_records (bits_of l.sources.keys)
+    ++ members_named l.place.iface.number l.place.group.bits l.world.source_records (bits_of l.source-iterator)
+    ≡ members_named l.place.iface.number l.place.group.bits l.world.source_records (bits_of l.sources.keys)

@@ -13,7 +13,7 @@ use Rattle.pim_querier.proofs.applying.named_record.Goals as goal
 
 pub returns-clause-timer : goal.returns-clause-timer
 returns-clause-timer c =
-    made_so (λ known. known.timer ≡ group_end c.args.world.now c.args.iface.number c.args.group.bits) c.with.result _
+    made_so (λ known. known.timer ≡ group_end c.args.world.now c.args.place.iface.number c.args.place.group.bits) c.with.result _
     c.with.ensures c.group_end.ensures
 
 pub returns-clause-ascending : goal.returns-clause-ascending
@@ -24,9 +24,9 @@ returns-clause-ascending c =
 pub returns-clause-fates : goal.returns-clause-fates
 returns-clause-fates c =
     made_so (λ known. (src : ℕ) → fate_in known src ≡ (if is_among src (bits_of c.args.sources.now)
-    then fate_in (record_of c.args.world.now c.args.iface.number c.args.group.bits) src else Gone))
+    then fate_in (record_of c.args.world.now c.args.place.iface.number c.args.place.group.bits) src else Gone))
     c.with.result _ c.with.ensures
-    (gathered_fares c.args.world.now c.args.iface.number c.args.group.bits (bits_of c.in_ok-named.named.keys)
+    (gathered_fares c.args.world.now c.args.place.iface.number c.args.place.group.bits (bits_of c.in_ok-named.named.keys)
     (bits_of c.args.sources.now) _ (rw c.membership.ensures at c.recall_keyed_source_records.ensures)
     (set_among c.in_ok-named.named.keys c.args.sources.now c.in_ok-named.ensures)
     (ap (λ ms. entries_of ms) c.deref.ensures.value ∙ c.in_ok-members.ensures.members))
@@ -35,8 +35,8 @@ pub returns-clause-named : goal.returns-clause-named
 unfolding record_named addr_cmp
 returns-clause-named c =
     let s = c.args.world.now in
-    let i = c.args.iface.number in
-    let g = c.args.group.bits in
+    let i = c.args.place.iface.number in
+    let g = c.args.place.group.bits in
     made_so (λ known. known ≡ record_named s i g (bits_of c.args.sources.now)) c.with.result _ c.with.ensures
     (λ j. record {
       timer = c.group_end.ensures j;

@@ -4,5 +4,5 @@ use Rattle.pim_querier.proofs.asked.put_sendings.Given as goal
 
 abbrev pub invariant-loop-source : goal.invariant-loop-source
 invariant-loop-source l =
-    fold (sending_put l.iface.number l.group.bits l.row) l.world (drop l.source-index l.sources)
-    ≡ fold (sending_put l.iface.number l.group.bits l.row) l.fn.world l.sources
+    fold (sending_put l.place.iface.number l.place.group.bits l.row) l.world (drop l.source-index l.sources)
+    ≡ fold (sending_put l.place.iface.number l.place.group.bits l.row) l.fn.world l.sources

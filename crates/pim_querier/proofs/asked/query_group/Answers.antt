@@ -10,7 +10,7 @@ pub returns-clause-state : goal.returns-clause-state
 unfolding set_row
 returns-clause-state c =
     on_ok c.query.result
-    (group_queried c.args.iface.number c.args.group.bits c.args.world.now c.lower_group.new.self
+    (group_queried c.args.place.iface.number c.args.place.group.bits c.args.world.now c.lower_group.new.self
     _ c.query_end.result _ _ c.query_end.ensures
     (λ j. c.present.ensures.present j + c.last_member_query_interval.ensures.value j)
     (c.saturating_sub.ensures ∙ ap (λ n. n - 1) (c.from.ensures ∙ c.robustness.ensures.value))
@@ -20,6 +20,6 @@ pub returns-clause-messages : goal.returns-clause-messages
 unfolding query_group
 returns-clause-messages c =
     said_one c.query.result c.turn.inside.draw c.turn.inside.out c.query.new.self _ _ c.args.turn.now c.turn.view_is
-    (specific_by c.args.world.now c.args.iface.number c.args.group.bits false [] c.specific_query-query.result
+    (specific_by c.args.world.now c.args.place.iface.number c.args.place.group.bits false [] c.specific_query-query.result
     c.specific_query-query.ensures.header)
     c.query.ensures.ok

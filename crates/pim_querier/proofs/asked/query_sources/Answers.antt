@@ -11,22 +11,22 @@ use Rattle.pim_querier.proofs.asked.query_sources.Goals as goal
 pub returns-then-is_empty-clause-state : goal.returns-then-is_empty-clause-state
 returns-then-is_empty-clause-state c =
     sym (ap (λ p. p.0)
-    (none_queried c.args.iface.number c.args.group.bits c.args.world.now (bits_of c.args.asked.now)
+    (none_queried c.args.place.iface.number c.args.place.group.bits c.args.world.now (bits_of c.args.asked.now)
     c.in_ok-sources.sources.items c.query_end-end.result c.query_end-end.ensures c.in_ok-sources.ensures
     (ap (λ n. n == 0) (omega (arith, c.in_ok-sources.sources.ok.0)) ∙ sym c.is_empty.ensures ∙ c.if-is_empty.true)))
 
 pub returns-then-is_empty-clause-messages : goal.returns-then-is_empty-clause-messages
 returns-then-is_empty-clause-messages c =
     sym (ap (λ p. saying c.args.turn.now p.1)
-    (none_queried c.args.iface.number c.args.group.bits c.args.world.now (bits_of c.args.asked.now)
+    (none_queried c.args.place.iface.number c.args.place.group.bits c.args.world.now (bits_of c.args.asked.now)
     c.in_ok-sources.sources.items c.query_end-end.result c.query_end-end.ensures c.in_ok-sources.ensures
     (ap (λ n. n == 0) (omega (arith, c.in_ok-sources.sources.ok.0)) ∙ sym c.is_empty.ensures ∙ c.if-is_empty.true))
     ∙ nothing_said c.args.turn.now)
 
 pub returns-clause-state : goal.returns-clause-state
 returns-clause-state c =
-    let i = c.args.iface.number in
-    let g = c.args.group.bits in
+    let i = c.args.place.iface.number in
+    let g = c.args.place.group.bits in
     then_ok c.send_sources.result
     (λ e. e
     ∙ ap (λ p. p.0)
@@ -42,8 +42,8 @@ returns-clause-state c =
 
 pub returns-clause-messages : goal.returns-clause-messages
 returns-clause-messages c =
-    let i = c.args.iface.number in
-    let g = c.args.group.bits in
+    let i = c.args.place.iface.number in
+    let g = c.args.place.group.bits in
     then_ok c.send_sources.result
     (λ e. said_as _ _ _ _ _ e refl
     (sources_queried i g c.args.world.now c.lower_sources.new.world c.put_sendings.new.world (bits_of c.args.asked.now)

@@ -6,5 +6,5 @@ use Rattle.pim_querier.proofs.asked.running_past.Given as goal
 abbrev pub invariant-loop-source : goal.invariant-loop-source
 invariant-loop-source l =
     bits_of l.running.items
-    ≡ filter (λ src. exceeds l.moment (source_end l.world l.iface.number l.group.bits src))
+    ≡ filter (λ src. exceeds l.moment (source_end l.world l.place.iface.number l.place.group.bits src))
     (bits_of (take l.source-index l.sources))

@@ -4,7 +4,7 @@ use Rattle.pim_querier.proofs.lowering.lower_each.Given as goal
 
 abbrev pub invariant-loop-source : goal.invariant-loop-source
 invariant-loop-source l = record {
-  lowered : fold (one_lowered l.iface.number l.group.bits l.end) l.world (drop l.source-index l.sources)
-      ≡ fold (one_lowered l.iface.number l.group.bits l.end) l.fn.world l.sources;
+  lowered : fold (one_lowered l.place.iface.number l.place.group.bits l.end) l.world (drop l.source-index l.sources)
+      ≡ fold (one_lowered l.place.iface.number l.place.group.bits l.end) l.fn.world l.sources;
   kept : l.meter ≡ l.fn.meter;
 }

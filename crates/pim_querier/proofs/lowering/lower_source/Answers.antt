@@ -7,13 +7,13 @@ use Rattle.pim_querier.proofs.lowering.lower_source.Goals as goal
 
 pub returns-in_default-clause-lowered : goal.returns-in_default-clause-lowered
 returns-in_default-clause-lowered c =
-    none_lowered c.args.iface.number c.args.group.bits c.args.end c.args.world.now c.args.source
+    none_lowered c.args.place.iface.number c.args.place.group.bits c.args.end c.args.world.now c.args.source
     (rw c.membership-2.ensures at c.in_default.ensures)
 
 pub returns-clause-lowered : goal.returns-clause-lowered
 returns-clause-lowered c =
     then_ok c.change_source_record.result
-    (λ e. lowered_as_read c.args.iface.number c.args.group.bits c.args.end c.args.world.now _ c.args.source
+    (λ e. lowered_as_read c.args.place.iface.number c.args.place.group.bits c.args.end c.args.world.now _ c.args.source
     c.source.result c.in-Some.row c.lowered.result
     (rw c.membership.ensures at c.recall_rising_source_records.ensures)
     (rw c.membership-2.ensures at c.in-Some.ensures) c.source.ensures c.lowered.ensures

@@ -7,6 +7,6 @@ pub returns-clause-lowered : goal.returns-clause-lowered
 returns-clause-lowered c =
     then_ok c.lower_each.result
     (λ e. e
-    ∙ sources_lowered c.args.iface.number c.args.group.bits c.args.end c.args.world.now c.args.sources.now
+    ∙ sources_lowered c.args.place.iface.number c.args.place.group.bits c.args.end c.args.world.now c.args.sources.now
     (rw c.membership.ensures at c.recall_keyed_source_records.ensures))
     c.lower_each.ensures.lowered

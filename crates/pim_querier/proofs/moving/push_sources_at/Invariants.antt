@@ -6,4 +6,4 @@ abbrev pub invariant-loop-key : goal.invariant-loop-key
 invariant-loop-key l =
     l.keys.items ++ map (λ e. e.0) l.key-iterator
     ≡ l.fn.keys.items
-    ++ map (λ e. e.0) (filter (λ e. is_at_group l.fn.iface.number l.fn.group.bits e.0) l.fn.world.source_records)
+    ++ map (λ e. e.0) (filter (λ e. is_at_group l.fn.place.iface.number l.fn.place.group.bits e.0) l.fn.world.source_records)

@@ -9,16 +9,16 @@ use Rattle.pim_querier.proofs.records.end_source.Goals as goal
 pub returns-then-is_some-clause-ended : goal.returns-then-is_some-clause-ended
 returns-then-is_some-clause-ended c =
     then_ok c.exclude_source.result
-    (λ e. ap (λ t. with_repeats_of_rows t c.args.iface.number c.args.group.bits) e
-    ∙ end_excludes c.args.iface.number c.args.group.bits c.args.source.bits c.args.world.now
+    (λ e. ap (λ t. with_repeats_of_rows t c.args.place.iface.number c.args.place.group.bits) e
+    ∙ end_excludes c.args.place.iface.number c.args.place.group.bits c.args.source.bits c.args.world.now
     (rw c.membership.ensures at c.recall_rising_source_records.ensures) (rw c.membership-2.ensures at c.recall_keyed_source_records.ensures)
     (ap (λ o. is_some o) (sym c.group_end.ensures) ∙ sym c.is_some.ensures ∙ c.if-is_some.true))
     c.exclude_source.ensures.excluded
 
 pub returns-clause-ended : goal.returns-clause-ended
 returns-clause-ended c =
-    ap (λ t. with_repeats_of_rows t c.args.iface.number c.args.group.bits) c.drop_source.ensures.dropped
-    ∙ end_includes c.args.iface.number c.args.group.bits c.args.source.bits c.args.world.now
+    ap (λ t. with_repeats_of_rows t c.args.place.iface.number c.args.place.group.bits) c.drop_source.ensures.dropped
+    ∙ end_includes c.args.place.iface.number c.args.place.group.bits c.args.source.bits c.args.world.now
     (rw c.membership.ensures at c.recall_rising_source_records.ensures) (rw c.membership-2.ensures at c.recall_keyed_source_records.ensures)
     (ap (λ o. is_some o) (sym c.group_end.ensures) ∙ sym c.is_some.ensures ∙ c.if-is_some.false)
 

@@ -9,6 +9,6 @@ use Rattle.pim_querier.proofs.records.has_sources.Goals as goal
 pub returns : goal.returns
 returns c =
     c.is_some.ensures
-    ∙ any_by_first (λ e. is_at_group c.args.iface.number c.args.group.bits e.0)
+    ∙ any_by_first (λ e. is_at_group c.args.place.iface.number c.args.place.group.bits e.0)
     (λ (e : Bor Key × Bor SourceRecordRow). (e.0.now, e.1.now)) c.args.world.now.source_records _ c.next.new.self
     c.next.result (rw c.membership.ensures at c.source_records_at.ensures.rows) c.next.ensures.steps

@@ -6,7 +6,7 @@ use Rattle.pim_querier.proofs.records.members_at.Goals as goal
 pub returns-clause-near : goal.returns-clause-near
 unfolding record_of
 returns-clause-near c =
-    rows_near c.args.iface.number c.source_records_at-key-items.result c.loop-key.members.items
+    rows_near c.args.place.iface.number c.source_records_at-key-items.result c.loop-key.members.items
     (all_read c.source_records_at-key-items.result _ c.loop-key.members.items _ c.in-None.ensures.steps.0
     c.loop-key.invariant (ap members_of (rw c.membership.ensures at c.source_records_at-key-items.ensures.rows)))
     c.source_records_at-key-items.ensures.near

@@ -6,4 +6,4 @@ use Rattle.pim_querier.proofs.records.members_at.Given as goal
 abbrev pub invariant-loop-key : goal.invariant-loop-key
 invariant-loop-key l =
     entries_of l.members.items ++ members_of l.key-iterator
-    ≡ (record_of l.world l.fn.iface.number l.fn.group.bits).members
+    ≡ (record_of l.world l.fn.place.iface.number l.fn.place.group.bits).members

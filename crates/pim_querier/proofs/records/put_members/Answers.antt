@@ -16,8 +16,8 @@ pub loop-member-preserved : goal.loop-member-preserved
 unfolding member_put set_row
 loop-member-preserved c =
     let l = c.loop-member in
-    let i = c.args.iface.number in
-    let g = c.args.group.bits in
+    let i = c.args.place.iface.number in
+    let g = c.args.place.group.bits in
     let k = l.member-index in
     let members = c.args.members.now in
     let none : Member = record { source = addr 0; end = None } in
@@ -32,13 +32,13 @@ loop-member-preserved c =
           ∙ l.invariant.put;
       visited =
           next_member i g _ _ _ _ k member none members l.world _ l.invariant.visited c.loop-member-test.true refl moved
-          (source_listed l.world c.args.group _ _ _ member.source (rw c.membership_mut.ensures.value at set.visited));
+          (source_listed l.world c.args.place.group _ _ _ member.source (rw c.membership_mut.ensures.value at set.visited));
     }
 
 pub returns-clause-at_least : goal.returns-clause-at_least
 unfolding members_nodes
 returns-clause-at_least c =
-    none_in_turn (with_member c.args.iface.number c.args.group.bits) (member_nodes c.args.iface.number c.args.group.bits)
+    none_in_turn (with_member c.args.place.iface.number c.args.place.group.bits) (member_nodes c.args.place.iface.number c.args.place.group.bits)
     _ _ _ (entries_of (drop c.loop-member.member-index c.args.members.now)) c.loop-member.world
     c.loop-member.invariant.visited
     (ap (λ ms. entries_of ms) (drop_all c.loop-member.member-index c.args.members.now c.loop-member-test.false))

@@ -7,8 +7,8 @@ use Rattle.pim_querier.proofs.records.put_members.Given as goal
 
 abbrev pub invariant-loop-member : goal.invariant-loop-member
 invariant-loop-member l = record {
-  put : fold (member_put l.iface.number l.group.bits) l.world (drop l.member-index l.members)
-      ≡ fold (member_put l.iface.number l.group.bits) l.fn.world l.members;
-  visited : raised l.fn.meter (members_nodes l.iface.number l.group.bits l.fn.world (entries_of l.members))
-      ≤ raised l.meter (members_nodes l.iface.number l.group.bits l.world (entries_of (drop l.member-index l.members)));
+  put : fold (member_put l.place.iface.number l.place.group.bits) l.world (drop l.member-index l.members)
+      ≡ fold (member_put l.place.iface.number l.place.group.bits) l.fn.world l.members;
+  visited : raised l.fn.meter (members_nodes l.place.iface.number l.place.group.bits l.fn.world (entries_of l.members))
+      ≤ raised l.meter (members_nodes l.place.iface.number l.place.group.bits l.world (entries_of (drop l.member-index l.members)));
 }

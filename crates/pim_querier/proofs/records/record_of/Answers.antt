@@ -5,6 +5,6 @@ use Rattle.pim_querier.proofs.records.record_of.Goals as goal
 
 pub returns-clause-near : goal.returns-clause-near
 returns-clause-near c =
-    made_near c.args.iface.number c.with.result _ c.with.ensures
-    (subst (λ ms. 0 < length (entries_of ms) → c.args.iface.number < 120) (sym c.deref.ensures.value)
+    made_near c.args.place.iface.number c.with.result _ c.with.ensures
+    (subst (λ ms. 0 < length (entries_of ms) → c.args.place.iface.number < 120) (sym c.deref.ensures.value)
     c.in_ok-members.ensures.near)

@@ -8,12 +8,12 @@ use Rattle.pim_querier.proofs.records.set_members.Goals as goal
 
 pub put_members-requires : goal.put_members-requires
 put_members-requires c =
-    members_near c.args.iface.number c.members.result.now c.args.known.now.members c.members.ensures.members c.requires
+    members_near c.args.place.iface.number c.members.result.now c.args.known.now.members c.members.ensures.members c.requires
 
 pub returns-clause-set : goal.returns-clause-set
 returns-clause-set c =
     then_ok c.drop_repeats.result
-    (members_set c.args.iface.number c.args.group.bits c.args.world.now c.drop_empty.new.world _ c.put_members.new.world
+    (members_set c.args.place.iface.number c.args.place.group.bits c.args.world.now c.drop_empty.new.world _ c.put_members.new.world
     c.drop_repeats.new.world c.args.known.now c.is_no_record.result c.members.result.now c.members.ensures.members
     c.is_no_record.ensures c.drop_empty.ensures.dropped
     (ap (with_membership c.drop_empty.new.world) (rw c.membership_mut.ensures.value at c.drop_source_records.ensures.dropped))
@@ -23,7 +23,7 @@ returns-clause-set c =
 pub returns-clause-at_least : goal.returns-clause-at_least
 returns-clause-at_least c =
     on_ok c.drop_repeats.result
-    (members_set_visited c.args.iface.number c.args.group.bits c.args.world.now c.drop_empty.new.world _ c.args.known.now
+    (members_set_visited c.args.place.iface.number c.args.place.group.bits c.args.world.now c.drop_empty.new.world _ c.args.known.now
     c.is_no_record.result c.members.result.now _ _ _ _ c.members.ensures.members c.is_no_record.ensures
     c.drop_empty.ensures.dropped
     (ap (with_membership c.drop_empty.new.world) (rw c.membership_mut.ensures.value at c.drop_source_records.ensures.dropped))

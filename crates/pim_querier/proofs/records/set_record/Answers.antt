@@ -11,7 +11,7 @@ returns-clause-at_least c =
     let s = c.args.world.now in
     let set = c.in_ok-set_group_record.ensures in
     then_ok c.set_members.result
-    (λ e. record_set_visited c.args.iface.number c.args.group.bits s _ c.args.known.now c.timer.result _ _ _
+    (λ e. record_set_visited c.args.place.iface.number c.args.place.group.bits s _ c.args.known.now c.timer.result _ _ _
     c.timer.ensures (ap (with_membership s) (rw c.membership_mut.ensures.value at set.set))
-    (group_listed s c.args.group _ _ _ (rw c.membership_mut.ensures.value at set.visited)) e)
+    (group_listed s c.args.place.group _ _ _ (rw c.membership_mut.ensures.value at set.visited)) e)
     c.set_members.ensures.at_least

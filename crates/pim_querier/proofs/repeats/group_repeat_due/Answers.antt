@@ -7,8 +7,8 @@ pub returns-clause-messages : goal.returns-clause-messages
 unfolding group_repeat_due
 returns-clause-messages c =
     let s = c.args.world.now in
-    let i = c.args.iface.number in
-    let g = c.args.group.bits in
+    let i = c.args.place.iface.number in
+    let g = c.args.place.group.bits in
     said_one c.query.result c.turn.inside.draw c.turn.inside.out c.query.new.self _ _ c.args.turn.now c.turn.view_is
     (specific_by s i g c.exceeds-suppress.result [] c.specific_query-query.result c.specific_query-query.ensures.header
     ∙ ap (λ b. specific_query s i g b [])

@@ -10,16 +10,16 @@ use Rattle.pim_querier.proofs.repeats.send.Goals as goal
 
 pub returns-clause-state : goal.returns-clause-state
 returns-clause-state c =
-    sent_of c.args.iface.number c.args.group.bits c.args.world.now c.lessen.new.world
+    sent_of c.args.place.iface.number c.args.place.group.bits c.args.world.now c.lessen.new.world
     (c.lessen.ensures
-    ∙ all_sent c.args.iface.number c.args.group.bits c.args.world.now c.deref-5.result.now
+    ∙ all_sent c.args.place.iface.number c.args.place.group.bits c.args.world.now c.deref-5.result.now
     (c.deref-5.ensures.value ∙ c.in_ok-sendings.ensures) (rw c.membership.ensures at c.recall_rising_sendings.ensures))
 
 pub returns-clause-messages : goal.returns-clause-messages
 returns-clause-messages c =
     let s = c.args.world.now in
-    let i = c.args.iface.number in
-    let g = c.args.group.bits in
+    let i = c.args.place.iface.number in
+    let g = c.args.place.group.bits in
     let chosen : Bool → Table SendingRow → List ℕ = λ b es.
     filter (λ src. same_bool b (exceeds c.query_end-end.result (source_end s i g src))) (sources_in es) in
     both_said i g s c.in_ok-sendings.sendings.items (bits_of c.deref-3.result.now) (bits_of c.deref-4.result.now)

@@ -7,7 +7,7 @@ use Rattle.pim_querier.proofs.repeats.source_repeat_due.Goals as goal
 pub returns-clause-state : goal.returns-clause-state
 returns-clause-state c =
     then_ok c.change_source_repeat.result
-    (λ e. repeated c.args.iface.number c.args.group.bits c.args.world.now c.send.new.world _
+    (λ e. repeated c.args.place.iface.number c.args.place.group.bits c.args.world.now c.send.new.world _
     c.next_sending-next.result c.in_ok-send.ensures.state c.next_sending-next.ensures
     (ap (with_membership c.send.new.world) (rw c.membership_mut.ensures.value at e)))
     c.change_source_repeat.ensures

@@ -8,5 +8,5 @@ use Rattle.pim_querier.proofs.sendings.sources_by_end.Given as goal
 abbrev pub invariant-loop-key : goal.invariant-loop-key
 invariant-loop-key l =
     bits_of l.sources.items
-    ≡ filter (λ src. same_bool l.runs_on (exceeds l.moment (source_end l.world l.iface.number l.group.bits src)))
+    ≡ filter (λ src. same_bool l.runs_on (exceeds l.moment (source_end l.world l.place.iface.number l.place.group.bits src)))
     (sources_in (take l.key-index l.sendings))

@@ -1,5 +1,5 @@
 use Rattle.pim_querier.proofs.Naming.{Names}
-use Rattle.pim_querier.proofs.named.named.Given as goal
+use Rattle.pim_querier.proofs.named.reported.Given as goal
 
 abbrev pub invariant-loop-group_record : goal.invariant-loop-group_record
 invariant-loop-group_record l =

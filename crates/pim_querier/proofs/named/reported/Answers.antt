@@ -1,5 +1,5 @@
 use Rattle.pim_querier.proofs.Naming.{all_named, one_named}
-use Rattle.pim_querier.proofs.named.named.Goals as goal
+use Rattle.pim_querier.proofs.named.reported.Goals as goal
 
 pub loop-group_record-preserved : goal.loop-group_record-preserved
 loop-group_record-preserved c =

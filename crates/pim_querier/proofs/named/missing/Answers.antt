@@ -4,32 +4,32 @@ use Rattle.pim_types.specs.Keys.{addr_cmp, key_cmp}
 use Rattle.pim_model.specs.Downstream.{is_named}
 use Rattle.pim_model.specs.Full.{distinct, once_more}
 use Rattle.pim_querier.proofs.Missing.{Counts, all_counted, next_once, passed, put_once}
-use Rattle.pim_querier.proofs.named.missing_sources.Goals as goal
-use Rattle.pim_querier.proofs.named.missing_sources.Goals.{then-not-has_source_record+in_ok-insert, else-not-has_source_record}
+use Rattle.pim_querier.proofs.named.missing.Goals as goal
+use Rattle.pim_querier.proofs.named.missing.Goals.{then-not-is_there+in_ok-insert, else-not-is_there}
 
 pub loop-key-preserved : goal.loop-key-preserved
 unfolding key_cmp addr_cmp is_named
-loop-key-preserved c =
-    let rows = c.args.world.now.source_records in
+loop-key-preserved g c =
+    let rows = g.R.Made.rows c.args.world.now in
     let keys = c.args.keys.now in
     let n = c.loop-key.key-index in
-    elim c.if-not-has_source_record.branch [
-      | then-not-has_source_record+in_ok-insert w ↦
+    elim c.if-not-is_there.branch [
+      | then-not-is_there+in_ok-insert w ↦
           subst (λ set. Counts rows (fold once_more [] (take (n + 1) keys)) set.keys) (sym w.missing-is)
           (subst (λ found. Counts rows found w.insert.new.self.keys) (next_once rows keys n _ _ c.loop-key-test.true refl)
           (put_once rows (fold once_more [] (take n keys)) c.loop-key.missing.keys c.loop-key.invariant _
-          w.insert.new.self.keys _ (sym (rw c.membership.ensures at w.if-not-has_source_record.ensures)) w.in_ok-insert.ensures.added
+          w.insert.new.self.keys _ (sym w.if-not-is_there.ensures) w.in_ok-insert.ensures.added
           w.in_ok-insert.ensures.updates.0 w.in_ok-insert.ensures.len))
-      | else-not-has_source_record w ↦
+      | else-not-is_there w ↦
           subst (λ set. Counts rows (fold once_more [] (take (n + 1) keys)) set.keys) (sym w.missing-is)
           (subst (λ found. Counts rows found c.loop-key.missing.keys) (next_once rows keys n _ _ c.loop-key-test.true refl)
           (passed rows (fold once_more [] (take n keys)) c.loop-key.missing.keys c.loop-key.invariant _
-          (sym (rw c.membership.ensures at w.if-not-has_source_record.ensures))))
+          (sym w.if-not-is_there.ensures)))
     ]
 
 pub returns-clause-missing : goal.returns-clause-missing
 unfolding distinct
-returns-clause-missing c =
-    all_counted c.args.world.now.source_records c.args.keys.now c.loop-key.missing.keys c.len.result c.len.ensures.len
-    (subst (λ ks. Counts c.args.world.now.source_records (fold once_more [] ks) c.loop-key.missing.keys)
+returns-clause-missing g c =
+    all_counted (g.R.Made.rows c.args.world.now) c.args.keys.now c.loop-key.missing.keys c.len.result c.len.ensures.len
+    (subst (λ ks. Counts (g.R.Made.rows c.args.world.now) (fold once_more [] ks) c.loop-key.missing.keys)
     (take_all c.loop-key.key-index c.args.keys.now c.loop-key-test.false) c.loop-key.invariant)
