@@ -1,7 +1,7 @@
 //! What must go after a change: asserts, and SPTbits with the asserts that they kept.
 ghost use Rattle.std.specs.Prelude.{◌≡◌, ◌≤◌, ◌∷◌, [], IsTrue, OnOk, Some, false, map};
 ghost use Rattle.pim_macros.specs.Sights.{IsSourceSight, IsStarSight};
-ghost use Rattle.pim_opening.specs.Seen.{AreSeen, IsSeen, opened_in, opening_in};
+ghost use Rattle.pim_opening.specs.After.{AreAfter, IsAfter, opened_in, opening_in};
 ghost use Rattle.pim_world.specs.Turns.{saying};
 ghost use Rattle.pim_world.specs.Visits.{raised, sight_nodes};
 ghost use Rattle.pim_model.specs.Asserts.{without_spt_bit};
@@ -16,9 +16,9 @@ ghost use Rattle.pim_asserts.specs.Visits.{alone_nodes, clear_all_asserts_nodes,
 use crate::going::{first_of_source, first_of_star};
 use crate::part::{Part, clear_part};
 use pim_macros::{SourceSight, StarSight};
-use pim_opening::{GroupOpening, GroupSeen, Opening, SourceOpening, SourceSeen};
+use pim_opening::{GroupAfter, GroupOpening, Opening, SourceAfter, SourceOpening};
 use pim_types::fact::SourceRow;
-use pim_types::{Addr, IfaceId, Key};
+use pim_types::{Addr, SourceGroup};
 use pim_world::{Meter, Turn, World};
 use std::alloc::AllocError;
 
@@ -122,13 +122,13 @@ fn clear_all_asserts(
 fn forget_spt_bit(
     world: &mut World,
     meter: &mut Meter,
-    group: Addr,
-    source: Addr,
+    name: SourceGroup,
     row: SourceRow,
 ) -> Result<(), AllocError>
-    requires { row_at world.old.sources (source_key 0 group.bits source.bits) ≡ Some row }
-    ensures state { OnOk result (world.new ≡ without_spt_bit world.old (source_key 0 group.bits source.bits)) }
-    ensures at_least { OnOk result (raised meter.old (gone_bit_nodes world.old group source) ≤ meter.new) }
+    requires { row_at world.old.sources (source_key 0 name.group.bits name.source.bits) ≡ Some row }
+    ensures state { OnOk result (world.new
+        ≡ without_spt_bit world.old (source_key 0 name.group.bits name.source.bits)) }
+    ensures at_least { OnOk result (raised meter.old (gone_bit_nodes world.old name.group name.source) ≤ meter.new) }
 {
     // It tells that a key stands once.
     world.recall_keyed();
@@ -136,7 +136,9 @@ fn forget_spt_bit(
         .keepalive
         .is_some()
         .then_some(SourceRow { spt: false, ..row });
-    world.store_mut().set_source(group, source, left, meter)
+    world
+        .store_mut()
+        .set_source(name.group, name.source, left, meter)
 }
 
 // An SPTbit that JoinDesired(S,G) doesn't keep, and the asserts that must go without it.
@@ -152,27 +154,26 @@ fn clear_bit(
     ensures messages { OnOk result (turn.new ≡ saying turn.old (clear_bit group.bits world.old opened).1) }
     ensures at_least { OnOk result (raised meter.old (clear_bit_nodes group world.old opened) ≤ meter.new) }
 {
-    let Some(row) = world
-        .store()
-        .source(Key::source(IfaceId::NONE, group, opened.source))
-    else {
+    let name = SourceGroup {
+        source: opened.source,
+        group,
+    };
+    let Some(row) = world.store().source(name.key()) else {
         return Ok(());
     };
-    if !row.spt || is_joined(world, meter, group, opened.source) {
+    if !row.spt || is_joined(world, meter, name) {
         return Ok(());
     }
-    forget_spt_bit(world, meter, group, opened.source, row)?;
+    forget_spt_bit(world, meter, name, row)?;
     clear_source(world, turn, meter, group, opened)
 }
 
 // JoinDesired(S,G).
-fn is_joined(world: &World, meter: &mut Meter, group: Addr, source: Addr) -> bool
-    ensures desired { result ≡ join_desired world.now group.bits source.bits }
-    ensures at_least { raised meter.old (sight_nodes world.now group (Some source)) ≤ meter.new }
+fn is_joined(world: &World, meter: &mut Meter, name: SourceGroup) -> bool
+    ensures desired { result ≡ join_desired world.now name.group.bits name.source.bits }
+    ensures at_least { raised meter.old (sight_nodes world.now name.group (Some name.source)) ≤ meter.new }
 {
-    let star = StarSight::of(world, group, meter);
-    let sight = SourceSight::of(world, star, source, meter);
-    sight.join_desired()
+    SourceSight::with_star(world, name, meter).join_desired()
 }
 
 // The SPTbits of a group's sources, one source after the other.
@@ -231,7 +232,7 @@ pub fn clear(
 
 // The asserts of the sight's source. The sight is true of the state before, and then of the state after.
 #[tactic(auto, unfolding(crate::specs::Opened::clear_source))]
-fn clear_source_seen(
+fn clear_source_by_sight(
     world: &mut World,
     turn: &mut Turn,
     meter: &mut Meter,
@@ -260,7 +261,7 @@ fn clear_source_seen(
 
 // The SPTbit of the sight's source, likewise.
 #[tactic(auto, unfolding(crate::specs::Opened::clear_bit))]
-fn clear_bit_seen(
+fn clear_bit_by_sight(
     world: &mut World,
     turn: &mut Turn,
     meter: &mut Meter,
@@ -309,66 +310,67 @@ pub fn clear_alone(
     ensures source { OnOk result (sight.new.source ≡ sight.old.source) }
     ensures at_least { OnOk result (raised meter.old (alone_nodes sight.old.star.group world.old opened) ≤ meter.new) }
 {
-    clear_source_seen(world, turn, meter, opened, sight)?;
-    clear_bit_seen(world, turn, meter, opened, sight)
+    clear_source_by_sight(world, turn, meter, opened, sight)?;
+    clear_bit_by_sight(world, turn, meter, opened, sight)
 }
 
 // Whether nothing must go of the asserts of (*,G), where all of the group was opened.
 #[tactic(auto, unfolding(crate::specs::Opened::clear_star))]
-fn is_clear_star(world: &World, seen: &GroupSeen) -> bool
-    requires { IsStarSight world.now seen.now.star }
-    ensures { IsTrue result → clear_star world.now (opening_in seen.now) ≡ (world.now, []) }
+fn is_clear_star(world: &World, after: &GroupAfter) -> bool
+    requires { IsStarSight world.now after.now.star }
+    ensures { IsTrue result → clear_star world.now (opening_in after.now) ≡ (world.now, []) }
 {
     // It tells that asserts are under keys of their kind, each of which stands once.
     world.recall_keyed();
-    if !seen.is_whole {
+    if !after.is_whole {
         return true;
     }
-    let Some(_) = first_of_star(world, &seen.star, seen.was.iface) else {
+    let Some(_) = first_of_star(world, &after.star, after.was.iface) else {
         return true;
     };
     false
 }
 
 // Whether none of the source's asserts must go.
-fn is_clear_of_asserts(world: &World, seen: &SourceSeen) -> bool
-    requires sight { IsSourceSight world.now seen.now.sight }
-    requires source { seen.now.sight.source ≡ seen.now.opened.source }
-    ensures { IsTrue result → clear_source seen.now.sight.star.group.bits world.now seen.now.opened ≡ (world.now, []) }
+fn is_clear_of_asserts(world: &World, after: &SourceAfter) -> bool
+    requires sight { IsSourceSight world.now after.now.sight }
+    requires source { after.now.sight.source ≡ after.now.opened.source }
+    ensures { IsTrue result
+        → clear_source after.now.sight.star.group.bits world.now after.now.opened ≡ (world.now, []) }
 {
     // It tells that asserts are under keys of their kind, each of which stands once.
     world.recall_keyed();
-    let Some(_) = first_of_source(world, &seen.sight, seen.opened.view.iface) else {
+    let Some(_) = first_of_source(world, &after.sight, after.opened.view.iface) else {
         return true;
     };
     false
 }
 
 // Whether the source's SPTbit isn't set, or stays.
-fn keeps_bit(seen: &SourceSeen) -> bool
-    requires { seen.now.sight.source ≡ seen.now.opened.source }
-    ensures { IsTrue result → (s : State) → IsSourceSight s seen.now.sight
-        → clear_bit seen.now.sight.star.group.bits s seen.now.opened ≡ (s, []) }
+fn keeps_bit(after: &SourceAfter) -> bool
+    requires { after.now.sight.source ≡ after.now.opened.source }
+    ensures { IsTrue result → (s : State) → IsSourceSight s after.now.sight
+        → clear_bit after.now.sight.star.group.bits s after.now.opened ≡ (s, []) }
 {
-    if !seen.sight.spt {
+    if !after.sight.spt {
         return true;
     }
-    seen.sight.join_desired()
+    after.sight.join_desired()
 }
 
 // Whether nothing must go of these sources of a group.
-fn are_clear_among(world: &World, star: &StarSight, sources: &[SourceSeen]) -> bool
-    requires { AreSeen world.now star.now sources.now }
+fn are_clear_among(world: &World, star: &StarSight, sources: &[SourceAfter]) -> bool
+    requires { AreAfter world.now star.now sources.now }
     ensures asserts { IsTrue result
         → each_in_turn (clear_source star.now.group.bits) world.now (map opened_in sources.now) ≡ (world.now, []) }
     ensures bits { IsTrue result
         → each_in_turn (clear_bit star.now.group.bits) world.now (map opened_in sources.now) ≡ (world.now, []) }
 {
-    for seen in sources {
-        if !is_clear_of_asserts(world, seen) {
+    for after in sources {
+        if !is_clear_of_asserts(world, after) {
             return false;
         }
-        if !keeps_bit(seen) {
+        if !keeps_bit(after) {
             return false;
         }
     }
@@ -377,12 +379,12 @@ fn are_clear_among(world: &World, star: &StarSight, sources: &[SourceSeen]) -> b
 
 /// Whether nothing must go of a touched group and of its touched sources, by what was gathered of them. Where it answers
 /// yes, `clear` would change nothing, and send nothing.
-pub fn are_clear(world: &World, seen: &GroupSeen) -> bool
-    requires { IsSeen world.now seen.now }
-    ensures { IsTrue result → clear_by (opening_in seen.now ∷ []) world.now ≡ (world.now, []) }
+pub fn are_clear(world: &World, after: &GroupAfter) -> bool
+    requires { IsAfter world.now after.now }
+    ensures { IsTrue result → clear_by (opening_in after.now ∷ []) world.now ≡ (world.now, []) }
 {
-    if !is_clear_star(world, seen) {
+    if !is_clear_star(world, after) {
         return false;
     }
-    are_clear_among(world, &seen.star, seen.sources.as_slice())
+    are_clear_among(world, &after.star, after.sources.as_slice())
 }

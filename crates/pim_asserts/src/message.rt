@@ -1,6 +1,6 @@
 //! An Assert, and data that asks for one (RFC 7761, sections 4.6.1 and 4.6.2).
 ghost use Rattle.std.specs.Prelude.{◌≡◌, ◌≤◌, ◌<◌, ◌^◌, ◌+◌, IfOk, OnOk, false, not, ◌&&◌};
-ghost use Rattle.pim_types.specs.Keys.{source_in, source_key, star_key};
+ghost use Rattle.pim_types.specs.Keys.{source_key, star_key};
 ghost use Rattle.pim_model.specs.Asserts.{assert_at, assert_received, asserted_metric, data_seen, loses, theirs_of};
 ghost use Rattle.pim_model.specs.Tables.{has_row};
 ghost use Rattle.pim_world.specs.Visits.{raised};
@@ -92,16 +92,9 @@ fn lose(
         .set_assert(key.iface, key.group, key.source, Some(row), meter)
 }
 
-// The source of a key, or 0.0.0.0.
-fn source_of(key: Key) -> Addr
-    ensures { result.bits ≡ source_in key }
-{
-    key.source.unwrap_or(Addr::NONE)
-}
-
-// Makes what an Assert with this metric makes of the machine.
+// Carries out what an Assert with this metric makes of the machine.
 #[tactic(auto, unfolding(crate::specs::Receiving::after_action, pim_model::specs::Asserts::assert_forgotten))]
-fn act(
+fn carry_out(
     world: &mut World,
     turn: &mut Turn,
     meter: &mut Meter,
@@ -122,7 +115,7 @@ fn act(
         Action::Lose => lose(world, meter, key, theirs),
         Action::LoseAndSwitch => {
             lose(world, meter, key, theirs)?;
-            world.set_spt_bit(key.group, source_of(key), meter)
+            world.set_spt_bit(key.group, key.address(), meter)
         }
         Action::Forget => {
             world.store_mut().drop_assert(key, meter);
@@ -139,8 +132,8 @@ pub(crate) fn has_assert(world: &World, key: Key) -> bool
     world.store().assert_at(key).is_some()
 }
 
-// An Assert with this metric, as an event of one machine.
-fn take(
+// Runs one machine by an Assert with this metric.
+fn run_machine(
     world: &mut World,
     turn: &mut Turn,
     meter: &mut Meter,
@@ -155,12 +148,12 @@ fn take(
 {
     let stance = stance_of(world, meter, key);
     let action = action_of(stance, world.store().assert_at(key), theirs);
-    act(world, turn, meter, key, theirs, action)
+    carry_out(world, turn, meter, key, theirs, action)
 }
 
-// An Assert of a source, as an event of (S,G): whether it goes on to (*,G). With R set it does where (S,G) was and stays
-// in NoInfo, or where there is no source.
-fn take_by_source(
+// Runs the machine of (S,G) by an Assert of a source: whether it goes on to (*,G). With R set it does where (S,G) was
+// and stays in NoInfo, or where there is no source.
+fn run_source_machine(
     world: &mut World,
     turn: &mut Turn,
     meter: &mut Meter,
@@ -182,7 +175,7 @@ fn take_by_source(
     }
     let key = Key::source(iface, assert.group, assert.source);
     let was_silent = !has_assert(world, key);
-    take(world, turn, meter, key, metric_of(from, assert))?;
+    run_machine(world, turn, meter, key, metric_of(from, assert))?;
     Ok(assert.rpt && was_silent && !has_assert(world, key))
 }
 
@@ -217,12 +210,12 @@ pub fn received(
     ensures at_least { OnOk result (raised meter.old
         (received_nodes world.old iface.number from.bits assert.now) ≤ meter.new) }
 {
-    let goes_on = take_by_source(world, turn, meter, iface, from, assert)?;
+    let goes_on = run_source_machine(world, turn, meter, iface, from, assert)?;
     if !goes_on {
         return Ok(());
     }
     let star = Key::star(iface, assert.group);
-    take(world, turn, meter, star, metric_of(from, assert))
+    run_machine(world, turn, meter, star, metric_of(from, assert))
 }
 
 // Whether data makes a winner.
@@ -232,8 +225,9 @@ fn asserts_by_data(world: &World, key: Key, stance: Stance) -> bool
     stance.could_assert && !has_assert(world, key)
 }
 
-// Takes data as an event of the machine of a key, in which the router stands so, and which asserts with this metric.
-fn take_data(
+// Runs the machine of a key, in which the router stands so, by data: where it asserts by data it wins, and announces
+// this metric.
+fn win_by_data(
     world: &mut World,
     turn: &mut Turn,
     meter: &mut Meter,
@@ -275,7 +269,7 @@ fn data_seen_of_group(
     let stance = star_stance(world, star, iface);
     let asserted = star.metric(world.address(iface));
     let key = Key::star(iface, star.group);
-    take_data(world, turn, meter, key, stance, asserted)
+    win_by_data(world, turn, meter, key, stance, asserted)
 }
 
 // The same of a source of a group, as an event of the machine of (S,G).
@@ -298,7 +292,7 @@ fn data_seen_of_source(
     let stance = source_stance(world, sight, iface);
     let asserted = sight.metric(world.address(iface));
     let key = Key::source(iface, sight.star.group, sight.source);
-    take_data(world, turn, meter, key, stance, asserted)
+    win_by_data(world, turn, meter, key, stance, asserted)
 }
 
 /// Takes data on an interface on which the router forwards it, as an event of the machine of (S,G) with SPTbit(S,G), else

@@ -8,7 +8,7 @@ use Rattle.pim_trie.specs.Meter.{raised}
 use Rattle.pim_types.specs.declared.fact.Key.{Key}
 use Rattle.pim_model.specs.State.{State}
 use Rattle.pim_model.specs.Tables.{has_row}
-use Rattle.pim_macros.specs.declared.name.SourceGroup.{SourceGroup}
+use Rattle.pim_types.specs.declared.name.SourceGroup.{SourceGroup}
 use Rattle.pim_fanout.specs.Before.{name_key}
 use Rattle.pim_fanout.specs.Named.{keys_of}
 use Rattle.pim_fanout.specs.Refreshing.{touches_in, touches_of}

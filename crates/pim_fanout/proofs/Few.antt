@@ -13,7 +13,7 @@ use Rattle.pim_model.specs.Tables.{has_row}
 use Rattle.pim_model.specs.Timers.{Ending}
 use Rattle.pim_model.specs.Upstream.{groups_of}
 use Rattle.pim_laws.proofs.ListLaws.{each_append, each_both, each_filter, each_passes, list_of_each}
-use Rattle.pim_reach.specs.Named.{is_named, named, named_by}
+use Rattle.pim_reach.specs.Named.{is_source_named, named, named_by}
 use Rattle.pim_reach.proofs.Within.{rising_within}
 use Rattle.pim_reach.proofs.Configured.{change_configured, firing_configured}
 use Rattle.pim_reach.proofs.Reached.{IsConfigured, named_is_reached}
@@ -50,9 +50,9 @@ module _ (o a : State) where
   passing_is_named k of e =
       ap (λ q. list_any (same_key q) (named o a)) (sym of)
       ∙ (listed (group_in k) (source_in k) o a
-      (second_so (has_row o.sources k || has_row a.sources k) (is_named (group_in k) (source_in k) o a) e)
+      (second_so (has_row o.sources k || has_row a.sources k) (is_source_named (group_in k) (source_in k) o a) e)
       ∙ (ap (λ q. has_row o.sources q || has_row a.sources q) of
-      ∙ first_so (has_row o.sources k || has_row a.sources k) (is_named (group_in k) (source_in k) o a) e))
+      ∙ first_so (has_row o.sources k || has_row a.sources k) (is_source_named (group_in k) (source_in k) o a) e))
 
   names_within : (touched : Touched)
       → list_all (λ k. list_any (same_key k) (named o a)) (named_among o a touched) ≡ true
@@ -76,12 +76,12 @@ names_are_few o changed touched =
 -- ---- reached
 
 listed_is_named : (o a : State) (touched : Touched) (g src : ℕ) → is_listed (named_among o a touched) g src ≡ true
-    → is_named g src o a ≡ true
+    → is_source_named g src o a ≡ true
 unfolding is_listed named_among is_changed
 listed_is_named o a touched g src e =
     let p : Bool = is_changed o a (source_key 0 g src) in
     let among : Bool = list_any (same_key (source_key 0 g src)) (opened_sources o touched) in
-    second_so (has_row o.sources (source_key 0 g src) || has_row a.sources (source_key 0 g src)) (is_named g src o a)
+    second_so (has_row o.sources (source_key 0 g src) || has_row a.sources (source_key 0 g src)) (is_source_named g src o a)
     (first_so p among (sym (passing g src (is_changed o a) (opened_sources o touched)) ∙ e))
 
 reached : (o changed : State) → IsConfigured o changed → is_calm o changed ≡ true → (touched : Touched) (g src : ℕ)

@@ -27,7 +27,7 @@ use Rattle.pim_laws.proofs.TableLaws.{any_in_filter, any_of_either, any_of_map}
 use Rattle.pim_laws.proofs.TurnLaws.{kept_to_the_end}
 use Rattle.pim_locality.specs.Locality.{IsQuiet, touching}
 use Rattle.pim_locality.specs.Scopes.{reads}
-use Rattle.pim_reach.specs.Named.{is_named, named, named_by}
+use Rattle.pim_reach.specs.Named.{is_source_named, named, named_by}
 use Rattle.pim_reach.proofs.Moved.{moved_names}
 use Rattle.pim_reach.proofs.Taken.{facts_stay}
 use Rattle.pim_reach.proofs.Touched.{touched_names}
@@ -185,12 +185,12 @@ passing g src p keys =
     (λ k e. ap p (sym (equal_keys (source_key 0 g src) k e))) keys
 
 -- who is listed of all
-listed_of_all : (o a : State) (g src : ℕ) (n : Bool) → is_named g src o a ≡ n → is_listed (named o a) g src
+listed_of_all : (o a : State) (g src : ℕ) (n : Bool) → is_source_named g src o a ≡ n → is_listed (named o a) g src
     ≡ (n && (has_row o.sources (source_key 0 g src) || has_row a.sources (source_key 0 g src)))
 unfolding is_listed named
 listed_of_all o a g src true e = listed g src o a e
 listed_of_all o a g src false e =
-    passing g src (λ k. is_named (group_in k) (source_in k) o a) (with_facts o a)
+    passing g src (λ k. is_source_named (group_in k) (source_in k) o a) (with_facts o a)
     ∙ ap (λ b. b && list_any (same_key (source_key 0 g src)) (with_facts o a)) e
 
 module _ (o changed : State) (quiet : IsQuiet o) (g src : ℕ) where
@@ -209,8 +209,8 @@ module _ (o changed : State) (quiet : IsQuiet o) (g src : ℕ) where
       (λ e. later (source_is_fact g src changed (was_there g src o changed e)))
 
   -- a source that isn't touched isn't named
-  opened_if_touched : (keys : List Key) → (touching keys (source_key 0 g src) ≡ false → is_named g src o after ≡ false)
-      → is_named g src o after ≡ true → (has_facts o g src || list_any (names_source g src) keys) ≡ true
+  opened_if_touched : (keys : List Key) → (touching keys (source_key 0 g src) ≡ false → is_source_named g src o after ≡ false)
+      → is_source_named g src o after ≡ true → (has_facts o g src || list_any (names_source g src) keys) ≡ true
       → list_any (same_key (source_key 0 g src)) (opened_sources o (Touched.Keys keys)) ≡ true
   opened_if_touched keys unnamed named known =
       opened_by_keys o g src keys (go (touching keys (source_key 0 g src)) refl) known
@@ -219,7 +219,7 @@ module _ (o changed : State) (quiet : IsQuiet o) (g src : ℕ) where
       go true e = refl
       go false e = sym (unnamed e) ∙ named
 
-  named_is_opened : (touched : Touched) → Contains touched o changed → has_one ≡ true → is_named g src o after ≡ true
+  named_is_opened : (touched : Touched) → Contains touched o changed → has_one ≡ true → is_source_named g src o after ≡ true
       → list_any (same_key (source_key 0 g src)) (opened_sources o touched) ≡ true
   named_is_opened Touched.All (inl (inl within)) known named =
       opened_of_all o g src (was_known (has_facts o g src) (λ e. e) (within.sources g src) known)
@@ -252,24 +252,24 @@ module _ (o changed : State) (quiet : IsQuiet o) (g src : ℕ) where
   unfolding is_listed named_among named_by is_changed
   names_are_named touched covers =
       passing g src (is_changed o after) (opened_sources o touched)
-      ∙ (among_named has_one (is_named g src o after)
+      ∙ (among_named has_one (is_source_named g src o after)
       (list_any (same_key (source_key 0 g src)) (opened_sources o touched)) (named_is_opened touched covers)
-      ∙ sym (listed_of_all o after g src (is_named g src o after) refl))
+      ∙ sym (listed_of_all o after g src (is_source_named g src o after) refl))
 
 -- a source with a fact that isn't listed isn't named
 unlisted : (o a : State) (g src : ℕ)
     → (has_row o.sources (source_key 0 g src) || has_row a.sources (source_key 0 g src)) ≡ true
-    → is_listed (named o a) g src ≡ false → is_named g src o a ≡ false
-unlisted o a g src known e = go (is_named g src o a) refl
+    → is_listed (named o a) g src ≡ false → is_source_named g src o a ≡ false
+unlisted o a g src known e = go (is_source_named g src o a) refl
   where
-    go : (n : Bool) → is_named g src o a ≡ n → n ≡ false
+    go : (n : Bool) → is_source_named g src o a ≡ n → n ≡ false
     go true f = sym (listed_of_all o a g src true f ∙ known) ∙ e
     go false f = refl
 
 pub unlisted_is_unnamed : (o changed : State) → IsQuiet o → (touched : Touched) → Contains touched o changed → (g src : ℕ)
     → (has_row o.sources (source_key 0 g src) || has_row (clear o changed).0.sources (source_key 0 g src)) ≡ true
     → is_listed (named_among o (clear o changed).0 touched) g src ≡ false
-    → is_named g src o (clear o changed).0 ≡ false
+    → is_source_named g src o (clear o changed).0 ≡ false
 unfolding named_by
 unlisted_is_unnamed o changed quiet touched covers g src known e =
     unlisted o (clear o changed).0 g src known (sym (names_are_named o changed quiet g src touched covers) ∙ e)

@@ -5,7 +5,7 @@ use Rattle.pim_types.specs.Keys.{group_in, source_in, source_key}
 use Rattle.pim_model.specs.Rows.{same_both, same_path, same_register_state}
 use Rattle.pim_model.specs.State.{State}
 use Rattle.pim_model.specs.Tables.{has_row, same_bool, same_hop, same_option}
-use Rattle.pim_reach.specs.Named.{is_named, is_same_beside, is_same_sight, is_same_star}
+use Rattle.pim_reach.specs.Named.{is_source_named, is_same_beside, is_same_sight, is_same_star}
 use Rattle.pim_reach.proofs.Masks.{same_masks}
 use Rattle.pim_macros.specs.Sights.{ShowsSource, ShowsStar}
 use Rattle.pim_macros.specs.declared.sight.SourceSight.{SourceSight}
@@ -63,19 +63,19 @@ module _ (o a : State) (g src : ℕ) where
   -- it had no fact
   pub new_is_changed : has_row o.sources (source_key 0 g src) ≡ false
       → is_changed o a (source_key 0 g src) ≡ has_row a.sources (source_key 0 g src)
-  unfolding is_changed is_named
+  unfolding is_changed is_source_named
   new_is_changed none =
       rw none (new_step (has_row a.sources (source_key 0 g src)) (is_same_sight g src o a) (is_same_beside g src o a))
 
   -- it has none now
   pub gone_is_changed : has_row o.sources (source_key 0 g src) ≡ true → has_row a.sources (source_key 0 g src) ≡ false
       → is_changed o a (source_key 0 g src) ≡ true
-  unfolding is_changed is_named
+  unfolding is_changed is_source_named
   gone_is_changed there none = rw (there, none) refl
 
   pub kept_is_changed : has_row o.sources (source_key 0 g src) ≡ true → has_row a.sources (source_key 0 g src) ≡ true
       → is_changed o a (source_key 0 g src) ≡ not (is_same_source g src o a)
-  unfolding is_changed is_named
+  unfolding is_changed is_source_named
   kept_is_changed there still = rw (there, still) refl
 
 -- two of one key

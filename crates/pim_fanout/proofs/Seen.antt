@@ -10,7 +10,7 @@ use Rattle.pim_macros.specs.declared.sight.StarSight.{StarSight}
 use Rattle.pim_world.specs.Visits.{source_nodes, star_nodes}
 use Rattle.pim_world.proofs.Visits.{none_visited, one_asked, raised_by_none, rises_by, two_in_turn}
 use Rattle.pim_fanout.specs.Before.{name_key}
-use Rattle.pim_macros.specs.declared.name.SourceGroup.{SourceGroup}
+use Rattle.pim_types.specs.declared.name.SourceGroup.{SourceGroup}
 use Rattle.pim_fanout.specs.Visits.{is_last, last_group, last_star_nodes, next_last, seen_nodes}
 
 -- sources with the same key are the same

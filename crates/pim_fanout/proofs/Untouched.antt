@@ -12,7 +12,6 @@ use Rattle.pim_reach.proofs.Rerouted.{around_rerouted, rerouted_beside, rerouted
 use Rattle.pim_reach.proofs.Sights.{options_same, paths_same}
 use Rattle.pim_reach.proofs.Touched.{touched_names}
 use Rattle.pim_world.specs.declared.touched.Touched.{Touched}
-use Rattle.pim_fanout.specs.Contains.{CoversOrMoves}
 use Rattle.pim_fanout.specs.Disturbed.{is_disturbed}
 use Rattle.pim_fanout.specs.Laws.{UntouchedIsUnnamed}
 

@@ -17,7 +17,7 @@ use Rattle.pim_macros.specs.declared.sight.SourceSight.{SourceSight}
 use Rattle.pim_opening.specs.Openings.{touched_sources}
 use Rattle.pim_fanout.specs.declared.before.KnownSource.{KnownSource}
 use Rattle.pim_fanout.specs.declared.before.SourceBefore.{SourceBefore}
-use Rattle.pim_macros.specs.declared.name.SourceGroup.{SourceGroup}
+use Rattle.pim_types.specs.declared.name.SourceGroup.{SourceGroup}
 
 -- the touched sources, each under its key, ascending: by group, then by source
 unfoldable pub opened_sources : State → Touched → List Key

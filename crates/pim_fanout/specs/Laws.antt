@@ -20,7 +20,7 @@ use Rattle.pim_locality.specs.Locality.{IsQuiet}
 use Rattle.pim_locality.specs.Rest.{IsAtRest}
 use Rattle.pim_reach.specs.Calm.{is_calm}
 use Rattle.pim_reach.specs.Keeps.{KeepsAnswers}
-use Rattle.pim_reach.specs.Named.{is_named, named_by}
+use Rattle.pim_reach.specs.Named.{is_source_named, named_by}
 use Rattle.pim_cached.specs.Decided.{IsDecided}
 use Rattle.pim_cached.specs.Kept.{is_listed, refreshed}
 use Rattle.pim_world.specs.declared.touched.Touched.{Touched}
@@ -50,7 +50,7 @@ NamesAreNamed = (o : State) → IsQuiet o → (touched : Touched) (changed : Sta
 abbrev pub UntouchedIsUnnamed : Type 0
 UntouchedIsUnnamed = (o changed : State) → IsQuiet o → (touched : Touched) → CoversOrMoves touched o changed → (g src : ℕ)
     → o.routes ≡ changed.routes → o.ranges ≡ changed.ranges → is_disturbed touched g src ≡ false
-    → is_named g src o (clear o changed).0 ≡ false
+    → is_source_named g src o (clear o changed).0 ≡ false
 
 -- they are no more than those of all
 abbrev pub NamesAreFew : Type 0

@@ -6,9 +6,9 @@ use Rattle.pim_types.specs.declared.fact.Key.{Key}
 use Rattle.pim_model.specs.State.{State}
 use Rattle.pim_model.specs.Tables.{has_row}
 use Rattle.pim_world.specs.declared.touched.Touched.{Touched}
-use Rattle.pim_reach.specs.Named.{is_named, is_same_beside, is_same_sight}
+use Rattle.pim_reach.specs.Named.{is_source_named, is_same_beside, is_same_sight}
 use Rattle.pim_fanout.specs.Before.{name_key, opened_sources}
-use Rattle.pim_macros.specs.declared.name.SourceGroup.{SourceGroup}
+use Rattle.pim_types.specs.declared.name.SourceGroup.{SourceGroup}
 
 -- what is compared of a source is the same in both states
 abbrev pub is_same_source : ℕ → ℕ → State → State → Bool
@@ -17,7 +17,7 @@ is_same_source g src o a = is_same_sight g src o a && is_same_beside g src o a
 -- it has a fact in one of the states, and is named
 unfoldable pub is_changed : State → State → Key → Bool
 is_changed o a k =
-    (has_row o.sources k || has_row a.sources k) && is_named (group_in k) (source_in k) o a
+    (has_row o.sources k || has_row a.sources k) && is_source_named (group_in k) (source_in k) o a
 
 -- of those that the opening's keys touch
 unfoldable pub named_among : State → State → Touched → List Key

@@ -9,7 +9,7 @@ use Rattle.pim_world.specs.Visits.{nodes_in_turn, source_nodes, star_nodes}
 use Rattle.pim_fanout.specs.Before.{name_key}
 use Rattle.pim_fanout.specs.declared.before.KnownSource.{KnownSource}
 use Rattle.pim_fanout.specs.declared.before.SourceBefore.{SourceBefore}
-use Rattle.pim_macros.specs.declared.name.SourceGroup.{SourceGroup}
+use Rattle.pim_types.specs.declared.name.SourceGroup.{SourceGroup}
 
 -- the row of a source is evaluated where there is a fact of it
 abbrev pub named_nodes : State → SourceGroup → ℕ

@@ -13,10 +13,10 @@ ghost use Rattle.pim_types.specs.Keys.{source_key};
 ghost use Rattle.pim_world.specs.Groups.{numbers_of};
 ghost use Rattle.pim_world.specs.Visits.{source_nodes};
 
-use pim_macros::{SourceGroup, SourceSight, StarSight};
+use pim_macros::{SourceSight, StarSight};
 use pim_opening::{GroupOpening, Opening, SourceOpening, is_whole, touched_sources};
 use pim_types::fact::RegisterState;
-use pim_types::{Addr, IfaceId, Key, Series};
+use pim_types::{Addr, Series, SourceGroup};
 use pim_world::{Meter, Touched, World};
 use std::alloc::{AllocError, Global};
 use std::collections::BTreeMap;
@@ -71,10 +71,7 @@ impl KnownSource {
     pub fn name(&self) -> SourceGroup
         ensures { name_key result ≡ seen_key self.now.sight }
     {
-        SourceGroup {
-            group: self.sight.star.group,
-            source: self.sight.source,
-        }
+        self.sight.name()
     }
 }
 
@@ -222,7 +219,7 @@ fn open_source(
         (raised meter.old (source_opening_nodes world.now star.now.group.bits source.bits) ≤ meter.new) }
 {
     let sight = SourceSight::of(world, *star, source, meter);
-    before.push(seen_by(world, &sight))?;
+    before.push(compared_by_sight(world, &sight))?;
     Ok(SourceOpening {
         source,
         has_facts: world.has_facts(star.group, source, meter),
@@ -231,15 +228,12 @@ fn open_source(
 }
 
 /// A source as its sight shows it.
-pub(crate) fn seen_by(world: &World, sight: &SourceSight) -> SourceBefore
+pub(crate) fn compared_by_sight(world: &World, sight: &SourceSight) -> SourceBefore
     requires { IsSourceSight world.now sight.now }
     ensures key { key_before result ≡ seen_key sight.now }
     ensures before { IsSourceBefore world.now result }
 {
-    let name = SourceGroup {
-        group: sight.star.group,
-        source: sight.source,
-    };
+    let name = sight.name();
     if !has_fact(world, name) {
         return SourceBefore::Unknown(name);
     }
@@ -257,7 +251,7 @@ fn known_by(world: &World, sight: &SourceSight) -> KnownSource
         sight: *sight,
         may_register: sight.may_register(),
         could_register: sight.could_register(),
-        register: register_of(world, sight.star.group, sight.source),
+        register: register_of(world, sight.name()),
         is_desired: sight.join_desired(),
     }
 }
@@ -276,7 +270,7 @@ fn known(world: &World, meter: &mut Meter, star: &StarSight, source: Addr) -> Kn
 
 /// A source as it is now. The sight of its group is gathered where it isn't the last one. The meter rises by the nodes that the
 /// look-ups visit, at least those of the sights that are gathered.
-pub(crate) fn seen(
+pub(crate) fn compared(
     world: &World,
     meter: &mut Meter,
     last: &mut Option<StarSight>,
@@ -303,16 +297,14 @@ pub(crate) fn seen(
 pub(crate) fn has_fact(world: &World, name: SourceGroup) -> bool
     ensures { result ≡ has_row world.now.sources (name_key name) }
 {
-    let key = Key::source(IfaceId::NONE, name.group, name.source);
-    world.store().source(key).is_some()
+    world.store().source(name.key()).is_some()
 }
 
 // The register state of (S,G).
-fn register_of(world: &World, group: Addr, source: Addr) -> Option<RegisterState>
-    ensures { result ≡ register_state world.now group.bits source.bits }
+fn register_of(world: &World, name: SourceGroup) -> Option<RegisterState>
+    ensures { result ≡ register_state world.now name.group.bits name.source.bits }
 {
-    let key = Key::source(IfaceId::NONE, group, source);
-    Some(world.store().register(key)?.state)
+    Some(world.store().register(name.key())?.state)
 }
 
 // What the macros of (*,G) read now: the last that was gathered, where it is the same group's.

@@ -10,10 +10,10 @@ ghost use Rattle.pim_world.specs.declared.touched.Touched.{Touched as TouchedVal
 
 use crate::before::has_fact;
 use crate::disturbed::Disturbed;
-use pim_macros::{Evaluations, SourceGroup, row};
+use pim_macros::{Evaluations, row};
 use pim_mfc::Mfc;
 use pim_trie::Meter;
-use pim_types::Series;
+use pim_types::{Series, SourceGroup};
 use pim_world::{Touched, World};
 use std::alloc::{AllocError, Global};
 use std::marker::Model;

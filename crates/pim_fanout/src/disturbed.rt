@@ -6,8 +6,7 @@ ghost use Rattle.pim_locality.specs.Scopes.{reads};
 ghost use Rattle.pim_types.specs.Keys.{source_key};
 ghost use Rattle.pim_world.specs.declared.touched.Touched.{Touched as TouchedValue};
 
-use pim_macros::SourceGroup;
-use pim_types::{Addr, Key};
+use pim_types::{Addr, Key, SourceGroup};
 use pim_world::Touched;
 use std::alloc::{AllocError, Global};
 use std::marker::Model;
@@ -39,7 +38,7 @@ impl Model for Disturbed {
 fn is_read(name: SourceGroup, key: Key) -> bool
     ensures { result ≡ reads (source_key 0 name.group.bits name.source.bits) key }
 {
-    let source = key.source.unwrap_or(Addr::NONE);
+    let source = key.address();
     key.group == name.group && (source == Addr::NONE || source == name.source)
 }
 

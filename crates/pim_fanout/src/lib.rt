@@ -13,4 +13,4 @@ pub use before::{Before, Gathered, KnownSource, SourceBefore};
 pub use cache::Cache;
 pub use compare::{is_same_address, is_same_path};
 pub use disturbed::Disturbed;
-pub use naming::{named, named_seen};
+pub use naming::{named, named_by_sights};

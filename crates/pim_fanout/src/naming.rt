@@ -1,19 +1,19 @@
-//! Which of the touched sources are named, to be made anew.
+//! Of which of the touched sources the row in the forwarding cache is outdated: they are named, to be made anew.
 ghost use Rattle.std.specs.Prelude.{◌≡◌, ◌≤◌, IfOk, IfSome, IsTrue, OnOk, filter, map};
 ghost use Rattle.pim_fanout.specs.Before.{AreBefore, IsBefore, IsSourceBefore, IsKnown, key_before, name_key, seen_key};
 ghost use Rattle.pim_fanout.specs.Named.{is_changed, keys_of, named_among};
 ghost use Rattle.pim_fanout.specs.Visits.{asked_nodes, known_name, last_group, naming_nodes, next_asked, next_last, seen_nodes};
 ghost use Rattle.pim_macros.specs.Sights.{IsSourceSight, IsStarSight};
 ghost use Rattle.pim_model.specs.State.{State};
-ghost use Rattle.pim_opening.specs.Seen.{AreSeen};
+ghost use Rattle.pim_opening.specs.After.{AreAfter};
 ghost use Rattle.pim_trie.specs.Meter.{raised};
 ghost use Rattle.pim_world.specs.declared.touched.Touched.{Touched};
 
-use crate::before::{Before, KnownSource, SourceBefore, has_fact, seen, seen_by};
+use crate::before::{Before, KnownSource, SourceBefore, compared, compared_by_sight, has_fact};
 use crate::compare::is_same_source;
-use pim_macros::{SourceGroup, SourceSight, StarSight};
-use pim_opening::SourceSeen;
-use pim_types::Series;
+use pim_macros::{SourceSight, StarSight};
+use pim_opening::SourceAfter;
+use pim_types::{Series, SourceGroup};
 use pim_world::{Meter, World};
 use std::alloc::{AllocError, Global};
 
@@ -41,11 +41,11 @@ fn has_changed(
     ensures group { last_group last.new ≡ next_last world.now (last_group last.old) (known_name known.now) }
     ensures at_least { raised meter.old (seen_nodes world.now (last_group last.old) (known_name known.now)) ≤ meter.new }
 {
-    differs(known, &seen(world, meter, last, known.name()))
+    differs(known, &compared(world, meter, last, known.name()))
 }
 
-// Whether a source is named. Where it had no fact, and where it has none now, nothing is gathered.
-fn is_named(
+// Whether a source's row is outdated. Where it had no fact, and where it has none now, nothing is gathered.
+fn is_outdated(
     world: &World,
     meter: &mut Meter,
     last: &mut Option<StarSight>,
@@ -64,8 +64,8 @@ fn is_named(
     }
 }
 
-// Those of these sources that are named.
-fn named_of(
+// Those of these sources whose rows are outdated.
+fn outdated_among(
     world: &World,
     alloc: Global,
     meter: &mut Meter,
@@ -78,7 +78,7 @@ fn named_of(
     let mut names = Vec::new(alloc);
     let mut last = None;
     for source in sources {
-        if is_named(world, meter, &mut last, source) {
+        if is_outdated(world, meter, &mut last, source) {
             names.push(source.name())?;
         }
     }
@@ -100,7 +100,7 @@ pub fn named(
         → keys_of names ≡ named_among o world.now touched) }
     ensures at_least { OnOk result (raised meter.old (naming_nodes world.now before.now) ≤ meter.new) }
 {
-    let names = named_of(world, alloc, meter, before.sources())?;
+    let names = outdated_among(world, alloc, meter, before.sources())?;
     Ok(Series::from_vec(names))
 }
 
@@ -124,14 +124,14 @@ fn has_changed_at_hand(
 {
     match sight {
         Some(sight) if is_sight_of(&sight, known.name()) => {
-            differs(known, &seen_by(world, &sight))
+            differs(known, &compared_by_sight(world, &sight))
         }
         _ => has_changed(world, meter, &mut None, known),
     }
 }
 
-// Whether a source is named, by the sight at hand.
-fn is_named_at_hand(
+// Whether a source's row is outdated, by the sight at hand.
+fn is_outdated_at_hand(
     world: &World,
     meter: &mut Meter,
     sight: Option<SourceSight>,
@@ -152,10 +152,10 @@ fn is_named_at_hand(
 fn sight_at(
     world: &World,
     star: &StarSight,
-    sources: &[SourceSeen],
+    sources: &[SourceAfter],
     at: usize,
 ) -> Option<SourceSight>
-    requires { AreSeen world.now star.now sources.now }
+    requires { AreAfter world.now star.now sources.now }
     ensures { IfSome result (IsSourceSight world.now) }
 {
     if at < sources.len() {
@@ -165,24 +165,24 @@ fn sight_at(
     }
 }
 
-// Those of these sources that are named, by the sights at hand.
-fn named_of_seen(
+// Those of these sources whose rows are outdated, by the sights at hand.
+fn outdated_among_by_sights(
     world: &World,
     alloc: Global,
     meter: &mut Meter,
     sources: &[SourceBefore],
     star: &StarSight,
-    seen: &[SourceSeen],
+    after: &[SourceAfter],
 ) -> Result<Vec<SourceGroup>, AllocError>
-    requires { AreSeen world.now star.now seen.now }
+    requires { AreAfter world.now star.now after.now }
     ensures named { IfOk result (λ names. (o : State) → AreBefore o sources.now
         → keys_of names.items ≡ filter (is_changed o world.now) (map key_before sources.now)) }
     ensures rises { OnOk result (meter.old ≤ meter.new) }
 {
     let mut names = Vec::new(alloc);
     for (at, source) in sources.iter().enumerate() {
-        let sight = sight_at(world, star, seen, at);
-        if is_named_at_hand(world, meter, sight, source) {
+        let sight = sight_at(world, star, after, at);
+        if is_outdated_at_hand(world, meter, sight, source) {
             names.push(source.name())?;
         }
     }
@@ -192,19 +192,19 @@ fn named_of_seen(
 /// The same where one group alone was opened, by the sights of its sources in the world as clearing left it: they stand in the
 /// same order, so none is gathered again.
 #[tactic(auto, unfolding(crate::specs::Named::named_among))]
-pub fn named_seen(
+pub fn named_by_sights(
     world: &World,
     alloc: Global,
     meter: &mut Meter,
     before: &Before,
     star: &StarSight,
-    seen: &[SourceSeen],
+    after: &[SourceAfter],
 ) -> Result<Series<SourceGroup>, AllocError>
-    requires { AreSeen world.now star.now seen.now }
+    requires { AreAfter world.now star.now after.now }
     ensures named { IfOk result (λ names. (o : State) (touched : Touched) → IsBefore o touched before.now
         → keys_of names ≡ named_among o world.now touched) }
     ensures rises { OnOk result (meter.old ≤ meter.new) }
 {
-    let names = named_of_seen(world, alloc, meter, before.sources(), star, seen)?;
+    let names = outdated_among_by_sights(world, alloc, meter, before.sources(), star, after)?;
     Ok(Series::from_vec(names))
 }

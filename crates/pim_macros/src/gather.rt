@@ -24,7 +24,7 @@ use crate::sight::{SourceSight, StarSight};
 use pim_ifset::IfSet;
 use pim_trie::Meter;
 use pim_types::fact::{AssertRole, RegisterState};
-use pim_types::{Addr, Hop, IfaceId, Key, Path, SptSwitch};
+use pim_types::{Addr, Hop, IfaceId, Key, Path, SourceGroup, SptSwitch};
 use pim_world::World;
 
 // To whom the router lost the assert with the key's group and source on the interface of a route.
@@ -63,38 +63,39 @@ fn receivers(world: &World, group: Addr, meter: &mut Meter) -> IfSet
 }
 
 // local_receiver_include(S,G).
-fn included(world: &World, group: Addr, source: Addr, meter: &mut Meter) -> IfSet
-    ensures shows { Shows result (local_receiver_include world.now group.bits source.bits) }
+fn included(world: &World, name: SourceGroup, meter: &mut Meter) -> IfSet
+    ensures shows { Shows result (local_receiver_include world.now name.group.bits name.source.bits) }
     ensures at_least { raised meter.old
-        (group_record_nodes world.now group + source_record_nodes world.now group source) ≤ meter.new }
+        (group_record_nodes world.now name.group + source_record_nodes world.now name.group name.source) ≤ meter.new }
 {
     world
         .membership()
-        .receivers_include(group, source, meter)
+        .receivers_include(name, meter)
         .without_tunnel()
 }
 
 // local_receiver_exclude(S,G).
-fn excluded(world: &World, group: Addr, source: Addr, meter: &mut Meter) -> IfSet
-    ensures shows { Shows result (local_receiver_exclude world.now group.bits source.bits) }
+fn excluded(world: &World, name: SourceGroup, meter: &mut Meter) -> IfSet
+    ensures shows { Shows result (local_receiver_exclude world.now name.group.bits name.source.bits) }
     ensures at_least { raised meter.old
-        (group_record_nodes world.now group + source_record_nodes world.now group source) ≤ meter.new }
+        (group_record_nodes world.now name.group + source_record_nodes world.now name.group name.source) ≤ meter.new }
 {
     world
         .membership()
-        .receivers_exclude(group, source, meter)
+        .receivers_exclude(name, meter)
         .without_tunnel()
 }
 
 // Whether the winner of the assert of (S,G) on the interface is better than spt_assert_metric(S,I).
 #[tactic(auto, unfolding(pim_model::specs::Sets::is_beaten, pim_model::specs::Sets::spt_metric))]
-fn is_beaten(world: &World, iface: IfaceId, group: Addr, source: Addr, path: Option<Path>) -> bool
-    requires { path ≡ route world.now source.bits }
-    ensures { result ≡ is_beaten world.now group.bits source.bits iface.number }
+fn is_beaten(world: &World, iface: IfaceId, name: SourceGroup, path: Option<Path>) -> bool
+    requires { path ≡ route world.now name.source.bits }
+    ensures { result ≡ is_beaten world.now name.group.bits name.source.bits iface.number }
 {
-    match world.store().assert_at(Key::source(iface, group, source)) {
+    let key = Key::source(iface, name.group, name.source);
+    match world.store().assert_at(key) {
         Some(row) => {
-            let is_own = world.interfaces().is_own(source);
+            let is_own = world.interfaces().is_own(name.source);
             is_better(
                 row.winner,
                 route_metric(false, world.address(iface), is_own, path),
@@ -105,17 +106,16 @@ fn is_beaten(world: &World, iface: IfaceId, group: Addr, source: Addr, path: Opt
 }
 
 // Where the winner of the assert of (S,G) is better than spt_assert_metric(S,I), of the interfaces with an assert.
-fn beaten(world: &World, asserted: IfSet, group: Addr, source: Addr, path: Option<Path>) -> IfSet
-    requires asserted { (i : ℕ) → has asserted i ≡ has_row world.now.asserts (source_key i group.bits source.bits) }
-    requires path { path ≡ route world.now source.bits }
-    ensures { Shows result (is_beaten world.now group.bits source.bits) }
+fn beaten(world: &World, asserted: IfSet, name: SourceGroup, path: Option<Path>) -> IfSet
+    requires asserted { (i : ℕ) → has asserted i
+        ≡ has_row world.now.asserts (source_key i name.group.bits name.source.bits) }
+    requires path { path ≡ route world.now name.source.bits }
+    ensures { Shows result (is_beaten world.now name.group.bits name.source.bits) }
 {
     if asserted.is_empty() {
         return IfSet::new();
     }
-    interfaces_where(|iface| {
-        asserted.contains(iface) && is_beaten(world, iface, group, source, path)
-    })
+    interfaces_where(|iface| asserted.contains(iface) && is_beaten(world, iface, name, path))
 }
 
 // Whether the address, which may be RP(G), is one of the router's.
@@ -175,10 +175,13 @@ impl SourceSight {
     {
         // It tells that preferences have 31 bits.
         world.recall_short_preferences();
-        let group = star.group;
-        let key = Key::source(IfaceId::NONE, group, source);
+        let name = SourceGroup {
+            source,
+            group: star.group,
+        };
+        let key = name.key();
         let path = world.route(source, meter);
-        let marks = world.store().marks(group, Some(source), meter);
+        let marks = world.store().marks(star.group, Some(source), meter);
         let asserted = marks.lost.union(marks.won);
         let row = world.store().source(key);
         let register = world.store().register(key);
@@ -193,9 +196,9 @@ impl SourceSight {
             pruned: marks.pruned.without_tunnel(),
             lost: marks.lost.without_tunnel(),
             won: marks.won.without_tunnel(),
-            beaten: beaten(world, asserted, group, source, path),
-            included: included(world, group, source, meter),
-            excluded: excluded(world, group, source, meter),
+            beaten: beaten(world, asserted, name, path),
+            included: included(world, name, meter),
+            excluded: excluded(world, name, meter),
             spt: row.is_some_and(|row| row.spt),
             is_kept_alive: row.is_some_and(|row| row.keepalive.is_some()),
             tunnel: register.is_some_and(|row| matches!(row.state, RegisterState::Join)),
@@ -207,6 +210,19 @@ impl SourceSight {
 }
 
 impl SourceSight {
+    /// What the macros of a source of a group read now, beside those of the group, which is gathered with it. The meter
+    /// rises by the nodes that the look-ups visit, at least those of both.
+    pub fn with_star(world: &World, name: SourceGroup, meter: &mut Meter) -> SourceSight
+        ensures sight { IsSourceSight world.now result }
+        ensures group { result.star.group ≡ name.group }
+        ensures source { result.source ≡ name.source }
+        ensures at_least { raised meter.old
+            (star_nodes world.now name.group + source_nodes world.now name.group name.source) ≤ meter.new }
+    {
+        let star = StarSight::of(world, name.group, meter);
+        SourceSight::of(world, star, name.source, meter)
+    }
+
     /// The same source's, gathered anew.
     pub fn anew(&self, world: &World, meter: &mut Meter) -> SourceSight
         ensures sight { IsSourceSight world.now result }
@@ -215,8 +231,7 @@ impl SourceSight {
         ensures at_least { raised meter.old (star_nodes world.now self.now.star.group
             + source_nodes world.now self.now.star.group self.now.source) ≤ meter.new }
     {
-        let star = StarSight::of(world, self.star.group, meter);
-        SourceSight::of(world, star, self.source, meter)
+        SourceSight::with_star(world, self.name(), meter)
     }
 }
 

@@ -7,7 +7,6 @@ pub mod desires;
 pub mod forwarding;
 pub mod gather;
 pub mod interfaces;
-pub mod name;
 pub mod registers;
 pub mod rows;
 pub mod sets;
@@ -16,6 +15,5 @@ pub mod updates;
 pub mod views;
 
 pub use gather::upstream_of;
-pub use name::SourceGroup;
 pub use rows::{Evaluations, Made, SourceAnswers, row};
 pub use sight::{SourceSight, StarSight};

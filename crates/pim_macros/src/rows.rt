@@ -17,11 +17,10 @@ ghost use Rattle.pim_world.specs.Shown.{Shows};
 ghost use Rattle.pim_world.specs.Visits.{source_nodes, star_nodes};
 ghost use Rattle.pim_types.specs.Keys.{source_key, star_key};
 
-use crate::name::SourceGroup;
 use crate::sight::{SourceSight, StarSight};
 use pim_ifset::IfSet;
 use pim_trie::Meter;
-use pim_types::{Addr, IfaceId, Key};
+use pim_types::{Addr, IfaceId, SourceGroup};
 use pim_world::World;
 use std::marker::Model;
 
@@ -263,11 +262,10 @@ impl SourceSight {
 
 // Whether the register state of (S,G) isn't NoInfo.
 #[tactic(auto, unfolding(pim_model::specs::Tables::has_row))]
-fn is_registered(world: &World, group: Addr, source: Addr) -> bool
-    ensures { result ≡ has_row world.now.registers (source_key 0 group.bits source.bits) }
+fn is_registered(world: &World, name: SourceGroup) -> bool
+    ensures { result ≡ has_row world.now.registers (source_key 0 name.group.bits name.source.bits) }
 {
-    let key = Key::source(IfaceId::NONE, group, source);
-    world.store().register(key).is_some()
+    world.store().register(name.key()).is_some()
 }
 
 /// A row of the forwarding cache: the answers of a source of a group now, evaluated of one sight. The meter rises by the
@@ -281,10 +279,9 @@ pub fn row(world: &World, name: SourceGroup, meter: &mut Meter, evaluated: &mut 
         ≤ meter.new }
 {
     evaluated.raise();
-    let star = StarSight::of(world, name.group, meter);
-    let sight = SourceSight::of(world, star, name.source, meter);
-    let place = world.store().source_place(name.group, name.source);
-    let answers = sight.answers(is_registered(world, name.group, name.source), place);
+    let sight = SourceSight::with_star(world, name, meter);
+    let place = world.store().source_place(name);
+    let answers = sight.answers(is_registered(world, name), place);
     Made {
         group: name.group,
         source: name.source,

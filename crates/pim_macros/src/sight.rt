@@ -1,6 +1,8 @@
 //! Sights: what the macros of a group, and of a source of it, read, gathered once.
+ghost use Rattle.std.specs.Prelude.{◌≡◌};
+
 use pim_ifset::IfSet;
-use pim_types::{Addr, Hop, Path};
+use pim_types::{Addr, Hop, Path, SourceGroup};
 
 /// What the macros of (*,G) read. Each set says of the interfaces below 120 alone which are in it.
 #[derive(Clone, Copy)]
@@ -65,4 +67,16 @@ pub struct SourceSight {
     pub is_dr: bool,
     /// SwitchToSptDesired(S,G), which is configured of the whole router.
     pub is_spt_wanted: bool,
+}
+
+impl SourceSight {
+    /// Whose it is.
+    pub fn name(&self) -> SourceGroup
+        ensures { result ≡ record { source = self.now.source; group = self.now.star.group } }
+    {
+        SourceGroup {
+            source: self.source,
+            group: self.star.group,
+        }
+    }
 }

@@ -7,10 +7,10 @@ ghost use Rattle.pim_types.specs.Keys.{source_key};
 
 use crate::cache_row::CacheRow;
 use crate::forward::{Forward, decided};
-use pim_macros::{Made, SourceAnswers, SourceGroup};
+use pim_macros::{Made, SourceAnswers};
 use pim_source_trie::SourceTrie;
 use pim_trie::Meter;
-use pim_types::IfaceId;
+use pim_types::{IfaceId, SourceGroup};
 use std::alloc::{AllocError, Global};
 use std::marker::Model;
 

@@ -1,4 +1,4 @@
 pub mod Openings
-pub mod Seen
+pub mod After
 pub mod Covers
 pub mod Visits

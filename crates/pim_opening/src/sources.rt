@@ -19,7 +19,7 @@ use std::collections::BTreeMap;
 fn is_of_all(key: Key, group: Addr) -> bool
     ensures { result ≡ is_of_all group.bits key }
 {
-    key.group == group && key.source.unwrap_or(Addr::NONE) == Addr::NONE
+    key.group == group && key.address() == Addr::NONE
 }
 
 /// Whether one of the keys touches all of the group.

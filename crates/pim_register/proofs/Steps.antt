@@ -20,8 +20,8 @@ use Rattle.pim_macros.specs.Sights.{IsStarSight}
 use Rattle.pim_macros.specs.declared.sight.StarSight.{StarSight}
 use Rattle.pim_opening.specs.declared.opening.GroupOpening.{GroupOpening}
 use Rattle.pim_opening.specs.declared.opening.SourceOpening.{SourceOpening}
-use Rattle.pim_opening.specs.declared.seen.SourceSeen.{SourceSeen}
-use Rattle.pim_opening.specs.Seen.{AreSeen, IsSeenSource, opened_in}
+use Rattle.pim_opening.specs.declared.after.SourceAfter.{SourceAfter}
+use Rattle.pim_opening.specs.After.{AreAfter, IsSourceAfter, opened_in}
 use Rattle.pim_register.specs.Settling.{opened_sources, registers_by}
 use Rattle.pim_register.specs.Steps.{source_keys}
 use Rattle.pim_register.proofs.Settled.{all_settled}
@@ -111,23 +111,23 @@ register_stays s k false could has =
     (nothing_dropped k s.registers has))
 
 -- a source whose register stays
-pub next_settled : (s : State) (star : StarSight) (x : SourceSeen) (left rest : List SourceSeen) → left ≡ x ∷ rest
-    → AreSeen s star left
+pub next_settled : (s : State) (star : StarSight) (x : SourceAfter) (left rest : List SourceAfter) → left ≡ x ∷ rest
+    → AreAfter s star left
     → settle_register s (source_key 0 (x.sight).star.group.bits (x.sight).source.bits) ≡ s
     → fold settle_register s (source_keys star.group.bits (map opened_in rest))
     ≡ fold settle_register s (source_keys star.group.bits (map opened_in left))
 next_settled s star x left rest is seen stays =
-    let one : IsSeenSource s star x = (subst (λ (xs : List SourceSeen). AreSeen s star xs) is seen).0 in
+    let one : IsSourceAfter s star x = (subst (λ (xs : List SourceAfter). AreAfter s star xs) is seen).0 in
     let here : settle_register s (source_key 0 star.group.bits (x.opened).source.bits) ≡ s =
     ap (λ (t : StarSight). settle_register s (source_key 0 t.group.bits (x.opened).source.bits)) (sym one.star)
     ∙ ap (λ (a : Addr). settle_register s (source_key 0 (x.sight).star.group.bits a.bits)) (sym one.source)
     ∙ stays in
     ap (λ (u : State). fold settle_register u (source_keys star.group.bits (map opened_in rest))) (sym here)
-    ∙ ap (λ (xs : List SourceSeen). fold settle_register s (source_keys star.group.bits (map opened_in xs))) (sym is)
+    ∙ ap (λ (xs : List SourceAfter). fold settle_register s (source_keys star.group.bits (map opened_in xs))) (sym is)
 
-pub left_seen : (s : State) (star : StarSight) (x : SourceSeen) (left rest : List SourceSeen) → left ≡ x ∷ rest
-    → AreSeen s star left → AreSeen s star rest
-left_seen s star x left rest is seen = (subst (λ (xs : List SourceSeen). AreSeen s star xs) is seen).1
+pub left_seen : (s : State) (star : StarSight) (x : SourceAfter) (left rest : List SourceAfter) → left ≡ x ∷ rest
+    → AreAfter s star left → AreAfter s star rest
+left_seen s star x left rest is seen = (subst (λ (xs : List SourceAfter). AreAfter s star xs) is seen).1
 
 -- a group alone
 pub alone_settled : (s : State) (x : GroupOpening)

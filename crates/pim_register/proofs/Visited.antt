@@ -138,17 +138,14 @@ module _ (s : State) where
   -- ---- a Register
 
   module _ (r : Register) where
-    pub at_rp_gathered : (old next later new : ℕ) (star group source : Addr) → star ≡ group
-        → group.bits ≡ registered_group r → source.bits ≡ registered_source r → raised old (star_nodes s group) ≤ next
-        → raised next (source_nodes s star source) ≤ later → raised later (watched_nodes s group source) ≤ new
-        → raised old (at_rp_nodes s r) ≤ new
-    at_rp_gathered old next later new star group source same g src first second third =
+    pub at_rp_gathered : (old next new : ℕ) (group source : Addr) → group.bits ≡ registered_group r
+        → source.bits ≡ registered_source r → raised old (star_nodes s group + source_nodes s group source) ≤ next
+        → raised next (watched_nodes s group source) ≤ new → raised old (at_rp_nodes s r) ≤ new
+    at_rp_gathered old next new group source g src first second =
         subst (λ (a : Addr). raised old (star_nodes s a + source_nodes s a (addr (registered_source r))
         + watched_nodes s a (addr (registered_source r))) ≤ new) (ap addr g)
         (subst (λ (b : Addr). raised old (star_nodes s group + source_nodes s group b + watched_nodes s group b) ≤ new)
-        (ap addr src) (two_in_turn old later new _ _
-        (two_in_turn old next later _ _ first (subst (λ (a : Addr). raised next (source_nodes s a source) ≤ later) same second))
-        third))
+        (ap addr src) (two_in_turn old next new _ _ first second))
 
     module _ (p : Packet) (old next new g d : ℕ) (b : Bool) (group : g ≡ registered_group r) (to : d ≡ p.destination)
         (asked : next ≡ raised old (rp_nodes s.ranges g)) (is : b ≡ is_rp s g d) where

@@ -8,17 +8,16 @@ ghost use Rattle.pim_mrib.specs.Routes.{rp_nodes};
 ghost use Rattle.pim_world.specs.Visits.{raised};
 
 use pim_ip::Ipv4View;
-use pim_types::{Addr, IfaceId, Key};
+use pim_types::{Addr, SourceGroup};
 use pim_wire::RegisterView;
 use pim_world::{Meter, World};
 
 // How many rows the source needs that it hasn't: one, or none.
 #[tactic(auto, using(crate::proofs::Needed::one_needed))]
-fn missing(world: &World, group: Addr, source: Addr) -> usize
-    ensures { result ≡ needed world.now.sources (source_key 0 group.bits source.bits ∷ []) }
+fn missing(world: &World, name: SourceGroup) -> usize
+    ensures { result ≡ needed world.now.sources (source_key 0 name.group.bits name.source.bits ∷ []) }
 {
-    let key = Key::source(IfaceId::NONE, group, source);
-    usize::from(world.store().source(key).is_none())
+    usize::from(world.store().source(name.key()).is_none())
 }
 
 /// Whether the row that a source may get passes the limit on facts.
@@ -26,7 +25,8 @@ fn missing(world: &World, group: Addr, source: Addr) -> usize
 pub fn source_is_full(world: &World, group: Addr, source: Addr) -> bool
     ensures { result ≡ source_is_full world.now group.bits source.bits }
 {
-    world.passes_limit(missing(world, group, source))
+    let name = SourceGroup { source, group };
+    world.passes_limit(missing(world, name))
 }
 
 /// Whether the row that a Register may make passes it: at another router than the RP a Register makes none. The meter rises

@@ -13,8 +13,8 @@ ghost use Rattle.pim_world.specs.Visits.{raised};
 
 use pim_ifset::IfSet;
 use pim_ip::Ipv4View;
-use pim_macros::{SourceSight, StarSight};
-use pim_types::Addr;
+use pim_macros::SourceSight;
+use pim_types::SourceGroup;
 use pim_wire::RegisterView;
 use pim_world::{Meter, Turn, World};
 use std::alloc::AllocError;
@@ -23,13 +23,27 @@ use std::alloc::AllocError;
 fn stop_registering(
     turn: &mut Turn,
     packet: &Ipv4View<'_>,
-    group: Addr,
-    source: Addr,
+    name: SourceGroup,
 ) -> Result<(), AllocError>
-    ensures { OnOk result (turn.new ≡ saying turn.old (register_stop_to packet.now group.bits source.bits)) }
+    ensures { OnOk result (turn.new ≡ saying turn.old (register_stop_to packet.now name.group.bits name.source.bits)) }
 {
-    turn.out
-        .register_stop(packet.destination(), packet.source(), group, source)
+    turn.out.register_stop(
+        packet.destination(),
+        packet.source(),
+        name.group,
+        name.source,
+    )
+}
+
+// The source whose packet a Register has.
+fn registered(register: &RegisterView<'_>) -> SourceGroup
+    ensures group { result.group.bits ≡ registered_group register.now }
+    ensures source { result.source.bits ≡ registered_source register.now }
+{
+    SourceGroup {
+        source: register.source(),
+        group: register.group(),
+    }
 }
 
 // Whether the RP wants no more Registers of the source.
@@ -70,16 +84,15 @@ fn register_at_rp(
         (registered_group register.now) (registered_source register.now) (is_null register.now)).messages) }
     ensures at_least { OnOk result (raised meter.old (at_rp_nodes world.old register.now) ≤ meter.new) }
 {
-    let (group, source) = (register.group(), register.source());
-    let star = StarSight::of(world, group, meter);
-    let sight = SourceSight::of(world, star, source, meter);
+    let name = registered(register);
+    let sight = SourceSight::with_star(world, name, meter);
     let is_stopped = is_stopped(&sight);
     let list = list_at_rp(&sight, register.is_null());
     if sight.spt || sight.is_spt_wanted {
-        world.keep_alive(group, source, None, meter)?;
+        world.keep_alive(name.group, name.source, None, meter)?;
     }
     if is_stopped {
-        stop_registering(turn, packet, group, source)?;
+        stop_registering(turn, packet, name)?;
     }
     Ok(list)
 }
@@ -105,10 +118,10 @@ pub fn register_seen(
         (registered_group register.now) (registered_source register.now) (is_null register.now)).messages) }
     ensures at_least { OnOk result (raised meter.old (register_nodes world.old packet.now register.now) ≤ meter.new) }
 {
-    let (group, source) = (register.group(), register.source());
-    if world.is_rp(group, packet.destination(), meter) {
+    let name = registered(register);
+    if world.is_rp(name.group, packet.destination(), meter) {
         return register_at_rp(world, turn, meter, packet, register);
     }
-    stop_registering(turn, packet, group, source)?;
+    stop_registering(turn, packet, name)?;
     Ok(IfSet::new())
 }

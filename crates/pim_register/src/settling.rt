@@ -3,16 +3,16 @@ ghost use Rattle.std.specs.Prelude.{◌≡◌, ◌≤◌, ◌+◌, ◌∷◌, []
 ghost use Rattle.pim_types.specs.Keys.{source_key};
 ghost use Rattle.pim_model.specs.Registers.{settle_register};
 ghost use Rattle.pim_macros.specs.Sights.{IsSourceSight, IsStarSight};
-ghost use Rattle.pim_opening.specs.Seen.{AreSeen, IsSeen, opened_in, opening_in};
+ghost use Rattle.pim_opening.specs.After.{AreAfter, IsAfter, opened_in, opening_in};
 ghost use Rattle.pim_register.specs.Settling.{registers_by};
 ghost use Rattle.pim_register.specs.Steps.{source_keys};
 ghost use Rattle.pim_register.specs.Visits.{register_mark_nodes, settled_group_nodes, settled_nodes, settled_source_nodes, source_settled};
 ghost use Rattle.pim_world.specs.Visits.{nodes_in_turn, raised, source_nodes};
 
 use pim_macros::{SourceSight, StarSight};
-use pim_opening::{GroupOpening, GroupSeen, Opening, SourceOpening, SourceSeen};
+use pim_opening::{GroupAfter, GroupOpening, Opening, SourceAfter, SourceOpening};
+use pim_types::Addr;
 use pim_types::fact::{RegisterRow, RegisterState};
-use pim_types::{Addr, IfaceId, Key};
 use pim_world::{Meter, World};
 use std::alloc::AllocError;
 
@@ -39,7 +39,7 @@ pub fn settle_register(
         *sight = sight.with_tunnel(false);
         return Ok(());
     }
-    let key = Key::source(IfaceId::NONE, group, source);
+    let key = sight.name().key();
     if world.store().register(key).is_some() {
         return Ok(());
     }
@@ -122,7 +122,7 @@ fn is_settled(world: &World, sight: &SourceSight) -> bool
     ensures { IsTrue result
         → settle_register world.now (source_key 0 sight.now.star.group.bits sight.now.source.bits) ≡ world.now }
 {
-    let key = Key::source(IfaceId::NONE, sight.star.group, sight.source);
+    let key = sight.name().key();
     let is_registered = world.store().register(key).is_some();
     if sight.could_register() {
         is_registered
@@ -132,13 +132,13 @@ fn is_settled(world: &World, sight: &SourceSight) -> bool
 }
 
 // Whether those of these sources of a group do.
-fn are_settled_among(world: &World, star: &StarSight, sources: &[SourceSeen]) -> bool
-    requires { AreSeen world.now star.now sources.now }
+fn are_settled_among(world: &World, star: &StarSight, sources: &[SourceAfter]) -> bool
+    requires { AreAfter world.now star.now sources.now }
     ensures { IsTrue result
         → fold settle_register world.now (source_keys star.now.group.bits (map opened_in sources.now)) ≡ world.now }
 {
-    for seen in sources {
-        if !is_settled(world, &seen.sight) {
+    for after in sources {
+        if !is_settled(world, &after.sight) {
             return false;
         }
     }
@@ -147,9 +147,9 @@ fn are_settled_among(world: &World, star: &StarSight, sources: &[SourceSeen]) ->
 
 /// Whether the registers of a group's touched sources are settled as they stand, by what was gathered of them. Where it
 /// answers yes, `changed` would change nothing.
-pub fn are_settled(world: &World, seen: &GroupSeen) -> bool
-    requires { IsSeen world.now seen.now }
-    ensures { IsTrue result → registers_by (opening_in seen.now ∷ []) world.now ≡ world.now }
+pub fn are_settled(world: &World, after: &GroupAfter) -> bool
+    requires { IsAfter world.now after.now }
+    ensures { IsTrue result → registers_by (opening_in after.now ∷ []) world.now ≡ world.now }
 {
-    are_settled_among(world, &seen.star, seen.sources.as_slice())
+    are_settled_among(world, &after.star, after.sources.as_slice())
 }

@@ -48,7 +48,7 @@ fn probe(world: &World, turn: &mut Turn, meter: &mut Meter, key: Key) -> Result<
         (source_in key) (group_in key) ∷ [])) }
     ensures at_least { OnOk result (raised meter.old (probe_nodes world.now key) ≤ meter.new) }
 {
-    let source = key.source.unwrap_or(Addr::NONE);
+    let source = key.address();
     let from = registering_address(world, meter, source);
     let to = rp_or_none(world, meter, key.group);
     turn.out.null_register(from, to, source, key.group)

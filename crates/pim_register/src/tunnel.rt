@@ -12,7 +12,7 @@ ghost use Rattle.pim_types.specs.Keys.{is_of_group};
 use pim_mrib::Mrib;
 use pim_neighbours::delay_in;
 use pim_types::fact::{RegisterRow, RegisterState};
-use pim_types::{Addr, IfaceId, Key};
+use pim_types::{Addr, Key, SourceGroup};
 use pim_world::{Meter, Turn, World};
 use std::alloc::AllocError;
 
@@ -27,7 +27,7 @@ fn keys_of(world: &World, turn: &Turn, group: Addr) -> Result<Vec<Key>, AllocErr
 {
     let mut keys = Vec::new(turn.alloc);
     for (key, _) in world.store().registers_of(group) {
-        keys.push(key)?;
+        keys.push(*key)?;
     }
     Ok(keys)
 }
@@ -100,7 +100,8 @@ pub fn stop_seen(
         let keys = keys_of(world, turn, group)?;
         return stop_all(world, meter, &keys, end);
     }
-    stop(world, meter, Key::source(IfaceId::NONE, group, source), end)
+    let name = SourceGroup { source, group };
+    stop(world, meter, name.key(), end)
 }
 
 // Whether they aren't the same RP, nor both none.

@@ -9,18 +9,17 @@ ghost use Rattle.pim_world.specs.Visits.{raised, sight_nodes};
 
 use crate::machine::entry;
 use crate::message::say;
-use pim_macros::{SourceSight, StarSight};
-use pim_types::{Addr, Hop, Key};
+use pim_macros::SourceSight;
+use pim_types::{Hop, Key, SourceGroup};
 use pim_world::{Meter, Turn, World};
 use std::alloc::AllocError;
 
 // RPF'(S,G,rpt).
-fn rpf_rpt(world: &World, meter: &mut Meter, group: Addr, source: Addr) -> Option<Hop>
-    ensures upstream { result ≡ rpf_rpt world.now group.bits source.bits }
-    ensures at_least { raised meter.old (sight_nodes world.now group (Some source)) ≤ meter.new }
+fn rpf_rpt(world: &World, meter: &mut Meter, name: SourceGroup) -> Option<Hop>
+    ensures upstream { result ≡ rpf_rpt world.now name.group.bits name.source.bits }
+    ensures at_least { raised meter.old (sight_nodes world.now name.group (Some name.source)) ≤ meter.new }
 {
-    let star = StarSight::of(world, group, meter);
-    let sight = SourceSight::of(world, star, source, meter);
+    let sight = SourceSight::with_star(world, name, meter);
     sight.rpf_neighbour_rpt()
 }
 
@@ -38,9 +37,9 @@ pub fn fired(
     ensures messages { OnOk result (turn.new ≡ saying turn.old (fired world.old TimerKind.Override key).1) }
     ensures at_least { OnOk result (raised meter.old (override_nodes world.old key) ≤ meter.new) }
 {
-    let source = key.source.unwrap_or(Addr::NONE);
-    let upstream = rpf_rpt(world, meter, key.group, source);
-    say(turn, upstream, key.group, &[entry(source)], &[])?;
+    let name = key.name();
+    let upstream = rpf_rpt(world, meter, name);
+    say(turn, upstream, name.group, &[entry(name.source)], &[])?;
     world.store_mut().drop_override_timer(key, meter);
     Ok(())
 }

@@ -8,8 +8,8 @@ use Rattle.pim_model.specs.State.{State}
 use Rattle.pim_model.specs.Upstream.{Told, with_join_timer}
 use Rattle.pim_opening.specs.declared.opening.GroupOpening.{GroupOpening}
 use Rattle.pim_opening.specs.declared.opening.SourceOpening.{SourceOpening}
-use Rattle.pim_opening.specs.declared.seen.SourceSeen.{SourceSeen}
-use Rattle.pim_opening.specs.Seen.{opened_in}
+use Rattle.pim_opening.specs.declared.after.SourceAfter.{SourceAfter}
+use Rattle.pim_opening.specs.After.{opened_in}
 use Rattle.pim_upstream.specs.Told.{group_step, source_step, star_changed, upstream_by}
 
 -- first the group, then the source; the timers move in s
@@ -38,8 +38,8 @@ group_alone a w x =
     ap (λ (ms : List Message). let p : State × List Message = (told.0, ms) in p) (append-nil told.1)
 
 -- sources one after the other, by what was opened of them
-pub each_opened : (step : State → SourceOpening → State × List Message) (xs : List SourceSeen) (s : State)
-    → each_in_turn (λ (t : State) (x : SourceSeen). step t x.opened) s xs ≡ each_in_turn step s (map opened_in xs)
+pub each_opened : (step : State → SourceOpening → State × List Message) (xs : List SourceAfter) (s : State)
+    → each_in_turn (λ (t : State) (x : SourceAfter). step t x.opened) s xs ≡ each_in_turn step s (map opened_in xs)
 unfolding each_in_turn
 each_opened step [] s = refl
 each_opened step (x ∷ xs) s =

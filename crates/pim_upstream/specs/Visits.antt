@@ -19,8 +19,8 @@ use Rattle.pim_model.specs.Upstream.{fact_keys, is_due_to_assert, is_pruned_with
 use Rattle.pim_opening.specs.Openings.{has_facts}
 use Rattle.pim_opening.specs.declared.opening.GroupOpening.{GroupOpening}
 use Rattle.pim_opening.specs.declared.opening.SourceOpening.{SourceOpening}
-use Rattle.pim_opening.specs.declared.seen.GroupSeen.{GroupSeen}
-use Rattle.pim_opening.specs.declared.seen.SourceSeen.{SourceSeen}
+use Rattle.pim_opening.specs.declared.after.GroupAfter.{GroupAfter}
+use Rattle.pim_opening.specs.declared.after.SourceAfter.{SourceAfter}
 use Rattle.pim_world.specs.Visits.{fact_nodes, sight_nodes, source_nodes, sources_nodes, star_nodes}
 use Rattle.pim_upstream.specs.Hearing.{timers_of}
 
@@ -86,10 +86,10 @@ told_alone_nodes s before opened =
     star_told_nodes s before.group before.star (star_view s before.group.bits) + is_told_nodes s before.group opened
 
 -- one group and its sources by their sights
-abbrev pub seen_told_nodes : State → Addr → SourceSeen → ℕ
+abbrev pub seen_told_nodes : State → Addr → SourceAfter → ℕ
 seen_told_nodes s group x = is_told_nodes s group x.opened
 
-unfoldable pub told_seen_nodes : State → GroupSeen → ℕ
+unfoldable pub told_seen_nodes : State → GroupAfter → ℕ
 told_seen_nodes s x =
     star_told_nodes s (x.star).group x.was (star_view s (x.star).group.bits)
     + sum_by (seen_told_nodes s (x.star).group) x.sources

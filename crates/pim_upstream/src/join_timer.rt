@@ -8,8 +8,8 @@ ghost use Rattle.pim_world.specs.Turns.{saying};
 
 use crate::{source, star};
 use pim_macros::{SourceSight, StarSight};
-use pim_types::Key;
 use pim_types::fact::JoinTimerRow;
+use pim_types::{Key, SourceGroup};
 use pim_world::{Meter, Turn, World};
 use std::alloc::AllocError;
 
@@ -24,7 +24,11 @@ fn join_again(world: &World, turn: &mut Turn, meter: &mut Meter, key: Key) -> Re
         None => star::join(world, turn, meter, &star, star.rp, star.rpf_neighbour()),
         Some(source) => {
             let sight = SourceSight::of(world, star, source, meter);
-            source::join(turn, sight.rpf_neighbour(), key.group, source)
+            let name = SourceGroup {
+                source,
+                group: key.group,
+            };
+            source::join(turn, sight.rpf_neighbour(), name)
         }
     }
 }

@@ -17,7 +17,7 @@ use pim_downstream::Named;
 use pim_macros::desires::is_same_hop;
 use pim_macros::{SourceSight, StarSight};
 use pim_rpt::Change;
-use pim_types::{Addr, Hop, IfaceId, Key, TreeState};
+use pim_types::{Addr, Hop, IfaceId, Key, SourceGroup, TreeState};
 use pim_wire::JoinPruneView;
 use pim_world::{Meter, Turn, World};
 use std::alloc::AllocError;
@@ -30,17 +30,6 @@ fn is_star_towards(world: &World, meter: &mut Meter, hop: Hop, group: Addr) -> b
 {
     let star = StarSight::of(world, group, meter);
     is_same_hop(star.rpf_neighbour(), Some(hop))
-}
-
-// What the macros of (S,G) read.
-fn sight_of(world: &World, meter: &mut Meter, group: Addr, source: Addr) -> SourceSight
-    ensures sight { IsSourceSight world.now result }
-    ensures group { result.star.group ≡ group }
-    ensures source { result.source ≡ source }
-    ensures at_least { raised meter.old (sight_nodes world.now group (Some source)) ≤ meter.new }
-{
-    let star = StarSight::of(world, group, meter);
-    SourceSight::of(world, star, source, meter)
 }
 
 // Whether RPF'(S,G) is the neighbour.
@@ -85,7 +74,7 @@ fn hear_join(
             note_if(moves, is_heard, TimerMove::RaiseJoin(group, None, end))
         }
         (Some(source), true) => {
-            let sight = sight_of(world, meter, group, source);
+            let sight = SourceSight::with_star(world, SourceGroup { source, group }, meter);
             let is_heard = is_unpruned_towards(world, &sight, hop);
             note_if(
                 moves,
@@ -94,7 +83,7 @@ fn hear_join(
             )
         }
         (Some(source), false) => {
-            let sight = sight_of(world, meter, group, source);
+            let sight = SourceSight::with_star(world, SourceGroup { source, group }, meter);
             let is_heard = is_source_towards(world, &sight, hop);
             note_if(
                 moves,
@@ -192,7 +181,7 @@ fn hear_timers(
 {
     let star = StarSight::of(world, group, meter);
     for (key, _) in world.store().join_timers_of(group) {
-        hear_timer(world, meter, &star, hop, end, key, moves)?;
+        hear_timer(world, meter, &star, hop, end, *key, moves)?;
     }
     Ok(())
 }
@@ -219,7 +208,7 @@ fn hear_prune(
             hear_timers(world, meter, hop, end, group, moves)
         }
         Some(source) => {
-            let sight = sight_of(world, meter, group, source);
+            let sight = SourceSight::with_star(world, SourceGroup { source, group }, meter);
             let is_joined = is_source_towards(world, &sight, hop);
             note_if(
                 moves,

@@ -7,7 +7,7 @@ ghost use Rattle.pim_rpt.specs.Changes.{change_of};
 use pim_macros::desires::is_same_hop;
 use pim_rpt::Change;
 use pim_rpt::message::{if_neighbour, is_due_to_assert, override_end, say};
-use pim_types::{Addr, Hop, SourceView};
+use pim_types::{Addr, Hop, SourceGroup, SourceView};
 use pim_wire::{Entry, EntryKind};
 use pim_world::{Turn, World};
 use std::alloc::AllocError;
@@ -26,12 +26,12 @@ fn entry(source: Addr) -> Entry
 pub(crate) fn join(
     turn: &mut Turn,
     upstream: Option<Hop>,
-    group: Addr,
-    source: Addr,
+    name: SourceGroup,
 ) -> Result<(), AllocError>
-    ensures { OnOk result (turn.new ≡ saying turn.old (join_source_to upstream group.bits source.bits)) }
+    ensures { OnOk result (turn.new
+        ≡ saying turn.old (join_source_to upstream name.group.bits name.source.bits)) }
 {
-    say(turn, upstream, group, &[entry(source)], &[])
+    say(turn, upstream, name.group, &[entry(name.source)], &[])
 }
 
 // Prune(S,G) to a neighbour, if it still is one.
@@ -39,17 +39,17 @@ fn prune(
     world: &World,
     turn: &mut Turn,
     upstream: Option<Hop>,
-    group: Addr,
-    source: Addr,
+    name: SourceGroup,
 ) -> Result<(), AllocError>
-    ensures { OnOk result (turn.new ≡ saying turn.old (prune_source_to world.now upstream group.bits source.bits)) }
+    ensures { OnOk result (turn.new
+        ≡ saying turn.old (prune_source_to world.now upstream name.group.bits name.source.bits)) }
 {
     say(
         turn,
         if_neighbour(world, upstream),
-        group,
+        name.group,
         &[],
-        &[entry(source)],
+        &[entry(name.source)],
     )
 }
 
@@ -58,15 +58,14 @@ fn prune(
 fn stay(
     world: &World,
     turn: &mut Turn,
-    group: Addr,
-    source: Addr,
+    name: SourceGroup,
     old: SourceView,
     new: SourceView,
 ) -> Result<Change, AllocError>
     ensures timer { IfOk result (λ change. change_of change
-        ≡ (source_stays world.now turn.old.draw group.bits source.bits old new).timer) }
+        ≡ (source_stays world.now turn.old.draw name.group.bits name.source.bits old new).timer) }
     ensures messages { OnOk result (turn.new ≡ saying turn.old
-        (source_stays world.now turn.old.draw group.bits source.bits old new).messages) }
+        (source_stays world.now turn.old.draw name.group.bits name.source.bits old new).messages) }
 {
     if is_same_hop(old.upstream, new.upstream) {
         return Ok(Change::Keep);
@@ -74,8 +73,8 @@ fn stay(
     if is_due_to_assert(old.iface, new.iface, old.next_hop, new.next_hop) {
         return Ok(Change::LowerTo(override_end(world, turn.draw, new.iface)));
     }
-    join(turn, new.upstream, group, source)?;
-    prune(world, turn, old.upstream, group, source)?;
+    join(turn, new.upstream, name)?;
+    prune(world, turn, old.upstream, name)?;
     Ok(Change::SetTo(world.periodic_end()))
 }
 
@@ -85,25 +84,24 @@ fn stay(
 pub(crate) fn tell(
     world: &World,
     turn: &mut Turn,
-    group: Addr,
-    source: Addr,
+    name: SourceGroup,
     old: SourceView,
     new: SourceView,
 ) -> Result<Change, AllocError>
     ensures timer { IfOk result (λ change. change_of change
-        ≡ (source_told world.now turn.old.draw group.bits source.bits old new).timer) }
+        ≡ (source_told world.now turn.old.draw name.group.bits name.source.bits old new).timer) }
     ensures messages { OnOk result (turn.new ≡ saying turn.old
-        (source_told world.now turn.old.draw group.bits source.bits old new).messages) }
+        (source_told world.now turn.old.draw name.group.bits name.source.bits old new).messages) }
 {
     match (old.is_desired, new.is_desired) {
         (false, false) => Ok(Change::Keep),
         (true, false) => {
-            prune(world, turn, old.upstream, group, source)?;
+            prune(world, turn, old.upstream, name)?;
             Ok(Change::Cancel)
         }
-        (true, true) => stay(world, turn, group, source, old, new),
+        (true, true) => stay(world, turn, name, old, new),
         (false, true) => {
-            join(turn, new.upstream, group, source)?;
+            join(turn, new.upstream, name)?;
             Ok(Change::SetTo(world.periodic_end()))
         }
     }

@@ -11,7 +11,7 @@ ghost use Rattle.pim_rpt.specs.Changes.{change_of};
 
 use pim_rpt::Change;
 use pim_types::fact::{JoinTimerRow, OverrideTimerRow};
-use pim_types::{Addr, IfaceId, Key};
+use pim_types::{Addr, Key, SourceGroup};
 use pim_world::{Meter, World};
 use std::alloc::AllocError;
 
@@ -61,12 +61,8 @@ fn lowered(row: Option<JoinTimerRow>, end: u64) -> Option<JoinTimerRow>
 fn join_timer(world: &World, group: Addr, source: Option<Addr>) -> Option<JoinTimerRow>
     ensures { result ≡ row_at world.now.join_timers (join_key group source) }
 {
-    world.store().join_timer(Key {
-        iface: IfaceId::NONE,
-        group,
-        source,
-        rpt: false,
-    })
+    let star = Key::group(group);
+    world.store().join_timer(Key { source, ..star })
 }
 
 // What becomes of a Join timer.
@@ -102,14 +98,14 @@ fn move_join_timer(
 fn move_override_timer(
     world: &mut World,
     meter: &mut Meter,
-    group: Addr,
-    source: Addr,
+    name: SourceGroup,
     change: Change,
 ) -> Result<(), AllocError>
     ensures moved { OnOk result (world.new
-        ≡ with_override_timer world.old (rpt_key 0 group.bits source.bits) (change_of change)) }
+        ≡ with_override_timer world.old (rpt_key 0 name.group.bits name.source.bits) (change_of change)) }
     ensures rises { OnOk result (meter.old ≤ meter.new) }
 {
+    let SourceGroup { source, group } = name;
     match change {
         Change::Keep => Ok(()),
         Change::Cancel => world
@@ -121,8 +117,8 @@ fn move_override_timer(
                 .set_override_timer(group, source, Some(OverrideTimerRow { end }), meter)
         }
         Change::LowerTo(end) => {
-            let key = Key::source_rpt(IfaceId::NONE, group, source);
-            let end = lowered_end(world.store().override_timer(key).map(|row| row.end), end);
+            let row = world.store().override_timer(name.rpt_key());
+            let end = lowered_end(row.map(|row| row.end), end);
             world
                 .store_mut()
                 .set_override_timer(group, source, Some(OverrideTimerRow { end }), meter)
@@ -141,7 +137,7 @@ fn move_timer(world: &mut World, meter: &mut Meter, moved: TimerMove) -> Result<
             move_join_timer(world, meter, group, source, change)
         }
         TimerMove::Override(group, source, change) => {
-            move_override_timer(world, meter, group, source, change)
+            move_override_timer(world, meter, SourceGroup { source, group }, change)
         }
         TimerMove::RaiseJoin(group, source, end) => {
             let row = raised(join_timer(world, group, source), end);
@@ -206,17 +202,16 @@ pub(crate) fn note_join(
 /// Puts what becomes of an override timer behind the moves.
 pub(crate) fn note_override(
     moves: &mut Vec<TimerMove>,
-    group: Addr,
-    source: Addr,
+    name: SourceGroup,
     change: Change,
 ) -> Result<(), AllocError>
-    ensures { OnOk result ((s : State) → after_moves s moves.new.items
-        ≡ with_override_timer (after_moves s moves.old.items) (rpt_key 0 group.bits source.bits) (change_of change)) }
+    ensures { OnOk result ((s : State) → after_moves s moves.new.items ≡ with_override_timer
+        (after_moves s moves.old.items) (rpt_key 0 name.group.bits name.source.bits) (change_of change)) }
 {
     match change {
         Change::Keep => Ok(()),
         _ => {
-            moves.push(TimerMove::Override(group, source, change))?;
+            moves.push(TimerMove::Override(name.group, name.source, change))?;
             Ok(())
         }
     }

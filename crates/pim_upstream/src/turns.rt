@@ -3,7 +3,7 @@ ghost use Rattle.std.specs.Prelude.{◌≡◌, ◌≤◌, ◌∷◌, [], ◌||�
 ghost use Rattle.pim_types.specs.Keys.{star_key};
 ghost use Rattle.pim_model.specs.Upstream.{star_view, with_join_timer};
 ghost use Rattle.pim_opening.specs.Openings.{has_facts};
-ghost use Rattle.pim_opening.specs.Seen.{AreSeen, IsSeen, opened_in, opening_in};
+ghost use Rattle.pim_opening.specs.After.{AreAfter, IsAfter, opened_in, opening_in};
 ghost use Rattle.pim_model.specs.Querier.{each_in_turn};
 ghost use Rattle.pim_model.specs.State.{State};
 ghost use Rattle.pim_macros.specs.Sights.{IsSourceSight, IsStarSight};
@@ -16,8 +16,8 @@ ghost use Rattle.pim_upstream.specs.Visits.{group_told_nodes, is_told_nodes, see
 use crate::timer::{TimerMove, move_timers, note_join, note_override};
 use crate::{source, star};
 use pim_macros::{SourceSight, StarSight};
-use pim_opening::{GroupOpening, GroupSeen, Opening, SourceOpening, SourceSeen};
-use pim_types::{Addr, SourceView, StarView};
+use pim_opening::{GroupAfter, GroupOpening, Opening, SourceAfter, SourceOpening};
+use pim_types::{Addr, SourceGroup, SourceView, StarView};
 use pim_world::{Meter, Turn, World};
 use std::alloc::AllocError;
 
@@ -38,12 +38,15 @@ fn tell_views(
         (source_moved world.now turn.old.draw sight.now.star.group.bits
         (after_moves s moves.old.items) sight.now.source.bits old).1) }
 {
-    let (group, source) = (sight.star.group, sight.source);
+    let name = SourceGroup {
+        source: sight.source,
+        group: sight.star.group,
+    };
     let new = sight.view();
-    let joins = source::tell(world, turn, group, source, old, new)?;
-    let prunes = pim_rpt::changed(world, turn, &sight.star, source, old, new)?;
-    note_join(moves, group, Some(source), joins)?;
-    note_override(moves, group, source, prunes)
+    let joins = source::tell(world, turn, name, old, new)?;
+    let prunes = pim_rpt::changed(world, turn, &sight.star, name.source, old, new)?;
+    note_join(moves, name.group, Some(name.source), joins)?;
+    note_override(moves, name, prunes)
 }
 
 // Whether something may be told of the source of a group: it has a fact, before or after the change.
@@ -56,7 +59,7 @@ fn is_told(world: &World, meter: &mut Meter, group: Addr, before: SourceOpening)
 
 // Sends what is told of a source that has facts, before or after the change; its sight shows it after the change.
 #[tactic(auto, unfolding(crate::specs::Told::source_step))]
-fn tell_seen(
+fn tell_source_by_sight(
     world: &World,
     turn: &mut Turn,
     meter: &mut Meter,
@@ -233,20 +236,20 @@ pub fn changed_alone(
 {
     let mut moves = Vec::new(turn.alloc);
     tell_star(world, turn, meter, &sight.star, group.star, &mut moves)?;
-    tell_seen(world, turn, meter, sight, opened, &mut moves)?;
+    tell_source_by_sight(world, turn, meter, sight, opened, &mut moves)?;
     move_timers(world, meter, moves.as_slice())
 }
 
 // Sends what is told of these sources of a group by their sights, one after the other.
-fn tell_all_seen(
+fn tell_sources_by_sights(
     world: &World,
     turn: &mut Turn,
     meter: &mut Meter,
     star: &StarSight,
-    sources: &[SourceSeen],
+    sources: &[SourceAfter],
     moves: &mut Vec<TimerMove>,
 ) -> Result<(), AllocError>
-    requires { AreSeen world.now star.now sources.now }
+    requires { AreAfter world.now star.now sources.now }
     ensures timers { OnOk result ((s : State) → after_moves s moves.new.items
         ≡ (each_in_turn (source_step world.now turn.old.draw star.now.group.bits)
         (after_moves s moves.old.items) (map opened_in sources.now)).0) }
@@ -256,8 +259,8 @@ fn tell_all_seen(
     ensures at_least { OnOk result (raised meter.old
         (sum_by (seen_told_nodes world.now star.now.group) sources.now) ≤ meter.new) }
 {
-    for seen in sources {
-        tell_seen(world, turn, meter, &seen.sight, seen.opened, moves)?;
+    for after in sources {
+        tell_source_by_sight(world, turn, meter, &after.sight, after.opened, moves)?;
     }
     Ok(())
 }
@@ -270,17 +273,17 @@ pub fn changed_group(
     world: &mut World,
     turn: &mut Turn,
     meter: &mut Meter,
-    seen: &GroupSeen,
+    after: &GroupAfter,
 ) -> Result<(), AllocError>
-    requires { IsSeen world.old seen.now }
-    ensures state { OnOk result (world.new ≡ (upstream_by (opening_in seen.now ∷ []) world.old turn.old.draw).0) }
+    requires { IsAfter world.old after.now }
+    ensures state { OnOk result (world.new ≡ (upstream_by (opening_in after.now ∷ []) world.old turn.old.draw).0) }
     ensures messages { OnOk result (turn.new
-        ≡ saying turn.old (upstream_by (opening_in seen.now ∷ []) world.old turn.old.draw).1) }
-    ensures at_least { OnOk result (raised meter.old (told_seen_nodes world.old seen.now) ≤ meter.new) }
+        ≡ saying turn.old (upstream_by (opening_in after.now ∷ []) world.old turn.old.draw).1) }
+    ensures at_least { OnOk result (raised meter.old (told_seen_nodes world.old after.now) ≤ meter.new) }
 {
     let mut moves = Vec::new(turn.alloc);
-    let sources = seen.sources.as_slice();
-    tell_star(world, turn, meter, &seen.star, seen.was, &mut moves)?;
-    tell_all_seen(world, turn, meter, &seen.star, sources, &mut moves)?;
+    let sources = after.sources.as_slice();
+    tell_star(world, turn, meter, &after.star, after.was, &mut moves)?;
+    tell_sources_by_sights(world, turn, meter, &after.star, sources, &mut moves)?;
     move_timers(world, meter, moves.as_slice())
 }

@@ -16,14 +16,15 @@ returns-clause-state c =
     let s = c.args.world.now in
     let x = c.args.opened in
     let g = c.args.sight.now.star.group.bits in
-    on_ok_weaker c.clear_bit_seen.result
+    on_ok_weaker c.clear_bit_by_sight.result
     (λ e. e
-    ∙ ap (λ (a : Addr). (clear_bit a.bits c.clear_source_seen.new.world x).0) c.in_ok-clear_source_seen.ensures.group
-    ∙ ap (λ (u : State). (clear_bit g u x).0) c.in_ok-clear_source_seen.ensures.state
+    ∙ ap (λ (a : Addr). (clear_bit a.bits c.clear_source_by_sight.new.world x).0)
+    c.in_ok-clear_source_by_sight.ensures.group
+    ∙ ap (λ (u : State). (clear_bit g u x).0) c.in_ok-clear_source_by_sight.ensures.state
     ∙ ap (λ (a : Addr). (both a.bits s x).0) c.requires.group
     ∙ sym (ap (λ (p : State × List Message). p.0)
     (cleared_alone s c.args.group.now x c.requires.whole c.requires.alone)))
-    c.clear_bit_seen.ensures.state
+    c.clear_bit_by_sight.ensures.state
 
 pub returns-clause-messages : goal.returns-clause-messages
 returns-clause-messages c =
@@ -32,20 +33,23 @@ returns-clause-messages c =
     let x = c.args.opened in
     let g = c.args.sight.now.star.group.bits in
     let first = clear_source g s x in
-    on_ok_weaker c.clear_bit_seen.result
+    on_ok_weaker c.clear_bit_by_sight.result
     (λ e. e
-    ∙ ap (λ (a : Addr). saying c.clear_source_seen.new.turn (clear_bit a.bits c.clear_source_seen.new.world x).1)
-    c.in_ok-clear_source_seen.ensures.group
-    ∙ ap (λ (u : State). saying c.clear_source_seen.new.turn (clear_bit g u x).1) c.in_ok-clear_source_seen.ensures.state
-    ∙ ap (λ (z : Taking). saying z (clear_bit g first.0 x).1) c.in_ok-clear_source_seen.ensures.messages
+    ∙ ap (λ (a : Addr). saying c.clear_source_by_sight.new.turn
+    (clear_bit a.bits c.clear_source_by_sight.new.world x).1)
+    c.in_ok-clear_source_by_sight.ensures.group
+    ∙ ap (λ (u : State). saying c.clear_source_by_sight.new.turn (clear_bit g u x).1)
+    c.in_ok-clear_source_by_sight.ensures.state
+    ∙ ap (λ (z : Taking). saying z (clear_bit g first.0 x).1) c.in_ok-clear_source_by_sight.ensures.messages
     ∙ said_both t first.1 (clear_bit g first.0 x).1
     ∙ ap (λ (a : Addr). saying t (both a.bits s x).1) c.requires.group
     ∙ sym (ap (λ (p : State × List Message). saying t p.1)
     (cleared_alone s c.args.group.now x c.requires.whole c.requires.alone)))
-    c.clear_bit_seen.ensures.messages
+    c.clear_bit_by_sight.ensures.messages
 
 pub returns-clause-at_least : goal.returns-clause-at_least
 unfolding alone_nodes
 returns-clause-at_least c =
-    on_ok_weaker c.clear_bit_seen.result (two_in_turn _ _ _ _ _ c.in_ok-clear_source_seen.ensures.at_least)
-    (rw (c.in_ok-clear_source_seen.ensures.group, c.in_ok-clear_source_seen.ensures.state) at c.clear_bit_seen.ensures.at_least)
+    on_ok_weaker c.clear_bit_by_sight.result (two_in_turn _ _ _ _ _ c.in_ok-clear_source_by_sight.ensures.at_least)
+    (rw (c.in_ok-clear_source_by_sight.ensures.group, c.in_ok-clear_source_by_sight.ensures.state) at
+    c.clear_bit_by_sight.ensures.at_least)

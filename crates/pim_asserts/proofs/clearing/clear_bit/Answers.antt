@@ -12,8 +12,8 @@ use Rattle.pim_asserts.proofs.clearing.clear_bit.Goals as goal
 pub returns-in_default-clause-at_least : goal.returns-in_default-clause-at_least
 unfolding clear_bit_nodes spt_bit
 returns-in_default-clause-at_least c =
-    rw (← c.in_default.ensures ∙ ap (λ (f : PimTables). row_at f.sources c.source.result) c.store.ensures
-    ∙ ap (row_at c.args.world.now.sources) c.source.ensures)
+    rw (← c.in_default.ensures ∙ ap (λ (f : PimTables). row_at f.sources c.key.result) c.store.ensures
+    ∙ ap (row_at c.args.world.now.sources) c.key.ensures)
     (none_visited _ _ refl)
 
 pub returns-then-not-row-clause-at_least : goal.returns-then-not-row-clause-at_least
@@ -21,8 +21,8 @@ unfolding clear_bit_nodes spt_bit
 returns-then-not-row-clause-at_least c =
     elim c.then-not-row.branch [
       | then-not-row-via-then-not-row w ↦
-          rw (← c.in-Some.ensures ∙ ap (λ (f : PimTables). row_at f.sources c.source.result) c.store.ensures
-          ∙ ap (row_at c.args.world.now.sources) c.source.ensures)
+          rw (← c.in-Some.ensures ∙ ap (λ (f : PimTables). row_at f.sources c.key.result) c.store.ensures
+          ∙ ap (row_at c.args.world.now.sources) c.key.ensures)
           (bit_unset _ _ _ _ w.if-not-row.true w.meter-is)
       | then-not-row-via-else-not-row+then-is_joined w ↦
           rw w.meter-is

@@ -16,7 +16,7 @@ pub returns-clause-state : goal.returns-clause-state
 unfolding without_spt_bit
 returns-clause-state c =
     let s = c.args.world.now in
-    let key = source_key 0 c.args.group.bits c.args.source.bits in
+    let key = source_key 0 c.args.name.group.bits c.args.name.source.bits in
     on_ok_weaker c.set_source.result
     (λ e. e ∙ ap (λ (t : Table SourceRow). let u : State = record s { sources = t } in u)
     (ap (set_row s.sources key) c.then_some-left.ensures

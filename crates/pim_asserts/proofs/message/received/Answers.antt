@@ -17,20 +17,20 @@ pub returns-then-not-goes_on-clause-state : goal.returns-then-not-goes_on-clause
 returns-then-not-goes_on-clause-state c =
     c.in_ok-goes_on.ensures.state
     ∙ sym (ap (λ (x : State × List Message). x.0)
-    (stops_there c.args.world.now c.take_by_source.new.world c.args.iface.number c.args.from.bits c.args.assert.now
+    (stops_there c.args.world.now c.run_source_machine.new.world c.args.iface.number c.args.from.bits c.args.assert.now
     c.in_ok-goes_on.goes_on c.in_ok-goes_on.ensures.state c.in_ok-goes_on.ensures.further c.if-not-goes_on.true))
 
 pub returns-then-not-goes_on-clause-messages : goal.returns-then-not-goes_on-clause-messages
 returns-then-not-goes_on-clause-messages c =
     c.in_ok-goes_on.ensures.messages
     ∙ sym (ap (λ (x : State × List Message). saying c.args.turn.now x.1)
-    (stops_there c.args.world.now c.take_by_source.new.world c.args.iface.number c.args.from.bits c.args.assert.now
+    (stops_there c.args.world.now c.run_source_machine.new.world c.args.iface.number c.args.from.bits c.args.assert.now
     c.in_ok-goes_on.goes_on c.in_ok-goes_on.ensures.state c.in_ok-goes_on.ensures.further c.if-not-goes_on.true))
 
 pub returns-clause-state : goal.returns-clause-state
 returns-clause-state c =
-    let t = c.take_by_source.new.world in
-    on_ok_weaker c.take.result
+    let t = c.run_source_machine.new.world in
+    on_ok_weaker c.run_machine.result
     (λ e. e
     ∙ ap (λ (k : Key). (assert_at t k c.metric_of.result).0) c.star-star.ensures
     ∙ ap (λ (m : AssertMetric). (assert_at t (star_key c.args.iface.number c.args.assert.now.group.bits) m).0)
@@ -38,26 +38,27 @@ returns-clause-state c =
     ∙ sym (ap (λ (x : State × List Message). x.0)
     (goes_further c.args.world.now t c.args.iface.number c.args.from.bits c.args.assert.now c.in_ok-goes_on.goes_on
     c.in_ok-goes_on.ensures.state c.in_ok-goes_on.ensures.further c.if-not-goes_on.false)))
-    c.take.ensures.state
+    c.run_machine.ensures.state
 
 pub returns-clause-messages : goal.returns-clause-messages
 returns-clause-messages c =
-    let t = c.take_by_source.new.world in
+    let t = c.run_source_machine.new.world in
     let star = star_key c.args.iface.number c.args.assert.now.group.bits in
     let second = assert_at t star (theirs_of c.args.assert.now c.args.from.bits) in
-    on_ok_weaker c.take.result
+    on_ok_weaker c.run_machine.result
     (λ e. e
-    ∙ ap (λ (k : Key). saying c.take_by_source.new.turn (assert_at t k c.metric_of.result).1) c.star-star.ensures
-    ∙ ap (λ (m : AssertMetric). saying c.take_by_source.new.turn (assert_at t star m).1) c.metric_of.ensures
+    ∙ ap (λ (k : Key). saying c.run_source_machine.new.turn (assert_at t k c.metric_of.result).1) c.star-star.ensures
+    ∙ ap (λ (m : AssertMetric). saying c.run_source_machine.new.turn (assert_at t star m).1) c.metric_of.ensures
     ∙ ap (λ (z : Taking). saying z second.1) c.in_ok-goes_on.ensures.messages
     ∙ said_both c.args.turn.now
     (source_asserted c.args.world.now c.args.iface.number c.args.from.bits c.args.assert.now).1 second.1
     ∙ sym (ap (λ (x : State × List Message). saying c.args.turn.now x.1)
     (goes_further c.args.world.now t c.args.iface.number c.args.from.bits c.args.assert.now c.in_ok-goes_on.goes_on
     c.in_ok-goes_on.ensures.state c.in_ok-goes_on.ensures.further c.if-not-goes_on.false)))
-    c.take.ensures.messages
+    c.run_machine.ensures.messages
 
 pub returns-clause-at_least : goal.returns-clause-at_least
 returns-clause-at_least c =
-    on_ok_weaker c.take.result (λ e. two_in_turn _ _ _ _ _ c.in_ok-goes_on.ensures.at_least (whether_or_not _ _ _ _ e))
-    (rw (c.star-star.ensures, c.metric_of.ensures, c.in_ok-goes_on.ensures.state) at c.take.ensures.at_least)
+    on_ok_weaker c.run_machine.result
+    (λ e. two_in_turn _ _ _ _ _ c.in_ok-goes_on.ensures.at_least (whether_or_not _ _ _ _ e))
+    (rw (c.star-star.ensures, c.metric_of.ensures, c.in_ok-goes_on.ensures.state) at c.run_machine.ensures.at_least)

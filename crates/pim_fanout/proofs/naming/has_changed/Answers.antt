@@ -5,14 +5,14 @@ use Rattle.pim_fanout.proofs.naming.has_changed.Goals as goal
 
 pub returns-clause-changed : goal.returns-clause-changed
 returns-clause-changed c o known =
-    c.differs.ensures o c.args.world.now known c.seen.ensures.before (c.seen.ensures.key ∙ c.name.ensures)
+    c.differs.ensures o c.args.world.now known c.compared.ensures.before (c.compared.ensures.key ∙ c.name.ensures)
 
 pub returns-clause-group : goal.returns-clause-group
 returns-clause-group c =
     next_as c.args.world.now (last_group c.args.last.now) _ c.name.result (known_name c.args.known.now) c.name.ensures
-    c.seen.ensures.group
+    c.compared.ensures.group
 
 pub returns-clause-at_least : goal.returns-clause-at_least
 returns-clause-at_least c =
     counted_as c.args.world.now (last_group c.args.last.now) _ _ c.name.result (known_name c.args.known.now) c.name.ensures
-    c.seen.ensures.at_least
+    c.compared.ensures.at_least

@@ -8,9 +8,9 @@ pub returns-clause-shows : goal.returns-clause-shows
 unfolding local_receiver_exclude
 returns-clause-shows c =
     let s = c.args.world.now in
-    let g = c.args.group.bits in
-    shown_of_all _ _ (local_receiver_exclude s g c.args.source.bits) (λ i. c.receivers_exclude.ensures.interfaces i
-    ∙ ap (λ (w : MembershipTables). local_receiver_exclude_among w.group_records w.source_records g c.args.source.bits i) c.membership.ensures)
+    let g = c.args.name.group.bits in
+    shown_of_all _ _ (local_receiver_exclude s g c.args.name.source.bits) (λ i. c.receivers_exclude.ensures.interfaces i
+    ∙ ap (λ (w : MembershipTables). local_receiver_exclude_among w.group_records w.source_records g c.args.name.source.bits i) c.membership.ensures)
     c.without_tunnel.ensures.limit
 
 pub returns-clause-at_least : goal.returns-clause-at_least

@@ -34,12 +34,14 @@ pub returns-then-is_some-clause-state : goal.returns-then-is_some-clause-state
 unfolding settle_register settled_register has_row
 returns-then-is_some-clause-state c =
     let could = c.could_register.ensures c.args.world.now c.requires in
+    let key = rw c.name.ensures at c.key-key.ensures in
     grind (arith, common_steps)
 
 pub returns-clause-state : goal.returns-clause-state
 unfolding settle_register settled_register has_row set_row
 returns-clause-state c =
     let could = c.could_register.ensures c.args.world.now c.requires in
+    let key = rw c.name.ensures at c.key-key.ensures in
     grind (arith, common_steps)
 
 pub returns-clause-sight : goal.returns-clause-sight
@@ -65,14 +67,14 @@ pub returns-then-is_some-clause-at_least : goal.returns-then-is_some-clause-at_l
 returns-then-is_some-clause-at_least c =
     register_there c.args.world.now _ _ _ _ c.register.result
     (sym (c.could_register.ensures c.args.world.now c.requires) ∙ c.if-not-could_register.false)
-    (c.register.ensures ∙ ap (λ (f : PimTables). row_at f.registers c.source-key.result) c.store.ensures
-    ∙ ap (row_at c.args.world.now.registers) c.source-key.ensures)
+    (c.register.ensures ∙ ap (λ (f : PimTables). row_at f.registers c.key-key.result) c.store.ensures
+    ∙ ap (row_at c.args.world.now.registers) (rw c.name.ensures at c.key-key.ensures))
     (sym c.is_some.ensures ∙ c.if-is_some.true) refl
 
 pub returns-clause-at_least : goal.returns-clause-at_least
 returns-clause-at_least c =
     register_new c.args.world.now _ _ _ _ _ c.register.result c.store_mut-2.ensures.value
     (sym (c.could_register.ensures c.args.world.now c.requires) ∙ c.if-not-could_register.false)
-    (c.register.ensures ∙ ap (λ (f : PimTables). row_at f.registers c.source-key.result) c.store.ensures
-    ∙ ap (row_at c.args.world.now.registers) c.source-key.ensures)
+    (c.register.ensures ∙ ap (λ (f : PimTables). row_at f.registers c.key-key.result) c.store.ensures
+    ∙ ap (row_at c.args.world.now.registers) (rw c.name.ensures at c.key-key.ensures))
     (sym c.is_some.ensures ∙ c.if-is_some.false) c.in_ok-set_register-2.ensures.new

@@ -1,4 +1,4 @@
-use Rattle.std.proofs.Common.{Some, ap, rules, ◌≡◌, ◌≤◌, ◌∙◌, ℕ}
+use Rattle.std.proofs.Common.{Some, ap, ◌≡◌, ◌≤◌, ◌∙◌, ℕ}
 use Rattle.std.proofs.lemmas.Result.{on_ok_weaker}
 use Rattle.pim_types.specs.Keys.{source_in}
 use Rattle.pim_world.specs.Visits.{path_nodes, raised}
@@ -9,7 +9,7 @@ use Rattle.pim_register.proofs.source_timers.probe.Goals as goal
 pub returns-clause-at_least : goal.returns-clause-at_least
 returns-clause-at_least c =
     let s = c.args.world.now in
-    let same : c.unwrap_or-source.result.bits ≡ source_in c.args.key = search rules in
+    let same : c.address-source.result.bits ≡ source_in c.args.key = c.address-source.ensures in
     let least : raised c.args.meter.now (probe_nodes s c.args.key) ≤ c.rp_or_none-to.new.meter =
     two_in_turn _ _ _ _ _
     (at_least_itself _ _ _ (c.registering_address-from.ensures.visited

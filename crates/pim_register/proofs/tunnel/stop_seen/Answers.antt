@@ -27,7 +27,7 @@ returns-clause-state c =
     same_on_ok c.stop.result c.stop.new.world _ _
     (ap (λ (k : Key). let t : State = record s {
       registers = change_row (stopping (c.present.result + c.delay_in.result)) k s.registers;
-    } in t) c.source.ensures
+    } in t) c.key.ensures
     ∙ source_is_stopped s c.args.turn.now.draw c.args.group.bits (c.present.result + c.delay_in.result)
     (ending c.present.result s.present c.delay_in.result c.turn.inside.draw c.args.turn.now.draw c.present.ensures.present
     c.delay_in.ensures.value (ap (λ (t : Taking). t.draw) c.turn.view_is))

@@ -13,4 +13,5 @@ returns-in_ok-note_if-in-None-clause-at_least c =
 pub returns-in_ok-note_if-in-Some-clause-at_least : goal.returns-in_ok-note_if-in-Some-clause-at_least
 unfolding pruned_key_nodes
 returns-in_ok-note_if-in-Some-clause-at_least c =
-    on_ok_weaker c.note_if-in-Some-2.result (λ e. rw c.in-Some.is c.sight_of-sight.ensures.at_least) c.note_if-in-Some-2.ensures
+    on_ok_weaker c.note_if-in-Some-2.result (λ e. rw c.in-Some.is c.with_star-sight.ensures.at_least)
+    c.note_if-in-Some-2.ensures

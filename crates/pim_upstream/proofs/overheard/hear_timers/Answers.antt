@@ -27,9 +27,9 @@ loop-key-preserved c =
     record {
       heard = next_heard_of s c.args.hop c.args.end group _ _ _ _ _ _ c.in-Some.ensures.steps
           (c.in_ok-hear_timer.ensures.heard
-          ∙ ap (λ (g : Addr). c.loop-key.moves.items ++ heard_of_timer s c.args.hop c.args.end g c.in-Some.key) c.of-star.ensures.group)
+          ∙ ap (λ (g : Addr). c.loop-key.moves.items ++ heard_of_timer s c.args.hop c.args.end g c.in-Some.key.now) c.of-star.ensures.group)
           ∙ c.loop-key.invariant.heard;
-      visited = next_gathered (timer_nodes s group) _ _ _ (c.in-Some.key, c.in-Some.field-0-1.now) (timers_of s group.bits)
+      visited = next_gathered (timer_nodes s group) _ _ _ (c.in-Some.key.now, c.in-Some.field-0-1.now) (timers_of s group.bits)
           c.loop-key.key-iterator c.next.new.self c.loop-key.invariant.visited c.in-Some.ensures.steps
           (rw c.of-star.ensures.group at c.in_ok-hear_timer.ensures.at_least);
     }

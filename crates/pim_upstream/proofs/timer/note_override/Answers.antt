@@ -12,10 +12,10 @@ pub returns-in-Keep : goal.returns-in-Keep
 unfolding with_override_timer change_of
 returns-in-Keep c = λ s.
     sym (ap (λ (change : Change). with_override_timer (after_moves s c.args.moves.now.items)
-    (rpt_key 0 c.args.group.bits c.args.source.bits) (change_of change)) c.in-Keep.is)
+    (rpt_key 0 c.args.name.group.bits c.args.name.source.bits) (change_of change)) c.in-Keep.is)
 
 pub returns-in_ok-push-in_default : goal.returns-in_ok-push-in_default
 unfolding after_move
 returns-in_ok-push-in_default c = λ s.
     ap (after_moves s) c.in_ok-push-in_default.ensures.items
-    ∙ after_one_more c.args.moves.now.items (TimerMove.Override c.args.group c.args.source c.args.change) s
+    ∙ after_one_more c.args.moves.now.items (TimerMove.Override c.args.name.group c.args.name.source c.args.change) s

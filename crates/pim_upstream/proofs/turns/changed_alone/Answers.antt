@@ -30,7 +30,7 @@ returns-clause-state c =
     on_ok_weaker c.move_timers.result
     (λ e. e
     ∙ ap (λ (ms : List TimerMove). after_moves a ms) c.as_slice.ensures.value
-    ∙ c.in_ok-tell_seen.ensures.timers a
+    ∙ c.in_ok-tell_source_by_sight.ensures.timers a
     ∙ ap (λ d. (source_step a d g (after_moves a c.tell_star.new.moves.items) o).0) draw
     ∙ ap (λ (u : State). (source_step a w g u o).0) moved
     ∙ ap (λ (z : Addr). (both a w z.bits x.star o a).0) c.requires.group
@@ -53,7 +53,7 @@ returns-clause-messages c =
     c.in_ok-tell_star.ensures.timers a
     ∙ ap (λ (ms : List TimerMove). with_join_timer (after_moves a ms) (star_key 0 g) star.timer) c.new-moves.ensures.items in
     on_ok_weaker c.move_timers.result
-    (λ e. c.in_ok-tell_seen.ensures.messages a
+    (λ e. c.in_ok-tell_source_by_sight.ensures.messages a
     ∙ ap (λ d. saying c.tell_star.new.turn (source_step a d g (after_moves a c.tell_star.new.moves.items) o).1) draw
     ∙ ap (λ (u : State). saying c.tell_star.new.turn (source_step a w g u o).1) moved
     ∙ ap (λ (z : Taking). saying z (source_step a w g first o).1) c.in_ok-tell_star.ensures.messages
@@ -66,5 +66,5 @@ pub returns-clause-at_least : goal.returns-clause-at_least
 returns-clause-at_least c =
     on_ok_weaker c.move_timers.result
     (λ rises. alone_told c.args.world.now c.args.group.now c.args.opened _ _ _ _ _ c.requires.group
-    c.in_ok-tell_star.ensures.at_least c.in_ok-tell_seen.ensures.at_least rises)
+    c.in_ok-tell_star.ensures.at_least c.in_ok-tell_source_by_sight.ensures.at_least rises)
     c.move_timers.ensures.rises

@@ -6,8 +6,8 @@ use Rattle.pim_model.specs.Messages.{Message}
 use Rattle.pim_model.specs.Querier.{each_in_turn}
 use Rattle.pim_model.specs.State.{State}
 use Rattle.pim_model.specs.Upstream.{Told, with_join_timer}
-use Rattle.pim_opening.specs.Seen.{opened_in, opening_in}
-use Rattle.pim_opening.specs.declared.seen.SourceSeen.{SourceSeen}
+use Rattle.pim_opening.specs.After.{opened_in, opening_in}
+use Rattle.pim_opening.specs.declared.after.SourceAfter.{SourceAfter}
 use Rattle.pim_world.specs.Turns.{Taking, saying}
 use Rattle.pim_world.specs.Visits.{raised}
 use Rattle.pim_world.proofs.Said.{said_both}
@@ -24,7 +24,7 @@ unfolding after_moves group_step
 returns-clause-state c =
     let a = c.args.world.now in
     let w = c.args.turn.now.draw in
-    let x = c.args.seen.now in
+    let x = c.args.after.now in
     let g = x.star.group.bits in
     let draw : c.tell_star.new.turn.draw ≡ w = ap (λ (t : Taking). t.draw) c.in_ok-tell_star.ensures.messages in
     let star : Told = star_changed a w g x.was in
@@ -34,8 +34,8 @@ returns-clause-state c =
     on_ok_weaker c.move_timers.result
     (λ e. e
     ∙ ap (λ (ms : List TimerMove). after_moves a ms) c.as_slice.ensures.value
-    ∙ c.in_ok-tell_all_seen.ensures.timers a
-    ∙ ap (λ (xs : List SourceSeen). (each_in_turn (source_step a c.tell_star.new.turn.draw g)
+    ∙ c.in_ok-tell_sources_by_sights.ensures.timers a
+    ∙ ap (λ (xs : List SourceAfter). (each_in_turn (source_step a c.tell_star.new.turn.draw g)
     (after_moves a c.tell_star.new.moves.items) (map opened_in xs)).0) c.as_slice-sources.ensures
     ∙ ap (λ d. (each_in_turn (source_step a d g) (after_moves a c.tell_star.new.moves.items) (map opened_in x.sources)).0) draw
     ∙ ap (λ (u : State). (each_in_turn (source_step a w g) u (map opened_in x.sources)).0) moved
@@ -48,7 +48,7 @@ returns-clause-messages c =
     let a = c.args.world.now in
     let t = c.args.turn.now in
     let w = c.args.turn.now.draw in
-    let x = c.args.seen.now in
+    let x = c.args.after.now in
     let g = x.star.group.bits in
     let draw : c.tell_star.new.turn.draw ≡ w = ap (λ (z : Taking). z.draw) c.in_ok-tell_star.ensures.messages in
     let star : Told = star_changed a w g x.was in
@@ -58,8 +58,9 @@ returns-clause-messages c =
     ∙ ap (λ (ms : List TimerMove). with_join_timer (after_moves a ms) (star_key 0 g) star.timer) c.new-moves.ensures.items in
     let later : State × List Message = each_in_turn (source_step a w g) first (map opened_in x.sources) in
     on_ok_weaker c.move_timers.result
-    (λ e. c.in_ok-tell_all_seen.ensures.messages a
-    ∙ ap (λ (xs : List SourceSeen). saying c.tell_star.new.turn (each_in_turn (source_step a c.tell_star.new.turn.draw g)
+    (λ e. c.in_ok-tell_sources_by_sights.ensures.messages a
+    ∙ ap (λ (xs : List SourceAfter). saying c.tell_star.new.turn
+    (each_in_turn (source_step a c.tell_star.new.turn.draw g)
     (after_moves a c.tell_star.new.moves.items) (map opened_in xs)).1) c.as_slice-sources.ensures
     ∙ ap (λ d. saying c.tell_star.new.turn
     (each_in_turn (source_step a d g) (after_moves a c.tell_star.new.moves.items) (map opened_in x.sources)).1) draw
@@ -74,11 +75,11 @@ pub returns-clause-at_least : goal.returns-clause-at_least
 unfolding told_seen_nodes
 returns-clause-at_least c =
     let a = c.args.world.now in
-    let x = c.args.seen.now in
+    let x = c.args.after.now in
     on_ok_weaker c.move_timers.result
     (λ rises. then_rises _ _ _ _
     (two_in_turn _ _ _ _ _ c.in_ok-tell_star.ensures.at_least
-    (subst (λ (xs : List SourceSeen). raised c.tell_star.new.meter (sum_by (seen_told_nodes a x.star.group) xs)
-    ≤ c.tell_all_seen.new.meter) c.as_slice-sources.ensures c.in_ok-tell_all_seen.ensures.at_least))
+    (subst (λ (xs : List SourceAfter). raised c.tell_star.new.meter (sum_by (seen_told_nodes a x.star.group) xs)
+    ≤ c.tell_sources_by_sights.new.meter) c.as_slice-sources.ensures c.in_ok-tell_sources_by_sights.ensures.at_least))
     rises)
     c.move_timers.ensures.rises

@@ -4,7 +4,7 @@ use Rattle.pim_trie.specs.Meter.{raised}
 use Rattle.pim_fanout.specs.Named.{keys_of}
 use Rattle.pim_fanout.specs.Refreshing.{touches, touches_in}
 use Rattle.pim_fanout.proofs.Counts.{none_counted}
-use Rattle.pim_macros.specs.declared.name.SourceGroup.{SourceGroup}
+use Rattle.pim_types.specs.declared.name.SourceGroup.{SourceGroup}
 use Rattle.pim_fanout.proofs.cache.Cache.refresh.Goals as goal
 
 pub list-requires : goal.list-requires

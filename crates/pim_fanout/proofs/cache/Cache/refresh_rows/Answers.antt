@@ -9,7 +9,7 @@ use Rattle.pim_fanout.specs.Before.{name_key}
 use Rattle.pim_fanout.specs.Named.{keys_of}
 use Rattle.pim_fanout.specs.Refreshing.{touches, touches_in, touches_of}
 use Rattle.pim_fanout.proofs.Counts.{one_more}
-use Rattle.pim_macros.specs.declared.name.SourceGroup.{SourceGroup}
+use Rattle.pim_types.specs.declared.name.SourceGroup.{SourceGroup}
 use Rattle.pim_fanout.specs.Visits.{named_nodes}
 use Rattle.pim_world.proofs.Visits.{next_made, raised_by_none}
 use Rattle.pim_fanout.proofs.cache.Cache.refresh_rows.Goals as goal

@@ -1,6 +1,4 @@
-use Rattle.pim_world.proofs.Visits.{two_in_turn}
 use Rattle.pim_macros.proofs.sight.SourceSight.anew.Goals as goal
 
 pub returns-clause-at_least : goal.returns-clause-at_least
-returns-clause-at_least c =
-    two_in_turn _ _ _ _ _ c.of-star.ensures.at_least (rw c.of-star.ensures.group at c.of.ensures.at_least)
+returns-clause-at_least c = rw c.name.ensures at c.with_star.ensures.at_least

@@ -1,0 +1,44 @@
+use Rattle.std.proofs.Common.{List, ap, subst, ◌≡◌, ◌≤◌, ◌∙◌}
+use Rattle.std.proofs.lemmas.Result.{on_ok_weaker}
+use Rattle.std.specs.Prelude.{OnOk}
+use Rattle.pim_world.specs.Visits.{raised}
+use Rattle.pim_world.specs.Turns.{saying}
+use Rattle.pim_model.specs.Messages.{Message}
+use Rattle.pim_model.specs.State.{State}
+use Rattle.pim_model.specs.Tables.{row_at}
+use Rattle.pim_store.specs.PimTables.{PimTables}
+use Rattle.pim_world.proofs.Visits.{two_in_turn}
+use Rattle.pim_asserts.specs.Visits.{action_nodes, taken_nodes}
+use Rattle.pim_asserts.specs.declared.action.Action.{Action}
+use Rattle.pim_asserts.proofs.Receiving.{acts, acts_so}
+use Rattle.pim_asserts.proofs.message.run_machine.Goals as goal
+
+pub returns-clause-state : goal.returns-clause-state
+returns-clause-state c =
+    subst (λ (x : State × List Message). OnOk c.carry_out.result (c.carry_out.new.world ≡ x.0))
+    (acts c.args.world.now c.args.key c.args.theirs c.stance_of-stance.result c.assert_at.result
+    c.action_of-action.result c.stance_of-stance.ensures.stance
+    (c.assert_at.ensures ∙ ap (λ (f : PimTables). row_at f.asserts c.args.key) c.store.ensures) c.action_of-action.ensures)
+    c.carry_out.ensures.state
+
+pub returns-clause-messages : goal.returns-clause-messages
+returns-clause-messages c =
+    subst (λ (x : State × List Message). OnOk c.carry_out.result (c.carry_out.new.turn ≡ saying c.args.turn.now x.1))
+    (acts c.args.world.now c.args.key c.args.theirs c.stance_of-stance.result c.assert_at.result
+    c.action_of-action.result c.stance_of-stance.ensures.stance
+    (c.assert_at.ensures ∙ ap (λ (f : PimTables). row_at f.asserts c.args.key) c.store.ensures) c.action_of-action.ensures)
+    c.carry_out.ensures.messages
+
+pub returns-clause-at_least : goal.returns-clause-at_least
+unfolding taken_nodes
+returns-clause-at_least c =
+    let s = c.args.world.now in
+    let k = c.args.key in
+    on_ok_weaker c.carry_out.result
+    (λ e. two_in_turn _ _ _ _ _ c.stance_of-stance.ensures.at_least
+    (subst (λ (a : Action). raised c.stance_of-stance.new.meter
+    (action_nodes s k c.args.theirs a) ≤ c.carry_out.new.meter)
+    (acts_so s k c.args.theirs c.stance_of-stance.result c.assert_at.result c.action_of-action.result
+    c.stance_of-stance.ensures.stance
+    (c.assert_at.ensures ∙ ap (λ (f : PimTables). row_at f.asserts k) c.store.ensures) c.action_of-action.ensures) e))
+    c.carry_out.ensures.at_least

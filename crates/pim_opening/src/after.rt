@@ -1,0 +1,91 @@
+//! A touched group after a change: gathered once, for all that follows.
+ghost use Rattle.std.specs.Prelude.{◌≡◌, ◌≤◌, IfOk, OnOk, map};
+ghost use Rattle.pim_macros.specs.Sights.{IsStarSight};
+ghost use Rattle.pim_opening.specs.After.{AreAfter, IsAfter, IsSourceAfter, opened_in, opening_in};
+ghost use Rattle.pim_opening.specs.Visits.{seen_nodes, seen_sources_nodes};
+ghost use Rattle.pim_trie.specs.Meter.{raised};
+ghost use Rattle.pim_world.specs.Visits.{source_nodes};
+
+use crate::opening::{GroupOpening, SourceOpening};
+use pim_macros::{SourceSight, StarSight};
+use pim_types::{Series, StarView};
+use pim_world::{Meter, World};
+use std::alloc::{AllocError, Global};
+
+/// A touched source: as it was at the opening, and what its macros read after the change.
+#[derive(Clone, Copy)]
+pub struct SourceAfter {
+    pub opened: SourceOpening,
+    pub sight: SourceSight,
+}
+
+/// A touched group, likewise, and its touched sources, ascending.
+#[derive(Drop)]
+pub struct GroupAfter {
+    /// All of it is touched.
+    pub is_whole: bool,
+    /// Of (*,G), at the opening.
+    pub was: StarView,
+    pub star: StarSight,
+    pub sources: Series<SourceAfter>,
+}
+
+impl GroupAfter {
+    /// What was opened, with what is read of it now. The meter rises by the nodes that the look-ups visit, at least those of the
+    /// sight of the group, and of each of these sources.
+    pub fn of(
+        world: &World,
+        alloc: Global,
+        opened: &GroupOpening,
+        meter: &mut Meter,
+    ) -> Result<GroupAfter, AllocError>
+        ensures opening { IfOk result (λ after. opening_in after ≡ opened.now) }
+        ensures after { IfOk result (λ after. IsAfter world.now after) }
+        ensures at_least { OnOk result (raised meter.old (seen_nodes world.now opened.now) ≤ meter.new) }
+    {
+        let star = StarSight::of(world, opened.group, meter);
+        let sources = sources_after(world, alloc, &star, opened.sources.as_slice(), meter)?;
+        Ok(GroupAfter {
+            is_whole: opened.is_whole,
+            was: opened.star,
+            star,
+            sources: Series::from_vec(sources),
+        })
+    }
+}
+
+// These sources of a group.
+fn sources_after(
+    world: &World,
+    alloc: Global,
+    star: &StarSight,
+    sources: &[SourceOpening],
+    meter: &mut Meter,
+) -> Result<Vec<SourceAfter>, AllocError>
+    requires { IsStarSight world.now star.now }
+    ensures opened { IfOk result (λ after. map opened_in after.items ≡ sources.now) }
+    ensures after { IfOk result (λ after. AreAfter world.now star.now after.items) }
+    ensures at_least { OnOk result (raised meter.old (seen_sources_nodes world.now star.now.group sources.now) ≤ meter.new) }
+{
+    let mut after = Vec::new(alloc);
+    for opened in sources {
+        after.push(source_after(world, star, *opened, meter))?;
+    }
+    Ok(after)
+}
+
+// A source of a group.
+fn source_after(
+    world: &World,
+    star: &StarSight,
+    opened: SourceOpening,
+    meter: &mut Meter,
+) -> SourceAfter
+    requires { IsStarSight world.now star.now }
+    ensures opened { result.opened ≡ opened }
+    ensures after { IsSourceAfter world.now star.now result }
+    ensures at_least { raised meter.old (source_nodes world.now star.now.group opened.source) ≤ meter.new }
+{
+    let sight = SourceSight::of(world, *star, opened.source, meter);
+    SourceAfter { opened, sight }
+}
