@@ -58,17 +58,10 @@ none_touched old new is = ap (λ (k : CacheValue). touches k) is
 pub untouched : (touched : ℕ) (s : State) (e : Event) → touched ≡ 0 → touched ≤ 2 * length (event_named s e)
 untouched touched s e none = omega (arith, none)
 
-touched_so : (touched before : ℕ) (s : State) (e : Event) → touched ≤ before + 2 * length (event_named s e)
+-- an event, where the counts have begun anew
+pub touched_so : (touched before : ℕ) (s : State) (e : Event) → touched ≤ before + 2 * length (event_named s e)
     → before ≡ 0 → touched ≤ 2 * length (event_named s e)
 touched_so touched before s e costs none = omega (arith, costs, none)
-
--- one that was taken in its turn
-pub cheap_turn : {A E : Type 0} (r : Result A E) (s : State) (e : Event) (probes touched before : ℕ) → IsAtRest s
-    → (IsPlainEvent s e → IsWithinPath probes) → OnOk r (touched ≤ before + 2 * length (event_named s e)) → before ≡ 0
-    → OnOk r (IsCheap s e probes touched)
-cheap_turn (Ok x) s e probes touched before rest plain costs none =
-    is_cheap s rest e probes touched plain (touched_so touched before s e costs none)
-cheap_turn (Err fault) s e probes touched before rest plain costs none = tt
 
 -- ---- the last of some events
 

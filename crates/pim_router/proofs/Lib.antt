@@ -1,3 +1,5 @@
+mod Acts
+mod Caching
 mod Following
 mod Asserted
 mod Configured

@@ -24,12 +24,12 @@ use Rattle.pim_laws.specs.Laws.{IsFirable, IsReady, ends_from}
 use Rattle.pim_locality.specs.Locality.{IsQuiet}
 use Rattle.pim_locality.specs.Rest.{IsAtRest}
 use Rattle.pim_reach.specs.Named.{event_named, named_by, named_of}
-use Rattle.pim_cached.specs.Decided.{decided}
+use Rattle.pim_cached.specs.Decided.{decided_by_answers}
 use Rattle.pim_cached.specs.Kept.{is_listed}
 use Rattle.pim_cached.proofs.PlainNames.{plain_names_none}
 use Rattle.pim_world.specs.declared.touched.Touched.{Touched}
 use Rattle.pim_fanout.specs.Named.{keys_of}
-use Rattle.pim_macros.specs.declared.name.SourceGroup.{SourceGroup}
+use Rattle.pim_types.specs.declared.name.SourceGroup.{SourceGroup}
 use Rattle.pim_fanout.proofs.Listed.{names_are_named}
 use Rattle.pim_router.specs.Listing.{IsLastListed, ListsMore, ListsSame}
 use Rattle.pim_router.specs.Settling.{AreNames}
@@ -69,11 +69,9 @@ nothing_more before names none g src =
     ap (λ (ks : List Key). is_listed ks g src) (sym (append-nil before) ∙ ap (λ (ks : List Key). before ++ ks) (sym none))
 
 -- where none were listed
-pub alone : {A E : Type 0} (r : Result A E) (before names listed : List Key) → before ≡ []
-    → OnOk r (ListsMore before names listed) → OnOk r (ListsSame listed names)
-alone (Ok x) before names listed none lists =
-    λ g src. lists g src ∙ ap (λ (ks : List Key). is_listed (ks ++ names) g src) none
-alone (Err e) before names listed none lists = tt
+pub listed_alone : (before names listed : List Key) → before ≡ [] → ListsMore before names listed → ListsSame listed names
+listed_alone before names listed none lists g src =
+    lists g src ∙ ap (λ (ks : List Key). is_listed (ks ++ names) g src) none
 
 -- ---- an event, and a timer's end
 
@@ -113,7 +111,7 @@ unfolding event_named
 stopped_names_none s e stop is = ap (λ (j : Judged). where_accepted s (named_of s e.draw) j) is
 
 pub plain_event_names_none : (s : State) (e : Event) (i : IfaceId) (p : Packet) (how : Plain) → IsAtRest s
-    → judged s e.kind ≡ Ok (Accepted.Data i p) → has_row s.sources (fact_key p) ≡ true → decided s i p ≡ Some how
+    → judged s e.kind ≡ Ok (Accepted.Data i p) → has_row s.sources (fact_key p) ≡ true → decided_by_answers s i p ≡ Some how
     → event_named s e ≡ []
 unfolding event_named
 plain_event_names_none s e i p how rest heard known answered =

@@ -17,9 +17,9 @@ use Rattle.pim_model.specs.Step.{rps_replaced}
 use Rattle.pim_model.specs.Tables.{Table, same_option}
 use Rattle.pim_model.specs.Unicast.{route, rp_of, rp_route}
 use Rattle.pim_model.specs.Upstream.{fact_keys, groups_of, sources_of}
-use Rattle.pim_reach.specs.Moved.{keys_by_routes, keys_by_rps, moved_of_group, moved_sources}
+use Rattle.pim_reach.specs.Moved.{keys_by_routes, keys_by_rps, moved_of_group, rerouted_sources}
 use Rattle.pim_reach.proofs.Sights.{options_same, paths_same}
-use Rattle.pim_promises.proofs.Own.{none_member}
+use Rattle.pim_locality.proofs.Differing.{none_left}
 use Rattle.pim_reach.specs.Named.{has_same_rp}
 use Rattle.pim_router.specs.OtherRoutes.{has_other_route, with_routes}
 
@@ -51,7 +51,7 @@ module _ (s : State) (routes : List Route) (g : ℕ) where
 
     pub some_moved : m ≡ false → (sources : List ℕ) → sources ≡ sources_of g (fact_keys s)
         → map (source_key 0 g) (filter (has_other_route s after) sources) ≡ moved_of_group s after g
-    unfolding moved_of_group moved_sources
+    unfolding moved_of_group rerouted_sources
     some_moved calm sources are =
         rw (turned m (has_same_rp g s after) true tells calm)
         (ap (λ (ns : List ℕ). map (source_key 0 g) (filter (has_other_route s after) ns)) are)
@@ -69,10 +69,10 @@ module _ (s : State) where
   group_same g =
       both_true (options_same (rp_of s g) (rp_of s g) refl) (paths_same (rp_route s g) (rp_route s g) refl)
 
-  no_source_moved : (g : ℕ) → moved_sources s s g ≡ []
-  unfolding moved_sources
+  no_source_moved : (g : ℕ) → rerouted_sources s s g ≡ []
+  unfolding rerouted_sources
   no_source_moved g =
-      none_member (λ src. not (same_both same_path (route s src) (route s src)))
+      none_left (λ src. not (same_both same_path (route s src) (route s src)))
       (λ src. ap not (paths_same (route s src) (route s src) refl)) (sources_of g (fact_keys s))
 
   none_of_group : (g : ℕ) → moved_of_group s s g ≡ []
@@ -91,7 +91,7 @@ module _ (s : State) where
   none_by_rps : [] ≡ keys_by_rps s (rps_replaced s s.ranges)
   unfolding keys_by_rps rps_replaced rp_of
   none_by_rps =
-      sym (ap (map (star_key 0)) (none_member (λ g. not (same_option (rp_of s g) (rp_of s g)))
+      sym (ap (map (star_key 0)) (none_left (λ g. not (same_option (rp_of s g) (rp_of s g)))
       (λ g. ap not (options_same (rp_of s g) (rp_of s g) refl)) (groups_of (fact_keys s))))
 
   pub none_by_same_rps : (ranges : List RpRange) → s.ranges ≡ ranges → [] ≡ keys_by_rps s (rps_replaced s ranges)

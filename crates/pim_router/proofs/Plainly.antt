@@ -16,7 +16,7 @@ use Rattle.pim_model.specs.State.{State}
 use Rattle.pim_model.specs.Step.{Answered, outcome_of, step}
 use Rattle.pim_model.specs.Tables.{Table, has_row, row_at}
 use Rattle.pim_locality.specs.Rest.{IsAtRest}
-use Rattle.pim_cached.specs.Decided.{IsDecided, decided as answered, plainly_taken}
+use Rattle.pim_cached.specs.Decided.{IsDecided, decided_by_answers as answered, plainly_taken}
 use Rattle.pim_cached.specs.Kept.{SameDecision}
 use Rattle.pim_cached.proofs.PlainEvents.{plain_is_decided}
 use Rattle.pim_cached.proofs.PlainPackets.{plain_is_stepped, plain_keeps_cache}

@@ -30,7 +30,7 @@ use Rattle.pim_fanout.specs.Laws.{names_of}
 use Rattle.pim_fanout.specs.Refreshing.{Refreshes, touches_in}
 use Rattle.pim_fanout.specs.Named.{keys_of, named_among}
 use Rattle.pim_fanout.specs.declared.before.SourceBefore.{SourceBefore}
-use Rattle.pim_macros.specs.declared.name.SourceGroup.{SourceGroup}
+use Rattle.pim_types.specs.declared.name.SourceGroup.{SourceGroup}
 use Rattle.pim_fanout.proofs.Counts.{costs_few}
 use Rattle.pim_fanout.proofs.Few.{names_are_few}
 use Rattle.pim_fanout.proofs.Shown.{event_shows_rows, firing_shows_rows, present_shows_rows}

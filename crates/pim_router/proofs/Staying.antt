@@ -22,13 +22,14 @@ use Rattle.pim_locality.specs.Locality.{IsQuiet, touching}
 use Rattle.pim_locality.specs.Rest.{IsAtRest}
 use Rattle.pim_locality.specs.Scopes.{reads}
 use Rattle.pim_reach.specs.Keeps.{KeepsAnswers}
-use Rattle.pim_reach.specs.Named.{is_named, is_same_beside, is_same_fact, is_same_sight}
+use Rattle.pim_reach.specs.Named.{is_source_named, is_same_beside, is_same_fact, is_same_sight}
 use Rattle.pim_reach.proofs.Configured.{configured_beside}
 use Rattle.pim_reach.proofs.Kept.{unnamed_keeps}
 use Rattle.pim_reach.proofs.Reached.{IsConfigured}
-use Rattle.pim_reach.proofs.SameRows.{both_of, flags, not_false}
+use Rattle.pim_locality.proofs.SameRows.{flags}
+use Rattle.pim_reach.proofs.SameRows.{both_of, not_false}
 use Rattle.pim_reach.proofs.Settled.{settled_configured}
-use Rattle.pim_adjacent.specs.Adjacent.{AdjoinsAlone, with_neighbours}
+use Rattle.pim_adjacent.specs.Adjacent.{AdjoinsAlone, with_neighbour_rows}
 use Rattle.pim_adjacent.proofs.Stays.{adjoins_stays}
 use Rattle.pim_cached.specs.Decided.{IsDecided}
 use Rattle.pim_cached.specs.Kept.{SameAnswers}
@@ -90,15 +91,15 @@ module _ (s c : State) (quiet : IsQuiet s) (few : length s.configured ≤ 120) (
   last = (settled s (c, messages) w).0
 
   abbrev before : State
-  before = with_neighbours last s.neighbours
+  before = with_neighbour_rows last s.neighbours
 
-  stays_there : (is_named g src s before ≡ false) × (answers before g src ≡ answers last g src)
+  stays_there : (is_source_named g src s before ≡ false) × (answers before g src ≡ answers last g src)
   stays_there = adjoins_stays keys s c quiet adjoins messages w g src out
 
   before_configured : IsConfigured s before
   before_configured =
-      let changed : IsConfigured s (with_neighbours c s.neighbours) =
-      configured_beside keys s (with_neighbours c s.neighbours) adjoins.agrees in
+      let changed : IsConfigured s (with_neighbour_rows c s.neighbours) =
+      configured_beside keys s (with_neighbour_rows c s.neighbours) adjoins.agrees in
       let all : IsConfigured s last =
       settled_configured s (c, messages) w (record { settings = changed.settings; configured = changed.configured }) in
       record { settings = all.settings; configured = all.configured }
@@ -107,9 +108,9 @@ module _ (s c : State) (quiet : IsQuiet s) (few : length s.configured ≤ 120) (
   before_keeps =
       unnamed_keeps g src s before before_configured.settings before_configured.configured few stays_there.0
 
-  same_fact : is_named g src s before ≡ false
+  same_fact : is_source_named g src s before ≡ false
       → has_row s.sources (source_key 0 g src) ≡ has_row last.sources (source_key 0 g src)
-  unfolding is_named
+  unfolding is_source_named
   same_fact e =
       let all : _ = both_of (is_same_fact g src s before && is_same_sight g src s before) (is_same_beside g src s before)
       (not_false _ e) in

@@ -1,3 +1,5 @@
+pub mod Acting
+pub mod Caching
 pub mod Listing
 pub mod Staying
 pub mod Costs

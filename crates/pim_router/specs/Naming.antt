@@ -1,8 +1,5 @@
 -- What is known of what was accepted: its tests passed.
 use Rattle.std.specs.Prelude.{◌<◌, ◌≤◌, ◌≡◌}
-use Rattle.pim_ip.specs.Ipv4.{Packet}
-use Rattle.pim_types.specs.declared.config.IfaceId.{IfaceId}
-use Rattle.pim_wire.specs.Values.{Register}
 use Rattle.pim_mrib.specs.Routes.{RouteTable}
 use Rattle.pim_model.specs.declared.accepted.Accepted.{Accepted}
 use Rattle.pim_model.specs.Judging.{last_moment}
@@ -27,8 +24,3 @@ abbrev pub Brings : Accepted → RouteTable → Type 0
 Brings (Accepted.Routes routes) table = table.routes ≡ routes
 Brings (Accepted.Rps ranges) table = table.ranges ≡ ranges
 Brings _ table = Unit {0}
-
--- it is neither a packet of data nor a Register
-pub record HasNoPacket (a : Accepted) : Type 0 where
-  pub packet : (i : IfaceId) (p : Packet) → ¬ (a ≡ Accepted.Data i p)
-  pub register : (p : Packet) (r : Register) → ¬ (a ≡ Accepted.Register p r)

@@ -9,7 +9,6 @@ use Rattle.pim_types.specs.declared.config.RpRange.{RpRange}
 use Rattle.pim_types.specs.declared.fact.Key.{Key}
 use Rattle.pim_types.specs.declared.timer.Timer.{Timer}
 use Rattle.pim_types.specs.declared.timer.TimerKind.{TimerKind}
-use Rattle.pim_model.specs.declared.accepted.Accepted.{Accepted}
 use Rattle.pim_model.specs.Downstream.{joined_keys, pruned_keys}
 use Rattle.pim_model.specs.Full.{source_is_full}
 use Rattle.pim_model.specs.State.{State}
@@ -34,8 +33,8 @@ use Rattle.pim_world.specs.Visits.{source_nodes, sources_nodes, star_nodes}
 use Rattle.pim_world.specs.declared.touched.Touched.{Touched}
 use Rattle.pim_router.specs.Ends.{touched_by_end}
 use Rattle.pim_router.specs.OtherRoutes.{with_routes}
-use Rattle.pim_router.specs.Planning.{table_of}
-use Rattle.pim_router.specs.declared.plan.Means.{Means}
+use Rattle.pim_router.specs.declared.act.Act.{Act}
+use Rattle.pim_router.specs.declared.act.Control.{Control}
 use Rattle.pim_router.specs.Settling.{cleared_by}
 
 -- ---- what new routes and RP ranges touch
@@ -86,17 +85,20 @@ abbrev pub ranges_nodes : State → Option RouteTable → ℕ
 ranges_nodes s None = 0
 ranges_nodes s (Some table) = replaced_nodes s table.ranges
 
-abbrev pub change_nodes : State → Accepted → Means → ℕ
-change_nodes s (Accepted.Rps ranges) means = ranges_nodes s (table_of means)
-change_nodes s (Accepted.Hello i from hello) means = hello_nodes s i.number from.bits hello
-change_nodes s (Accepted.JoinPruneToMe i m) means =
+abbrev pub control_nodes : State → Control → ℕ
+control_nodes s (Control.Ranges table) = ranges_nodes s table
+control_nodes s (Control.Hello i from hello) = hello_nodes s i.number from.bits hello
+control_nodes s (Control.JoinPruneToMe i m named changes) =
     to_me_nodes s i.number m.holdtime (joined_keys s i.number m) (pruned_keys i.number m)
-change_nodes s (Accepted.JoinPruneSeen i m) means = seen_nodes s i.number m
-change_nodes s (Accepted.Assert i from a) means = asserted_nodes s i.number from.bits a
-change_nodes s (Accepted.Report i records) means = report_seen_nodes s i.number records
-change_nodes s (Accepted.Data i p) means = arrived_nodes s p.destination p.source i.number
-change_nodes s (Accepted.Register p r) means = register_nodes s p r
-change_nodes s _ means = 0
+control_nodes s (Control.JoinPruneSeen i m named) = seen_nodes s i.number m
+control_nodes s (Control.Assert i from a) = asserted_nodes s i.number from.bits a
+control_nodes s (Control.Report i records) = report_seen_nodes s i.number records
+control_nodes s _ = 0
+
+abbrev pub change_nodes : State → Act → ℕ
+change_nodes s (Act.Data i p sight) = arrived_nodes s p.destination p.source i.number
+change_nodes s (Act.Register p r) = register_nodes s p r
+change_nodes s (Act.Control control) = control_nodes s control
 
 -- the end of a timer
 abbrev pub end_nodes : State → TimerKind → Key → ℕ
@@ -131,8 +133,8 @@ followed_alone_nodes group opened s =
 
 -- ---- an event, and a timer's end: what it touches is opened; then comes its own change. What follows isn't counted here.
 
-unfoldable pub taken_nodes : State → Touched → Accepted → Means → ℕ
-taken_nodes s touched a means = opening_nodes s touched + change_nodes s a means
+unfoldable pub taken_nodes : State → Touched → Act → ℕ
+taken_nodes s touched act = opening_nodes s touched + change_nodes s act
 
 unfoldable pub firing_nodes : State → ℕ × Timer → ℕ
 firing_nodes s due =

@@ -11,7 +11,7 @@ use pim_data::is_on_list;
 use pim_macros::SourceSight;
 use pim_macros::asserts::is_infinite;
 use pim_types::fact::{AssertMetric, AssertRole, AssertRow};
-use pim_types::{Addr, IfaceId, Key};
+use pim_types::{Addr, IfaceId, Key, SourceGroup};
 use pim_wire::Assert;
 use pim_world::World;
 
@@ -68,13 +68,10 @@ pub(crate) fn is_assert_known(world: &World, iface: IfaceId, from: Addr, assert:
 
 /// Whether the keepalive timer of the source runs.
 #[tactic(auto, unfolding(pim_model::specs::Sets::is_kept_alive))]
-pub(crate) fn is_kept_alive(world: &World, group: Addr, source: Addr) -> bool
-    ensures { result ≡ is_kept_alive world.now group.bits source.bits }
+pub(crate) fn is_kept_alive(world: &World, name: SourceGroup) -> bool
+    ensures { result ≡ is_kept_alive world.now name.group.bits name.source.bits }
 {
-    match world
-        .store()
-        .source(Key::source(IfaceId::NONE, group, source))
-    {
+    match world.store().source(name.key()) {
         Some(row) => row.keepalive.is_some(),
         None => false,
     }

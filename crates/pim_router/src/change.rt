@@ -1,26 +1,24 @@
-//! The own change of what was accepted.
+//! What an event does by itself.
 ghost use Rattle.std.specs.Prelude.{◌≡◌, ◌≤◌, ◌<◌, IfOk, OnOk};
 ghost use Rattle.pim_data.specs.Visits.{arrived_nodes};
 ghost use Rattle.pim_register.specs.Visits.{register_nodes};
-ghost use Rattle.pim_router.specs.Visits.{change_nodes, ranges_nodes};
+ghost use Rattle.pim_router.specs.Visits.{change_nodes, control_nodes, ranges_nodes};
 ghost use Rattle.pim_trie.specs.Meter.{raised};
 ghost use Rattle.pim_world.specs.Turns.{saying};
 ghost use Rattle.pim_model.specs.Forwarding.{forwarded, register_received};
 ghost use Rattle.pim_model.specs.Registers.{is_null, registered_group, registered_source};
 ghost use Rattle.pim_model.specs.State.{iface_count};
 ghost use Rattle.pim_model.specs.Step.{Change, change, decapsulated, iface_up, packet_forwarded, rps_replaced};
-ghost use Rattle.pim_router.specs.Naming.{HasNoPacket, IsConfigured};
-ghost use Rattle.pim_router.specs.Planning.{HasHeard, HasSomeSight, IsSightOf, Supplies, ranges_by, routes_by, table_of};
+ghost use Rattle.pim_router.specs.Acting.{HasHeard, HasRead, IsSightOf, control_event, event_of, ranges_by, routes_by};
+ghost use Rattle.pim_router.specs.Naming.{IsConfigured};
 ghost use Rattle.pim_router.specs.Sending.{Sends};
-ghost use Rattle.pim_router.specs.declared.plan.Means.{Means as MeansValue};
 
-use crate::plan::{Heard, Means};
+use crate::act::{Act, Control};
 use pim_data::{Leaving, arrived, leave};
 use pim_downstream::take_changes;
 use pim_hello::triggered_end;
 use pim_ip::Ipv4View;
 use pim_macros::SourceSight;
-use pim_model::Accepted;
 use pim_mrib::Mrib;
 use pim_register::register_seen;
 use pim_types::IfaceId;
@@ -85,40 +83,6 @@ fn decapsulate(
     }
 }
 
-impl Means {
-    // What was heard in a Join/Prune.
-    fn heard(&self) -> &Heard
-        requires { HasHeard self.now }
-        ensures { self.now ≡ MeansValue.Heard result.now }
-    {
-        match self {
-            Means::Heard(heard) => heard,
-            Means::Nothing | Means::Sight(_) | Means::Table(_) => unreachable!(),
-        }
-    }
-
-    // The sight of a packet's source.
-    fn sight(&self) -> SourceSight
-        requires { HasSomeSight self.now }
-        ensures { self.now ≡ MeansValue.Sight result }
-    {
-        match self {
-            Means::Sight(sight) => *sight,
-            Means::Nothing | Means::Heard(_) | Means::Table(_) => unreachable!(),
-        }
-    }
-
-    // The table of new routes or RP ranges, none where they are those there are.
-    fn table(self) -> Option<Mrib>
-        ensures { result ≡ table_of self }
-    {
-        match self {
-            Means::Table(table) => Some(table),
-            Means::Nothing | Means::Heard(_) | Means::Sight(_) => None,
-        }
-    }
-}
-
 // The routes of the next table stand in the place of those there are.
 fn take_routes(world: &mut World, next: Option<Mrib>)
     ensures { world.new ≡ record world.old { routes = routes_by world.old next } }
@@ -145,108 +109,101 @@ fn take_ranges(
     }
 }
 
-/// Changes the state by what was accepted, with the means that were planned for it, and tells what leaves of its packet,
-/// if it has one. Where memory is refused, the state may be changed in part.
+/// Does what an event is to do, and tells what leaves of its packet, if it has one. Where memory is refused, the state may be
+/// changed in part.
 pub(crate) fn apply(
     world: &mut World,
     turn: &mut Turn,
     meter: &mut Meter,
-    accepted: &Accepted<'_>,
-    means: Means,
+    act: Act<'_>,
 ) -> Result<Leaving, AllocError>
-    requires configured { IsConfigured world.old accepted.now }
-    requires means { Supplies world.old accepted.now means }
+    requires configured { IsConfigured world.old (event_of world.old act) }
+    requires read { HasRead world.old act }
     ensures sends { IfOk result (λ leaving. Sends leaving world.new turn.old turn.new
-        (change world.old turn.old.draw accepted.now)) }
-    ensures at_least { OnOk result (raised meter.old (change_nodes world.old accepted.now means) ≤ meter.new) }
+        (change world.old turn.old.draw (event_of world.old act.entry))) }
+    ensures at_least { OnOk result (raised meter.old (change_nodes world.old act.entry) ≤ meter.new) }
 {
-    match accepted {
-        Accepted::Data { iface, packet } => {
+    match act {
+        Act::Data {
+            iface,
+            packet,
+            sight,
+        } => {
             // It tells that the interface is below 120.
             world.interfaces().recall_few();
-            forward(world, turn, meter, *iface, packet, means.sight())
+            forward(world, turn, meter, iface, &packet, sight)
         }
-        Accepted::Register { packet, register } => decapsulate(
-            world, turn, meter, packet, register,
-        ),
-        Accepted::Advance { .. }
-        | Accepted::Up { .. }
-        | Accepted::Down { .. }
-        | Accepted::Routes { .. }
-        | Accepted::Rps { .. }
-        | Accepted::Hello { .. }
-        | Accepted::JoinPruneToMe { .. }
-        | Accepted::JoinPruneSeen { .. }
-        | Accepted::Assert { .. }
-        | Accepted::Query { .. }
-        | Accepted::Report { .. }
-        | Accepted::RegisterStop { .. } => {
-            apply_without_packet(world, turn, meter, accepted, means)?;
+        Act::Register { packet, register } => decapsulate(world, turn, meter, &packet, &register),
+        Act::Control(control) => {
+            apply_control(world, turn, meter, control)?;
             Ok(Leaving::nothing(turn.alloc))
         }
     }
 }
 
-// Changes the state by what was accepted that has no packet which goes on.
+// Does what has no packet that goes on.
 #[tactic(auto, unfolding(pim_model::specs::Step::change, pim_model::specs::Downstream::to_me))]
-fn apply_without_packet(
+fn apply_control(
     world: &mut World,
     turn: &mut Turn,
     meter: &mut Meter,
-    accepted: &Accepted<'_>,
-    means: Means,
+    control: Control<'_>,
 ) -> Result<(), AllocError>
-    requires packetless { HasNoPacket accepted.now }
-    requires configured { IsConfigured world.old accepted.now }
-    requires means { Supplies world.old accepted.now means }
-    ensures state { OnOk result (world.new ≡ (change world.old turn.old.draw accepted.now).state) }
-    ensures messages { OnOk result (turn.new ≡ saying turn.old (change world.old turn.old.draw accepted.now).messages) }
-    ensures at_least { OnOk result (raised meter.old (change_nodes world.old accepted.now means) ≤ meter.new) }
+    requires configured { IsConfigured world.old (control_event world.old control) }
+    requires heard { HasHeard world.old control }
+    ensures state { OnOk result (world.new
+        ≡ (change world.old turn.old.draw (control_event world.old control.entry)).state) }
+    ensures messages { OnOk result (turn.new
+        ≡ saying turn.old (change world.old turn.old.draw (control_event world.old control.entry)).messages) }
+    ensures at_least { OnOk result (raised meter.old (control_nodes world.old control.entry) ≤ meter.new) }
 {
-    match accepted {
-        Accepted::Up { iface } => go_up(world, turn, *iface),
-        Accepted::Down { iface } => {
-            world.set_down(*iface, meter);
+    match control {
+        Control::Up { iface } => go_up(world, turn, iface),
+        Control::Down { iface } => {
+            world.set_down(iface, meter);
             Ok(())
         }
-        Accepted::Routes { .. } => {
-            take_routes(world, means.table());
+        Control::Routes { table } => {
+            take_routes(world, table);
             Ok(())
         }
-        Accepted::Rps { .. } => take_ranges(world, turn, meter, means.table()),
-        Accepted::Hello { iface, from, hello } => {
-            pim_hello::received(world, turn, meter, *iface, *from, hello)
+        Control::Ranges { table } => take_ranges(world, turn, meter, table),
+        Control::Hello { iface, from, hello } => {
+            pim_hello::received(world, turn, meter, iface, from, &hello)
         }
-        Accepted::JoinPruneToMe { iface, message } => {
+        Control::JoinPruneToMe {
+            iface,
+            message,
+            named,
+            changes,
+        } => {
             // It tells that the interface is below 120.
             world.interfaces().recall_few();
-            let Heard { named, changes } = means.heard();
-            take_changes(world, meter, *iface, message.holdtime(), named, changes)
+            take_changes(world, meter, iface, message.holdtime(), &named, &changes)
         }
-        Accepted::JoinPruneSeen { iface, message } => {
-            pim_upstream::seen(world, turn, meter, *iface, message, &means.heard().named)
-        }
-        Accepted::Assert {
+        Control::JoinPruneSeen {
+            iface,
+            message,
+            named,
+        } => pim_upstream::seen(world, turn, meter, iface, &message, &named),
+        Control::Assert {
             iface,
             from,
             assert,
         } => {
             world.interfaces().recall_few();
-            pim_asserts::received(world, turn, meter, *iface, *from, assert)
+            pim_asserts::received(world, turn, meter, iface, from, &assert)
         }
-        Accepted::Query { iface, from, query } => {
-            pim_querier::query_seen(world, turn, meter, *iface, *from, query)
+        Control::Query { iface, from, query } => {
+            pim_querier::query_seen(world, turn, meter, iface, from, &query)
         }
-        Accepted::Report { iface, report } => {
+        Control::Report { iface, report } => {
             // It tells that the interface is below 120.
             world.interfaces().recall_few();
-            pim_querier::report_seen(world, turn, meter, *iface, report)
+            pim_querier::report_seen(world, turn, meter, iface, &report)
         }
-        Accepted::RegisterStop { stop, .. } => {
+        Control::RegisterStop { stop, .. } => {
             pim_register::stop_seen(world, turn, meter, stop.group, stop.source)
         }
-        // Time passes by itself, in `advance`.
-        Accepted::Advance { .. } => Ok(()),
-        Accepted::Data { .. } | Accepted::Register { .. } => unreachable!(),
     }
 }

@@ -1,5 +1,5 @@
 //! One event: it is judged; what is accepted changes the state, where there is room for its facts.
-ghost use Rattle.std.specs.Prelude.{◌≡◌, ◌≤◌, ◌<◌, ◌+◌, ◌*◌, [], IfOk, IsOk, IsOkUnless, IsTrue, Ok, OnOk, false, length, true, ℕ};
+ghost use Rattle.std.specs.Prelude.{◌≡◌, ◌≤◌, ◌<◌, [], IfOk, IsOk, IsOkUnless, IsTrue, Ok, OnOk, false, if◌then◌else◌, true};
 ghost use Rattle.pim_fanout.specs.Laws.{names_of};
 ghost use Rattle.pim_fanout.specs.Refreshing.{touches, touches_in};
 ghost use Rattle.pim_fanout.specs.Named.{keys_of};
@@ -12,41 +12,42 @@ ghost use Rattle.pim_model.specs.Reach.{where_accepted};
 ghost use Rattle.pim_model.specs.State.{State};
 ghost use Rattle.pim_model.specs.Step.{change, outcome_of, step, taken, taken_unless_full};
 ghost use Rattle.pim_model.specs.Sure.{needs_no_memory};
-ghost use Rattle.pim_reach.specs.Named.{event_named, named_of};
+ghost use Rattle.pim_reach.specs.Named.{named_of};
 ghost use Rattle.pim_mfc.specs.Kept.{ForwardsAs, decided};
-ghost use Rattle.pim_model.specs.Plain.{fact_key};
+ghost use Rattle.pim_model.specs.Plain.{IsPlainEvent, fact_key};
 ghost use Rattle.pim_model.specs.Tables.{has_row};
-ghost use Rattle.pim_router.specs.Costs.{IsCheap, IsWithinPath};
+ghost use Rattle.pim_router.specs.Acting.{control_event, event_of};
+ghost use Rattle.pim_router.specs.Costs.{IsWithinPath};
 ghost use Rattle.pim_intake.specs.Memory.{is_frame};
 ghost use Rattle.pim_ip.specs.Ipv4.{Packet};
 ghost use Rattle.pim_model.specs.Judging.{judged};
 ghost use Rattle.pim_types.specs.declared.config.IfaceId.{IfaceId as IfaceValue};
-ghost use Rattle.pim_router.specs.Listing.{ListsMore, ListsSame};
+ghost use Rattle.pim_router.specs.Caching.{CacheAfter, CacheFollows};
 ghost use Rattle.pim_router.specs.Naming.{Brings, IsConfigured};
 ghost use Rattle.pim_router.specs.Planning.{Fits};
 ghost use Rattle.pim_router.specs.Settling.{AreNames};
 ghost use Rattle.pim_offload.specs.Staying.{is_rerouting};
-ghost use Rattle.pim_router.specs.Staying.{OffersStay, StaysBeside, disturbed_by};
 ghost use Rattle.pim_router.specs.Stops.{stop_outcome};
 ghost use Rattle.pim_router.specs.Visits.{taken_nodes};
 ghost use Rattle.pim_trie.specs.Meter.{raised};
+ghost use Rattle.pim_world.specs.declared.touched.Touched.{Touched as TouchedValue};
 
+use crate::act::{Act, Control};
 use crate::change::apply;
 use crate::plain::take_plain;
-use crate::plan::{Means, Plan, planned};
+use crate::plan::{Plan, Planning, planned};
 use crate::settle::settle;
 use crate::time::advance;
 use pim_data::Leaving;
 use pim_fanout::{Cache, Gathered};
 use pim_intake::{Admitted, LentEvent, judge};
 use pim_ip::Ipv4View;
-use pim_macros::SourceGroup;
 use pim_messages::Room;
 use pim_mfc::Forward;
 use pim_model::Accepted;
 use pim_mrib::Mrib;
 use pim_trie::Meter;
-use pim_types::{Fault, IfaceId, Outcome, Refusal, Series, Stop, Verdict};
+use pim_types::{Fault, IfaceId, Outcome, Refusal, Series, SourceGroup, Stop, Verdict};
 use pim_world::{Touched, Turn, World};
 use std::alloc::Global;
 
@@ -72,32 +73,31 @@ struct Changed {
     names: Series<SourceGroup>,
 }
 
-// What there is room for, but for time that passes: its own change, what follows of it, and last the packets that go on.
+// What an event does: its own change, what follows of it, and last the packets that go on.
 fn change_world(
     world: &mut World,
     turn: &mut Turn,
     meter: &mut Meter,
-    accepted: &Accepted<'_>,
     touched: &Touched,
-    means: Means,
+    act: Act<'_>,
 ) -> Result<Changed, Fault>
-    requires timeless { (moment : ℕ) → ¬ (accepted.now ≡ Accepted.Advance moment) }
     requires rest { IsAtRest world.old }
     requires begun { turn.old.messages ≡ [] }
-    requires configured { IsConfigured world.old accepted.now }
-    requires plan { Fits world.old accepted.now (record { touched = touched.now; means = means }) }
-    ensures outcome { IfOk result (λ changed. changed.outcome ≡ outcome_of (taken world.old turn.old.draw accepted.now)) }
-    ensures state { OnOk result (world.new ≡ (taken world.old turn.old.draw accepted.now).state) }
-    ensures names { IfOk result (λ changed. AreNames world.old (change world.old turn.old.draw accepted.now).state
+    requires configured { IsConfigured world.old (event_of world.old act) }
+    requires plan { Fits world.old (event_of world.old act) (record { touched = touched.now; act = act }) }
+    ensures outcome { IfOk result (λ changed. changed.outcome
+        ≡ outcome_of (taken world.old turn.old.draw (event_of world.old act.entry))) }
+    ensures state { OnOk result (world.new ≡ (taken world.old turn.old.draw (event_of world.old act.entry)).state) }
+    ensures names { IfOk result (λ changed. AreNames world.old (change world.old turn.old.draw (event_of world.old act.entry)).state
         touched.now (keys_of changed.names)) }
     ensures fault { IsOkUnless result Fault.Memory }
-    ensures at_least { OnOk result (raised meter.old (taken_nodes world.old touched.now accepted.now means) ≤ meter.new) }
+    ensures at_least { OnOk result (raised meter.old (taken_nodes world.old touched.now act.entry) ≤ meter.new) }
 {
     let gathered = Gathered::of(world, turn.alloc, touched, meter)?;
     let Leaving {
         mut copies,
         mut registered,
-    } = apply(world, turn, meter, accepted, means)?;
+    } = apply(world, turn, meter, act)?;
     // It tells that asserts, sources and registers are under keys of their kind.
     world.recall_keyed();
     let count = copies.len() as u32;
@@ -114,36 +114,40 @@ fn change_world(
 }
 
 // Whether the event brings new routes or RP ranges.
-fn is_rerouting(accepted: &Accepted<'_>) -> bool
-    ensures { result ≡ is_rerouting accepted.now }
+fn control_reroutes(control: &Control<'_>) -> bool
+    ensures { (s : State) → result ≡ is_rerouting (control_event s control.now) }
 {
-    match accepted {
-        Accepted::Routes { .. } => true,
-        Accepted::Rps { .. } => true,
-        Accepted::Advance { .. } => false,
-        Accepted::Up { .. } => false,
-        Accepted::Down { .. } => false,
-        Accepted::Hello { .. } => false,
-        Accepted::JoinPruneToMe { .. } => false,
-        Accepted::JoinPruneSeen { .. } => false,
-        Accepted::Assert { .. } => false,
-        Accepted::Query { .. } => false,
-        Accepted::Report { .. } => false,
-        Accepted::Data { .. } => false,
-        Accepted::Register { .. } => false,
-        Accepted::RegisterStop { .. } => false,
+    match control {
+        Control::Routes { .. } => true,
+        Control::Ranges { .. } => true,
+        Control::Up { .. } => false,
+        Control::Down { .. } => false,
+        Control::Hello { .. } => false,
+        Control::JoinPruneToMe { .. } => false,
+        Control::JoinPruneSeen { .. } => false,
+        Control::Assert { .. } => false,
+        Control::Query { .. } => false,
+        Control::Report { .. } => false,
+        Control::RegisterStop { .. } => false,
+    }
+}
+
+// The same of what any event does.
+fn is_rerouting(act: &Act<'_>) -> bool
+    ensures { (s : State) → result ≡ is_rerouting (event_of s act.now) }
+{
+    match act {
+        Act::Data { .. } => false,
+        Act::Register { .. } => false,
+        Act::Control(control) => control_reroutes(control),
     }
 }
 
 // What a change disturbs: new routes and RP ranges touch what has facts alone, and move any source.
-fn disturbed_by(accepted: &Accepted<'_>, touched: Touched) -> Touched
-    ensures { result ≡ disturbed_by accepted.now touched }
+fn disturbed_where(reroutes: bool, touched: Touched) -> Touched
+    ensures { result ≡ (if reroutes then TouchedValue.All else touched) }
 {
-    if is_rerouting(accepted) {
-        Touched::All
-    } else {
-        touched
-    }
+    if reroutes { Touched::All } else { touched }
 }
 
 // The same, and then the rows of the named sources.
@@ -152,70 +156,58 @@ fn take_change(
     cache: &mut Cache,
     turn: &mut Turn,
     meter: &mut Meter,
-    accepted: &Accepted<'_>,
-    plan: Plan,
+    plan: Plan<'_>,
 ) -> Result<Outcome, Fault>
-    requires timeless { (moment : ℕ) → ¬ (accepted.now ≡ Accepted.Advance moment) }
     requires rest { IsAtRest world.old }
     requires shown { ShowsRows cache.old.mfc.rows (cached world.old) }
     requires begun { turn.old.messages ≡ [] }
-    requires configured { IsConfigured world.old accepted.now }
-    requires plan { Fits world.old accepted.now plan }
-    ensures outcome { IfOk result (λ outcome. outcome ≡ outcome_of (taken world.old turn.old.draw accepted.now)) }
-    ensures state { OnOk result (world.new ≡ (taken world.old turn.old.draw accepted.now).state) }
-    ensures shown { OnOk result (ShowsRows cache.new.mfc.rows (cached world.new)) }
+    requires configured { IsConfigured world.old (event_of world.old plan.act) }
+    requires plan { Fits world.old (event_of world.old plan.act) plan }
+    ensures outcome { IfOk result (λ outcome. outcome
+        ≡ outcome_of (taken world.old turn.old.draw (event_of world.old plan.entry.act))) }
+    ensures state { OnOk result (world.new ≡ (taken world.old turn.old.draw (event_of world.old plan.entry.act)).state) }
+    ensures cache { OnOk result (CacheFollows world.old world.new
+        (named_of world.old turn.old.draw (event_of world.old plan.entry.act)) cache.old cache.new) }
     ensures touched { OnOk result (touches cache.new ≡ raised (touches cache.old) (touches_in world.new
-        (names_of world.old (change world.old turn.old.draw accepted.now).state plan.touched))) }
-    ensures few { OnOk result (touches cache.new
-        ≤ touches cache.old + 2 * length (named_of world.old turn.old.draw accepted.now)) }
-    ensures listed { OnOk result (ListsMore cache.old.changed (named_of world.old turn.old.draw accepted.now)
-        cache.new.changed) }
-    ensures stays { (o : State) → StaysBeside cache.old.disturbed o world.old
-        → OnOk result (StaysBeside cache.new.disturbed o world.new) }
+        (names_of world.old (change world.old turn.old.draw (event_of world.old plan.entry.act)).state plan.entry.touched))) }
     ensures fault { IsOkUnless result Fault.Memory }
-    ensures at_least { OnOk result (raised meter.old (taken_nodes world.old plan.touched accepted.now plan.means) ≤ meter.new) }
+    ensures at_least { OnOk result (raised meter.old (taken_nodes world.old plan.entry.touched plan.entry.act) ≤ meter.new) }
 {
     // It tells that there are at most 120 interfaces.
     world.interfaces().recall_few();
-    let Plan { touched, means } = plan;
-    let Changed { outcome, names } = change_world(world, turn, meter, accepted, &touched, means)?;
-    cache.refresh(world, meter, names, disturbed_by(accepted, touched))?;
+    let Plan { touched, act } = plan;
+    let reroutes = is_rerouting(&act);
+    let Changed { outcome, names } = change_world(world, turn, meter, &touched, act)?;
+    cache.refresh(world, meter, names, disturbed_where(reroutes, touched))?;
     Ok(outcome)
 }
 
-// What was accepted. Time needs no plan, since each timer's end has its own; any other event is refused where there is
-// no room for what it names.
+// What was accepted: time passes, and any other event is refused where there is no room for what it names.
 fn take_unless_full(
     world: &mut World,
     cache: &mut Cache,
     turn: &mut Turn,
     meter: &mut Meter,
-    accepted: &Accepted<'_>,
+    accepted: Accepted<'_>,
     table: Mrib,
 ) -> Result<Outcome, Fault>
     requires rest { IsAtRest world.old }
     requires shown { ShowsRows cache.old.mfc.rows (cached world.old) }
     requires begun { turn.old.messages ≡ [] }
-    requires configured { IsConfigured world.old accepted.now }
-    requires table { Brings accepted.now table }
-    ensures outcome { IfOk result (λ outcome. outcome ≡ outcome_of (taken_unless_full world.old turn.old.draw accepted.now)) }
-    ensures state { OnOk result (world.new ≡ (taken_unless_full world.old turn.old.draw accepted.now).state) }
-    ensures shown { OnOk result (ShowsRows cache.new.mfc.rows (cached world.new)) }
-    ensures few { OnOk result (touches cache.new ≤ touches cache.old
-        + 2 * length (where_accepted world.old (named_of world.old turn.old.draw) (Ok accepted.now))) }
-    ensures listed { OnOk result (ListsMore cache.old.changed
-        (where_accepted world.old (named_of world.old turn.old.draw) (Ok accepted.now)) cache.new.changed) }
-    ensures stays { (o : State) → StaysBeside cache.old.disturbed o world.old
-        → OnOk result (StaysBeside cache.new.disturbed o world.new) }
+    requires configured { IsConfigured world.old accepted }
+    requires table { Brings accepted table }
+    ensures outcome { IfOk result (λ outcome. outcome ≡ outcome_of (taken_unless_full world.old turn.old.draw accepted.entry)) }
+    ensures state { OnOk result (world.new ≡ (taken_unless_full world.old turn.old.draw accepted.entry).state) }
+    ensures cache { OnOk result (CacheFollows world.old world.new
+        (where_accepted world.old (named_of world.old turn.old.draw) (Ok accepted.entry)) cache.old cache.new) }
     ensures fault { IsOkUnless result Fault.Memory }
     ensures rises { OnOk result (meter.old ≤ meter.new) }
 {
-    if let Accepted::Advance { moment } = accepted {
-        return advance(world, cache, turn, meter, *moment);
-    }
-    match planned(world, turn, meter, accepted, table)? {
-        Some(plan) => take_change(world, cache, turn, meter, accepted, plan),
-        None => Ok(stopped(turn.alloc, Stop::Refuse(Refusal::Full))),
+    let planning = planned(world, turn, meter, accepted, table)?;
+    match planning {
+        Planning::Time { moment } => advance(world, cache, turn, meter, moment),
+        Planning::Full => Ok(stopped(turn.alloc, Stop::Refuse(Refusal::Full))),
+        Planning::Change(plan) => take_change(world, cache, turn, meter, plan),
     }
 }
 
@@ -234,20 +226,20 @@ fn take_turn(
     world: &mut World,
     cache: &mut Cache,
     event: &LentEvent<'_>,
-    accepted: &Accepted<'_>,
+    accepted: Accepted<'_>,
     table: Mrib,
     meter: &mut Meter,
 ) -> Result<Outcome, Fault>
     requires rest { IsAtRest world.old }
     requires shown { ShowsRows cache.old.mfc.rows (cached world.old) }
-    requires heard { judged world.old event.now.kind ≡ Ok accepted.now }
-    requires table { Brings accepted.now table }
+    requires heard { judged world.old event.now.kind ≡ Ok accepted }
+    requires table { Brings accepted table }
+    requires uncounted { touches cache.old ≡ 0 }
+    requires unlisted { cache.old.changed ≡ [] }
     ensures outcome { IfOk result (λ outcome. outcome ≡ outcome_of (step world.old event.now)) }
     ensures state { OnOk result (world.new ≡ (step world.old event.now).state) }
-    ensures shown { OnOk result (ShowsRows cache.new.mfc.rows (cached world.new)) }
-    ensures few { OnOk result (touches cache.new ≤ touches cache.old + 2 * length (event_named world.old event.now)) }
-    ensures listed { OnOk result (ListsMore cache.old.changed (event_named world.old event.now) cache.new.changed) }
-    ensures stays { OnOk result (OffersStay cache.new.disturbed world.old world.new) }
+    ensures cache { OnOk result ((IsPlainEvent world.old event.now → IsWithinPath meter.new)
+        → CacheAfter world.old event.now world.new cache.new meter.new) }
     ensures fault { IsOkUnless result Fault.Memory }
     ensures rises { OnOk result (meter.old ≤ meter.new) }
 {
@@ -286,61 +278,55 @@ fn take_data(
     world: &mut World,
     cache: &mut Cache,
     event: &LentEvent<'_>,
-    accepted: &Accepted<'_>,
     iface: IfaceId,
-    packet: &Ipv4View<'_>,
+    packet: Ipv4View<'_>,
     meter: &mut Meter,
 ) -> Result<Outcome, Fault>
     requires rest { IsAtRest world.old }
     requires shown { ShowsRows cache.old.mfc.rows (cached world.old) }
-    requires heard { judged world.old event.now.kind ≡ Ok accepted.now }
-    requires data { accepted.now ≡ Accepted.Data iface packet.now }
+    requires heard { judged world.old event.now.kind ≡ Ok (Accepted.Data iface packet) }
     requires below { iface.number < 120 }
     requires uncounted { touches cache.old ≡ 0 }
     requires unlisted { cache.old.changed ≡ [] }
     requires unvisited { meter.old ≡ 0 }
     ensures outcome { IfOk result (λ outcome. outcome ≡ outcome_of (step world.old event.now)) }
     ensures state { OnOk result (world.new ≡ (step world.old event.now).state) }
-    ensures shown { OnOk result (ShowsRows cache.new.mfc.rows (cached world.new)) }
-    ensures cheap { OnOk result (IsCheap world.old event.now meter.new (touches cache.new)) }
-    ensures listed { OnOk result (ListsSame cache.new.changed (event_named world.old event.now)) }
-    ensures stays { OnOk result (OffersStay cache.new.disturbed world.old world.new) }
+    ensures cache { OnOk result (CacheAfter world.old event.now world.new cache.new meter.new) }
     ensures fault { IsOkUnless result Fault.Memory }
     ensures rises { OnOk result (meter.old ≤ meter.new) }
 {
-    match by_row(cache, iface, packet, meter) {
-        Some(forward) => take_plain(room, world, packet, forward, meter),
+    match by_row(cache, iface, &packet, meter) {
+        Some(forward) => take_plain(room, world, &packet, forward, meter),
         // It brings no table.
         None => {
             let table = Mrib::new(room.alloc);
+            let accepted = Accepted::Data { iface, packet };
             take_turn(room, world, cache, event, accepted, table, meter)
         }
     }
 }
 
-// What was accepted that is no packet of data.
+// What was accepted that is no packet of data: a turn like any other. That it is none, which the case of `take_accepted`
+// tells, is the premise of a call of its own, since the prover asks for it where the turn's cost is told.
 fn take_other(
     room: &mut Room,
     world: &mut World,
     cache: &mut Cache,
     event: &LentEvent<'_>,
-    accepted: &Accepted<'_>,
+    accepted: Accepted<'_>,
     table: Mrib,
     meter: &mut Meter,
 ) -> Result<Outcome, Fault>
     requires rest { IsAtRest world.old }
     requires shown { ShowsRows cache.old.mfc.rows (cached world.old) }
-    requires heard { judged world.old event.now.kind ≡ Ok accepted.now }
-    requires table { Brings accepted.now table }
-    requires other { (i : IfaceValue) (p : Packet) → ¬ (accepted.now ≡ Accepted.Data i p) }
+    requires heard { judged world.old event.now.kind ≡ Ok accepted }
+    requires table { Brings accepted table }
+    requires other { (i : IfaceValue) (p : Packet) → ¬ (accepted ≡ Accepted.Data i p) }
     requires uncounted { touches cache.old ≡ 0 }
     requires unlisted { cache.old.changed ≡ [] }
     ensures outcome { IfOk result (λ outcome. outcome ≡ outcome_of (step world.old event.now)) }
     ensures state { OnOk result (world.new ≡ (step world.old event.now).state) }
-    ensures shown { OnOk result (ShowsRows cache.new.mfc.rows (cached world.new)) }
-    ensures cheap { OnOk result (IsCheap world.old event.now meter.new (touches cache.new)) }
-    ensures listed { OnOk result (ListsSame cache.new.changed (event_named world.old event.now)) }
-    ensures stays { OnOk result (OffersStay cache.new.disturbed world.old world.new) }
+    ensures cache { OnOk result (CacheAfter world.old event.now world.new cache.new meter.new) }
     ensures fault { IsOkUnless result Fault.Memory }
     ensures rises { OnOk result (meter.old ≤ meter.new) }
 {
@@ -353,23 +339,20 @@ fn take_accepted(
     world: &mut World,
     cache: &mut Cache,
     event: &LentEvent<'_>,
-    accepted: &Accepted<'_>,
+    accepted: Accepted<'_>,
     table: Mrib,
     meter: &mut Meter,
 ) -> Result<Outcome, Fault>
     requires rest { IsAtRest world.old }
     requires shown { ShowsRows cache.old.mfc.rows (cached world.old) }
-    requires heard { judged world.old event.now.kind ≡ Ok accepted.now }
-    requires table { Brings accepted.now table }
+    requires heard { judged world.old event.now.kind ≡ Ok accepted }
+    requires table { Brings accepted table }
     requires uncounted { touches cache.old ≡ 0 }
     requires unlisted { cache.old.changed ≡ [] }
     requires unvisited { is_frame event.now.kind ≡ true → meter.old ≡ 0 }
     ensures outcome { IfOk result (λ outcome. outcome ≡ outcome_of (step world.old event.now)) }
     ensures state { OnOk result (world.new ≡ (step world.old event.now).state) }
-    ensures shown { OnOk result (ShowsRows cache.new.mfc.rows (cached world.new)) }
-    ensures cheap { OnOk result (IsCheap world.old event.now meter.new (touches cache.new)) }
-    ensures listed { OnOk result (ListsSame cache.new.changed (event_named world.old event.now)) }
-    ensures stays { OnOk result (OffersStay cache.new.disturbed world.old world.new) }
+    ensures cache { OnOk result (CacheAfter world.old event.now world.new cache.new meter.new) }
     ensures fault { IsOkUnless result Fault.Memory }
     ensures rises { OnOk result (meter.old ≤ meter.new) }
 {
@@ -377,7 +360,7 @@ fn take_accepted(
         Accepted::Data { iface, packet } => {
             // It tells that the interface is below 120.
             world.interfaces().recall_few();
-            take_data(room, world, cache, event, accepted, *iface, packet, meter)
+            take_data(room, world, cache, event, iface, packet, meter)
         }
         _ => take_other(room, world, cache, event, accepted, table, meter),
     }
@@ -401,17 +384,14 @@ pub(crate) fn take_in(
     ensures outcome { IfOk result (λ outcome. outcome ≡ outcome_of (step world.old event.now)) }
     ensures state { OnOk result (world.new ≡ (step world.old event.now).state) }
     ensures rest { OnOk result (IsAtRest world.new) }
-    ensures shown { OnOk result (ShowsRows cache.new.mfc.rows (cached world.new)) }
-    ensures cheap { OnOk result (IsCheap world.old event.now meter.new (touches cache.new)) }
-    ensures listed { OnOk result (ListsSame cache.new.changed (event_named world.old event.now)) }
-    ensures stays { OnOk result (OffersStay cache.new.disturbed world.old world.new) }
+    ensures cache { OnOk result (CacheAfter world.old event.now world.new cache.new meter.new) }
     ensures fault { IsOkUnless result Fault.Memory }
     ensures sure { IsTrue (needs_no_memory (step world.old event.now).answer) → IsOk result }
     ensures rises { OnOk result (meter.old ≤ meter.new) }
 {
     match judge(room.alloc, world, event, meter)? {
         Ok(Admitted { accepted, table }) => {
-            take_accepted(room, world, cache, event, &accepted, table, meter)
+            take_accepted(room, world, cache, event, accepted, table, meter)
         }
         Err(stop) => Ok(stopped(room.alloc, stop)),
     }

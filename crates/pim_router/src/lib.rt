@@ -1,6 +1,7 @@
 //! The router: events in, outcomes and packets out, exactly as the written machine has them.
 #![tactic(auto)]
 
+pub mod act;
 mod again;
 pub mod change;
 pub mod event;

@@ -1,7 +1,7 @@
 //! What is planned of an event before its change: whether there is room for the facts that it names, what its change
-//! touches, and what that needs. Each kind of event says all three in one place.
+//! touches, and what it is to do. Each kind of event says all three in one place.
 ghost use Rattle.std.specs.Prelude.{◌≡◌, ◌<◌, ◌≤◌, ◌∷◌, [], IfOk, OnOk, filter, not};
-ghost use Rattle.pim_types.specs.Keys.{is_star, source_key};
+ghost use Rattle.pim_types.specs.Keys.{is_star};
 ghost use Rattle.pim_model.specs.Registers.{registered_group, registered_source};
 ghost use Rattle.pim_model.specs.State.{iface_count};
 ghost use Rattle.pim_model.specs.declared.accepted.Accepted.{Accepted as AcceptedValue};
@@ -12,78 +12,74 @@ ghost use Rattle.pim_downstream.specs.Visits.{named_nodes};
 ghost use Rattle.pim_mrib.specs.Routes.{rp_nodes};
 ghost use Rattle.pim_router.specs.Repeats.{keys_of_packet};
 ghost use Rattle.pim_router.specs.Naming.{Brings, IsConfigured};
-ghost use Rattle.pim_router.specs.Planning.{IsPlanned, IsSightOf};
+ghost use Rattle.pim_router.specs.Planning.{IsPlanned};
 ghost use Rattle.pim_router.specs.Visits.{data_plan_nodes, routes_nodes, rps_nodes};
+ghost use Rattle.pim_router.specs.declared.act.Act.{Act as ActValue};
+ghost use Rattle.pim_router.specs.declared.act.Control.{Control as ControlValue};
+ghost use Rattle.pim_router.specs.declared.plan.Planning.{Planning as PlanningValue};
+ghost use Rattle.pim_world.specs.declared.touched.Touched.{Touched as TouchedValue};
 ghost use Rattle.pim_trie.specs.Meter.{raised};
 
+use crate::act::{Act, Control};
 use crate::again::{is_assert_known, is_kept_alive, moves_end};
 use crate::few::few_or_all;
 use crate::rerouted::{touched_by_routes, touched_by_rps};
 use igmp_wire::{QueryView, ReportView};
-use pim_downstream::{Change, Effect, Named};
+use pim_downstream::{Effect, Named};
 use pim_hello::{hello_keeps_dr, keys_of_hello};
 use pim_ip::Ipv4View;
 use pim_macros::{SourceSight, StarSight};
 use pim_model::Accepted;
 use pim_mrib::Mrib;
 use pim_register::source_is_full;
-use pim_types::{Addr, IfaceId, Key, Route, RpRange, Series};
+use pim_types::{Addr, IfaceId, Key, Route, RpRange, Series, SourceGroup};
 use pim_wire::{Assert, Hello, JoinPruneView, RegisterStop, RegisterView};
 use pim_world::{Meter, Touched, Turn, World};
 use std::alloc::{AllocError, Global};
 
-/// What was heard in a Join/Prune: the keys that it names and, where it is to the router, the rows that it leaves.
+/// The plan of an event that there is room for: what it touches, and what it is to do.
 #[derive(Drop)]
-pub struct Heard {
-    pub named: Named,
-    pub changes: Vec<Change>,
-}
-
-/// What the change of an event needs beside the event.
-#[derive(Drop)]
-pub enum Means {
-    Nothing,
-    /// What was heard in a Join/Prune.
-    Heard(Heard),
-    /// What the macros of a packet's source read.
-    Sight(SourceSight),
-    /// The table of new routes or new RP ranges, where they aren't those there are.
-    Table(Mrib),
-}
-
-/// What is planned of an event that there is room for.
-#[derive(Drop)]
-pub struct Plan {
+pub struct Plan<'a> {
     pub touched: Touched,
-    pub means: Means,
+    pub act: Act<'a>,
 }
 
-impl Plan {
+/// What is planned of an event.
+#[derive(Drop)]
+pub enum Planning<'a> {
+    /// Time passes until the moment (ms): the end of each timer is planned by itself.
+    Time { moment: u64 },
+    /// There is no room for the facts that the event names.
+    Full,
+    Change(Plan<'a>),
+}
+
+impl<'a> Planning<'a> {
     // All may be touched, by an event that makes no facts.
-    fn of_all() -> Plan
-        ensures { result ≡ record { touched = Touched.All; means = Means.Nothing } }
+    fn of_all(act: Act<'a>) -> Planning<'a>
+        ensures { result ≡ PlanningValue.Change (record { touched = TouchedValue.All; act = act.entry }) }
     {
-        Plan {
+        Planning::Change(Plan {
             touched: Touched::All,
-            means: Means::Nothing,
-        }
+            act,
+        })
     }
 
     // Nothing is touched.
-    fn of_nothing(alloc: Global) -> Plan
-        ensures { result ≡ record { touched = Touched.Keys []; means = Means.Nothing } }
+    fn of_nothing(alloc: Global, act: Act<'a>) -> Planning<'a>
+        ensures { result ≡ PlanningValue.Change (record { touched = TouchedValue.Keys []; act = act.entry }) }
     {
-        Plan::of_keys(Series::new(alloc))
+        Planning::of_keys(Series::new(alloc), act)
     }
 
     // These keys are touched.
-    fn of_keys(keys: Series<Key>) -> Plan
-        ensures { result ≡ record { touched = Touched.Keys keys; means = Means.Nothing } }
+    fn of_keys(keys: Series<Key>, act: Act<'a>) -> Planning<'a>
+        ensures { result ≡ PlanningValue.Change (record { touched = TouchedValue.Keys keys; act = act.entry }) }
     {
-        Plan {
+        Planning::Change(Plan {
             touched: Touched::Keys(keys),
-            means: Means::Nothing,
-        }
+            act,
+        })
     }
 }
 
@@ -111,128 +107,150 @@ fn only(alloc: Global, key: Key) -> Result<Series<Key>, AllocError>
 
 // A Hello that says no more of its neighbour than that it lasts touches nothing, another what looks to it, or all where it
 // changes whether the router is the DR.
-fn plan_hello(
+fn plan_hello<'a>(
     world: &World,
     turn: &Turn,
     meter: &mut Meter,
     iface: IfaceId,
     from: Addr,
-    hello: &Hello,
-) -> Result<Option<Plan>, AllocError>
+    hello: Hello,
+) -> Result<Planning<'a>, AllocError>
     requires { IsAtRest world.now }
-    ensures plan { IfOk result (λ plan. IsPlanned world.now (AcceptedValue.Hello iface from hello.now) plan) }
+    ensures plan { IfOk result (λ planning. IsPlanned world.now (AcceptedValue.Hello iface from hello) planning) }
     ensures rises { OnOk result (meter.old ≤ meter.new) }
 {
-    if pim_hello::is_full(world, iface, from, hello) {
-        return Ok(None);
+    if pim_hello::is_full(world, iface, from, &hello) {
+        return Ok(Planning::Full);
     }
-    if world.neighbours().is_refreshed(iface, from, hello) {
-        return Ok(Some(Plan::of_nothing(turn.alloc)));
+    if world.neighbours().is_refreshed(iface, from, &hello) {
+        let act = Act::Control(Control::Hello { iface, from, hello });
+        return Ok(Planning::of_nothing(turn.alloc, act));
     }
-    if hello_keeps_dr(world, iface, from, hello) {
-        let touched = few_or_all(keys_of_hello(world, turn, meter, iface, from, hello)?);
-        let means = Means::Nothing;
-        return Ok(Some(Plan { touched, means }));
+    if hello_keeps_dr(world, iface, from, &hello) {
+        let touched = few_or_all(keys_of_hello(world, turn, meter, iface, from, &hello)?);
+        let act = Act::Control(Control::Hello { iface, from, hello });
+        return Ok(Planning::Change(Plan { touched, act }));
     }
-    Ok(Some(Plan::of_all()))
+    Ok(Planning::of_all(Act::Control(Control::Hello { iface, from, hello })))
 }
 
 // A Join/Prune to the router touches the keys of which it moves more than an end.
-fn plan_join_prune(
+fn plan_join_prune<'a>(
     world: &World,
     turn: &Turn,
     meter: &mut Meter,
     iface: IfaceId,
-    message: &JoinPruneView<'_>,
-) -> Result<Option<Plan>, AllocError>
+    message: JoinPruneView<'a>,
+) -> Result<Planning<'a>, AllocError>
     requires { IsAtRest world.now }
-    ensures plan { IfOk result (λ plan. IsPlanned world.now (AcceptedValue.JoinPruneToMe iface message.now) plan) }
-    ensures at_least { OnOk result (raised meter.old (named_nodes world.now message.now) ≤ meter.new) }
+    ensures plan { IfOk result (λ planning. IsPlanned world.now (AcceptedValue.JoinPruneToMe iface message.entry) planning) }
+    ensures at_least { OnOk result (raised meter.old (named_nodes world.now message.entry) ≤ meter.new) }
 {
-    let named = Named::of(world, turn, meter, iface, message)?;
+    let named = Named::of(world, turn, meter, iface, &message)?;
     let holdtime = message.holdtime();
     if pim_downstream::is_full(world, turn, holdtime, &named)? {
-        return Ok(None);
+        return Ok(Planning::Full);
     }
     let Effect { changes, moved } = Effect::of(world, turn, iface, holdtime, &named)?;
-    let touched = Touched::Keys(moved);
-    let means = Means::Heard(Heard { named, changes });
-    Ok(Some(Plan { touched, means }))
+    let control = Control::JoinPruneToMe {
+        iface,
+        message,
+        named,
+        changes,
+    };
+    Ok(Planning::of_keys(moved, Act::Control(control)))
 }
 
 // A Join/Prune to another router makes no more than override timers: they may be the first facts of the sources that it
 // prunes.
-fn plan_seen(
+fn plan_seen<'a>(
     world: &World,
     turn: &Turn,
     meter: &mut Meter,
     iface: IfaceId,
-    message: &JoinPruneView<'_>,
-) -> Result<Option<Plan>, AllocError>
-    ensures plan { IfOk result (λ plan. IsPlanned world.now (AcceptedValue.JoinPruneSeen iface message.now) plan) }
-    ensures at_least { OnOk result (raised meter.old (named_nodes world.now message.now) ≤ meter.new) }
+    message: JoinPruneView<'a>,
+) -> Result<Planning<'a>, AllocError>
+    ensures plan { IfOk result (λ planning. IsPlanned world.now (AcceptedValue.JoinPruneSeen iface message.entry) planning) }
+    ensures at_least { OnOk result (raised meter.old (named_nodes world.now message.entry) ≤ meter.new) }
 {
-    let named = Named::of(world, turn, meter, iface, message)?;
-    let touched = Touched::Keys(of_sources(turn.alloc, &named.pruned)?);
-    let changes = Vec::new(turn.alloc);
-    let means = Means::Heard(Heard { named, changes });
-    Ok(Some(Plan { touched, means }))
+    let named = Named::of(world, turn, meter, iface, &message)?;
+    let keys = of_sources(turn.alloc, &named.pruned)?;
+    let control = Control::JoinPruneSeen {
+        iface,
+        message,
+        named,
+    };
+    Ok(Planning::of_keys(keys, Act::Control(control)))
+}
+
+// What an Assert does.
+fn assert_act<'a>(iface: IfaceId, from: Addr, assert: Assert) -> Act<'a>
+    ensures { result ≡ ActValue.Control (ControlValue.Assert iface from assert) }
+{
+    Act::Control(Control::Assert {
+        iface,
+        from,
+        assert,
+    })
 }
 
 // An Assert touches the keys of the asserts that it names, or none where the known winner says again what it said.
-fn plan_assert(
+fn plan_assert<'a>(
     world: &World,
     turn: &Turn,
     iface: IfaceId,
     from: Addr,
-    assert: &Assert,
-) -> Result<Option<Plan>, AllocError>
+    assert: Assert,
+) -> Result<Planning<'a>, AllocError>
     requires { IsAtRest world.now }
-    ensures { IfOk result (λ plan. IsPlanned world.now (AcceptedValue.Assert iface from assert.now) plan) }
+    ensures { IfOk result (λ planning. IsPlanned world.now (AcceptedValue.Assert iface from assert) planning) }
 {
-    if pim_asserts::is_full(world, iface, assert) {
-        return Ok(None);
+    if pim_asserts::is_full(world, iface, &assert) {
+        return Ok(Planning::Full);
     }
-    if is_assert_known(world, iface, from, assert) {
-        return Ok(Some(Plan::of_nothing(turn.alloc)));
+    if is_assert_known(world, iface, from, &assert) {
+        return Ok(Planning::of_nothing(turn.alloc, assert_act(iface, from, assert)));
     }
-    let keys = pim_asserts::named_keys(turn.alloc, iface, assert)?;
-    Ok(Some(Plan::of_keys(keys)))
+    let keys = pim_asserts::named_keys(turn.alloc, iface, &assert)?;
+    Ok(Planning::of_keys(keys, assert_act(iface, from, assert)))
 }
 
 // A query touches nothing, and makes no facts: the timers that it lowers run on.
-fn plan_query(
+fn plan_query<'a>(
     world: &World,
     turn: &Turn,
     iface: IfaceId,
     from: Addr,
-    query: &QueryView<'_>,
-) -> Option<Plan>
-    ensures { IsPlanned world.now (AcceptedValue.Query iface from query.now) result }
+    query: QueryView<'a>,
+) -> Planning<'a>
+    ensures { IsPlanned world.now (AcceptedValue.Query iface from query.entry) result }
 {
-    Some(Plan::of_nothing(turn.alloc))
+    Planning::of_nothing(
+        turn.alloc,
+        Act::Control(Control::Query { iface, from, query }),
+    )
 }
 
 // A report whose groups keep their modes touches the sources that it moves, any other the groups and the sources that it
 // names.
-fn plan_report(
+fn plan_report<'a>(
     world: &World,
     turn: &Turn,
     iface: IfaceId,
-    report: &ReportView<'_>,
-) -> Result<Option<Plan>, AllocError>
+    report: ReportView<'a>,
+) -> Result<Planning<'a>, AllocError>
     requires { IsAtRest world.now }
-    ensures { IfOk result (λ plan. IsPlanned world.now (AcceptedValue.Report iface report.now) plan) }
+    ensures { IfOk result (λ planning. IsPlanned world.now (AcceptedValue.Report iface report.entry) planning) }
 {
-    if pim_querier::is_full(world, turn.alloc, iface, report)? {
-        return Ok(None);
+    if pim_querier::is_full(world, turn.alloc, iface, &report)? {
+        return Ok(Planning::Full);
     }
-    if pim_querier::all_keep_modes(world, iface, report) {
-        let moved = pim_querier::moved_sources(world, turn.alloc, iface, report)?;
-        return Ok(Some(Plan::of_keys(moved)));
+    if pim_querier::all_keep_modes(world, iface, &report) {
+        let moved = pim_querier::moved_sources(world, turn.alloc, iface, &report)?;
+        return Ok(Planning::of_keys(moved, Act::Control(Control::Report { iface, report })));
     }
-    let keys = pim_querier::named_keys(turn.alloc, iface, report)?;
-    Ok(Some(Plan::of_keys(keys)))
+    let keys = pim_querier::named_keys(turn.alloc, iface, &report)?;
+    Ok(Planning::of_keys(keys, Act::Control(Control::Report { iface, report })))
 }
 
 // The keys that a packet of data may touch: its source, and its group where it may make an assert of (*,G).
@@ -248,7 +266,11 @@ fn packet_keys(
         ≡ packet_keys world.now sight.now.star.group.bits sight.now.source.bits iface.number) }
 {
     let mut keys = Vec::new(alloc);
-    keys.push(Key::source(IfaceId::NONE, sight.star.group, sight.source))?;
+    let name = SourceGroup {
+        source: sight.source,
+        group: sight.star.group,
+    };
+    keys.push(name.key())?;
     if !(sight.star.is_rpf_interface(iface) || sight.spt) {
         keys.push(Key::group(sight.star.group))?;
     }
@@ -274,165 +296,175 @@ fn keys_of_packet(
 }
 
 // A packet of data goes by the sight of its source.
-fn plan_data(
+fn plan_data<'a>(
     world: &World,
     turn: &Turn,
     meter: &mut Meter,
     iface: IfaceId,
-    packet: &Ipv4View<'_>,
-) -> Result<Option<Plan>, AllocError>
+    packet: Ipv4View<'a>,
+) -> Result<Planning<'a>, AllocError>
     requires rest { IsAtRest world.now }
     requires configured { iface.number < iface_count world.now }
-    ensures plan { IfOk result (λ plan. IsPlanned world.now (AcceptedValue.Data iface packet.now) plan) }
-    ensures at_least { OnOk result (raised meter.old (data_plan_nodes world.now packet.now) ≤ meter.new) }
+    ensures plan { IfOk result (λ planning. IsPlanned world.now (AcceptedValue.Data iface packet.entry) planning) }
+    ensures at_least { OnOk result (raised meter.old (data_plan_nodes world.now packet.entry) ≤ meter.new) }
 {
     let (group, source) = (packet.destination(), packet.source());
     if source_is_full(world, group, source) {
-        return Ok(None);
+        return Ok(Planning::Full);
     }
     // It tells that the interface is below 120.
     world.interfaces().recall_few();
     let star = StarSight::of(world, group, meter);
     let sight = SourceSight::of(world, star, source, meter);
-    let touched = Touched::Keys(keys_of_packet(world, turn.alloc, iface, &sight)?);
-    let means = Means::Sight(sight);
-    Ok(Some(Plan { touched, means }))
+    let keys = keys_of_packet(world, turn.alloc, iface, &sight)?;
+    let act = Act::Data {
+        iface,
+        packet,
+        sight,
+    };
+    Ok(Planning::of_keys(keys, act))
 }
 
-// The key of the source that a Register names.
-fn registered_key(register: &RegisterView<'_>) -> Key
-    ensures { result ≡ source_key 0 (registered_group register.now) (registered_source register.now) }
+// The source that a Register names.
+fn registered_name(register: &RegisterView<'_>) -> SourceGroup
+    ensures group { result.group.bits ≡ registered_group register.now }
+    ensures source { result.source.bits ≡ registered_source register.now }
 {
-    Key::source(IfaceId::NONE, register.group(), register.source())
+    SourceGroup {
+        source: register.source(),
+        group: register.group(),
+    }
 }
 
 // A Register touches the source of its packet, or nothing where that is kept alive.
-fn plan_register(
+fn plan_register<'a>(
     world: &World,
     turn: &Turn,
     meter: &mut Meter,
-    packet: &Ipv4View<'_>,
-    register: &RegisterView<'_>,
-) -> Result<Option<Plan>, AllocError>
+    packet: Ipv4View<'a>,
+    register: RegisterView<'a>,
+) -> Result<Planning<'a>, AllocError>
     requires { IsAtRest world.now }
-    ensures plan { IfOk result (λ plan. IsPlanned world.now (AcceptedValue.Register packet.now register.now) plan) }
-    ensures at_least { OnOk result (raised meter.old (rp_nodes world.now.ranges (registered_group register.now)) ≤ meter.new) }
+    ensures plan { IfOk result (λ planning. IsPlanned world.now (AcceptedValue.Register packet.entry register.entry) planning) }
+    ensures at_least { OnOk result (raised meter.old (rp_nodes world.now.ranges (registered_group register.entry)) ≤ meter.new) }
 {
-    if pim_register::is_full(world, meter, packet, register) {
-        return Ok(None);
+    if pim_register::is_full(world, meter, &packet, &register) {
+        return Ok(Planning::Full);
     }
-    if is_kept_alive(world, register.group(), register.source()) {
-        return Ok(Some(Plan::of_nothing(turn.alloc)));
+    let name = registered_name(&register);
+    if is_kept_alive(world, name) {
+        return Ok(Planning::of_nothing(turn.alloc, Act::Register { packet, register }));
     }
-    let keys = only(turn.alloc, registered_key(register))?;
-    Ok(Some(Plan::of_keys(keys)))
+    let keys = only(turn.alloc, name.key())?;
+    Ok(Planning::of_keys(keys, Act::Register { packet, register }))
 }
 
 // A Register-Stop touches the source that it names, and makes no facts.
-fn plan_stop(
+fn plan_stop<'a>(
     world: &World,
     turn: &Turn,
     from: Addr,
-    stop: &RegisterStop,
-) -> Result<Option<Plan>, AllocError>
-    ensures { IfOk result (λ plan. IsPlanned world.now (AcceptedValue.RegisterStop from stop.now) plan) }
+    stop: RegisterStop,
+) -> Result<Planning<'a>, AllocError>
+    ensures { IfOk result (λ planning. IsPlanned world.now (AcceptedValue.RegisterStop from stop) planning) }
 {
-    let keys = only(
-        turn.alloc,
-        Key::source(IfaceId::NONE, stop.group, stop.source),
-    )?;
-    Ok(Some(Plan::of_keys(keys)))
+    let stopped = SourceGroup {
+        source: stop.source,
+        group: stop.group,
+    };
+    let keys = only(turn.alloc, stopped.key())?;
+    Ok(Planning::of_keys(keys, Act::Control(Control::RegisterStop { from, stop })))
 }
 
 // New routes touch what they move, and make no facts. Where they are those there are, nothing is asked.
-fn plan_routes(
+fn plan_routes<'a>(
     world: &World,
     turn: &Turn,
     meter: &mut Meter,
     routes: &[Route],
     next: Mrib,
-) -> Result<Option<Plan>, AllocError>
+) -> Result<Planning<'a>, AllocError>
     requires { next.routes ≡ routes.now }
-    ensures plan { IfOk result (λ plan. IsPlanned world.now (AcceptedValue.Routes routes.now) plan) }
+    ensures plan { IfOk result (λ planning. IsPlanned world.now (AcceptedValue.Routes routes.now) planning) }
     ensures same { world.now.routes ≡ routes.now → meter.new ≡ meter.old }
     ensures at_least { OnOk result (¬ (world.now.routes ≡ routes.now)
         → raised meter.old (routes_nodes world.now routes.now) ≤ meter.new) }
     ensures rises { OnOk result (meter.old ≤ meter.new) }
 {
     if world.has_routes(routes) {
-        return Ok(Some(Plan::of_nothing(turn.alloc)));
+        let act = Act::Control(Control::Routes { table: None });
+        return Ok(Planning::of_nothing(turn.alloc, act));
     }
     let touched = touched_by_routes(world, turn.alloc, meter, &next)?;
-    let means = Means::Table(next);
-    Ok(Some(Plan { touched, means }))
+    let act = Act::Control(Control::Routes { table: Some(next) });
+    Ok(Planning::Change(Plan { touched, act }))
 }
 
 // So do new RP ranges.
-fn plan_rps(
+fn plan_rps<'a>(
     world: &World,
     turn: &Turn,
     meter: &mut Meter,
     ranges: &[RpRange],
     next: Mrib,
-) -> Result<Option<Plan>, AllocError>
+) -> Result<Planning<'a>, AllocError>
     requires { next.ranges ≡ ranges.now }
-    ensures plan { IfOk result (λ plan. IsPlanned world.now (AcceptedValue.Rps ranges.now) plan) }
+    ensures plan { IfOk result (λ planning. IsPlanned world.now (AcceptedValue.Rps ranges.now) planning) }
     ensures same { world.now.ranges ≡ ranges.now → meter.new ≡ meter.old }
     ensures visited { OnOk result (¬ (world.now.ranges ≡ ranges.now)
         → meter.new ≡ raised meter.old (rps_nodes world.now ranges.now)) }
     ensures rises { OnOk result (meter.old ≤ meter.new) }
 {
     if world.has_ranges(ranges) {
-        return Ok(Some(Plan::of_nothing(turn.alloc)));
+        let act = Act::Control(Control::Ranges { table: None });
+        return Ok(Planning::of_nothing(turn.alloc, act));
     }
     let touched = touched_by_rps(world, turn.alloc, meter, &next)?;
-    let means = Means::Table(next);
-    Ok(Some(Plan { touched, means }))
+    let act = Act::Control(Control::Ranges { table: Some(next) });
+    Ok(Planning::Change(Plan { touched, act }))
 }
 
-/// The plan of an event whose bytes and interface passed their tests, with the table of the routes or RP ranges that it brings;
-/// none where there is no room for the facts that it names.
-pub(crate) fn planned(
+/// What is planned of an event whose bytes and interface passed their tests, with the table of the routes or RP ranges that it
+/// brings.
+pub(crate) fn planned<'a>(
     world: &World,
     turn: &Turn,
     meter: &mut Meter,
-    accepted: &Accepted<'_>,
+    accepted: Accepted<'a>,
     table: Mrib,
-) -> Result<Option<Plan>, AllocError>
+) -> Result<Planning<'a>, AllocError>
     requires rest { IsAtRest world.now }
-    requires configured { IsConfigured world.now accepted.now }
-    requires table { Brings accepted.now table }
-    ensures plan { IfOk result (λ plan. IsPlanned world.now accepted.now plan) }
+    requires configured { IsConfigured world.now accepted }
+    requires table { Brings accepted table }
+    ensures plan { IfOk result (λ planning. IsPlanned world.now accepted.entry planning) }
     ensures rises { OnOk result (meter.old ≤ meter.new) }
 {
     match accepted {
-        Accepted::Advance { .. } | Accepted::Up { .. } | Accepted::Down { .. } => {
-            Ok(Some(Plan::of_all()))
-        }
+        Accepted::Advance { moment } => Ok(Planning::Time { moment }),
+        Accepted::Up { iface } => Ok(Planning::of_all(Act::Control(Control::Up { iface }))),
+        Accepted::Down { iface } => Ok(Planning::of_all(Act::Control(Control::Down { iface }))),
         Accepted::Routes { routes } => plan_routes(world, turn, meter, routes.as_slice(), table),
         Accepted::Rps { ranges } => plan_rps(world, turn, meter, ranges.as_slice(), table),
         Accepted::Hello { iface, from, hello } => plan_hello(
-            world, turn, meter, *iface, *from, hello,
+            world, turn, meter, iface, from, hello,
         ),
         Accepted::JoinPruneToMe { iface, message } => plan_join_prune(
-            world, turn, meter, *iface, message,
+            world, turn, meter, iface, message,
         ),
-        Accepted::JoinPruneSeen { iface, message } => plan_seen(
-            world, turn, meter, *iface, message,
-        ),
+        Accepted::JoinPruneSeen { iface, message } => plan_seen(world, turn, meter, iface, message),
         Accepted::Assert {
             iface,
             from,
             assert,
-        } => plan_assert(world, turn, *iface, *from, assert),
+        } => plan_assert(world, turn, iface, from, assert),
         Accepted::Query { iface, from, query } => {
-            Ok(plan_query(world, turn, *iface, *from, query))
+            Ok(plan_query(world, turn, iface, from, query))
         }
-        Accepted::Report { iface, report } => plan_report(world, turn, *iface, report),
-        Accepted::Data { iface, packet } => plan_data(world, turn, meter, *iface, packet),
+        Accepted::Report { iface, report } => plan_report(world, turn, iface, report),
+        Accepted::Data { iface, packet } => plan_data(world, turn, meter, iface, packet),
         Accepted::Register { packet, register } => plan_register(
             world, turn, meter, packet, register,
         ),
-        Accepted::RegisterStop { from, stop } => plan_stop(world, turn, *from, stop),
+        Accepted::RegisterStop { from, stop } => plan_stop(world, turn, from, stop),
     }
 }

@@ -14,12 +14,12 @@ ghost use Rattle.pim_offrow.specs.Shown.{TellsOffload};
 
 use pim_fanout::Cache;
 use pim_ip::{ControlHeader, write_header};
-use pim_macros::{Evaluations, SourceGroup, row};
+use pim_macros::{Evaluations, row};
 use pim_messages::Room;
 use pim_offrow::Offered;
 use pim_register::source_is_full;
 use pim_trie::Meter;
-use pim_types::{IfaceId, Key};
+use pim_types::SourceGroup;
 use pim_world::World;
 use std::alloc::AllocError;
 
@@ -51,8 +51,7 @@ pub(crate) fn offer(world: &World, cache: &Cache, name: SourceGroup) -> Option<O
 fn keepalive_end(world: &World, name: SourceGroup) -> Option<u64>
     ensures { result ≡ keepalive_end world.now name.group.bits name.source.bits }
 {
-    let key = Key::source(IfaceId::NONE, name.group, name.source);
-    world.store().source(key)?.keepalive
+    world.store().source(name.key())?.keepalive
 }
 
 // KAT(S,G), which runs, ends at this moment, in ms. No trie is looked into: the meter stays.
@@ -66,10 +65,8 @@ fn keep_until(
     ensures state { OnOk result (world.new ≡ kept_until world.old name.group.bits name.source.bits end) }
     ensures unvisited { OnOk result (meter.new ≡ meter.old) }
 {
-    let place = world.store().source_place(name.group, name.source);
-    world
-        .store_mut()
-        .keep_alive(name.group, name.source, end, place, meter)
+    let place = world.store().source_place(name);
+    world.store_mut().keep_alive(name, end, place, meter)
 }
 
 /// A packet of the source passed at the moment, in ms: KAT(S,G), where it runs, ends 210 s later, or when it would end after that.

@@ -16,7 +16,7 @@ ghost use Rattle.pim_router.specs.Visits.{both_routes_nodes, both_rps_nodes, mov
 
 use pim_fanout::{is_same_address, is_same_path};
 use pim_mrib::Mrib;
-use pim_types::{Addr, IfaceId, Key, Series};
+use pim_types::{Addr, Key, Series, SourceGroup};
 use pim_world::{Meter, Touched, World};
 use std::alloc::{AllocError, Global};
 use std::collections::BTreeMap;
@@ -70,7 +70,11 @@ fn put_sources(
 {
     for (source, ()) in sources.iter() {
         if has_other_route(world, meter, next, *source) {
-            keys.push(Key::source(IfaceId::NONE, group, *source))?;
+            let name = SourceGroup {
+                source: *source,
+                group,
+            };
+            keys.push(name.key())?;
         }
     }
     Ok(())

@@ -36,13 +36,13 @@ use crate::event::take_in;
 use crate::plane::{bare_packet, keep, offer};
 use pim_fanout::Cache;
 use pim_intake::LentEvent;
-use pim_macros::SourceGroup;
 use pim_messages::Room;
 use pim_mfc::CacheRow;
 use pim_offrow::Offered;
 use pim_trie::{Meter, Probes};
 use pim_types::{
-    Addr, Config, Emission, Event, Fault, IfaceId, Outcome, Refusal, Row, Table, Verdict,
+    Addr, Config, Emission, Event, Fault, IfaceId, Outcome, Refusal, Row, SourceGroup, Table,
+    Verdict,
 };
 use pim_world::World;
 use std::alloc::{AllocError, Global};

@@ -2,17 +2,17 @@
 ghost use Rattle.std.specs.Prelude.{◌≡◌, ◌≤◌, ◌++◌, ◌∷◌, [], IfOk, IsOkUnless, IsTrue, OnOk, false};
 ghost use Rattle.pim_fanout.specs.Named.{keys_of};
 ghost use Rattle.pim_ip.specs.declared.fault.Fault.{Fault};
-ghost use Rattle.pim_opening.specs.Seen.{IsSeen, opening_in};
+ghost use Rattle.pim_opening.specs.After.{IsAfter, opening_in};
 ghost use Rattle.pim_opening.specs.Visits.{seen_nodes};
 ghost use Rattle.pim_router.specs.Settling.{AreNamed, cleared_by, followed_by, settled_by};
 ghost use Rattle.pim_router.specs.Visits.{cleared_nodes, followed_alone_nodes, followed_nodes};
 ghost use Rattle.pim_trie.specs.Meter.{raised};
 ghost use Rattle.pim_world.specs.Turns.{saying};
 
-use pim_fanout::{Before, Gathered, named, named_seen};
-use pim_macros::{SourceGroup, SourceSight, StarSight};
-use pim_opening::{GroupOpening, GroupSeen, Opening, SourceOpening, SourceSeen};
-use pim_types::{Emission, Fault, Series};
+use pim_fanout::{Before, Gathered, named, named_by_sights};
+use pim_macros::{SourceSight, StarSight};
+use pim_opening::{GroupAfter, GroupOpening, Opening, SourceAfter, SourceOpening};
+use pim_types::{Emission, Fault, Series, SourceGroup};
 use pim_world::{Meter, Turn, World};
 use std::alloc::AllocError;
 
@@ -54,10 +54,10 @@ fn follow_all(
 }
 
 // The source as it was opened, with its sight.
-fn seen_alone(opened: SourceOpening, sight: &SourceSight) -> SourceSeen
+fn seen_alone(opened: SourceOpening, sight: &SourceSight) -> SourceAfter
     ensures { result ≡ record { opened = opened; sight = sight.now } }
 {
-    SourceSeen {
+    SourceAfter {
         opened,
         sight: *sight,
     }
@@ -86,15 +86,15 @@ fn follow_source(
     pim_register::settle_register(world, meter, &mut sight)?;
     pim_asserts::clear_alone(world, turn, meter, group, opened, &mut sight)?;
     let seen = [seen_alone(opened, &sight)];
-    let names = named_seen(world, turn.alloc, meter, before, &sight.star, &seen)?;
+    let names = named_by_sights(world, turn.alloc, meter, before, &sight.star, &seen)?;
     pim_upstream::changed_alone(world, turn, meter, group, opened, &sight)?;
     Ok(names)
 }
 
 // Whether nothing is to be settled of a group, and nothing must go.
 #[tactic(auto, unfolding(crate::specs::Settling::cleared_by))]
-fn stays(world: &World, seen: &GroupSeen) -> bool
-    requires { IsSeen world.now seen.now }
+fn stays(world: &World, seen: &GroupAfter) -> bool
+    requires { IsAfter world.now seen.now }
     ensures { IsTrue result → cleared_by (opening_in seen.now ∷ []) world.now ≡ (world.now, []) }
 {
     if !pim_register::are_settled(world, seen) {
@@ -111,20 +111,20 @@ fn clear_group(
     meter: &mut Meter,
     opened: &Opening,
     group: &GroupOpening,
-) -> Result<GroupSeen, AllocError>
+) -> Result<GroupAfter, AllocError>
     requires { opened.now ≡ group.now ∷ [] }
     ensures state { OnOk result (world.new ≡ (cleared_by opened.now world.old).0) }
     ensures messages { OnOk result (turn.new ≡ saying turn.old (cleared_by opened.now world.old).1) }
     ensures opening { IfOk result (λ seen. opening_in seen ≡ group.now) }
-    ensures seen { IfOk result (λ seen. IsSeen world.new seen) }
+    ensures seen { IfOk result (λ seen. IsAfter world.new seen) }
     ensures at_least { OnOk result (raised meter.old (seen_nodes world.new group.now) ≤ meter.new) }
 {
-    let seen = GroupSeen::of(world, turn.alloc, group, meter)?;
+    let seen = GroupAfter::of(world, turn.alloc, group, meter)?;
     if stays(world, &seen) {
         return Ok(seen);
     }
     clear(world, turn, meter, opened)?;
-    let anew = GroupSeen::of(world, turn.alloc, group, meter)?;
+    let anew = GroupAfter::of(world, turn.alloc, group, meter)?;
     Ok(anew)
 }
 
@@ -145,28 +145,9 @@ fn follow_group(
 {
     let seen = clear_group(world, turn, meter, opening, group)?;
     let sources = seen.sources.as_slice();
-    let names = named_seen(world, turn.alloc, meter, before, &seen.star, sources)?;
+    let names = named_by_sights(world, turn.alloc, meter, before, &seen.star, sources)?;
     pim_upstream::changed_group(world, turn, meter, &seen)?;
     Ok(names)
-}
-
-// What follows where more than one source of a group, or all of one, was opened.
-fn follow_groups(
-    world: &mut World,
-    turn: &mut Turn,
-    meter: &mut Meter,
-    opening: &Opening,
-    before: &Before,
-) -> Result<Series<SourceGroup>, AllocError>
-    ensures state { OnOk result (world.new ≡ (followed_by opening.now world.old turn.old.draw).0) }
-    ensures messages { OnOk result (turn.new ≡ saying turn.old (followed_by opening.now world.old turn.old.draw).1) }
-    ensures named { IfOk result (λ names. AreNamed before.now (cleared_by opening.now world.old).0 (keys_of names)) }
-    ensures rises { OnOk result (meter.old ≤ meter.new) }
-{
-    let [group] = opening.groups() else {
-        return follow_all(world, turn, meter, opening, before);
-    };
-    follow_group(world, turn, meter, opening, group, before)
 }
 
 // What follows, by comparison with the opening: the registers first, then what must go, then what is told upstream.
@@ -182,10 +163,13 @@ fn follow(
     ensures named { IfOk result (λ names. AreNamed before.now (cleared_by opening.now world.old).0 (keys_of names)) }
     ensures rises { OnOk result (meter.old ≤ meter.new) }
 {
-    match opening.only_source() {
-        Some((group, opened)) => follow_source(world, turn, meter, group, opened, before),
-        None => follow_groups(world, turn, meter, opening, before),
+    if let Some((group, opened)) = opening.only_source() {
+        return follow_source(world, turn, meter, group, opened, before);
     }
+    let [group] = opening.groups() else {
+        return follow_all(world, turn, meter, opening, before);
+    };
+    follow_group(world, turn, meter, opening, group, before)
 }
 
 /// Settles a change: what follows of it, and then the packets of all messages, which go behind the emissions, those of

@@ -1,5 +1,5 @@
 //! Time that passes: timers end one after the other, and what follows of each end is settled before the next one.
-ghost use Rattle.std.specs.Prelude.{◌≡◌, ◌≤◌, ◌+◌, ◌*◌, ◌^◌, ◌++◌, [], IfOk, IsOkUnless, OnOk, length, option_map, true};
+ghost use Rattle.std.specs.Prelude.{◌≡◌, ◌≤◌, ◌^◌, ◌++◌, [], IfOk, IsOkUnless, OnOk, option_map, true};
 ghost use Rattle.pim_fanout.specs.Laws.{names_of};
 ghost use Rattle.pim_fanout.specs.Refreshing.{touches, touches_in};
 ghost use Rattle.pim_fanout.specs.Named.{keys_of};
@@ -16,24 +16,20 @@ ghost use Rattle.pim_router.specs.Visits.{end_nodes, firing_nodes};
 ghost use Rattle.pim_trie.specs.Meter.{raised};
 ghost use Rattle.pim_world.specs.Turns.{saying};
 ghost use Rattle.pim_model.specs.Firing.{fire_all, fire_instant, fire_once, fired};
-ghost use Rattle.pim_model.specs.State.{State};
 ghost use Rattle.pim_model.specs.Step.{advanced, outcome_of};
 ghost use Rattle.pim_model.specs.Timers.{next_due};
 ghost use Rattle.pim_ready.specs.Ready.{IsLawful};
-ghost use Rattle.pim_router.specs.Listing.{ListsMore};
-ghost use Rattle.pim_router.specs.Staying.{StaysBeside};
+ghost use Rattle.pim_router.specs.Caching.{CacheFollows};
 ghost use Rattle.pim_router.specs.Ends.{ending_of, has_other_sources, keeps_group, touched_by_end, touched_by_neighbour, touched_by_source};
 ghost use Rattle.pim_tables.specs.Ends.{due_of};
-ghost use Rattle.pim_types.specs.Keys.{iface_in, source_in};
 
 use crate::few::few_or_all;
 use crate::settle::settle;
 use pim_fanout::{Cache, Gathered};
 use pim_hello::{end_keeps_dr, keys_towards};
-use pim_macros::SourceGroup;
 use pim_messages::Outbox;
 use pim_types::{
-    Addr, Emission, Fault, Hop, IfaceId, Key, Outcome, Series, Timer, TimerKind, Verdict,
+    Emission, Fault, IfaceId, Key, Outcome, Series, SourceGroup, Timer, TimerKind, Verdict,
 };
 use pim_world::{Meter, Touched, Turn, World};
 use std::alloc::AllocError;
@@ -48,11 +44,11 @@ fn next_due(world: &World, moment: u64) -> Option<(u64, Timer)>
 
 // Whether the group's record on the interface has a source beside this one.
 #[tactic(auto, unfolding(crate::specs::Ends::has_other_sources))]
-fn has_other_sources(world: &World, iface: IfaceId, group: Addr, source: Addr) -> bool
-    ensures { result ≡ has_other_sources world.now iface.number group.bits source.bits }
+fn has_other_sources(world: &World, iface: IfaceId, name: SourceGroup) -> bool
+    ensures { result ≡ has_other_sources world.now iface.number name.group.bits name.source.bits }
 {
-    for (key, _) in world.membership().source_records_at(iface, group) {
-        if key.source.unwrap_or(Addr::NONE) != source {
+    for (key, _) in world.membership().source_records_at(iface, name.group) {
+        if key.address() != name.source {
             return true;
         }
     }
@@ -61,10 +57,10 @@ fn has_other_sources(world: &World, iface: IfaceId, group: Addr, source: Addr) -
 
 // Whether the group's own row stays as it is where the timer of this source ends.
 #[tactic(auto, unfolding(crate::specs::Ends::keeps_group))]
-fn keeps_group(world: &World, iface: IfaceId, group: Addr, source: Addr) -> bool
-    ensures { result ≡ keeps_group world.now iface.number group.bits source.bits }
+fn keeps_group(world: &World, iface: IfaceId, name: SourceGroup) -> bool
+    ensures { result ≡ keeps_group world.now iface.number name.group.bits name.source.bits }
 {
-    world.group_end(iface, group).is_some() || has_other_sources(world, iface, group, source)
+    world.group_end(iface, name.group).is_some() || has_other_sources(world, iface, name)
 }
 
 // The key that the end of a source's timer touches: that of the source, or of its group where no other is left.
@@ -72,22 +68,11 @@ fn keeps_group(world: &World, iface: IfaceId, group: Addr, source: Addr) -> bool
 fn touched_by_source(world: &World, key: Key) -> Key
     ensures { result ≡ touched_by_source world.now key }
 {
-    let source = key.source.unwrap_or(Addr::NONE);
-    if keeps_group(world, key.iface, key.group, source) {
-        Key::source(IfaceId::NONE, key.group, source)
+    let name = key.name();
+    if keeps_group(world, key.iface, name) {
+        name.key()
     } else {
         Key::group(key.group)
-    }
-}
-
-// The neighbour whose key it is.
-fn neighbour_of(key: Key) -> Hop
-    ensures iface { result.iface.number ≡ iface_in key }
-    ensures address { result.address.bits ≡ source_in key }
-{
-    Hop {
-        iface: key.iface,
-        address: key.source.unwrap_or(Addr::NONE),
     }
 }
 
@@ -102,7 +87,7 @@ fn touched_by_neighbour(
     ensures rises { OnOk result (meter.old ≤ meter.new) }
 {
     if end_keeps_dr(world, key) {
-        let keys = keys_towards(world, turn, meter, neighbour_of(key))?;
+        let keys = keys_towards(world, turn, meter, key.hop())?;
         return Ok(few_or_all(keys));
     }
     Ok(Touched::All)
@@ -219,16 +204,11 @@ fn fire_once(
     ensures state { OnOk result (world.new ≡ (fire_once turn.old.draw world.old (ending_of due)).0) }
     ensures sent { OnOk result (emissions.new.items
         ≡ emissions.old.items ++ (fire_once turn.old.draw world.old (ending_of due)).1) }
-    ensures shown { OnOk result (ShowsRows cache.new.mfc.rows (cached world.new)) }
+    ensures cache { OnOk result (CacheFollows world.old world.new
+        (named_by world.old (own_firing world.old (ending_of due))) cache.old cache.new) }
     ensures touched { OnOk result (touches cache.new ≡ raised (touches cache.old) (touches_in world.new
         (names_of world.old (own_firing world.old (ending_of due)) (touched_by_end world.old due.1.kind due.1.key)))) }
-    ensures few { OnOk result (touches cache.new
-        ≤ touches cache.old + 2 * length (named_by world.old (own_firing world.old (ending_of due)))) }
-    ensures listed { OnOk result (ListsMore cache.old.changed (named_by world.old (own_firing world.old (ending_of due)))
-        cache.new.changed) }
     ensures draw { OnOk result (turn.new.draw ≡ turn.old.draw) }
-    ensures stays { (o : State) → StaysBeside cache.old.disturbed o world.old
-        → OnOk result (StaysBeside cache.new.disturbed o world.new) }
     ensures fault { IsOkUnless result Fault.Memory }
     ensures at_least { OnOk result (raised meter.old (firing_nodes world.old due) ≤ meter.new) }
 {
@@ -258,14 +238,9 @@ fn fire_instant(
     ensures state { OnOk result (world.new ≡ (fire_instant turn.old.draw world.old (ending_of first)).0) }
     ensures sent { OnOk result (emissions.new.items
         ≡ emissions.old.items ++ (fire_instant turn.old.draw world.old (ending_of first)).1) }
-    ensures shown { OnOk result (ShowsRows cache.new.mfc.rows (cached world.new)) }
-    ensures few { OnOk result (touches cache.new
-        ≤ touches cache.old + 2 * length (told_instant named_by turn.old.draw world.old (ending_of first)).1) }
-    ensures listed { OnOk result (ListsMore cache.old.changed
-        (told_instant named_by turn.old.draw world.old (ending_of first)).1 cache.new.changed) }
+    ensures cache { OnOk result (CacheFollows world.old world.new
+        (told_instant named_by turn.old.draw world.old (ending_of first)).1 cache.old cache.new) }
     ensures draw { OnOk result (turn.new.draw ≡ turn.old.draw) }
-    ensures stays { (o : State) → StaysBeside cache.old.disturbed o world.old
-        → OnOk result (StaysBeside cache.new.disturbed o world.new) }
     ensures fault { IsOkUnless result Fault.Memory }
     ensures rises { OnOk result (meter.old ≤ meter.new) }
 {
@@ -292,13 +267,8 @@ fn fire_all(
     ensures state { OnOk result (world.new ≡ (fire_all turn.old.draw moment world.old).0) }
     ensures sent { OnOk result (emissions.new.items
         ≡ emissions.old.items ++ (fire_all turn.old.draw moment world.old).1) }
-    ensures shown { OnOk result (ShowsRows cache.new.mfc.rows (cached world.new)) }
-    ensures few { OnOk result (touches cache.new
-        ≤ touches cache.old + 2 * length (told_all named_by turn.old.draw moment world.old).1) }
-    ensures listed { OnOk result (ListsMore cache.old.changed (told_all named_by turn.old.draw moment world.old).1
-        cache.new.changed) }
-    ensures stays { (o : State) → StaysBeside cache.old.disturbed o world.old
-        → OnOk result (StaysBeside cache.new.disturbed o world.new) }
+    ensures cache { OnOk result (CacheFollows world.old world.new
+        (told_all named_by turn.old.draw moment world.old).1 cache.old cache.new) }
     ensures fault { IsOkUnless result Fault.Memory }
     ensures rises { OnOk result (meter.old ≤ meter.new) }
 {
@@ -322,13 +292,8 @@ pub(crate) fn advance(
     requires within { moment ≤ 2 ^ 62 }
     ensures outcome { IfOk result (λ outcome. outcome ≡ outcome_of (advanced world.old turn.old.draw moment)) }
     ensures state { OnOk result (world.new ≡ (advanced world.old turn.old.draw moment).state) }
-    ensures shown { OnOk result (ShowsRows cache.new.mfc.rows (cached world.new)) }
-    ensures few { OnOk result (touches cache.new
-        ≤ touches cache.old + 2 * length (told_all named_by turn.old.draw moment world.old).1) }
-    ensures listed { OnOk result (ListsMore cache.old.changed (told_all named_by turn.old.draw moment world.old).1
-        cache.new.changed) }
-    ensures stays { (o : State) → StaysBeside cache.old.disturbed o world.old
-        → OnOk result (StaysBeside cache.new.disturbed o world.new) }
+    ensures cache { OnOk result (CacheFollows world.old world.new
+        (told_all named_by turn.old.draw moment world.old).1 cache.old cache.new) }
     ensures fault { IsOkUnless result Fault.Memory }
     ensures rises { OnOk result (meter.old ≤ meter.new) }
 {

@@ -3,7 +3,7 @@ use Rattle.pim_model.specs.Step.{rps_replaced}
 use Rattle.pim_mrib.specs.Routes.{RouteTable}
 use Rattle.pim_trie.specs.Meter.{raised}
 use Rattle.pim_world.proofs.Visits.{none_visited}
-use Rattle.pim_router.specs.Planning.{ranges_by}
+use Rattle.pim_router.specs.Acting.{ranges_by}
 use Rattle.pim_router.specs.Visits.{ranges_nodes}
 use Rattle.pim_router.proofs.OtherRoutes.{same_rps_replaced}
 use Rattle.pim_router.proofs.change.take_ranges.Goals as goal

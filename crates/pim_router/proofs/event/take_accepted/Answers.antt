@@ -13,3 +13,6 @@ take_data-requires-clause-unvisited c =
     c.requires.unvisited
     (data_is_frame c.args.world.now c.args.event.now.kind c.in-Data.iface c.in-Data.packet
     (c.requires.heard ∙ ap Ok c.in-Data.is))
+
+pub take_data-requires-clause-heard : goal.take_data-requires-clause-heard
+take_data-requires-clause-heard c = c.requires.heard ∙ ap Ok c.in-Data.is

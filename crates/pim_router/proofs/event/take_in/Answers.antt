@@ -31,13 +31,6 @@ returns-in-Ok-clause-sure c =
     accepted_unsurely c.args.world.now c.args.event.now (heard_of c.in_ok-accepted.field-0) c.in-Ok.field-0.accepted
     c.take_accepted.result c.in_ok-accepted.ensures.value (ap heard_of c.in-Ok.is)
 
-pub returns-in-Err-clause-cheap : goal.returns-in-Err-clause-cheap
-returns-in-Err-clause-cheap c =
-    is_cheap c.args.world.now c.requires.rest c.args.event.now c.judge.new.meter (touches c.args.cache.now)
-    (λ is. absurd (stop_isnt_plain c.args.world.now c.args.event.now c.requires.rest c.in-Err.stop
-    (sym c.in_ok-accepted.ensures.value ∙ ap heard_of c.in-Err.is) is))
-    (untouched (touches c.args.cache.now) c.args.world.now c.args.event.now c.requires.uncounted)
-
 pub returns-in-Ok-clause-rises : goal.returns-in-Ok-clause-rises
 returns-in-Ok-clause-rises c =
     on_ok_weaker c.take_accepted.result
@@ -45,16 +38,6 @@ returns-in-Ok-clause-rises c =
 
 pub returns-in-Err-clause-rises : goal.returns-in-Err-clause-rises
 returns-in-Err-clause-rises c = rises_by _ _ _ (at_least_itself _ _ _ c.judge.ensures.visited)
-
-pub returns-in-Err-clause-listed : goal.returns-in-Err-clause-listed
-returns-in-Err-clause-listed c =
-    unlisted c.args.cache.now.changed c.args.world.now c.args.event.now c.requires.unlisted
-    (stopped_names_none c.args.world.now c.args.event.now c.in-Err.stop
-    (sym c.in_ok-accepted.ensures.value ∙ ap heard_of c.in-Err.is))
-
-pub returns-in-Err-clause-stays : goal.returns-in-Err-clause-stays
-returns-in-Err-clause-stays c =
-    offers_the_same c.args.world.now c.args.world.now c.args.cache.now.disturbed refl
 
 pub take_accepted-requires-clause-heard : goal.take_accepted-requires-clause-heard
 take_accepted-requires-clause-heard c = sym c.in_ok-accepted.ensures.value ∙ ap heard_of c.in-Ok.is
@@ -65,3 +48,16 @@ take_accepted-requires-clause-table c =
     (sym c.in_ok-accepted.ensures.value ∙ ap heard_of c.in-Ok.is)
     (subst (λ (j : Result Admitted Stop). IfOk j (λ a. IsTableOf c.args.event.now.kind a.table)) c.in-Ok.is
     c.in_ok-accepted.ensures.table)
+
+pub returns-in-Err-clause-cache : goal.returns-in-Err-clause-cache
+returns-in-Err-clause-cache c = record {
+  shown = c.requires.shown;
+  cheap = is_cheap c.args.world.now c.requires.rest c.args.event.now c.judge.new.meter (touches c.args.cache.now)
+      (λ is. absurd (stop_isnt_plain c.args.world.now c.args.event.now c.requires.rest c.in-Err.stop
+      (sym c.in_ok-accepted.ensures.value ∙ ap heard_of c.in-Err.is) is))
+      (untouched (touches c.args.cache.now) c.args.world.now c.args.event.now c.requires.uncounted);
+  listed = unlisted c.args.cache.now.changed c.args.world.now c.args.event.now c.requires.unlisted
+      (stopped_names_none c.args.world.now c.args.event.now c.in-Err.stop
+      (sym c.in_ok-accepted.ensures.value ∙ ap heard_of c.in-Err.is));
+  stays = offers_the_same c.args.world.now c.args.world.now c.args.cache.now.disturbed refl;
+}

@@ -1,84 +1,94 @@
-use Rattle.std.proofs.Common.{◌≡◌, ◌≤◌, ◌+◌, ◌*◌, true, List, length, IfOk, OnOk, Option, ap, arith, subst, sym, ◌∙◌}
+use Rattle.std.proofs.Common.{◌≡◌, true, List, IfOk, OnOk, ap, arith, subst, sym, ◌∙◌}
 use Rattle.std.proofs.lemmas.Result.{on_ok_weaker}
 use Rattle.pim_types.specs.declared.fact.Key.{Key}
-use Rattle.pim_fanout.specs.Refreshing.{touches}
+use Rattle.pim_model.specs.declared.accepted.Accepted.{Accepted}
 use Rattle.pim_reach.specs.Named.{named_of}
 use Rattle.pim_router.proofs.Rows.{named_in_time, named_with_room}
 use Rattle.pim_model.specs.Full.{is_full}
 use Rattle.pim_model.specs.Step.{Answered, outcome_of, taken, taken_unless_full}
 use Rattle.pim_world.proofs.Visits.{rises_by}
-use Rattle.pim_router.specs.Listing.{ListsMore}
+use Rattle.pim_router.specs.Acting.{event_of}
+use Rattle.pim_router.specs.Caching.{CacheFollows}
 use Rattle.pim_router.proofs.Listing.{named_without_room, nothing_more}
+use Rattle.pim_router.specs.Naming.{IsConfigured}
 use Rattle.pim_router.specs.Planning.{Fits, IsPlanned}
-use Rattle.pim_router.specs.declared.plan.Plan.{Plan}
+use Rattle.pim_router.specs.declared.plan.Planning.{Planning}
 use Rattle.pim_router.proofs.Plans.{time_is_taken, with_room, without_room}
 use Rattle.pim_router.proofs.event.take_unless_full.Goals as goal
 
-pub returns-in-Advance-clause-outcome : goal.returns-in-Advance-clause-outcome
-returns-in-Advance-clause-outcome c =
-    subst (λ (x : Answered). IfOk c.advance.result (λ outcome. outcome ≡ outcome_of x))
-    (time_is_taken c.args.world.now c.args.turn.now.draw c.args.accepted.now c.in-Advance.moment c.in-Advance.is)
-    c.advance.ensures.outcome
+pub advance-requires-clause-within : goal.advance-requires-clause-within
+advance-requires-clause-within c =
+    subst (λ (a : Accepted). IsConfigured c.args.world.now a)
+    (subst (λ (p : Planning). IsPlanned c.args.world.now c.args.accepted p) c.in-Time.is c.in_ok-planning.ensures.plan)
+    c.requires.configured
 
-pub returns-in-Advance-clause-state : goal.returns-in-Advance-clause-state
-returns-in-Advance-clause-state c =
-    subst (λ (x : Answered). OnOk c.advance.result (c.advance.new.world ≡ x.state))
-    (time_is_taken c.args.world.now c.args.turn.now.draw c.args.accepted.now c.in-Advance.moment c.in-Advance.is)
-    c.advance.ensures.state
+pub returns-in-Time : goal.returns-in-Time
+returns-in-Time c =
+    let is : c.args.accepted ≡ Accepted.Advance c.in-Time.moment =
+    subst (λ (p : Planning). IsPlanned c.args.world.now c.args.accepted p) c.in-Time.is c.in_ok-planning.ensures.plan in
+    let same = time_is_taken c.args.world.now c.args.turn.now.draw c.args.accepted c.in-Time.moment is in
+    let named = named_in_time c.args.world.now c.args.turn.now.draw c.args.accepted c.in-Time.moment is in
+    record {
+      outcome = subst (λ (x : Answered). IfOk c.advance.result (λ outcome. outcome ≡ outcome_of x)) same
+          c.advance.ensures.outcome;
+      state = subst (λ (x : Answered). OnOk c.advance.result (c.advance.new.world ≡ x.state)) same
+          c.advance.ensures.state;
+      cache = subst (λ (ks : List Key). OnOk c.advance.result (CacheFollows c.args.world.now c.advance.new.world ks
+          c.args.cache.now c.advance.new.cache)) named c.advance.ensures.cache;
+      fault = c.advance.ensures.fault;
+      rises = on_ok_weaker c.advance.result (λ e. omega (arith, c.in_ok-planning.ensures.rises, e))
+          c.advance.ensures.rises;
+    }
 
-pub returns-in-Advance-clause-few : goal.returns-in-Advance-clause-few
-returns-in-Advance-clause-few c =
-    subst (λ (ks : List Key). OnOk c.advance.result (touches c.advance.new.cache
-    ≤ touches c.args.cache.now + 2 * length ks))
-    (named_in_time c.args.world.now c.args.turn.now.draw c.args.accepted.now c.in-Advance.moment c.in-Advance.is)
-    c.advance.ensures.few
+pub take_change-requires-clause-configured : goal.take_change-requires-clause-configured
+take_change-requires-clause-configured c =
+    let fits : Fits c.args.world.now c.args.accepted c.in-Change.plan =
+    subst (λ (p : Planning). IsPlanned c.args.world.now c.args.accepted p) c.in-Change.is c.in_ok-planning.ensures.plan in
+    subst (λ (a : Accepted). IsConfigured c.args.world.now a) (sym fits.event) c.requires.configured
 
-pub returns-in-Advance-clause-listed : goal.returns-in-Advance-clause-listed
-returns-in-Advance-clause-listed c =
-    subst (λ (ks : List Key). OnOk c.advance.result (ListsMore c.args.cache.now.changed ks c.advance.new.cache.changed))
-    (named_in_time c.args.world.now c.args.turn.now.draw c.args.accepted.now c.in-Advance.moment c.in-Advance.is)
-    c.advance.ensures.listed
+pub take_change-requires-clause-plan : goal.take_change-requires-clause-plan
+take_change-requires-clause-plan c =
+    let fits : Fits c.args.world.now c.args.accepted c.in-Change.plan =
+    subst (λ (p : Planning). IsPlanned c.args.world.now c.args.accepted p) c.in-Change.is c.in_ok-planning.ensures.plan in
+    subst (λ (a : Accepted). Fits c.args.world.now a c.in-Change.plan) (sym fits.event) fits
 
-pub returns-in-Some : goal.returns-in-Some
-returns-in-Some c =
-    let fits : Fits c.args.world.now c.args.accepted.now c.in-Some.plan =
-    subst (λ (p : Option Plan). IsPlanned c.args.world.now c.args.accepted.now p) c.in-Some.is c.in_ok-plan.ensures.plan in
-    let same : taken c.args.world.now c.args.turn.now.draw c.args.accepted.now
-    ≡ taken_unless_full c.args.world.now c.args.turn.now.draw c.args.accepted.now =
-    sym (with_room c.args.world.now c.args.turn.now.draw c.args.accepted.now fits.room) in
+pub returns-in-Change : goal.returns-in-Change
+returns-in-Change c =
+    let fits : Fits c.args.world.now c.args.accepted c.in-Change.plan =
+    subst (λ (p : Planning). IsPlanned c.args.world.now c.args.accepted p) c.in-Change.is c.in_ok-planning.ensures.plan in
+    let same : taken c.args.world.now c.args.turn.now.draw (event_of c.args.world.now c.in-Change.plan.act)
+    ≡ taken_unless_full c.args.world.now c.args.turn.now.draw c.args.accepted =
+    ap (λ (a : Accepted). taken c.args.world.now c.args.turn.now.draw a) fits.event
+    ∙ sym (with_room c.args.world.now c.args.turn.now.draw c.args.accepted fits.room) in
+    let named = ap (λ (a : Accepted). named_of c.args.world.now c.args.turn.now.draw a) fits.event
+    ∙ named_with_room c.args.world.now c.args.turn.now.draw c.args.accepted fits.room in
     record {
       outcome = subst (λ (x : Answered). IfOk c.take_change.result (λ outcome. outcome ≡ outcome_of x)) same
           c.take_change.ensures.outcome;
       state = subst (λ (x : Answered). OnOk c.take_change.result (c.take_change.new.world ≡ x.state)) same
           c.take_change.ensures.state;
-      shown = c.take_change.ensures.shown;
-      few = subst (λ (ks : List Key). OnOk c.take_change.result (touches c.take_change.new.cache
-          ≤ touches c.args.cache.now + 2 * length ks))
-          (named_with_room c.args.world.now c.args.turn.now.draw c.args.accepted.now fits.room)
-          c.take_change.ensures.few;
-      listed = subst (λ (ks : List Key). OnOk c.take_change.result (ListsMore c.args.cache.now.changed ks
-          c.take_change.new.cache.changed))
-          (named_with_room c.args.world.now c.args.turn.now.draw c.args.accepted.now fits.room)
-          c.take_change.ensures.listed;
-      stays = c.take_change.ensures.stays;
+      cache = subst (λ (ks : List Key). OnOk c.take_change.result (CacheFollows c.args.world.now
+          c.take_change.new.world ks c.args.cache.now c.take_change.new.cache)) named c.take_change.ensures.cache;
       fault = c.take_change.ensures.fault;
       rises = on_ok_weaker c.take_change.result
-          (λ e. omega (arith, c.in_ok-plan.ensures.rises, rises_by _ _ _ e)) c.take_change.ensures.at_least;
+          (λ e. omega (arith, c.in_ok-planning.ensures.rises, rises_by _ _ _ e)) c.take_change.ensures.at_least;
     }
 
-pub returns-in-None : goal.returns-in-None
-returns-in-None c =
-    let full : is_full c.args.world.now c.args.accepted.now ≡ true =
-    subst (λ (p : Option Plan). IsPlanned c.args.world.now c.args.accepted.now p) c.in-None.is c.in_ok-plan.ensures.plan in
-    let refused = sym (without_room c.args.world.now c.args.turn.now.draw c.args.accepted.now full) in
+pub returns-in-Full : goal.returns-in-Full
+returns-in-Full c =
+    let full : is_full c.args.world.now c.args.accepted ≡ true =
+    subst (λ (p : Planning). IsPlanned c.args.world.now c.args.accepted p) c.in-Full.is c.in_ok-planning.ensures.plan in
+    let refused = sym (without_room c.args.world.now c.args.turn.now.draw c.args.accepted full) in
     record {
       outcome = c.stopped.ensures ∙ ap outcome_of refused;
       state = ap (λ (x : Answered). x.state) refused;
-      shown = c.requires.shown;
-      few = omega arith;
-      listed = nothing_more c.args.cache.now.changed _
-          (named_without_room c.args.world.now c.args.turn.now.draw c.args.accepted.now full);
-      stays = λ o stays. stays;
+      cache = record {
+        shown = c.requires.shown;
+        few = omega arith;
+        listed = nothing_more c.args.cache.now.changed _
+            (named_without_room c.args.world.now c.args.turn.now.draw c.args.accepted full);
+        stays = λ o stays. stays;
+      };
       fault = tt;
-      rises = c.in_ok-plan.ensures.rises;
+      rises = c.in_ok-planning.ensures.rises;
     }

@@ -7,27 +7,27 @@ use Rattle.pim_router.proofs.plan.plan_data.Goals as goal
 
 pub returns-then-source_is_full-clause-plan : goal.returns-then-source_is_full-clause-plan
 returns-then-source_is_full-clause-plan c =
-    source_room c.args.world.now c.args.iface c.args.packet.now _ _ _ _ c.destination-group.ensures c.source-source.ensures.value
+    source_room c.args.world.now c.args.iface c.args.packet _ _ _ _ c.destination-group.ensures c.source-source.ensures.value
     c.source_is_full.ensures c.if-source_is_full.true
 
 pub returns-clause-plan : goal.returns-clause-plan
 returns-clause-plan c =
-    data_fits c.args.world.now c.args.iface c.args.packet.now c.requires.rest c.of-sight.result c.in_ok-keys_of_packet.field-0 _ refl
+    data_fits c.args.world.now c.args.iface c.args.packet c.requires.rest c.of-sight.result c.in_ok-keys.keys _ c.of_keys.ensures
     (ap (λ (t : StarSight). t.group.bits) c.of-sight.ensures.star
     ∙ ap (λ (a : Addr). a.bits) c.of-star.ensures.group ∙ c.destination-group.ensures)
     (ap (λ (a : Addr). a.bits) c.of-sight.ensures.source ∙ c.source-source.ensures.value)
     c.of-sight.ensures.sight
-    (source_room c.args.world.now c.args.iface c.args.packet.now _ _ _ _ c.destination-group.ensures c.source-source.ensures.value
+    (source_room c.args.world.now c.args.iface c.args.packet _ _ _ _ c.destination-group.ensures c.source-source.ensures.value
     c.source_is_full.ensures c.if-source_is_full.false)
-    c.in_ok-keys_of_packet.ensures
+    c.in_ok-keys.ensures
 
 pub returns-then-source_is_full-clause-at_least : goal.returns-then-source_is_full-clause-at_least
 returns-then-source_is_full-clause-at_least c =
-    unplanned c.args.world.now c.args.packet.now _ _ _ c.destination-group.ensures c.source-source.ensures.value
+    unplanned c.args.world.now c.args.packet _ _ _ c.destination-group.ensures c.source-source.ensures.value
     c.source_is_full.ensures c.args.meter.now c.if-source_is_full.true
 
 pub returns-clause-at_least : goal.returns-clause-at_least
 returns-clause-at_least c =
-    planned c.args.world.now c.args.packet.now _ _ _ c.destination-group.ensures c.source-source.ensures.value
+    planned c.args.world.now c.args.packet _ _ _ c.destination-group.ensures c.source-source.ensures.value
     c.source_is_full.ensures c.args.meter.now _ _ c.if-source_is_full.false c.of-star.ensures.at_least
     (rw c.of-star.ensures.group at c.of-sight.ensures.at_least)

@@ -1,8 +1,9 @@
-use Rattle.std.proofs.Common.{sym, ◌∙◌}
+use Rattle.std.proofs.Common.{refl, sym, ◌∙◌}
 use Rattle.pim_model.specs.declared.accepted.Accepted.{Accepted}
 use Rattle.pim_model.specs.Full.{is_full}
 use Rattle.pim_router.specs.Planning.{touched_of}
-use Rattle.pim_router.specs.declared.plan.Means.{Means}
+use Rattle.pim_router.specs.declared.act.Act.{Act}
+use Rattle.pim_router.specs.declared.act.Control.{Control}
 use Rattle.pim_router.proofs.Plans.{keys_fit, these_where, those_where}
 use Rattle.pim_router.proofs.Touching.{moved_covered, reported_covered}
 use Rattle.pim_router.proofs.plan.plan_report.Goals as goal
@@ -14,19 +15,19 @@ returns-then-branch c = sym c.in_ok-is_full.ensures ∙ c.if-branch.true
 pub returns-then-all_keep_modes : goal.returns-then-all_keep_modes
 unfolding is_full touched_of
 returns-then-all_keep_modes c =
-    keys_fit c.args.world.now (Accepted.Report c.args.iface c.args.report.now) c.of_keys.result
-    c.in_ok-moved.moved Means.Nothing c.of_keys.ensures
+    keys_fit c.args.world.now (Accepted.Report c.args.iface c.args.report) c.of_keys.result
+    (Act.Control (Control.Report c.args.iface c.args.report)) refl tt
+    (sym c.in_ok-is_full.ensures ∙ c.if-branch.false) c.in_ok-moved.moved c.of_keys.ensures
     (these_where _ c.in_ok-moved.moved _ _ (sym c.all_keep_modes.ensures ∙ c.if-all_keep_modes.true) c.in_ok-moved.ensures)
-    (sym c.in_ok-is_full.ensures ∙ c.if-branch.false)
-    (moved_covered c.args.world.now c.args.iface c.args.report.now c.in_ok-moved.moved c.requires.settled
-    (sym c.all_keep_modes.ensures ∙ c.if-all_keep_modes.true) c.in_ok-moved.ensures) tt
+    (moved_covered c.args.world.now c.args.iface c.args.report c.in_ok-moved.moved c.requires.settled
+    (sym c.all_keep_modes.ensures ∙ c.if-all_keep_modes.true) c.in_ok-moved.ensures)
 
 pub returns : goal.returns
 unfolding is_full touched_of
 returns c =
-    keys_fit c.args.world.now (Accepted.Report c.args.iface c.args.report.now) c.of_keys-2.result c.in_ok-keys.keys
-    Means.Nothing c.of_keys-2.ensures
+    keys_fit c.args.world.now (Accepted.Report c.args.iface c.args.report) c.of_keys-2.result
+    (Act.Control (Control.Report c.args.iface c.args.report)) refl tt
+    (sym c.in_ok-is_full.ensures ∙ c.if-branch.false) c.in_ok-keys.keys c.of_keys-2.ensures
     (those_where _ c.in_ok-keys.keys _ _ (sym c.all_keep_modes.ensures ∙ c.if-all_keep_modes.false) c.in_ok-keys.ensures)
-    (sym c.in_ok-is_full.ensures ∙ c.if-branch.false)
-    (reported_covered c.args.world.now c.args.iface c.args.report.now c.in_ok-keys.keys c.requires.settled
-    c.in_ok-keys.ensures) tt
+    (reported_covered c.args.world.now c.args.iface c.args.report c.in_ok-keys.keys c.requires.settled
+    c.in_ok-keys.ensures)

@@ -1,4 +1,4 @@
-use Rattle.std.proofs.Common.{List, ap, subst, sym, ◌≡◌, ◌∙◌}
+use Rattle.std.proofs.Common.{List, None, Some, ap, subst, sym, ◌≡◌, ◌∙◌}
 use Rattle.pim_types.specs.declared.config.RpRange.{RpRange}
 use Rattle.pim_world.specs.declared.touched.Touched.{Touched}
 use Rattle.pim_model.specs.declared.accepted.Accepted.{Accepted}
@@ -6,10 +6,9 @@ use Rattle.pim_model.specs.Step.{rps_replaced}
 use Rattle.pim_reach.specs.Moved.{keys_by_rps}
 use Rattle.pim_trie.specs.Meter.{raised}
 use Rattle.pim_world.proofs.Visits.{at_least_itself, rises_by}
-use Rattle.pim_router.specs.Planning.{Fits}
+use Rattle.pim_router.specs.Planning.{IsPlanned}
 use Rattle.pim_router.specs.Visits.{rps_nodes}
-use Rattle.pim_router.specs.declared.plan.Means.{Means}
-use Rattle.pim_router.specs.declared.plan.Plan.{Plan}
+use Rattle.pim_router.specs.declared.plan.Planning.{Planning}
 use Rattle.pim_router.proofs.OtherRoutes.{none_by_same_rps}
 use Rattle.pim_router.proofs.Plans.{rps_fit}
 use Rattle.pim_router.proofs.plan.plan_rps.Goals as goal
@@ -19,13 +18,13 @@ returns-then-has_ranges-clause-plan c =
     let s = c.args.world.now in
     let ranges = c.args.ranges.now in
     let same : s.ranges ≡ ranges = c.has_ranges.ensures.0 c.if-has_ranges.true in
-    subst (λ (p : Plan). Fits s (Accepted.Rps ranges) p) (sym c.of_nothing.ensures)
-    (rps_fit s ranges _ Means.Nothing (ap Touched.Keys (none_by_same_rps s ranges same)) same)
+    subst (λ (p : Planning). IsPlanned s (Accepted.Rps ranges) p) (sym c.of_nothing.ensures)
+    (rps_fit s ranges _ None (ap Touched.Keys (none_by_same_rps s ranges same)) same)
 
 pub returns-clause-plan : goal.returns-clause-plan
 returns-clause-plan c =
     let s = c.args.world.now in
-    rps_fit s c.args.ranges.now c.in_ok-touched.touched (Means.Table c.args.next)
+    rps_fit s c.args.ranges.now c.in_ok-touched.touched (Some c.args.next)
     (c.in_ok-touched.ensures.touched
     ∙ ap (λ (rs : List RpRange). Touched.Keys (keys_by_rps s (rps_replaced s rs))) c.requires)
     c.requires

@@ -4,7 +4,8 @@ use Rattle.pim_model.specs.declared.accepted.Accepted.{Accepted}
 use Rattle.pim_model.specs.Full.{is_full}
 use Rattle.pim_world.specs.declared.touched.Touched.{Touched}
 use Rattle.pim_router.specs.Planning.{touched_of}
-use Rattle.pim_router.specs.declared.plan.Means.{Means}
+use Rattle.pim_router.specs.declared.act.Act.{Act}
+use Rattle.pim_router.specs.declared.act.Control.{Control}
 use Rattle.pim_router.proofs.Plans.{keys_fit}
 use Rattle.pim_router.proofs.Touching.{stop_covered}
 use Rattle.pim_router.proofs.plan.plan_stop.Goals as goal
@@ -12,7 +13,7 @@ use Rattle.pim_router.proofs.plan.plan_stop.Goals as goal
 pub returns : goal.returns
 unfolding is_full touched_of
 returns c =
-    let those = c.in_ok-keys.ensures ∙ ap (λ (k : Key). k ∷ []) c.source.ensures in
-    keys_fit c.args.world.now (Accepted.RegisterStop c.args.from c.args.stop.now) c.of_keys.result c.in_ok-keys.keys
-    Means.Nothing c.of_keys.ensures (ap Touched.Keys those) refl
-    (stop_covered c.args.world.now c.args.from c.args.stop.now c.in_ok-keys.keys those) tt
+    let those = c.in_ok-keys.ensures ∙ ap (λ (k : Key). k ∷ []) c.key.ensures in
+    keys_fit c.args.world.now (Accepted.RegisterStop c.args.from c.args.stop) c.of_keys.result
+    (Act.Control (Control.RegisterStop c.args.from c.args.stop)) refl tt refl c.in_ok-keys.keys c.of_keys.ensures
+    (ap Touched.Keys those) (stop_covered c.args.world.now c.args.from c.args.stop c.in_ok-keys.keys those)

@@ -1,23 +1,30 @@
-use Rattle.std.proofs.Common.{refl, subst, sym, ⊎_elim, ◌∙◌}
+use Rattle.std.proofs.Common.{refl, subst, sym, ◌∙◌}
 use Rattle.pim_model.specs.declared.accepted.Accepted.{Accepted}
 use Rattle.pim_model.specs.Full.{is_full}
 use Rattle.pim_router.specs.Naming.{Brings}
 use Rattle.pim_router.specs.Planning.{touched_of}
-use Rattle.pim_router.proofs.Plans.{all_planned}
+use Rattle.pim_router.specs.declared.act.Act.{Act}
+use Rattle.pim_router.specs.declared.act.Control.{Control}
+use Rattle.pim_router.proofs.Plans.{all_fit, planned_of}
 use Rattle.std.proofs.lemmas.Result.{on_ok_weaker}
 use Rattle.pim_world.proofs.Visits.{rises_by}
 use Rattle.pim_router.proofs.plan.planned.Goals as goal
 
-pub returns-in-Advance-clause-plan : goal.returns-in-Advance-clause-plan
+pub returns-in-Up-clause-plan : goal.returns-in-Up-clause-plan
 unfolding is_full touched_of
-returns-in-Advance-clause-plan c =
-    let s = c.args.world.now in
-    let a = c.args.accepted.now in
-    let plan = c.of_all.result in
-    let whole = c.of_all.ensures in
-    ⊎_elim (λ is. all_planned s a (Accepted.Advance is.0) plan whole is.1 refl refl tt tt)
-    (⊎_elim (λ is. all_planned s a (Accepted.Up is.0) plan whole is.1 refl refl tt tt)
-    (λ is. all_planned s a (Accepted.Down is.0) plan whole is.1 refl refl tt tt)) c.in-Advance.is
+returns-in-Up-clause-plan c =
+    let a : Accepted = Accepted.Up c.in-Up.iface in
+    planned_of c.args.world.now c.args.accepted a c.of_all.result c.in-Up.is
+    (all_fit c.args.world.now a c.of_all.result (Act.Control (Control.Up c.in-Up.iface)) refl tt refl c.of_all.ensures
+    refl tt)
+
+pub returns-in-Down-clause-plan : goal.returns-in-Down-clause-plan
+unfolding is_full touched_of
+returns-in-Down-clause-plan c =
+    let a : Accepted = Accepted.Down c.in-Down.iface in
+    planned_of c.args.world.now c.args.accepted a c.of_all-in-Down.result c.in-Down.is
+    (all_fit c.args.world.now a c.of_all-in-Down.result (Act.Control (Control.Down c.in-Down.iface)) refl tt refl
+    c.of_all-in-Down.ensures refl tt)
 
 pub returns-in-JoinPruneToMe-clause-rises : goal.returns-in-JoinPruneToMe-clause-rises
 returns-in-JoinPruneToMe-clause-rises c =

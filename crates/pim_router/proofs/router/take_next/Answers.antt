@@ -1,4 +1,5 @@
 use Rattle.std.proofs.Common.{ap}
+use Rattle.std.proofs.lemmas.Result.{on_ok_weaker}
 use Rattle.pim_fanout.specs.Refreshing.{CacheValue}
 use Rattle.pim_router.proofs.Costs.{none_touched}
 use Rattle.pim_router.proofs.router.take_next.Goals as goal
@@ -11,3 +12,15 @@ take_in-requires-clause-unlisted c = ap (λ (k : CacheValue). k.changed) c.reset
 
 pub take_in-requires-clause-unvisited : goal.take_in-requires-clause-unvisited
 take_in-requires-clause-unvisited c = λ frame. c.begin.ensures
+
+pub returns-clause-shown : goal.returns-clause-shown
+returns-clause-shown c = on_ok_weaker c.take_in.result (λ after. after.shown) c.take_in.ensures.cache
+
+pub returns-clause-cheap : goal.returns-clause-cheap
+returns-clause-cheap c = on_ok_weaker c.take_in.result (λ after. after.cheap) c.take_in.ensures.cache
+
+pub returns-clause-listed : goal.returns-clause-listed
+returns-clause-listed c = on_ok_weaker c.take_in.result (λ after. after.listed) c.take_in.ensures.cache
+
+pub returns-clause-stays : goal.returns-clause-stays
+returns-clause-stays c = on_ok_weaker c.take_in.result (λ after. after.stays) c.take_in.ensures.cache

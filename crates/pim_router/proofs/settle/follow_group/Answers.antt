@@ -2,7 +2,7 @@ use Rattle.std.proofs.Common.{◌≡◌, ◌≤◌, ◌∷◌, [], List, ap, sub
 use Rattle.pim_fanout.specs.Named.{keys_of}
 use Rattle.pim_model.specs.State.{State}
 use Rattle.pim_opening.specs.declared.opening.GroupOpening.{GroupOpening}
-use Rattle.pim_opening.specs.Seen.{opening_in}
+use Rattle.pim_opening.specs.After.{opening_in}
 use Rattle.pim_opening.specs.Visits.{seen_nodes}
 use Rattle.pim_trie.specs.Meter.{raised}
 use Rattle.pim_world.proofs.Visits.{rises_by, then_rises}

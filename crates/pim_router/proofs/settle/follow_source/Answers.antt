@@ -79,5 +79,6 @@ returns-clause-at_least c =
     (subst (λ (g : Addr). raised c.settle_register.new.meter (alone_nodes g c.settle_register.new.world o)
     ≤ c.clear_alone.new.meter) later c.in_ok-clear_alone.ensures.at_least)))
     c.in_ok-names.ensures.rises)
-    (subst (λ (t : State). raised c.named_seen.new.meter (told_alone_nodes t x o) ≤ c.changed_alone.new.meter) cleared
+    (subst (λ (t : State). raised c.named_by_sights.new.meter (told_alone_nodes t x o) ≤ c.changed_alone.new.meter)
+    cleared
     c.in_ok-changed_alone.ensures.at_least)

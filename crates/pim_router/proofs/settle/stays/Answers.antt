@@ -1,6 +1,6 @@
 use Rattle.std.proofs.Common.{[], ap, ◌∙◌, ◌∷◌}
 use Rattle.pim_asserts.specs.Opened.{clear_by}
-use Rattle.pim_opening.specs.Seen.{opening_in}
+use Rattle.pim_opening.specs.After.{opening_in}
 use Rattle.pim_router.specs.Settling.{cleared_by}
 use Rattle.pim_router.proofs.settle.stays.Goals as goal
 

@@ -14,13 +14,14 @@ pub fire_all-requires-clause-ready : goal.fire_all-requires-clause-ready
 fire_all-requires-clause-ready c =
     ahead_is_ready c.args.world.now.present c.args.world.now c.requires.rest.settled.ahead
 
-pub returns-clause-shown : goal.returns-clause-shown
-returns-clause-shown c =
-    rows_present c.fire_all.new.world c.set_present.new.self c.args.moment c.fire_all.new.cache.mfc.rows
-    c.interfaces.result.now c.interfaces.ensures c.recall_few.ensures c.set_present.ensures
-    c.in_ok-fire_all.ensures.shown
-
-pub returns-clause-stays : goal.returns-clause-stays
-returns-clause-stays c = λ o stays.
-    stays_present o c.fire_all.new.world c.set_present.new.self c.args.moment c.fire_all.new.cache.disturbed
-    c.set_present.ensures (c.in_ok-fire_all.ensures.stays o stays)
+pub returns-clause-cache : goal.returns-clause-cache
+returns-clause-cache c =
+    let follows = c.in_ok-fire_all.ensures.cache in
+    record {
+      shown = rows_present c.fire_all.new.world c.set_present.new.self c.args.moment c.fire_all.new.cache.mfc.rows
+          c.interfaces.result.now c.interfaces.ensures c.recall_few.ensures c.set_present.ensures follows.shown;
+      few = follows.few;
+      listed = follows.listed;
+      stays = λ o stays. stays_present o c.fire_all.new.world c.set_present.new.self c.args.moment
+          c.fire_all.new.cache.disturbed c.set_present.ensures (follows.stays o stays);
+    }

@@ -48,7 +48,7 @@ instants-preserved c = (
       ∙ ap (λ w. c.instants.emissions.items ++ (fire_instant w c.instants.world (ending_of c.in-Some.first)).1)
       c.instants.invariant.1),
   c.in_ok-fire_instant.ensures.draw ∙ c.instants.invariant.1,
-  c.in_ok-fire_instant.ensures.shown,
+  c.in_ok-fire_instant.ensures.cache.shown,
   instant_costs c.args.turn.now.draw c.args.moment c.args.world.now (touches c.args.cache.now) c.instants.world
       (touches c.instants.cache) (ending_of c.in-Some.first) c.instants.invariant.0.ready
       (ending_told (next_due c.args.moment c.instants.world) c.in-Some.first (sym c.next_due.ensures ∙ c.in-Some.is))
@@ -57,7 +57,7 @@ instants-preserved c = (
       ∙ ap (λ w. (fire_instant w c.instants.world (ending_of c.in-Some.first)).0) c.instants.invariant.1)
       (subst (λ w. touches c.fire_instant.new.cache ≤ touches c.instants.cache
       + 2 * length (told_instant named_by w c.instants.world (ending_of c.in-Some.first)).1) c.instants.invariant.1
-      c.in_ok-fire_instant.ensures.few) c.instants.invariant.3,
+      c.in_ok-fire_instant.ensures.cache.few) c.instants.invariant.3,
   omega (arith, c.instants.invariant.4, c.in_ok-fire_instant.ensures.rises),
   instant_lists c.args.turn.now.draw c.args.moment c.args.world.now c.args.cache.now.changed c.instants.world
       c.instants.cache.changed (ending_of c.in-Some.first) c.instants.invariant.0.ready
@@ -67,8 +67,8 @@ instants-preserved c = (
       ∙ ap (λ w. (fire_instant w c.instants.world (ending_of c.in-Some.first)).0) c.instants.invariant.1)
       (subst (λ w. ListsMore c.instants.cache.changed
       (told_instant named_by w c.instants.world (ending_of c.in-Some.first)).1 c.fire_instant.new.cache.changed)
-      c.instants.invariant.1 c.in_ok-fire_instant.ensures.listed) c.instants.invariant.5,
-  λ o stays. c.in_ok-fire_instant.ensures.stays o (c.instants.invariant.6 o stays),
+      c.instants.invariant.1 c.in_ok-fire_instant.ensures.cache.listed) c.instants.invariant.5,
+  λ o stays. c.in_ok-fire_instant.ensures.cache.stays o (c.instants.invariant.6 o stays),
 )
 
 pub returns-clause-state : goal.returns-clause-state
@@ -83,24 +83,18 @@ returns-clause-sent c =
     c.instants.world c.instants.emissions.items c.instants.invariant.0
     (none_told (next_due c.args.moment c.instants.world) (sym c.next_due.ensures ∙ c.in_default.is))).1
 
-pub returns-clause-shown : goal.returns-clause-shown
-returns-clause-shown c = c.instants.invariant.2
-
-pub returns-clause-few : goal.returns-clause-few
-returns-clause-few c =
-    all_cost c.args.turn.now.draw c.args.moment c.args.world.now (touches c.args.cache.now) c.instants.world
-    (touches c.instants.cache) c.instants.invariant.3
-
-pub returns-clause-listed : goal.returns-clause-listed
-returns-clause-listed c =
-    all_listed c.args.turn.now.draw c.args.moment c.args.world.now c.args.cache.now.changed c.instants.world
-    c.instants.cache.changed
-    (all_silent named_by c.args.turn.now.draw c.args.moment c.instants.world
-    (none_told (next_due c.args.moment c.instants.world) (sym c.next_due.ensures ∙ c.in_default.is)))
-    c.instants.invariant.5
-
 pub returns-clause-rises : goal.returns-clause-rises
 returns-clause-rises c = c.instants.invariant.4
 
-pub returns-clause-stays : goal.returns-clause-stays
-returns-clause-stays c = c.instants.invariant.6
+pub returns-clause-cache : goal.returns-clause-cache
+returns-clause-cache c = record {
+  shown = c.instants.invariant.2;
+  few = all_cost c.args.turn.now.draw c.args.moment c.args.world.now (touches c.args.cache.now) c.instants.world
+      (touches c.instants.cache) c.instants.invariant.3;
+  listed = all_listed c.args.turn.now.draw c.args.moment c.args.world.now c.args.cache.now.changed c.instants.world
+      c.instants.cache.changed
+      (all_silent named_by c.args.turn.now.draw c.args.moment c.instants.world
+      (none_told (next_due c.args.moment c.instants.world) (sym c.next_due.ensures ∙ c.in_default.is)))
+      c.instants.invariant.5;
+  stays = c.instants.invariant.6;
+}

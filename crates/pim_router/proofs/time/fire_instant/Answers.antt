@@ -43,7 +43,7 @@ firings-preserved c = (
       ∙ ap (λ w. c.firings.emissions.items ++ (fire_once w c.firings.world (ending_of c.in-Some.due)).1)
       c.firings.invariant.1),
   c.in_ok-fire_once.ensures.draw ∙ c.firings.invariant.1,
-  c.in_ok-fire_once.ensures.shown,
+  c.in_ok-fire_once.ensures.cache.shown,
   firing_costs c.args.turn.now.draw c.args.world.now (ending_of c.args.first) (touches c.args.cache.now)
       c.firings.world (touches c.firings.cache) (ending_of c.in-Some.due) c.firings.invariant.0.lawful.firable
       (shown_from c.args.first.0 c.firings.world c.firings.invariant.0.inside.from)
@@ -51,7 +51,7 @@ firings-preserved c = (
       c.fire_once.new.world (touches c.fire_once.new.cache)
       (c.in_ok-fire_once.ensures.state
       ∙ ap (λ w. (fire_once w c.firings.world (ending_of c.in-Some.due)).0) c.firings.invariant.1)
-      c.in_ok-fire_once.ensures.few c.firings.invariant.3,
+      c.in_ok-fire_once.ensures.cache.few c.firings.invariant.3,
   omega (arith, c.firings.invariant.4, rises_by _ _ _ c.in_ok-fire_once.ensures.at_least),
   firing_lists c.args.turn.now.draw c.args.world.now (ending_of c.args.first) c.args.cache.now.changed
       c.firings.world c.firings.cache.changed (ending_of c.in-Some.due) c.firings.invariant.0.lawful.firable
@@ -60,8 +60,8 @@ firings-preserved c = (
       c.fire_once.new.world c.fire_once.new.cache.changed
       (c.in_ok-fire_once.ensures.state
       ∙ ap (λ w. (fire_once w c.firings.world (ending_of c.in-Some.due)).0) c.firings.invariant.1)
-      c.in_ok-fire_once.ensures.listed c.firings.invariant.5,
-  λ o stays. c.in_ok-fire_once.ensures.stays o (c.firings.invariant.6 o stays),
+      c.in_ok-fire_once.ensures.cache.listed c.firings.invariant.5,
+  λ o stays. c.in_ok-fire_once.ensures.cache.stays o (c.firings.invariant.6 o stays),
 )
 
 pub returns-clause-state : goal.returns-clause-state
@@ -76,26 +76,20 @@ returns-clause-sent c =
     c.firings.world c.firings.emissions.items c.firings.invariant.0
     (none_told (next_due c.args.first.0 c.firings.world) (sym c.next_due.ensures ∙ c.in_default.is))).1
 
-pub returns-clause-shown : goal.returns-clause-shown
-returns-clause-shown c = c.firings.invariant.2
-
-pub returns-clause-few : goal.returns-clause-few
-returns-clause-few c =
-    instant_cost c.args.turn.now.draw c.args.world.now (ending_of c.args.first) (touches c.args.cache.now)
-    c.firings.world (touches c.firings.cache)
-    (none_told (next_due c.args.first.0 c.firings.world) (sym c.next_due.ensures ∙ c.in_default.is))
-    c.firings.invariant.3
-
-pub returns-clause-listed : goal.returns-clause-listed
-returns-clause-listed c =
-    instant_listed c.args.turn.now.draw c.args.world.now (ending_of c.args.first) c.args.cache.now.changed
-    c.firings.world c.firings.cache.changed
-    (instant_silent named_by c.args.turn.now.draw c.firings.world (ending_of c.args.first)
-    (none_told (next_due c.args.first.0 c.firings.world) (sym c.next_due.ensures ∙ c.in_default.is)))
-    c.firings.invariant.5
-
 pub returns-clause-rises : goal.returns-clause-rises
 returns-clause-rises c = c.firings.invariant.4
 
-pub returns-clause-stays : goal.returns-clause-stays
-returns-clause-stays c = c.firings.invariant.6
+pub returns-clause-cache : goal.returns-clause-cache
+returns-clause-cache c = record {
+  shown = c.firings.invariant.2;
+  few = instant_cost c.args.turn.now.draw c.args.world.now (ending_of c.args.first) (touches c.args.cache.now)
+      c.firings.world (touches c.firings.cache)
+      (none_told (next_due c.args.first.0 c.firings.world) (sym c.next_due.ensures ∙ c.in_default.is))
+      c.firings.invariant.3;
+  listed = instant_listed c.args.turn.now.draw c.args.world.now (ending_of c.args.first) c.args.cache.now.changed
+      c.firings.world c.firings.cache.changed
+      (instant_silent named_by c.args.turn.now.draw c.firings.world (ending_of c.args.first)
+      (none_told (next_due c.args.first.0 c.firings.world) (sym c.next_due.ensures ∙ c.in_default.is)))
+      c.firings.invariant.5;
+  stays = c.firings.invariant.6;
+}

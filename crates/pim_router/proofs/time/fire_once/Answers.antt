@@ -13,29 +13,33 @@ use Rattle.pim_world.proofs.Visits.{rises_by, then_rises}
 use Rattle.pim_router.proofs.Visited.{afterwards}
 use Rattle.pim_router.proofs.time.fire_once.Goals as goal
 
-pub returns-clause-shown : goal.returns-clause-shown
-returns-clause-shown c =
-    rows_fired c.args.world.now c.args.turn.now.draw (ending_of c.args.due)
-    (touched_by_end c.args.world.now c.args.due.1.kind c.args.due.1.key) c.in_ok-names.names
-    c.in_ok-names.ensures.names c.fire_world.new.world c.args.cache.now.mfc.rows c.refresh.new.self.mfc.rows
-    c.interfaces.result.now c.requires.quiet c.interfaces.ensures c.recall_few.ensures
-    (c.in_ok-names.ensures.state ∙ ap (λ w. (fire_once w c.args.world.now (ending_of c.args.due)).0)
-    (ap (λ (t : Taking). t.draw) c.turn.view_is))
-    c.in_ok-refresh.ensures.shown c.requires.shown
-
-pub returns-clause-few : goal.returns-clause-few
-returns-clause-few c =
-    cost_fired c.args.world.now c.args.turn.now.draw (ending_of c.args.due)
-    (touched_by_end c.args.world.now c.args.due.1.kind c.args.due.1.key) c.in_ok-names.names
-    c.in_ok-names.ensures.names c.fire_world.new.world (touches c.args.cache.now) (touches c.refresh.new.self)
-    c.in_ok-refresh.ensures.few
-
-pub returns-clause-listed : goal.returns-clause-listed
-returns-clause-listed c =
-    listed_fired c.args.world.now (ending_of c.args.due)
-    (touched_by_end c.args.world.now c.args.due.1.kind c.args.due.1.key) c.in_ok-names.names
-    c.in_ok-names.ensures.names c.requires.quiet c.args.cache.now.changed c.refresh.new.self.changed
-    c.in_ok-refresh.ensures.listed
+pub returns-clause-cache : goal.returns-clause-cache
+returns-clause-cache c = record {
+  shown = rows_fired c.args.world.now c.args.turn.now.draw (ending_of c.args.due)
+      (touched_by_end c.args.world.now c.args.due.1.kind c.args.due.1.key) c.in_ok-names.names
+      c.in_ok-names.ensures.names c.fire_world.new.world c.args.cache.now.mfc.rows c.refresh.new.self.mfc.rows
+      c.interfaces.result.now c.requires.quiet c.interfaces.ensures c.recall_few.ensures
+      (c.in_ok-names.ensures.state ∙ ap (λ w. (fire_once w c.args.world.now (ending_of c.args.due)).0)
+      (ap (λ (t : Taking). t.draw) c.turn.view_is))
+      c.in_ok-refresh.ensures.shown c.requires.shown;
+  few = cost_fired c.args.world.now c.args.turn.now.draw (ending_of c.args.due)
+      (touched_by_end c.args.world.now c.args.due.1.kind c.args.due.1.key) c.in_ok-names.names
+      c.in_ok-names.ensures.names c.fire_world.new.world (touches c.args.cache.now) (touches c.refresh.new.self)
+      c.in_ok-refresh.ensures.few;
+  listed = listed_fired c.args.world.now (ending_of c.args.due)
+      (touched_by_end c.args.world.now c.args.due.1.kind c.args.due.1.key) c.in_ok-names.names
+      c.in_ok-names.ensures.names c.requires.quiet c.args.cache.now.changed c.refresh.new.self.changed
+      c.in_ok-refresh.ensures.listed;
+  stays = λ o stays.
+      stays_fired o c.args.world.now c.fire_world.new.world c.args.turn.now.draw (ending_of c.args.due)
+      (touched_by_end c.args.world.now c.args.due.1.kind c.args.due.1.key) c.in_ok-names.ensures.names.covers
+      c.requires.quiet c.interfaces.result.now c.interfaces.ensures c.recall_few.ensures
+      (c.in_ok-names.ensures.state ∙ ap (λ w. (fire_once w c.args.world.now (ending_of c.args.due)).0)
+      (ap (λ (t : Taking). t.draw) c.turn.view_is))
+      c.args.cache.now.disturbed c.refresh.new.self.disturbed
+      (c.in_ok-refresh.ensures.disturbed ∙ ap (λ (t : Touched). joined c.args.cache.now.disturbed t) c.in_ok-touched.ensures.touched)
+      stays;
+}
 
 pub returns-clause-at_least : goal.returns-clause-at_least
 returns-clause-at_least c =
@@ -48,14 +52,3 @@ returns-clause-touched c =
     (touched_by_end c.args.world.now c.args.due.1.kind c.args.due.1.key) c.in_ok-names.names
     (touches c.args.cache.now) (touches c.refresh.new.self) c.in_ok-names.ensures.names
     c.in_ok-refresh.ensures.few
-
-pub returns-clause-stays : goal.returns-clause-stays
-returns-clause-stays c = λ o stays.
-    stays_fired o c.args.world.now c.fire_world.new.world c.args.turn.now.draw (ending_of c.args.due)
-    (touched_by_end c.args.world.now c.args.due.1.kind c.args.due.1.key) c.in_ok-names.ensures.names.covers
-    c.requires.quiet c.interfaces.result.now c.interfaces.ensures c.recall_few.ensures
-    (c.in_ok-names.ensures.state ∙ ap (λ w. (fire_once w c.args.world.now (ending_of c.args.due)).0)
-    (ap (λ (t : Taking). t.draw) c.turn.view_is))
-    c.args.cache.now.disturbed c.refresh.new.self.disturbed
-    (c.in_ok-refresh.ensures.disturbed ∙ ap (λ (t : Touched). joined c.args.cache.now.disturbed t) c.in_ok-touched.ensures.touched)
-    stays

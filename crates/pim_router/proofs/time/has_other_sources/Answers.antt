@@ -4,4 +4,4 @@ use Rattle.pim_router.proofs.time.has_other_sources.Goals as goal
 
 pub loop-key-init : goal.loop-key-init
 loop-key-init c =
-    others_by_walk c.args.world.now c.args.iface.number c.args.group.bits c.args.source.bits _ (search rules)
+    others_by_walk c.args.world.now c.args.iface.number c.args.name.group.bits c.args.name.source.bits _ (search rules)

@@ -6,5 +6,5 @@ use Rattle.pim_router.proofs.time.has_other_sources.Given as goal
 
 abbrev pub invariant-loop-key : goal.invariant-loop-key
 invariant-loop-key l =
-    has_other_sources l.world l.fn.iface.number l.fn.group.bits l.source.bits
-    ≡ list_any (λ e. not (source_in e.0 == l.source.bits)) l.key-iterator
+    has_other_sources l.world l.fn.iface.number l.fn.name.group.bits l.name.source.bits
+    ≡ list_any (λ e. not (source_in e.0 == l.name.source.bits)) l.key-iterator

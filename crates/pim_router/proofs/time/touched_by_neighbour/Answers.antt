@@ -1,4 +1,5 @@
 use Rattle.std.proofs.Common.{Bool, List, ap, sym, ◌∙◌}
+use Rattle.pim_types.specs.declared.config.IfaceId.{IfaceId}
 use Rattle.pim_types.specs.declared.fact.Key.{Key}
 use Rattle.pim_router.specs.Ends.{few_or_all}
 use Rattle.std.specs.Prelude.{if◌then◌else◌}
@@ -14,7 +15,7 @@ returns-then-end_keeps_dr-clause-touched c =
     let k = c.args.key in
     c.few_or_all.ensures
     ∙ ap (λ (ks : List Key). few_or_all ks) (c.in_ok-keys.ensures.keys
-    ∙ (λ j. keys_towards s (c.neighbour_of.ensures.iface j) (c.neighbour_of.ensures.address j)))
+    ∙ (λ j. keys_towards s (ap (λ (i : IfaceId). i.number) c.hop.ensures.iface j) (c.hop.ensures.address j)))
     ∙ sym (ap (λ (keeps : Bool). if keeps then few_or_all (keys_towards s (iface_in k) (source_in k)) else Touched.All)
     (sym c.end_keeps_dr.ensures ∙ c.if-end_keeps_dr.true))
 
