@@ -22,7 +22,7 @@ use Rattle.std.proofs.cell.Inside.{Good}
 use Rattle.std.specs.contracts.alloc.Global as heap
 use Rattle.std.proofs.alloc.Global.TheLaws as heap_laws
 use Rattle.std_alloc.proofs.ResultValues.{and_tt}
-use Rattle.pim_held.proofs.Words.{pair}
+use Rattle.pim_c.proofs.PointedWords.{pair}
 use Rattle.pim_c.specs.contracts.place.Place as place
 use Rattle.pim_c.specs.contracts.place.Place.{the_heap}
 use Rattle.std.specs.contracts.impls.GlobalAllocator.TheImpl.{ghosts as tokens}

@@ -20,14 +20,14 @@ use Rattle.pim_router.specs.Costs.{IsCheap}
 use Rattle.pim_router.specs.Listing.{ListsSame}
 use Rattle.pim_router.specs.Staying.{OffersStay}
 use Rattle.pim_router.specs.Standing.{Standing, begun, nothing_shown, standing, with_state}
-use Rattle.pim_session.specs.Session.{Shown}
+use Rattle.pim_session.specs.Session.{ShownSession}
 use Rattle.pim_types.specs.declared.config.Config.{Config}
 use Rattle.pim_types.specs.declared.event.Event.{Event}
 use Rattle.pim_types.specs.declared.fact.Key.{Key}
 use Rattle.pim_types.specs.declared.outcome.Emission.{Emission}
 use Rattle.pim_types.specs.declared.table.Row.{Row}
 use Rattle.pim_types.specs.declared.table.Table.{Table}
-use Rattle.pim_c.specs.Told.{answer_number, bytes_in, kept_number, name_of, no_interface, packet_of, row_of, written}
+use Rattle.pim_c.specs.Told.{answer_number, bytes_in, kept_number, name_of, no_interface_number, told_packet, row_of, written_into}
 use Rattle.pim_c.specs.declared.told.Forwarding.{Forwarding}
 use Rattle.pim_c.specs.declared.told.Interfaces.{Interfaces}
 use Rattle.pim_c.specs.declared.told.NamedSource.{NamedSource}
@@ -36,29 +36,29 @@ use Rattle.pim_c.specs.declared.told.PlaneRow.{PlaneRow}
 use Rattle.pim_c.specs.declared.told.TableRow.{TableRow}
 
 -- a new router
-abbrev pub new_shown : Config → Shown
+abbrev pub new_shown : Config → ShownSession
 new_shown config = record { router = begun (opening config); sent = []; rows = [] }
 
 -- after memory was refused
-abbrev pub lost : Shown → Shown
+abbrev pub lost : ShownSession → ShownSession
 lost s = record { router = nothing_shown; sent = s.sent; rows = s.rows }
 
 -- after an event that was taken
-abbrev pub Taken : Shown → Standing → Event → Shown → Type 0
+abbrev pub Taken : ShownSession → Standing → Event → ShownSession → Type 0
 Taken s r e left = (left.router.standing ≡ Some (standing (step r.state e)))
     × IsCheap r.state e left.router.probes left.router.touched
     × ListsSame left.router.changed (event_named r.state e)
     × OffersStay left.router.disturbed r.state (step r.state e).state
     × (left.sent ≡ (step r.state e).emissions) × (left.rows ≡ s.rows)
 
-abbrev pub SteppedFrom : Shown → Option Standing → Event → ℕ → Shown → Type 0
+abbrev pub SteppedFrom : ShownSession → Option Standing → Event → ℕ → ShownSession → Type 0
 SteppedFrom s None e answer left = (answer ≡ 41) × (left ≡ lost s)
 SteppedFrom s (Some r) e answer left =
     ((answer ≡ answer_number (step r.state e).answer) × Taken s r e left)
     ⊎ ((answer ≡ 40) × (left ≡ lost s) × (needs_no_memory (step r.state e).answer ≡ false))
 
 -- the router took the event and the answer is its own, or memory was refused
-abbrev pub Stepped : Option Shown → Event → ℕ → Option Shown → Type 0
+abbrev pub Stepped : Option ShownSession → Event → ℕ → Option ShownSession → Type 0
 Stepped None e answer left = (answer ≡ 50) × (left ≡ None)
 Stepped (Some s) e answer (Some left) = SteppedFrom s s.router.standing e answer left
 Stepped (Some s) e answer None = ⊥
@@ -68,28 +68,28 @@ refused_number None = 41
 refused_number (Some r) = 40
 
 -- memory was refused for an event that is to be copied, and nothing changed
-abbrev pub Refused : Option Shown → ℕ → Option Shown → Type 0
+abbrev pub Refused : Option ShownSession → ℕ → Option ShownSession → Type 0
 Refused None answer left = (answer ≡ 50) × (left ≡ None)
 Refused (Some s) answer left = (answer ≡ refused_number s.router.standing) × (left ≡ Some s)
 
 -- an event was copied, or memory was refused for that; where it was, the router took it, or memory was refused
-abbrev pub Copied : Option Shown → Event → ℕ → Option Shown → Type 0
+abbrev pub Copied : Option ShownSession → Event → ℕ → Option ShownSession → Type 0
 Copied old e answer left = Stepped old e answer left ⊎ Refused old answer left
 
-abbrev pub SeenFrom : Shown → Option Standing → Event → ℕ → Shown → Type 0
+abbrev pub SeenFrom : ShownSession → Option Standing → Event → ℕ → ShownSession → Type 0
 SeenFrom s None e answer left = (answer ≡ 41) × (left ≡ lost s)
 SeenFrom s (Some r) e answer left =
     ((answer ≡ answer_number (step r.state e).answer) × Taken s r e left) ⊎ ((answer ≡ 40) × (left ≡ lost s))
 
 -- the router took the event that tells of a packet, or memory was refused, whatever event it is
-abbrev pub Seen : Option Shown → Event → ℕ → Option Shown → Type 0
+abbrev pub Seen : Option ShownSession → Event → ℕ → Option ShownSession → Type 0
 Seen None e answer left = (answer ≡ 50) × (left ≡ None)
 Seen (Some s) e answer (Some left) = SeenFrom s s.router.standing e answer left
 Seen (Some s) e answer None = ⊥
 
-abbrev pub KeptFrom : Shown → Option Standing → ℕ → ℕ → ℕ → ℕ → Shown → Type 0
-KeptFrom s None source group moment answer left = (answer ≡ 41) × (left ≡ lost s)
-KeptFrom s (Some r) source group moment answer left =
+abbrev pub SourceKeptFrom : ShownSession → Option Standing → ℕ → ℕ → ℕ → ℕ → ShownSession → Type 0
+SourceKeptFrom s None source group moment answer left = (answer ≡ 41) × (left ≡ lost s)
+SourceKeptFrom s (Some r) source group moment answer left =
     ((answer ≡ kept_number (is_kept_alive r.state group source)) × (left ≡ record {
       router = with_state s.router r (keep r.state group source (min moment last_moment));
       sent = s.sent;
@@ -98,55 +98,56 @@ KeptFrom s (Some r) source group moment answer left =
     ⊎ ((answer ≡ 40) × (left ≡ lost s))
 
 -- the source's timer was moved where it runs, or memory was refused
-abbrev pub Kept : Option Shown → ℕ → ℕ → ℕ → ℕ → Option Shown → Type 0
-Kept None source group moment answer left = (answer ≡ 50) × (left ≡ None)
-Kept (Some s) source group moment answer (Some left) = KeptFrom s s.router.standing source group moment answer left
-Kept (Some s) source group moment answer None = ⊥
+abbrev pub SourceKept : Option ShownSession → ℕ → ℕ → ℕ → ℕ → Option ShownSession → Type 0
+SourceKept None source group moment answer left = (answer ≡ 50) × (left ≡ None)
+SourceKept (Some s) source group moment answer (Some left) =
+    SourceKeptFrom s s.router.standing source group moment answer left
+SourceKept (Some s) source group moment answer None = ⊥
 
-abbrev pub ReadFrom : Shown → Option Standing → Table → ℕ → Shown → Type 0
+abbrev pub ReadFrom : ShownSession → Option Standing → Table → ℕ → ShownSession → Type 0
 ReadFrom s None table answer left = (answer ≡ 41) × (left ≡ s)
 ReadFrom s (Some r) table answer left =
     ((answer ≡ 0) × (left ≡ record { router = s.router; sent = s.sent; rows = rows r.state table }))
     ⊎ ((answer ≡ 40) × (left ≡ s))
 
 -- the rows of the table were read, or memory was refused
-abbrev pub Read : Option Shown → Table → ℕ → Option Shown → Type 0
+abbrev pub Read : Option ShownSession → Table → ℕ → Option ShownSession → Type 0
 Read None table answer left = (answer ≡ 50) × (left ≡ None)
 Read (Some s) table answer (Some left) = ReadFrom s s.router.standing table answer left
 Read (Some s) table answer None = ⊥
 
 -- a letter of no table is refused, and nothing is read
-abbrev pub ReadBy : Option Shown → Option Table → ℕ → Option Shown → Type 0
+abbrev pub ReadBy : Option ShownSession → Option Table → ℕ → Option ShownSession → Type 0
 ReadBy old None answer left = (answer ≡ 51) × (left ≡ old)
 ReadBy old (Some table) answer left = Read old table answer left
 
-abbrev pub packets_in : Option Shown → List Emission
+abbrev pub packets_in : Option ShownSession → List Emission
 packets_in None = []
 packets_in (Some s) = s.sent
 
-abbrev pub rows_in : Option Shown → List Row
+abbrev pub rows_in : Option ShownSession → List Row
 rows_in None = []
 rows_in (Some s) = s.rows
 
-abbrev pub standing_in : Option Shown → Option Standing
+abbrev pub standing_in : Option ShownSession → Option Standing
 standing_in None = None
 standing_in (Some s) = s.router.standing
 
-abbrev pub probes_in : Option Shown → ℕ
+abbrev pub probes_in : Option ShownSession → ℕ
 probes_in None = 0
 probes_in (Some s) = s.router.probes
 
-abbrev pub touched_in : Option Shown → ℕ
+abbrev pub touched_in : Option ShownSession → ℕ
 touched_in None = 0
 touched_in (Some s) = s.router.touched
 
 -- the sources whose rows the last event changed
-abbrev pub changed_in : Option Shown → List Key
+abbrev pub changed_in : Option ShownSession → List Key
 changed_in None = []
 changed_in (Some s) = s.router.changed
 
 -- what is offered of the source may have changed at the last event
-abbrev pub may_differ_in : Option Shown → ℕ → ℕ → Bool
+abbrev pub may_differ_in : Option ShownSession → ℕ → ℕ → Bool
 may_differ_in None source group = true
 may_differ_in (Some s) source group = is_disturbed s.router.disturbed group source
 
@@ -154,7 +155,7 @@ may_differ_in (Some s) source group = is_disturbed s.router.disturbed group sour
 abbrev pub PacketTold : Option Emission → Bool → Packet → Packet → List ℕ → List ℕ → Type 0
 PacketTold None is_there packet told room filled = (is_there ≡ false) × (told ≡ packet) × (filled ≡ room)
 PacketTold (Some emission) is_there packet told room filled =
-    (is_there ≡ true) × (told ≡ packet_of emission) × (filled ≡ written room (bytes_in emission))
+    (is_there ≡ true) × (told ≡ told_packet emission) × (filled ≡ written_into room (bytes_in emission))
 
 abbrev pub RowTold : Option Row → Bool → TableRow → TableRow → Type 0
 RowTold None is_there row told = (is_there ≡ false) × (told ≡ row)
@@ -165,19 +166,19 @@ NameTold None is_there name told = (is_there ≡ false) × (told ≡ name)
 NameTold (Some key) is_there name told = (is_there ≡ true) × (told ≡ name_of key)
 
 -- the interfaces that pass a test, as bits
-abbrev pub interfaces_of : Set → Interfaces
-interfaces_of p = record { low = mask_of p 64; high = mask_of (λ q. p (64 + q)) 56 }
+abbrev pub interface_bits : Set → Interfaces
+interface_bits p = record { low = mask_of p 64; high = mask_of (λ q. p (64 + q)) 56 }
 
 -- the answers of a source and RPF_interface(RP(G)), as they are told
 abbrev pub forwarding_of : Answers → Option ℕ → Forwarding
 forwarding_of a shared_rpf = record {
-  rpf = unwrap_or a.rpf no_interface;
-  shared_rpf = unwrap_or shared_rpf no_interface;
+  rpf = unwrap_or a.rpf no_interface_number;
+  shared_rpf = unwrap_or shared_rpf no_interface_number;
   has_spt_bit = a.spt;
   has_tunnel = a.has_tunnel;
-  immediate = interfaces_of a.immediate;
-  inherited = interfaces_of a.inherited;
-  shared_tree = interfaces_of a.inherited_rpt;
+  immediate = interface_bits a.immediate;
+  inherited = interface_bits a.inherited;
+  shared_tree = interface_bits a.inherited_rpt;
 }
 
 abbrev pub AnswersTold : Option Answers → Option ℕ → Bool → Forwarding → Forwarding → Type 0
@@ -194,10 +195,10 @@ CachedTold (Some r) source group is_there row told =
 abbrev pub plane_row_of : Offered → PlaneRow
 plane_row_of o = record {
   is_known = o.is_known;
-  incoming = unwrap_or o.row.incoming no_interface;
-  outgoing = interfaces_of o.row.outgoing;
-  alive = interfaces_of o.row.alive;
-  to_core = interfaces_of o.row.to_core;
+  incoming = unwrap_or o.row.incoming no_interface_number;
+  outgoing = interface_bits o.row.outgoing;
+  alive = interface_bits o.row.alive;
+  to_core = interface_bits o.row.to_core;
 }
 
 abbrev pub OfferTold : Option Offered → Bool → PlaneRow → PlaneRow → Type 0
@@ -209,10 +210,10 @@ abbrev pub OffloadTold : Option Standing → ℕ → ℕ → Bool → PlaneRow �
 OffloadTold None source group is_there row told = (is_there ≡ false) × (told ≡ row)
 OffloadTold (Some r) source group is_there row told = OfferTold (offered r.state group source) is_there row told
 
-abbrev pub MadeBy : Result (Unit {0}) Refusal → Option Shown → Config → ℕ → Option Shown → Type 0
+abbrev pub MadeBy : Result (Unit {0}) Refusal → Option ShownSession → Config → ℕ → Option ShownSession → Type 0
 MadeBy (Ok _) old config answer left = (answer ≡ 0) × (left ≡ Some (new_shown config))
 MadeBy (Err refusal) old config answer left = (answer ≡ refusal_number refusal) × (left ≡ old)
 
 -- a router was made of the configuration, or this was refused, or memory was
-abbrev pub Made : Option Shown → Config → ℕ → Option Shown → Type 0
+abbrev pub Made : Option ShownSession → Config → ℕ → Option ShownSession → Type 0
 Made old config answer left = MadeBy (config_test config) old config answer left ⊎ ((answer ≡ 40) × (left ≡ old))

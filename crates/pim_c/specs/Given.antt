@@ -3,13 +3,13 @@ use Rattle.std.specs.Prelude.{List, if◌then◌else◌, map, ℕ}
 use Rattle.pim_ip.specs.Addr.{addr}
 use Rattle.pim_ip.specs.declared.addr.Prefix.{Prefix}
 use Rattle.pim_types.specs.declared.config.Config.{Config}
-use Rattle.pim_types.specs.declared.config.IfaceId.{IfaceId}
 use Rattle.pim_types.specs.declared.config.InterfaceConfig.{InterfaceConfig}
 use Rattle.pim_types.specs.declared.config.Route.{Route}
 use Rattle.pim_types.specs.declared.config.RpRange.{RpRange}
 use Rattle.pim_types.specs.declared.config.SptSwitch.{SptSwitch}
 use Rattle.pim_types.specs.declared.event.Event.{Event}
 use Rattle.pim_types.specs.declared.event.EventKind.{EventKind}
+use Rattle.pim_ifset.specs.Members.{iface_of}
 use Rattle.pim_c.specs.declared.given.GivenInterface.{GivenInterface}
 use Rattle.pim_c.specs.declared.given.GivenRange.{GivenRange}
 use Rattle.pim_c.specs.declared.given.GivenRoute.{GivenRoute}
@@ -24,15 +24,12 @@ interface_of g = record {
   override_interval = g.override_interval;
 }
 
-abbrev pub iface_of : ℕ → IfaceId
-iface_of n = record { number = n }
-
-abbrev pub prefix_of : ℕ → ℕ → Prefix
-prefix_of address length = record { address = addr address; length = length }
+abbrev pub given_prefix : ℕ → ℕ → Prefix
+given_prefix address length = record { address = addr address; length = length }
 
 abbrev pub route_of : GivenRoute → Route
 route_of g = record {
-  prefix = prefix_of g.prefix g.length;
+  prefix = given_prefix g.prefix g.length;
   next_hop = addr g.next_hop;
   iface = iface_of g.iface;
   preference = g.preference;
@@ -40,7 +37,7 @@ route_of g = record {
 }
 
 abbrev pub range_of : GivenRange → RpRange
-range_of g = record { prefix = prefix_of g.prefix g.length; rp = addr g.rp }
+range_of g = record { prefix = given_prefix g.prefix g.length; rp = addr g.rp }
 
 abbrev pub config_of : GivenSettings → List GivenInterface → List GivenRoute → List GivenRange → Config
 config_of g interfaces routes ranges = record {
@@ -55,5 +52,5 @@ config_of g interfaces routes ranges = record {
   rps = map range_of ranges;
 }
 
-abbrev pub event_of : ℕ → EventKind → Event
-event_of draw kind = record { draw = draw; kind = kind }
+abbrev pub given_event : ℕ → EventKind → Event
+given_event draw kind = record { draw = draw; kind = kind }

@@ -22,8 +22,8 @@ abbrev pub never : ℕ
 never = 2 ^ 64 - 1
 
 -- no interface
-abbrev pub no_interface : ℕ
-no_interface = 2 ^ 32 - 1
+abbrev pub no_interface_number : ℕ
+no_interface_number = 2 ^ 32 - 1
 
 abbrev pub ignored_number : Ignored → ℕ
 ignored_number Ignored.Own = 101
@@ -52,24 +52,24 @@ abbrev pub bytes_in : Emission → List ℕ
 bytes_in (Emission.Link iface bytes) = bytes
 bytes_in (Emission.Unicast destination bytes) = bytes
 
-abbrev pub packet_of : Emission → Packet
-packet_of (Emission.Link iface bytes) = record { is_unicast = false; iface = iface.number; destination = 0; length = length bytes }
-packet_of (Emission.Unicast destination bytes) =
+abbrev pub told_packet : Emission → Packet
+told_packet (Emission.Link iface bytes) = record { is_unicast = false; iface = iface.number; destination = 0; length = length bytes }
+told_packet (Emission.Unicast destination bytes) =
     record { is_unicast = true; iface = 0; destination = destination.bits; length = length bytes }
 
 -- bytes written into a room from its start, as many as it takes
-abbrev pub written : List ℕ → List ℕ → List ℕ
-written room bytes = take (length room) bytes ++ drop (length bytes) room
+abbrev pub written_into : List ℕ → List ℕ → List ℕ
+written_into room bytes = take (length room) bytes ++ drop (length bytes) room
 
-abbrev pub source_bits : Option Addr → ℕ
-source_bits None = 0
-source_bits (Some address) = address.bits
+abbrev pub source_or_zero : Option Addr → ℕ
+source_or_zero None = 0
+source_or_zero (Some address) = address.bits
 
 abbrev pub name_of : Key → NamedSource
-name_of k = record { source = source_bits k.source; group = k.group.bits }
+name_of k = record { source = source_or_zero k.source; group = k.group.bits }
 
 abbrev pub iface_number : Option IfaceId → ℕ
-iface_number None = no_interface
+iface_number None = no_interface_number
 iface_number (Some iface) = iface.number
 
 abbrev pub downstream_number : DownstreamState → ℕ
@@ -83,9 +83,9 @@ register_number (Some RegisterName.Join) = 1
 register_number (Some RegisterName.JoinPending) = 2
 register_number (Some RegisterName.Prune) = 3
 
-abbrev pub is_loser : AssertRole → Bool
-is_loser AssertRole.Winner = false
-is_loser AssertRole.Loser = true
+abbrev pub is_loser_role : AssertRole → Bool
+is_loser_role AssertRole.Winner = false
+is_loser_role AssertRole.Loser = true
 
 abbrev pub blank : ℕ → TableRow
 blank table = record {
@@ -105,7 +105,7 @@ abbrev pub keyed : ℕ → Key → TableRow
 keyed table k = record (blank table) {
   iface = k.iface.number;
   group = k.group.bits;
-  source = source_bits k.source;
+  source = source_or_zero k.source;
   is_rpt = k.rpt;
 }
 
@@ -119,9 +119,9 @@ row_of (Row.Source iface group source end) =
 row_of (Row.Downstream key state end pending) =
     record (keyed 68 key) { state = downstream_number state; end = unwrap_or end never; pending = unwrap_or pending never }
 row_of (Row.Assert key role winner end) =
-    record (keyed 65 key) { is_set = is_loser role; winner = winner.bits; end = end }
+    record (keyed 65 key) { is_set = is_loser_role role; winner = winner.bits; end = end }
 row_of (Row.Upstream group source next_join) =
-    record (blank 85) { group = group.bits; source = source_bits source; end = next_join }
+    record (blank 85) { group = group.bits; source = source_or_zero source; end = next_join }
 row_of (Row.Tree group source is_pruned) =
     record (blank 82) { group = group.bits; source = source.bits; is_rpt = true; is_set = is_pruned }
 row_of (Row.Active group source keepalive spt register) = record (blank 70) {
@@ -132,8 +132,8 @@ row_of (Row.Active group source keepalive spt register) = record (blank 70) {
   end = unwrap_or keepalive never;
 }
 
-abbrev pub table_of : ℕ → Option Table
-table_of letter =
+abbrev pub table_of_letter : ℕ → Option Table
+table_of_letter letter =
     if letter == 78 then Some Table.Neighbours
     else (if letter == 71 then Some Table.Groups
     else (if letter == 83 then Some Table.Sources

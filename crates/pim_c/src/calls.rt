@@ -5,9 +5,10 @@ ghost use Rattle.std.specs.Prelude.{◌≡◌, None, length, map, option_and_the
 ghost use Rattle.pim_model.specs.Timers.{next_moment};
 ghost use Rattle.pim_offload.specs.Seen.{seen_event};
 ghost use Rattle.pim_types.specs.declared.event.EventKind.{EventKind};
-ghost use Rattle.pim_c.specs.Called.{CachedTold, Copied, Kept, Made, NameTold, OffloadTold, PacketTold, ReadBy, RowTold, Seen, Stepped, changed_in, may_differ_in, packets_in, probes_in, rows_in, standing_in, touched_in};
-ghost use Rattle.pim_c.specs.Given.{config_of, event_of, iface_of, range_of, route_of};
-ghost use Rattle.pim_c.specs.Told.{never, table_of};
+ghost use Rattle.pim_c.specs.Called.{CachedTold, Copied, SourceKept, Made, NameTold, OffloadTold, PacketTold, ReadBy, RowTold, Seen, Stepped, changed_in, may_differ_in, packets_in, probes_in, rows_in, standing_in, touched_in};
+ghost use Rattle.pim_ifset.specs.Members.{iface_of};
+ghost use Rattle.pim_c.specs.Given.{config_of, given_event, range_of, route_of};
+ghost use Rattle.pim_c.specs.Told.{never, table_of_letter};
 
 use crate::given::{self, GivenInterface, GivenRange, GivenRoute, GivenSettings};
 use crate::handle::Handle;
@@ -45,7 +46,7 @@ pub extern "C" fn pim_end(alloc: Global, router: &mut Handle)
 /// Time passes up to the moment, in ms.
 #[unsafe(no_mangle)]
 pub extern "C" fn pim_advance(alloc: Global, router: &mut Handle, draw: u32, moment: u64) -> u32
-    ensures { Stepped router.old.place.inside (event_of draw (EventKind.Advance moment)) result router.new.place.inside }
+    ensures { Stepped router.old.place.inside (given_event draw (EventKind.Advance moment)) result router.new.place.inside }
 {
     let kind = EventKind::Advance { moment };
     router.step(alloc, &LentEvent::of(&Event { draw, kind }))
@@ -60,7 +61,7 @@ pub extern "C" fn pim_frame(
     iface: u32,
     packet: &[u8],
 ) -> u32
-    ensures { Stepped router.old.place.inside (event_of draw (EventKind.Frame (iface_of iface) packet.now)) result router.new.place.inside }
+    ensures { Stepped router.old.place.inside (given_event draw (EventKind.Frame (iface_of iface) packet.now)) result router.new.place.inside }
 {
     let iface = IfaceId { number: iface };
     router.step(alloc, &LentEvent::frame(draw, iface, packet))
@@ -69,7 +70,7 @@ pub extern "C" fn pim_frame(
 /// A packet was received for an address of the router.
 #[unsafe(no_mangle)]
 pub extern "C" fn pim_unicast(alloc: Global, router: &mut Handle, draw: u32, packet: &[u8]) -> u32
-    ensures { Stepped router.old.place.inside (event_of draw (EventKind.Unicast packet.now)) result router.new.place.inside }
+    ensures { Stepped router.old.place.inside (given_event draw (EventKind.Unicast packet.now)) result router.new.place.inside }
 {
     router.step(alloc, &LentEvent::unicast(draw, packet))
 }
@@ -77,7 +78,7 @@ pub extern "C" fn pim_unicast(alloc: Global, router: &mut Handle, draw: u32, pac
 /// The interface goes up.
 #[unsafe(no_mangle)]
 pub extern "C" fn pim_up(alloc: Global, router: &mut Handle, draw: u32, iface: u32) -> u32
-    ensures { Stepped router.old.place.inside (event_of draw (EventKind.Up (iface_of iface))) result router.new.place.inside }
+    ensures { Stepped router.old.place.inside (given_event draw (EventKind.Up (iface_of iface))) result router.new.place.inside }
 {
     let kind = EventKind::Up {
         iface: IfaceId { number: iface },
@@ -88,7 +89,7 @@ pub extern "C" fn pim_up(alloc: Global, router: &mut Handle, draw: u32, iface: u
 /// The interface goes down.
 #[unsafe(no_mangle)]
 pub extern "C" fn pim_down(alloc: Global, router: &mut Handle, draw: u32, iface: u32) -> u32
-    ensures { Stepped router.old.place.inside (event_of draw (EventKind.Down (iface_of iface))) result router.new.place.inside }
+    ensures { Stepped router.old.place.inside (given_event draw (EventKind.Down (iface_of iface))) result router.new.place.inside }
 {
     let kind = EventKind::Down {
         iface: IfaceId { number: iface },
@@ -104,7 +105,7 @@ pub extern "C" fn pim_routes(
     draw: u32,
     routes: &[GivenRoute],
 ) -> u32
-    ensures { Copied router.old.place.inside (event_of draw (EventKind.Routes (map route_of routes.now))) result router.new.place.inside }
+    ensures { Copied router.old.place.inside (given_event draw (EventKind.Routes (map route_of routes.now))) result router.new.place.inside }
 {
     router.step_copied(alloc, given::new_routes(alloc, draw, routes))
 }
@@ -117,7 +118,7 @@ pub extern "C" fn pim_ranges(
     draw: u32,
     ranges: &[GivenRange],
 ) -> u32
-    ensures { Copied router.old.place.inside (event_of draw (EventKind.Rps (map range_of ranges.now))) result router.new.place.inside }
+    ensures { Copied router.old.place.inside (given_event draw (EventKind.Rps (map range_of ranges.now))) result router.new.place.inside }
 {
     router.step_copied(alloc, given::new_ranges(alloc, draw, ranges))
 }
@@ -167,7 +168,7 @@ pub extern "C" fn pim_next_moment(alloc: Global, router: &mut Handle) -> u64
 /// Reads the rows of a table, which is named by the letter of its printed lines.
 #[unsafe(no_mangle)]
 pub extern "C" fn pim_read(alloc: Global, router: &mut Handle, letter: u8) -> u32
-    ensures { ReadBy router.old.place.inside (table_of letter) result router.new.place.inside }
+    ensures { ReadBy router.old.place.inside (table_of_letter letter) result router.new.place.inside }
 {
     match told::table(letter) {
         Some(table) => router.read(alloc, table),
@@ -298,7 +299,7 @@ pub extern "C" fn pim_keep(
     group: u32,
     moment: u64,
 ) -> u32
-    ensures { Kept router.old.place.inside source group moment result router.new.place.inside }
+    ensures { SourceKept router.old.place.inside source group moment result router.new.place.inside }
 {
     let source = Addr { bits: source };
     let group = Addr { bits: group };

@@ -1,6 +1,6 @@
 //! What a program gives: the parts of a configuration, and events.
 ghost use Rattle.std.specs.Prelude.{◌≡◌, IfOk, map};
-ghost use Rattle.pim_c.specs.Given.{config_of, event_of, iface_of, interface_of, range_of, route_of};
+ghost use Rattle.pim_c.specs.Given.{config_of, given_event, interface_of, range_of, route_of};
 ghost use Rattle.pim_types.specs.declared.event.EventKind.{EventKind};
 
 use pim_types::{
@@ -170,7 +170,7 @@ pub fn config(
 
 /// New unicast routes.
 pub fn new_routes(alloc: Global, draw: u32, given: &[GivenRoute]) -> Result<Event, AllocError>
-    ensures { IfOk result (λ event. event ≡ event_of draw (EventKind.Routes (map route_of given.now))) }
+    ensures { IfOk result (λ event. event ≡ given_event draw (EventKind.Routes (map route_of given.now))) }
 {
     let kind = EventKind::Routes {
         routes: routes(alloc, given)?,
@@ -180,7 +180,7 @@ pub fn new_routes(alloc: Global, draw: u32, given: &[GivenRoute]) -> Result<Even
 
 /// New RP ranges.
 pub fn new_ranges(alloc: Global, draw: u32, given: &[GivenRange]) -> Result<Event, AllocError>
-    ensures { IfOk result (λ event. event ≡ event_of draw (EventKind.Rps (map range_of given.now))) }
+    ensures { IfOk result (λ event. event ≡ given_event draw (EventKind.Rps (map range_of given.now))) }
 {
     let kind = EventKind::Rps {
         rps: ranges(alloc, given)?,

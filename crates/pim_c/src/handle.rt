@@ -13,7 +13,7 @@ ghost use Rattle.pim_offload.specs.Offered.{Offered as OfferedValue};
 ghost use Rattle.pim_offload.specs.Seen.{seen_event};
 ghost use Rattle.pim_offrow.specs.Shown.{TellsOffload};
 ghost use Rattle.pim_c.specs.Told.{never};
-ghost use Rattle.pim_c.specs.Called.{AnswersTold, CachedTold, Kept, KeptFrom, Made, NameTold, OfferTold, OffloadTold, PacketTold, Read, ReadFrom, Refused, RowTold, Seen, SeenFrom, Stepped, SteppedFrom, changed_in, lost, may_differ_in, new_shown, packets_in, probes_in, refused_number, rows_in, standing_in, touched_in};
+ghost use Rattle.pim_c.specs.Called.{AnswersTold, CachedTold, SourceKept, SourceKeptFrom, Made, NameTold, OfferTold, OffloadTold, PacketTold, Read, ReadFrom, Refused, RowTold, Seen, SeenFrom, Stepped, SteppedFrom, changed_in, lost, may_differ_in, new_shown, packets_in, probes_in, refused_number, rows_in, standing_in, touched_in};
 
 use crate::place::Place;
 use crate::told::{
@@ -21,11 +21,10 @@ use crate::told::{
     TableRow, answer_number, kept_number,
 };
 use pim_intake::LentEvent;
-use pim_macros::SourceGroup;
 use pim_mfc::CacheRow;
 use pim_offrow::Offered;
 use pim_session::Session;
-use pim_types::{Addr, Config, Emission, Event, Fault, IfaceId, Refusal, Row, Table};
+use pim_types::{Addr, Config, Emission, Event, Fault, IfaceId, Refusal, Row, SourceGroup, Table};
 use std::alloc::{AllocError, Global};
 use std::mem::replace;
 
@@ -114,7 +113,7 @@ impl Handle {
 
     /// Tells the router when a data plane forwarded its last packet of a source. The answer, by its number.
     pub fn keep(&mut self, alloc: Global, source: Addr, group: Addr, moment: u64) -> u32
-        ensures { Kept self.old.place.inside source.bits group.bits moment result self.new.place.inside }
+        ensures { SourceKept self.old.place.inside source.bits group.bits moment result self.new.place.inside }
     {
         let Some(mut session) = self.take(alloc) else {
             return NO_ROUTER;
@@ -455,7 +454,7 @@ fn seen(
 
 // Tells a session when a data plane forwarded its last packet of a source.
 fn keep(session: &mut Session, source: Addr, group: Addr, moment: u64) -> u32
-    ensures { KeptFrom session.old session.old.router.standing source.bits group.bits moment result session.new }
+    ensures { SourceKeptFrom session.old session.old.router.standing source.bits group.bits moment result session.new }
 {
     match session.keep(source, group, moment) {
         Ok(runs) => kept_number(runs),

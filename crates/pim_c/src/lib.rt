@@ -5,4 +5,5 @@ pub mod calls;
 pub mod given;
 pub mod handle;
 pub mod place;
+pub mod pointed;
 pub mod told;

@@ -1,9 +1,9 @@
 //! A session as its pointer, or nothing: what stands in a handle that C keeps. The functions that reach the pointer are proved by
 //! hand.
 ghost use Rattle.std.specs.Prelude.{◌≡◌, Option, IsSome, None, Some};
-ghost use Rattle.pim_session.specs.Session.{Shown};
+ghost use Rattle.pim_session.specs.Session.{ShownSession};
 
-use pim_held::Pointed;
+use crate::pointed::Pointed;
 use pim_session::Session;
 use std::alloc::Global;
 use std::marker::Model;
@@ -16,7 +16,7 @@ use std::ptr::null_mut;
 pub struct Place {
     at: *mut u8,
     alloc: Global,
-    pub ghost inside: { Option Shown },
+    pub ghost inside: { Option ShownSession },
 }
 
 impl Model for Place {

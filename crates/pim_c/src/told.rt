@@ -10,16 +10,17 @@ ghost use Rattle.pim_model.specs.Sets.{Set};
 ghost use Rattle.pim_offload.specs.Offered.{Offered as OfferedValue};
 ghost use Rattle.pim_offrow.specs.Shown.{ShowsOffered};
 ghost use Rattle.pim_world.specs.Shown.{Shows};
-ghost use Rattle.pim_c.specs.Called.{forwarding_of, interfaces_of, plane_row_of};
-ghost use Rattle.pim_c.specs.Told.{answer_number, bytes_in, downstream_number, iface_number, ignored_number, kept_number, name_of, packet_of, register_number, row_of, source_bits, table_of, verdict_number, written};
+ghost use Rattle.pim_c.specs.Called.{forwarding_of, interface_bits, plane_row_of};
+ghost use Rattle.pim_c.specs.Told.{answer_number, bytes_in, downstream_number, iface_number, ignored_number, kept_number, name_of, told_packet, register_number, row_of, source_or_zero, table_of_letter, verdict_number, written_into};
 
 use pim_ifset::IfSet;
-use pim_macros::SourceGroup;
 use pim_mfc::CacheRow;
 use pim_offrow::Offered;
 use pim_types::fact::AssertRole;
 use pim_types::table::{DownstreamState, RegisterName};
-use pim_types::{Addr, Emission, Fault, IfaceId, Ignored, Refusal, Row, Table, Verdict};
+use pim_types::{
+    Addr, Emission, Fault, IfaceId, Ignored, Refusal, Row, SourceGroup, Table, Verdict,
+};
 
 /// An event was taken.
 pub const DONE: u32 = 0;
@@ -96,7 +97,7 @@ pub struct Packet {
 
 /// What a packet is, without its bytes.
 pub fn outline(emission: &Emission) -> Packet
-    ensures { result ≡ packet_of emission.now }
+    ensures { result ≡ told_packet emission.now }
 {
     match emission {
         Emission::Link { iface, bytes } => Packet {
@@ -129,7 +130,7 @@ pub fn bytes(emission: &Emission) -> &[u8]
 
 /// Writes bytes into a room from its start, as many as it takes.
 pub fn write(room: &mut [u8], bytes: &[u8])
-    ensures { room.new ≡ written room.old bytes.now }
+    ensures { room.new ≡ written_into room.old bytes.now }
 {
     if bytes.len() < room.len() {
         room[..bytes.len()].copy_from_slice(bytes);
@@ -162,8 +163,8 @@ pub struct TableRow {
     pub pending: u64,
 }
 
-fn source_bits(source: Option<Addr>) -> u32
-    ensures { result ≡ source_bits source }
+fn source_or_zero(source: Option<Addr>) -> u32
+    ensures { result ≡ source_or_zero source }
 {
     match source {
         Some(address) => address.bits,
@@ -250,8 +251,8 @@ fn source(row: &Row) -> u32
     match *row {
         Row::Neighbour { address, .. } => address.bits,
         Row::Group { .. } => 0,
-        Row::Downstream { key, .. } | Row::Assert { key, .. } => source_bits(key.source),
-        Row::Upstream { source, .. } => source_bits(source),
+        Row::Downstream { key, .. } | Row::Assert { key, .. } => source_or_zero(key.source),
+        Row::Upstream { source, .. } => source_or_zero(source),
         Row::Source { source, .. } | Row::Tree { source, .. } | Row::Active { source, .. } => {
             source.bits
         }
@@ -392,8 +393,8 @@ fn word(set: IfSet, from: u32, count: u32) -> u64
 
 // Both words of a set.
 fn words(set: IfSet) -> Interfaces
-    ensures shown { (p : Set) → Shows set p → result ≡ interfaces_of p }
-    ensures below { (p : Set) → ((i : ℕ) → nat_lt i 120 ≡ true → has set i ≡ p i) → result ≡ interfaces_of p }
+    ensures shown { (p : Set) → Shows set p → result ≡ interface_bits p }
+    ensures below { (p : Set) → ((i : ℕ) → nat_lt i 120 ≡ true → has set i ≡ p i) → result ≡ interface_bits p }
 {
     Interfaces {
         low: word(set, 0, 64),
@@ -465,7 +466,7 @@ pub fn named(name: &SourceGroup) -> NamedSource
 
 /// The table of a letter.
 pub fn table(letter: u8) -> Option<Table>
-    ensures { result ≡ table_of letter }
+    ensures { result ≡ table_of_letter letter }
 {
     match letter {
         b'N' => Some(Table::Neighbours),

@@ -4,7 +4,7 @@ use Rattle.pim_types.specs.declared.outcome.Emission.{Emission}
 use Rattle.pim_types.specs.declared.table.Row.{Row}
 use Rattle.pim_router.specs.Standing.{Shown as RouterShown}
 
-pub record Shown : Type 0 where
+pub record ShownSession : Type 0 where
   -- nothing where memory was refused
   pub router : RouterShown
   -- of the last event that it took

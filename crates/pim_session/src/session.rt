@@ -27,11 +27,12 @@ ghost use Rattle.pim_router.specs.Staying.{OffersStay};
 ghost use Rattle.pim_router.specs.Standing.{begun, nothing_shown, standing, with_state};
 
 use pim_intake::LentEvent;
-use pim_macros::SourceGroup;
 use pim_mfc::CacheRow;
 use pim_offrow::Offered;
 use pim_router::Router;
-use pim_types::{Addr, Config, Emission, Fault, IfaceId, Refusal, Row, Table, Verdict};
+use pim_types::{
+    Addr, Config, Emission, Fault, IfaceId, Refusal, Row, SourceGroup, Table, Verdict,
+};
 use std::alloc::Global;
 use std::marker::Model;
 use std::mem;
@@ -48,9 +49,9 @@ pub struct Session {
 impl Model for Session {
     ghost use Rattle.std.specs.Prelude.{◌≡◌, IsSome, false, if◌then◌else◌};
     ghost use Rattle.pim_router.specs.Standing.{nothing_shown};
-    ghost use Rattle.pim_session.specs.Session.{Shown};
+    ghost use Rattle.pim_session.specs.Session.{ShownSession};
 
-    ghost Value = { Shown };
+    ghost Value = { ShownSession };
 
     ghost view = { λ s. record {
       router = if s.is_lost then nothing_shown else s.router.value;

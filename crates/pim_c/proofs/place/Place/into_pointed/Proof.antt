@@ -23,8 +23,8 @@ use Rattle.std.proofs.alloc.Calls.{Goes-blank}
 use Rattle.std.proofs.raw_atomic.Walks.{proved_at, leaves}
 use Rattle.std.specs.contracts.impls.GlobalAllocator.TheImpl.{ghosts}
 use Rattle.std_alloc.specs.Box.Ownership.{box_owns}
-use Rattle.pim_held.proofs.Words.{pair, pair_good, pointed_in}
-use Rattle.pim_held.proofs.Words.{Row as To}
+use Rattle.pim_c.proofs.PointedWords.{pair, pair_good, pointed_in}
+use Rattle.pim_c.proofs.PointedWords.{Row as To}
 use Rattle.pim_c.specs.Kept.{kept}
 use Rattle.pim_session.specs.contracts.session.Session.{the_row as session}
 use Rattle.pim_c.proofs.PlaceWords.{Z, laws, Row, place_out, value_of}

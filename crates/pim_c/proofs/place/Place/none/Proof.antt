@@ -18,7 +18,7 @@ use denote.Triple.Entry.{alive}
 use denote.Triple.Walked.{Stays, stay_dropped, walk_of}
 use Rattle.std.proofs.alloc.Calls.{Goes-blank, handle_tells}
 use Rattle.std.proofs.raw_atomic.Walks.{proved_at, leaves}
-use Rattle.pim_held.proofs.Words.{pair}
+use Rattle.pim_c.proofs.PointedWords.{pair}
 use Rattle.pim_c.proofs.PlaceWords.{Z, Row, handle, null_good, place_in}
 use Rattle.pim_c.specs.contracts.place.Place.none.{ended, clauses}
 use Rattle.pim_c.specs.contracts.place.Place.none.Key.{name as #self}

@@ -19,8 +19,8 @@ use denote.Triple.Walked.{Stays, stay_dropped, walk_of}
 use Rattle.std.proofs.alloc.Calls.{Goes-blank}
 use Rattle.std.proofs.raw_atomic.Walks.{proved_at, leaves}
 use Rattle.std.specs.contracts.impls.GlobalAllocator.TheImpl.{ghosts}
-use Rattle.pim_held.proofs.Words.{pair, pair_good, pointed_out}
-use Rattle.pim_held.proofs.Words.{Row as From}
+use Rattle.pim_c.proofs.PointedWords.{pair, pair_good, pointed_out}
+use Rattle.pim_c.proofs.PointedWords.{Row as From}
 use Rattle.pim_session.specs.contracts.session.Session.{the_row as session}
 use Rattle.pim_c.specs.contracts.place.Place.{the_heap}
 use Rattle.pim_c.proofs.PlaceWords.{Z, laws, Row, place_in}

@@ -32,13 +32,13 @@ use Rattle.std_alloc.specs.Box.Ownership.{box_owns}
 use Rattle.std_alloc.proofs.BoxSteps.Form as box
 use Rattle.std_alloc.proofs.BoxSteps.Steps.{box_out, box_in}
 use Rattle.std.proofs.raw_atomic.Walks.{proved_at, leaves}
-use Rattle.pim_held.proofs.Words.{pair, pair_good, pointed_in}
+use Rattle.pim_c.proofs.PointedWords.{pair, pair_good, pointed_in}
 use Rattle.std_alloc.specs.contracts.boxed.Box.into_raw_with_allocator as callee
 use Rattle.std_alloc.proofs.boxed.Box.into_raw_with_allocator.Met.{met}
-use Rattle.pim_held.specs.contracts.Pointed.of.{ended, clauses}
-use Rattle.pim_held.specs.contracts.Pointed.of.Key.{name as #self}
-use Rattle.pim_held.proofs.Pointed.of.Statement.{statement}
-use Rattle.pim_held.proofs.Pointed.of.Code as code
+use Rattle.pim_c.specs.contracts.pointed.Pointed.of.{ended, clauses}
+use Rattle.pim_c.specs.contracts.pointed.Pointed.of.Key.{name as #self}
+use Rattle.pim_c.proofs.pointed.Pointed.of.Statement.{statement}
+use Rattle.pim_c.proofs.pointed.Pointed.of.Code as code
 
 pub of_spec : {M : Type 1} → statement M
 of_spec 𝓤 𝓛 𝓜 𝓡 wired T A L LA g d dx dd allocator glue glued =

@@ -31,13 +31,13 @@ use Rattle.std.proofs.cell.Inside.{Good}
 use Rattle.std_alloc.proofs.BoxSteps.Form as box
 use Rattle.std_alloc.proofs.BoxSteps.Steps.{box_out, box_in}
 use Rattle.std.proofs.raw_atomic.Walks.{proved_at, leaves}
-use Rattle.pim_held.proofs.Words.{pair, Row, pair_good, pointed_out}
+use Rattle.pim_c.proofs.PointedWords.{pair, Row, pair_good, pointed_out}
 use Rattle.std_alloc.specs.contracts.boxed.Box.from_raw as callee
 use Rattle.std_alloc.proofs.boxed.Box.from_raw.Met.{met}
-use Rattle.pim_held.specs.contracts.Pointed.into_box.{ended, clauses}
-use Rattle.pim_held.specs.contracts.Pointed.into_box.Key.{name as #self}
-use Rattle.pim_held.proofs.Pointed.into_box.Statement.{statement}
-use Rattle.pim_held.proofs.Pointed.into_box.Code as code
+use Rattle.pim_c.specs.contracts.pointed.Pointed.into_box.{ended, clauses}
+use Rattle.pim_c.specs.contracts.pointed.Pointed.into_box.Key.{name as #self}
+use Rattle.pim_c.proofs.pointed.Pointed.into_box.Statement.{statement}
+use Rattle.pim_c.proofs.pointed.Pointed.into_box.Code as code
 
 pub into_box_spec : {M : Type 1} → statement M
 into_box_spec 𝓤 𝓛 𝓜 𝓡 wired T A L LA g d dx dd allocator glue glued =

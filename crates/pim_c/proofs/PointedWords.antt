@@ -23,7 +23,7 @@ use Rattle.std.proofs.alloc.Calls.{Al, handle_tells}
 use Rattle.std.proofs.cell.Inside.{Good}
 use Rattle.std_alloc.specs.Box.Ownership.{box_owns}
 use Rattle.std_alloc.proofs.ResultValues.{and_tt}
-use Rattle.pim_held.specs.contracts.Pointed as pointed
+use Rattle.pim_c.specs.contracts.pointed.Pointed as pointed
 
 -- a struct of two machine values
 abbrev pub pair : Val → Val → Val
