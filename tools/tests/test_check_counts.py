@@ -84,9 +84,9 @@ class Spoilt(unittest.TestCase):
     def test_rows_evaluated_in_another_cache(self):
         self.spoil(
             "pim_router/src/event.rt",
-            "    cache.refresh(world, meter, names, disturbed_by(accepted, touched))?;",
+            "    cache.refresh(world, meter, names, disturbed_where(reroutes, touched))?;",
             "    Cache::new(turn.alloc).refresh(world, meter, names.try_clone()?, Touched::All)?;\n"
-            "    cache.refresh(world, meter, names, disturbed_by(accepted, touched))?;",
+            "    cache.refresh(world, meter, names, disturbed_where(reroutes, touched))?;",
         )
         self.refused("a count is made in take_change")
 
