@@ -42,7 +42,8 @@ def sum_of_proved():
     total = hashlib.sha256(PROVED.read_bytes() + ran(["rt", "version"]))
     for name, below in crates_of("pim_c").items():
         total.update(f"{name}: {' '.join(below)}\n".encode())
-        for source in sorted(path for part in ("src", "specs", "proofs") for path in (TOP / "crates" / name / part).rglob("*t")):
+        parts = [TOP / "crates" / name / part for part in ("src", "specs", "proofs")]
+        for source in sorted(path for part in parts for path in part.rglob("*") if path.suffix in {".rt", ".antt"}):
             total.update(f"{source.relative_to(TOP)} {source.stat().st_size}\n".encode() + source.read_bytes())
     return total.hexdigest()
 
