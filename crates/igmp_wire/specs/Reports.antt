@@ -57,15 +57,15 @@ records_test b p (suc n) =
     >> expect (nat_le (after_record b p) (length b)) Short
     >> later
 
-abbrev pub record_with : ℕ → List ℕ → Option RecordType → List Record
-record_with group sources None = []
-record_with group sources (Some type) = record { type = type; group = group; sources = sources } ∷ []
+abbrev pub record_of_known_type : ℕ → List ℕ → Option RecordType → List Record
+record_of_known_type group sources None = []
+record_of_known_type group sources (Some type) = record { type = type; group = group; sources = sources } ∷ []
 
 -- the record at place p, unless it is skipped for its type or for a group of 224.0.0.0/24
 unfoldable pub record_at : List ℕ → ℕ → List Record
 record_at b p =
     if is_link_local (record_group_at b p) then []
-    else record_with (record_group_at b p) (filter is_unicast (addresses_at b (p + 8) (source_count_at b p))) (record_type_at b p)
+    else record_of_known_type (record_group_at b p) (filter is_unicast (addresses_at b (p + 8) (source_count_at b p))) (record_type_at b p)
 
 -- the n records from place p on, but for those that are skipped
 unfoldable pub records_at : List ℕ → ℕ → ℕ → List Record

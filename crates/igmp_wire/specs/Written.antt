@@ -26,11 +26,11 @@ query_with header sources = record {
   sources = bits_of sources;
 }
 
-abbrev pub record_of : GroupRecord → Record
-record_of r = record { type = r.record_type; group = r.group.bits; sources = bits_of r.sources.now }
+abbrev pub record_to_write : GroupRecord → Record
+record_to_write r = record { type = r.record_type; group = r.group.bits; sources = bits_of r.sources.now }
 
 abbrev pub records_of : List GroupRecord → List Record
-records_of records = map record_of records
+records_of records = map record_to_write records
 
 -- the number of sources fits its 16 bits
 abbrev pub HasSourceCount : GroupRecord → Type 0

@@ -3,7 +3,7 @@ ghost use Rattle.std.specs.Prelude.{◌≡◌, ℕ, ◌+◌, ◌^◌, ◌<◌, �
 ghost use Rattle.byteorder.specs.Endian.{big_bytes};
 ghost use Rattle.igmp_wire.specs.Queries.{query_text};
 ghost use Rattle.igmp_wire.specs.Reports.{code_of_type, record_text, report_text};
-ghost use Rattle.igmp_wire.specs.Written.{bits_of, query_with, record_of, records_of, HasSourceCount, summed, unsummed_query, unsummed_report, BeginsWith, QueryReadsBack, ReportReadsBack};
+ghost use Rattle.igmp_wire.specs.Written.{bits_of, query_with, record_to_write, records_of, HasSourceCount, summed, unsummed_query, unsummed_report, BeginsWith, QueryReadsBack, ReportReadsBack};
 
 use crate::report::RecordType;
 use pim_ip::{Addr, set_checksum};
@@ -115,7 +115,7 @@ fn append_addresses(out: &mut Vec<u8>, addresses: &[Addr]) -> Result<(), AllocEr
 fn append_record(out: &mut Vec<u8>, group_record: &GroupRecord<'_>) -> Result<(), AllocError>
     requires { length group_record.now.sources.now < 2 ^ 16 }
     ensures ok { OnOk result (out.new.items
-        ≡ out.old.items ++ record_text (record_of group_record.now)) }
+        ≡ out.old.items ++ record_text (record_to_write group_record.now)) }
     ensures err { OnErr result (BeginsWith out.new.items out.old.items) }
 {
     out.extend_from_slice(&group_record.fields())?;

@@ -5,7 +5,7 @@ use Rattle.std.proofs.lemmas.Grind.{and_numeral}
 use Rattle.std.proofs.lemmas.List.{get_or-take}
 use Rattle.pim_ip.specs.declared.refusal.Refusal.TheVariants.{Short, BadVersion, BadChecksum, BadLength, BadAddress, Fragment}
 use Rattle.pim_ip.specs.Checksum.{sum16}
-use Rattle.pim_ip.specs.Ipv4.{packet_limit, version_of, header_length_of, total_length_of, fragment_of, protocol_of, source_of, is_source, packet_of, ipv4_reading}
+use Rattle.pim_ip.specs.Ipv4.{packet_limit, version_of, header_length_of, total_length_of, fragment_of, protocol_of, source_address_of, is_source, packet_of, ipv4_reading}
 use Rattle.pim_ip.specs.View.{packet_from}
 
 -- the fields stand in the first 20 bytes
@@ -60,19 +60,19 @@ module _ (b : List ℕ) where
   fragment_found m e f = grind (arith, nat_tests)
 
   pub source_wrong : IsMeasured b → sum16 (take (header_length_of b) b) ≡ 0 → fragment_of b ≡ 0
-      → is_source (protocol_of b) (source_of b) ≡ false → ipv4_reading b ≡ Err BadAddress
+      → is_source (protocol_of b) (source_address_of b) ≡ false → ipv4_reading b ≡ Err BadAddress
   unfolding ipv4_reading
   source_wrong m e f s = grind (arith, nat_tests)
 
   -- where all tests passed
   packet_read : IsMeasured b → sum16 (take (header_length_of b) b) ≡ 0 → fragment_of b ≡ 0
-      → is_source (protocol_of b) (source_of b) ≡ true → ipv4_reading b ≡ Ok (packet_of b)
+      → is_source (protocol_of b) (source_address_of b) ≡ true → ipv4_reading b ≡ Ok (packet_of b)
   unfolding ipv4_reading
   packet_read m e f s = grind (arith, nat_tests)
 
   -- the same, by its header and its payload
   pub packet_found : IsMeasured b → sum16 (take (header_length_of b) b) ≡ 0 → fragment_of b ≡ 0
-      → is_source (protocol_of b) (source_of b) ≡ true → (header payload : List ℕ) → header ≡ take (header_length_of b) b
+      → is_source (protocol_of b) (source_address_of b) ≡ true → (header payload : List ℕ) → header ≡ take (header_length_of b) b
       → payload ≡ slice_range b (header_length_of b) (total_length_of b) → Ok (packet_from header payload) ≡ ipv4_reading b
   unfolding packet_of
   packet_found m e f s header payload eh ep =

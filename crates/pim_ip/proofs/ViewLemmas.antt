@@ -6,8 +6,8 @@ use Rattle.std.proofs.lemmas.List.{append_assoc, length-append, get_or_append_le
 use Rattle.byteorder.specs.Endian.{big_from, big_bytes}
 use Rattle.byteorder.specs.Numbers.{big_number-reads_back}
 use Rattle.pim_ip.specs.Checksum.{sum16, with_checksum}
-use Rattle.pim_ip.specs.Ipv4.{Packet, packet_limit, header_length_of, total_length_of, protocol_of, source_of, is_source, header_text, copy_text, ipv4_reading}
-use Rattle.pim_ip.specs.View.{packet_from, IsPacket, ReadsAs, copied_header, copied, written}
+use Rattle.pim_ip.specs.Ipv4.{Packet, packet_limit, header_length_of, total_length_of, protocol_of, source_address_of, is_source, header_text, copy_text, ipv4_reading}
+use Rattle.pim_ip.specs.View.{packet_from, IsPacket, ReadsAs, copied_header, copied, written_packet}
 use Rattle.pim_ip.proofs.ReadingLemmas.{IsMeasured, packet_found}
 use Rattle.pim_ip.proofs.ChecksumLemmas.{sum16-with_checksum}
 use Rattle.pim_ip.proofs.WritingLemmas.{length-with_checksum}
@@ -123,7 +123,7 @@ module _ (header : List ℕ) (time_to_live : ℕ) where
       ∙ get_or-drop 12 header (i - 12) 0 ∙ ap (λ (k : ℕ). get_or header k 0) same
 
   -- the source is kept
-  source-changed : 12 ≤ length header → source_of changed ≡ source_of header
+  source-changed : 12 ≤ length header → source_address_of changed ≡ source_address_of header
   source-changed h =
       rw (changed-high 12 (omega arith) h, changed-high 13 (omega arith) h, changed-high 14 (omega arith) h, changed-high 15 (omega arith) h) refl
 
@@ -169,17 +169,12 @@ module _ (options : List ℕ) (time_to_live protocol source destination : ℕ) (
   abbrev text : List ℕ
   text = header_text options time_to_live protocol source destination (length payload)
 
-  -- the options stand after 20 bytes
-  length-text : length text ≡ 20 + length options
-  unfolding header_text with_checksum
-  length-text = omega arith
-
   -- a source is below the groups
   source_fits : source < 2 ^ 32
   source_fits = grind (arith, nat_tests)
 
   -- the source that is read
-  source-text : source_of text ≡ source
+  source-text : source_address_of text ≡ source
   unfolding header_text with_checksum
   source-text = big_number-reads_back 4 source [] source_fits
 
@@ -203,10 +198,10 @@ module _ (options : List ℕ) (time_to_live protocol source destination : ℕ) (
   }
 
   -- the packet that is read
-  packet_from-text : packet_from text payload ≡ written options time_to_live protocol source destination payload
+  packet_from-text : packet_from text payload ≡ written_packet options time_to_live protocol source destination payload
   unfolding header_text with_checksum
   packet_from-text = rw (source-text, destination-text) refl
 
   -- the header with its payload is read as it was written
-  pub written_reads : ReadsAs (text ++ payload) (written options time_to_live protocol source destination payload)
+  pub written_reads : ReadsAs (text ++ payload) (written_packet options time_to_live protocol source destination payload)
   written_reads = rw (← packet_from-text) (reads_within text payload text-IsPacket)

@@ -4,7 +4,7 @@ use Rattle.std.proofs.lemmas.List.{append_assoc, drop_all, length-append, length
 use borrow.Rule.Slice.PartMut.{put_mid}
 use Rattle.byteorder.specs.Endian.{big_bytes}
 use Rattle.pim_ip.specs.Checksum.{sum16, with_checksum}
-use Rattle.pim_ip.specs.View.{lowered}
+use Rattle.pim_ip.specs.View.{lowered_header}
 
 -- nothing of two elements is left past two
 drop-take-2 : (xs : List ℕ) → drop 2 (take 2 xs) ≡ []
@@ -71,8 +71,8 @@ pub lowered-put : (header buf : List ℕ) (time_to_live checksum : ℕ) → 12 �
     → buf ≡ checksum / 256 % 256 ∷ checksum % 256 ∷ drop 2 (take 2 (drop 10 (set header 8 time_to_live)))
     → time_to_live ≡ get_or header 8 0 - 1
     → checksum ≡ sum16 ((take 8 header ++ time_to_live ∷ get_or header 9 0 ∷ []) ++ 0 ∷ 0 ∷ drop 12 header)
-    → put_mid 10 2 (set header 8 time_to_live) buf ≡ lowered header
-unfolding lowered with_checksum
+    → put_mid 10 2 (set header 8 time_to_live) buf ≡ lowered_header header
+unfolding lowered_header with_checksum
 lowered-put header buf time_to_live checksum long written lower made =
     let front : List ℕ = take 8 header ++ time_to_live ∷ get_or header 9 0 ∷ [] in
     let rest : List ℕ = drop 12 header in
@@ -89,8 +89,8 @@ put_behind before header payload changed all start size is at long =
     rw (is, drop_at before (header ++ payload) start (sym at)) (drop_at header payload size (sym long)) in
     rw (front, back) refl
 
-pub length-lowered : (header : List ℕ) → 12 ≤ length header → length (lowered header) ≡ length header
-unfolding lowered
+pub length-lowered : (header : List ℕ) → 12 ≤ length header → length (lowered_header header) ≡ length header
+unfolding lowered_header
 length-lowered header long =
     let front : List ℕ = take 8 header ++ (get_or header 8 0 - 1) ∷ get_or header 9 0 ∷ [] in
     rw (length-with_checksum front (drop 12 header), length-append (take 8 header) ((get_or header 8 0 - 1) ∷ get_or header 9 0 ∷ []), length-take-le 8 header (omega arith), length-drop 12 header)
@@ -99,13 +99,13 @@ length-lowered header long =
 -- a header behind others, lowered in its place
 pub lowered_behind : (before header payload changed all items : List ℕ) (start size len : ℕ) → 12 ≤ length header → all ≡ items
     → items ≡ before ++ (header ++ payload) → len ≡ length items → start ≡ length before → size ≡ length header
-    → changed ≡ lowered (take size (drop start all))
-    → take len (put_mid start size all changed ++ drop (length (put_mid start size all changed)) items) ≡ before ++ (lowered header ++ payload)
+    → changed ≡ lowered_header (take size (drop start all))
+    → take len (put_mid start size all changed ++ drop (length (put_mid start size all changed)) items) ≡ before ++ (lowered_header header ++ payload)
 lowered_behind before header payload changed all items start size len enough seen is counted at long made =
     let text : List ℕ = before ++ (changed ++ payload) in
     let here : take size (drop start all) ≡ header =
     rw (seen, is, drop_at before (header ++ payload) start (sym at)) (take_at header payload size (sym long)) in
-    let now : changed ≡ lowered header = made ∙ ap lowered here in
+    let now : changed ≡ lowered_header header = made ∙ ap lowered_header here in
     let same : length changed ≡ length header = ap length now ∙ length-lowered header enough in
     let whole : length text ≡ length items =
     rw (is, length-append before (changed ++ payload), length-append changed payload, length-append before (header ++ payload), length-append header payload) (omega (arith, same)) in

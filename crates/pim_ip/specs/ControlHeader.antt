@@ -2,7 +2,7 @@
 use Rattle.std.specs.Prelude.{◌≡◌, ℕ, if◌then◌else◌, IsTrue, List, [], ◌++◌, length}
 use Rattle.pim_ip.specs.declared.write.ControlHeader.{ControlHeader}
 use Rattle.pim_ip.specs.Ipv4.{is_source, header_text, router_alert}
-use Rattle.pim_ip.specs.View.{ReadsAs, written}
+use Rattle.pim_ip.specs.View.{ReadsAs, written_packet}
 
 -- Router Alert or no option
 abbrev pub options_of : ControlHeader → List ℕ
@@ -19,4 +19,4 @@ ReadsBack header =
     (payload : List ℕ) → length payload ≡ header.payload_length
     → IsTrue (is_source header.protocol header.source.bits)
     → ReadsAs (text_of header ++ payload)
-    (written (options_of header) header.time_to_live header.protocol header.source.bits header.destination.bits payload)
+    (written_packet (options_of header) header.time_to_live header.protocol header.source.bits header.destination.bits payload)

@@ -74,8 +74,8 @@ fragment_of b = big_from 6 2 b % 0x4000
 abbrev pub protocol_of : List ℕ → ℕ
 protocol_of b = slice_index b 9
 
-abbrev pub source_of : List ℕ → ℕ
-source_of b = big_from 12 4 b
+abbrev pub source_address_of : List ℕ → ℕ
+source_address_of b = big_from 12 4 b
 
 -- a source that may send: 0.0.0.0 with IGMP alone
 abbrev pub is_source : ℕ → ℕ → Bool
@@ -86,7 +86,7 @@ unfoldable pub packet_of : List ℕ → Packet
 packet_of b = record {
   protocol = protocol_of b;
   time_to_live = slice_index b 8;
-  source = source_of b;
+  source = source_address_of b;
   destination = big_from 16 4 b;
   header = take (header_length_of b) b;
   payload = slice_range b (header_length_of b) (total_length_of b);
@@ -103,7 +103,7 @@ ipv4_reading b =
     >> expect (nat_le (total_length_of b) (length b)) Short
     >> expect (sum16 (take (header_length_of b) b) == 0) BadChecksum
     >> expect (fragment_of b == 0) Fragment
-    >> expect (is_source (protocol_of b) (source_of b)) BadAddress
+    >> expect (is_source (protocol_of b) (source_address_of b)) BadAddress
     >> Ok (packet_of b)
 
 -- the header of a control packet: type of service 0xC0 (internetwork control), no identification, no

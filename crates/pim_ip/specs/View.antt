@@ -2,14 +2,14 @@
 use Rattle.std.specs.Prelude.{◌≡◌, ℕ, ◌+◌, ◌-◌, ◌≤◌, IsTrue, List, [], ◌∷◌, ◌++◌, length, take, drop, slice_index, Ok}
 use Rattle.byteorder.specs.Endian.{big_from}
 use Rattle.pim_ip.specs.Checksum.{sum16, with_checksum}
-use Rattle.pim_ip.specs.Ipv4.{Packet, packet_limit, version_of, header_length_of, total_length_of, fragment_of, protocol_of, source_of, is_source, header_text, ipv4_reading}
+use Rattle.pim_ip.specs.Ipv4.{Packet, packet_limit, version_of, header_length_of, total_length_of, fragment_of, protocol_of, source_address_of, is_source, header_text, ipv4_reading}
 
 -- the packet of this header and this payload
 abbrev pub packet_from : List ℕ → List ℕ → Packet
 packet_from header payload = record {
   protocol = protocol_of header;
   time_to_live = slice_index header 8;
-  source = source_of header;
+  source = source_address_of header;
   destination = big_from 16 4 header;
   header = header;
   payload = payload;
@@ -24,15 +24,15 @@ pub record IsPacket (header payload : List ℕ) : Type 0 where
   pub within_limit : length header + length payload ≤ packet_limit
   pub checksum : sum16 header ≡ 0
   pub unfragmented : fragment_of header ≡ 0
-  pub source : IsTrue (is_source (protocol_of header) (source_of header))
+  pub source : IsTrue (is_source (protocol_of header) (source_address_of header))
 
 -- the text is read as the packet, whatever follows it within the limit
 pub record ReadsAs (text : List ℕ) (packet : Packet) : Type 0 where
   pub reading : (more : List ℕ) → length (text ++ more) ≤ packet_limit → ipv4_reading (text ++ more) ≡ Ok packet
 
 -- a header with its time to live one lower, and the checksum made anew
-unfoldable pub lowered : List ℕ → List ℕ
-lowered header =
+unfoldable pub lowered_header : List ℕ → List ℕ
+lowered_header header =
     with_checksum (take 8 header ++ (slice_index header 8 - 1) ∷ slice_index header 9 ∷ []) (drop 12 header)
 
 -- the header of a copy: the time to live one lower, and the checksum made anew
@@ -45,8 +45,8 @@ abbrev pub copied : Packet → Packet
 copied p = record p { time_to_live = p.time_to_live - 1; header = copied_header p }
 
 -- the packet of a written header and a payload of the length that it tells
-abbrev pub written : List ℕ → ℕ → ℕ → ℕ → ℕ → List ℕ → Packet
-written options time_to_live protocol source destination payload = record {
+abbrev pub written_packet : List ℕ → ℕ → ℕ → ℕ → ℕ → List ℕ → Packet
+written_packet options time_to_live protocol source destination payload = record {
   protocol = protocol;
   time_to_live = time_to_live;
   source = source;

@@ -3,7 +3,7 @@ ghost use Rattle.std.specs.Prelude.{◌≡◌, ◌+◌, ◌*◌, ◌%◌, ◌≤
 ghost use Rattle.byteorder.specs.Endian.{big_from};
 ghost use Rattle.pim_ip.specs.Ipv4.{packet_limit, is_source, copy_text, ipv4_reading, version_of};
 ghost use Rattle.pim_ip.specs.Checksum.{sum16};
-ghost use Rattle.pim_ip.specs.View.{ReadsAs, copied, lowered};
+ghost use Rattle.pim_ip.specs.View.{ReadsAs, copied, lowered_header};
 
 use crate::addr::Addr;
 use crate::checksum::sum16;
@@ -187,7 +187,7 @@ fn lower_time_to_live(header: &mut [u8])
     requires long_enough { 20 ≤ length header.old }
     requires version { version_of header.old ≡ 4 }
     requires summed { sum16 header.old ≡ 0 }
-    ensures { header.new ≡ lowered header.old }
+    ensures { header.new ≡ lowered_header header.old }
 {
     let time_to_live = header[8];
     let lower = time_to_live.saturating_sub(1);

@@ -3,7 +3,7 @@ ghost use Rattle.std.specs.Prelude.{◌≡◌, ◌+◌, ◌^◌, ◌/◌, ◌<�
 ghost use Rattle.byteorder.specs.Endian.{big_bytes};
 ghost use Rattle.pim_ip.specs.ControlHeader.{options_of, text_of, ReadsBack};
 ghost use Rattle.pim_ip.specs.Ipv4.{is_source, protocol_igmp, protocol_pim, router_alert, pim_packet_text, igmp_packet_text};
-ghost use Rattle.pim_ip.specs.View.{ReadsAs, written};
+ghost use Rattle.pim_ip.specs.View.{ReadsAs, written_packet};
 
 use crate::addr::Addr;
 use crate::checksum::set_checksum;
@@ -134,7 +134,7 @@ pub fn write_pim_packet(
     ensures err { OnErr result (out.new.items ≡ out.old.items) }
     ensures reads { IsTrue (is_source protocol_pim source.bits)
         → ReadsAs (pim_packet_text time_to_live source.bits destination.bits message.now)
-        (written [] time_to_live protocol_pim source.bits destination.bits message.now) }
+        (written_packet [] time_to_live protocol_pim source.bits destination.bits message.now) }
 {
     let header = ControlHeader {
         router_alert: false,
@@ -162,7 +162,7 @@ pub fn write_igmp_packet(
     ensures err { OnErr result (out.new.items ≡ out.old.items) }
     ensures reads { IsTrue (is_source protocol_igmp source.bits)
         → ReadsAs (igmp_packet_text source.bits destination.bits message.now)
-        (written router_alert 1 protocol_igmp source.bits destination.bits message.now) }
+        (written_packet router_alert 1 protocol_igmp source.bits destination.bits message.now) }
 {
     let header = ControlHeader {
         router_alert: true,

@@ -45,11 +45,14 @@ module _ (s : State) (ordered : IsOrdered s) where
   never : (t : State) (k : Key) → is_same_at s t k ≡ true → is_same_at s t k ≡ false → touching [] k ≡ true
   never t k e f = cc (e, f)
 
-  asserts_alike : (q : Key) (old row : AssertRow) → row_at s.asserts q ≡ Some old → same_assert old row ≡ true
-      → AgreesBut (touching []) s (record s { asserts = put s.asserts q row })
+  -- tables of asserts and of sources whose rows are the same but for ends
+  ends_alike : (asserts : Table AssertRow) (sources : Table SourceRow) → Rises asserts → Rises sources
+      → ((k : Key) → same_at same_assert k s.asserts asserts ≡ true)
+      → ((k : Key) → same_at same_source k s.sources sources ≡ true)
+      → AgreesBut (touching []) s (record s { asserts = asserts; sources = sources })
   unfolding is_same_at
-  asserts_alike q old row there alike =
-      let t : State = record s { asserts = put s.asserts q row } in
+  ends_alike asserts sources asserts_rise sources_rise same_asserts same_sources =
+      let t : State = record s { asserts = asserts; sources = sources } in
       named_keys_cover [] s t ordered
       (record {
         interfaces = ordered.interfaces;
@@ -61,10 +64,10 @@ module _ (s : State) (ordered : IsOrdered s) where
         source_repeats = ordered.source_repeats;
         sendings = ordered.sendings;
         downstream = ordered.downstream;
-        asserts = put_rises same_assert cut_assert of_asserts q old row alike s.asserts ordered.asserts;
+        asserts = asserts_rise;
         join_timers = ordered.join_timers;
         override_timers = ordered.override_timers;
-        sources = ordered.sources;
+        sources = sources_rise;
         registers = ordered.registers;
       })
       (record {
@@ -79,49 +82,26 @@ module _ (s : State) (ordered : IsOrdered s) where
         first = itself same_group_record cut_group of_group_records (row_at s.group_records k);
         second = itself same_source_record cut_source of_source_records (row_at s.source_records k);
         third = itself same_downstream cut_kind of_downstream (row_at s.downstream k);
-        fourth = put_alike same_assert cut_assert of_asserts q old row alike s.asserts there k;
-        fifth = itself same_source cut_kept of_sources (row_at s.sources k);
+        fourth = same_asserts k;
+        fifth = same_sources k;
         sixth = itself same_register cut_register of_registers (row_at s.registers k);
       })))
 
+  asserts_alike : (q : Key) (old row : AssertRow) → row_at s.asserts q ≡ Some old → same_assert old row ≡ true
+      → AgreesBut (touching []) s (record s { asserts = put s.asserts q row })
+  asserts_alike q old row there alike =
+      ends_alike (put s.asserts q row) s.sources
+      (put_rises same_assert cut_assert of_asserts q old row alike s.asserts ordered.asserts) ordered.sources
+      (put_alike same_assert cut_assert of_asserts q old row alike s.asserts there)
+      (λ k. itself same_source cut_kept of_sources (row_at s.sources k))
+
   sources_alike : (q : Key) (old row : SourceRow) → row_at s.sources q ≡ Some old → same_source old row ≡ true
       → AgreesBut (touching []) s (record s { sources = put s.sources q row })
-  unfolding is_same_at
   sources_alike q old row there alike =
-      let t : State = record s { sources = put s.sources q row } in
-      named_keys_cover [] s t ordered
-      (record {
-        interfaces = ordered.interfaces;
-        neighbours = ordered.neighbours;
-        queriers = ordered.queriers;
-        group_records = ordered.group_records;
-        source_records = ordered.source_records;
-        group_repeats = ordered.group_repeats;
-        source_repeats = ordered.source_repeats;
-        sendings = ordered.sendings;
-        downstream = ordered.downstream;
-        asserts = ordered.asserts;
-        join_timers = ordered.join_timers;
-        override_timers = ordered.override_timers;
-        sources = put_rises same_source cut_kept of_sources q old row alike s.sources ordered.sources;
-        registers = ordered.registers;
-      })
-      (record {
-        settings = refl;
-        configured = refl;
-        routes = refl;
-        ranges = refl;
-        interfaces = refl;
-        neighbours = refl;
-      })
-      (λ k. never t k (all_six _ _ _ _ _ _ (record {
-        first = itself same_group_record cut_group of_group_records (row_at s.group_records k);
-        second = itself same_source_record cut_source of_source_records (row_at s.source_records k);
-        third = itself same_downstream cut_kind of_downstream (row_at s.downstream k);
-        fourth = itself same_assert cut_assert of_asserts (row_at s.asserts k);
-        fifth = put_alike same_source cut_kept of_sources q old row alike s.sources there k;
-        sixth = itself same_register cut_register of_registers (row_at s.registers k);
-      })))
+      ends_alike s.asserts (put s.sources q row) ordered.asserts
+      (put_rises same_source cut_kept of_sources q old row alike s.sources ordered.sources)
+      (λ k. itself same_assert cut_assert of_asserts (row_at s.asserts k))
+      (put_alike same_source cut_kept of_sources q old row alike s.sources there)
 
 lost_alike : (r : AssertRow) (theirs : AssertMetric) (end : ℕ) → is_loser (Some r) ≡ true
     → same_metric r.winner theirs ≡ true

@@ -2,6 +2,7 @@
 use Rattle.std.proofs.Common.{◌≡◌, ℕ, true, List, [], ◌∷◌, ◌++◌, Some, refl, subst}
 use Rattle.pim_types.specs.Keys.{source_key}
 use Rattle.pim_types.specs.declared.fact.Key.{Key}
+use Rattle.pim_wire.specs.RegisterParts.{is_null, registered_group, registered_source}
 use Rattle.pim_wire.specs.Values.{Encapsulated, Null, Register}
 use Rattle.pim_model.specs.declared.accepted.Accepted.{Accepted}
 use Rattle.pim_model.specs.Downstream.{joined_keys, pruned_keys}
@@ -9,7 +10,6 @@ use Rattle.pim_model.specs.Firing.{fire_once, fired, settled}
 use Rattle.pim_model.specs.Forwarding.{Forwarded, register_received}
 use Rattle.pim_model.specs.Full.{asserted_keys, reported_groups}
 use Rattle.pim_model.specs.Messages.{Message}
-use Rattle.pim_model.specs.Registers.{is_null, registered_group, registered_source}
 use Rattle.pim_model.specs.State.{State}
 use Rattle.pim_model.specs.Step.{change, decapsulated}
 use Rattle.pim_model.specs.Timers.{Ending}

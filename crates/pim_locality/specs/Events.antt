@@ -2,12 +2,12 @@
 use Rattle.std.specs.Prelude.{List, None, Option, Some, [], true, ℕ, ◌++◌, ◌∷◌, ◌≡◌}
 use Rattle.pim_types.specs.Keys.{source_key}
 use Rattle.pim_types.specs.declared.fact.Key.{Key}
+use Rattle.pim_wire.specs.RegisterParts.{registered_group, registered_source}
 use Rattle.pim_model.specs.declared.accepted.Accepted.{Accepted}
 use Rattle.pim_model.specs.Downstream.{joined_keys, pruned_keys}
 use Rattle.pim_model.specs.Firing.{fire_once, fired, settled}
 use Rattle.pim_model.specs.Full.{asserted_keys, reported_groups}
 use Rattle.pim_model.specs.Messages.{Message}
-use Rattle.pim_model.specs.Registers.{registered_group, registered_source}
 use Rattle.pim_model.specs.State.{State}
 use Rattle.pim_model.specs.Step.{change}
 use Rattle.pim_model.specs.Timers.{Ending}

@@ -3,9 +3,9 @@
 use Rattle.std.specs.Prelude.{Bool, Err, List, Ok, Result, false, if◌then◌else◌, length, nat_le, nat_lt, not, true, ℕ, ◌&&◌, ◌==◌, ◌^◌}
 use Rattle.pim_ip.specs.{Addr.addr, Ipv4.{Packet, all_pim_routers, frame_limit, ipv4_reading, is_link_local, is_multicast, protocol_igmp, protocol_pim}, declared.refusal.Refusal.Refusal}
 use Rattle.pim_types.specs.declared.{config.{IfaceId.IfaceId, Route.Route, RpRange.RpRange}, event.EventKind.EventKind, outcome.{Ignored.Ignored, Stop.Stop}}
-use Rattle.pim_wire.specs.{Messages.pim_reading, Values.{JoinPrune, Register}, declared.{assert.Assert.Assert as AssertMessage, hello.Hello.Hello as HelloValue, register.RegisterStop.RegisterStop, view.PimView.PimView}}
+use Rattle.pim_wire.specs.{Messages.pim_reading, RegisterParts.registered_group, Values.{JoinPrune, Register}, declared.{assert.Assert.Assert as AssertMessage, hello.Hello.Hello as HelloValue, register.RegisterStop.RegisterStop, view.PimView.PimView}}
 use Rattle.igmp_wire.specs.{Messages.igmp_reading, declared.view.IgmpView.IgmpView}
-use Rattle.pim_model.specs.{Hellos.hello_holdtime_of, Limits.{are_routes, are_rps}, Neighbours.is_neighbour, Registers.registered_group, State.{State, iface_count, is_own, is_up, my_address}, Unicast.is_rp, declared.accepted.Accepted.Accepted}
+use Rattle.pim_model.specs.{Hellos.hello_holdtime_of, Limits.{are_routes, are_rps}, Neighbours.is_neighbour, State.{State, iface_count, is_own, is_up, my_address}, Unicast.is_rp, declared.accepted.Accepted.Accepted}
 
 -- what the router is to act on, or why not
 abbrev pub Judged : Type 0

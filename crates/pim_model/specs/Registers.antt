@@ -1,23 +1,7 @@
 -- Registering with the RP. Sections are those of RFC 7761. No row is NoInfo.
 use Rattle.std.specs.{Option.option_map_or, Prelude.{Bool, List, Some, [], false, fold, if◌then◌else◌, map, not, true, unwrap_or, ℕ, ◌&&◌, ◌++◌, ◌+◌, ◌==◌, ◌||◌, ◌∷◌}}
 use Rattle.pim_types.specs.{Keys.{group_in, source_in, source_key}, declared.{config.SptSwitch.SptSwitch, fact.{Key.Key, RegisterRow.RegisterRow, RegisterState.RegisterState}, path.Path.Path}}
-use Rattle.pim_wire.specs.Values.{Encapsulated, Null, Register}
 use Rattle.pim_model.specs.{Messages.Message, Neighbours.is_dr, Sets.{is_kept_alive, spt_bit}, State.{State, is_own, my_address}, Tables.{Table, change_row, delay_in, drop_at, has_row, keys_in, put, same_option}, Unicast.{route, rp_of, rpf_interface}}
-
--- the group that a Register names
-abbrev pub registered_group : Register → ℕ
-registered_group (Encapsulated inner) = inner.destination
-registered_group (Null source group) = group
-
--- the source that a Register names
-abbrev pub registered_source : Register → ℕ
-registered_source (Encapsulated inner) = inner.source
-registered_source (Null source group) = source
-
--- pkt.NullRegisterBit (4.4.2)
-abbrev pub is_null : Register → Bool
-is_null (Encapsulated inner) = false
-is_null (Null source group) = true
 
 -- Keepalive_Period, and at the RP max(Keepalive_Period, RP_Keepalive_Period) = max(210 s, 185 s) (4.11), in ms
 abbrev pub keepalive_period : ℕ

@@ -3,7 +3,7 @@ use Rattle.std.proofs.Common.{◌≡◌, ◌++◌, ◌==◌, ◌<◌, ◌≤◌,
 use Rattle.std.proofs.lemmas.Bool.Decides.{nat_tests}
 use Rattle.pim_ip.specs.Checksum.{with_checksum}
 use Rattle.pim_ip.specs.Ipv4.{Packet, first_multicast, frame_limit, header_text, ipv4_reading, is_multicast, is_source, packet_limit, packet_of, protocol_igmp}
-use Rattle.pim_ip.specs.View.{ReadsAs, written}
+use Rattle.pim_ip.specs.View.{ReadsAs, written_packet}
 use Rattle.pim_ip.specs.declared.refusal.Refusal.{Refusal}
 use Rattle.pim_ip.proofs.ViewLemmas.{written_reads}
 use Rattle.pim_types.specs.declared.config.IfaceId.{IfaceId}
@@ -55,7 +55,7 @@ fits : (g : ℕ) → is_multicast g ≡ true → g < 2 ^ 32
 fits g group = grind (arith, nat_tests, group)
 
 abbrev bare : ℕ → ℕ → Packet
-bare g src = written [] last_time_to_live protocol_udp src g []
+bare g src = written_packet [] last_time_to_live protocol_udp src g []
 
 read_bare : (g src : ℕ) → is_multicast g ≡ true → IsTrue (is_source protocol_udp src)
     → ipv4_reading (bare_text g src) ≡ Ok (bare g src)

@@ -2,9 +2,9 @@
 use Rattle.std.proofs.Common.{ℕ, zero, suc, ◌+◌, ◌*◌, ◌<◌, ◌≤◌, ◌==◌, ◌||◌, nat_le, not, Bool, true, false, cond, List, [], ◌∷◌, length, Option, Some, Ok, Err, Result, arith}
 use Rattle.std.specs.Prelude.{drop, slice_index, take}
 use Rattle.std.specs.List.{AllByRecursion}
-use Rattle.pim_ip.specs.Ipv4.{Packet, fragment_of, header_length_of, ipv4_reading, is_source, packet_limit, packet_of, protocol_of, source_of, total_length_of, version_of}
+use Rattle.pim_ip.specs.Ipv4.{Packet, fragment_of, header_length_of, ipv4_reading, is_source, packet_limit, packet_of, protocol_of, source_address_of, total_length_of, version_of}
 use Rattle.pim_ip.specs.Checksum.{sum16}
-use Rattle.pim_wire.specs.Encoded.{type_of, version_of as pim_version}
+use Rattle.pim_wire.specs.Encoded.{pim_type_of, pim_version_of}
 use Rattle.pim_ip.specs.Tests.{expect, ◌>>◌}
 use Rattle.pim_ip.specs.declared.lan.LanDelay.{LanDelay}
 use Rattle.pim_ip.specs.declared.refusal.Refusal.{Refusal}
@@ -130,9 +130,9 @@ and_so false refusal next f = record { reads = tt }
 pub message_short : (b : List ℕ) → AreSmall b → ReadsShort (pim_reading b)
 unfolding pim_reading
 message_short b small =
-    and_so (nat_le 4 (length b)) Refusal.Short _ (and_so (pim_version b == 2) Refusal.BadVersion _
+    and_so (nat_le 4 (length b)) Refusal.Short _ (and_so (pim_version_of b == 2) Refusal.BadVersion _
     (and_so (not (is_register b) || nat_le 8 (length b)) Refusal.Short _
-    (and_so (is_checksum_right b) Refusal.BadChecksum _ (body_short (type_of b) b small))))
+    (and_so (is_checksum_right b) Refusal.BadChecksum _ (body_short (pim_type_of b) b small))))
 
 -- ---- the payload of a packet
 
@@ -160,4 +160,4 @@ packet_small b small =
     (and_tested (nat_le (total_length_of b) (length b)) Refusal.Short _
     (and_tested (sum16 (take (header_length_of b) b) == 0) Refusal.BadChecksum _
     (and_tested (fragment_of b == 0) Refusal.Fragment _
-    (and_tested (is_source (protocol_of b) (source_of b)) Refusal.BadAddress _ (payload_small b small)))))))))
+    (and_tested (is_source (protocol_of b) (source_address_of b)) Refusal.BadAddress _ (payload_small b small)))))))))

@@ -3,6 +3,7 @@ use Rattle.std.proofs.Common.{◌≡◌, ◌∙◌, ℕ, ◌+◌, ◌≤◌, ◌
 use Rattle.pim_types.specs.declared.config.Config.{Config}
 use Rattle.pim_types.specs.declared.event.Event.{Event}
 use Rattle.pim_types.specs.declared.outcome.Stop.{Stop}
+use Rattle.pim_wire.specs.RegisterParts.{registered_group}
 use Rattle.pim_wire.specs.Values.{Encapsulated, Null}
 use Rattle.pim_model.specs.declared.accepted.Accepted.{Accepted}
 use Rattle.pim_model.specs.AssertMacros.{is_infinite}
@@ -14,7 +15,7 @@ use Rattle.pim_model.specs.Unicast.{is_rp}
 use Rattle.pim_model.specs.Judging.{Judged, judged}
 use Rattle.pim_model.specs.Limits.{config_test}
 use Rattle.pim_model.specs.Querier.{querier_up, querying}
-use Rattle.pim_model.specs.Registers.{register_stop_seen, registered_group}
+use Rattle.pim_model.specs.Registers.{register_stop_seen}
 use Rattle.pim_model.specs.State.{State, opening, settings_of}
 use Rattle.pim_model.specs.Step.{Change, advanced, change, concluded, done, iface_up, rps_replaced, state_after, step, taken, taken_unless_full}
 use Rattle.pim_laws.proofs.UnchangedLaws.{full_or_taken}

@@ -10,6 +10,7 @@ use Rattle.pim_types.specs.declared.outcome.Ignored.{Ignored}
 use Rattle.pim_types.specs.declared.outcome.Stop.{Stop}
 use Rattle.pim_types.specs.declared.outcome.Verdict.{Verdict}
 use Rattle.pim_wire.specs.Messages.{pim_reading}
+use Rattle.pim_wire.specs.RegisterParts.{registered_group}
 use Rattle.pim_wire.specs.Values.{Encapsulated, Null}
 use Rattle.pim_wire.specs.declared.view.PimView.{PimView}
 use Rattle.igmp_wire.specs.Messages.{igmp_reading}
@@ -20,7 +21,6 @@ use Rattle.pim_model.specs.Judging.{Judged, advance_judged, assert_judged, data_
 use Rattle.pim_model.specs.Hellos.{hello_holdtime_of}
 use Rattle.pim_model.specs.Limits.{are_routes, are_rps}
 use Rattle.pim_model.specs.Neighbours.{is_neighbour}
-use Rattle.pim_model.specs.Registers.{registered_group}
 use Rattle.pim_model.specs.State.{State, iface_count, is_own, is_up, my_address}
 use Rattle.pim_model.specs.Step.{step}
 use Rattle.pim_model.specs.Unicast.{is_rp}

@@ -16,6 +16,7 @@ use Rattle.pim_types.specs.declared.event.Event.{Event}
 use Rattle.pim_types.specs.declared.fact.Key.{Key}
 use Rattle.pim_types.specs.declared.outcome.Stop.{Stop}
 use Rattle.pim_types.proofs.Keys.{same_key_same}
+use Rattle.pim_wire.specs.RegisterParts.{registered_group, registered_source}
 use Rattle.pim_wire.specs.declared.assert.Assert.{Assert as AssertMessage}
 use Rattle.pim_model.specs.declared.accepted.Accepted.{Accepted}
 use Rattle.pim_model.specs.AssertMacros.{is_infinite}
@@ -24,7 +25,6 @@ use Rattle.pim_model.specs.Downstream.{is_named, joined_keys, pruned_keys}
 use Rattle.pim_model.specs.Full.{asserted_keys, counted, is_full, makeable_keys, needed, reported_groups, reported_sources}
 use Rattle.pim_model.specs.Judging.{Judged, judged}
 use Rattle.pim_model.specs.Limits.{config_test, most_ifaces}
-use Rattle.pim_model.specs.Registers.{registered_group, registered_source}
 use Rattle.pim_model.specs.State.{State, iface_count, opening, settings_of}
 use Rattle.pim_model.specs.Step.{concluded, state_after, step, taken, taken_unless_full}
 use Rattle.pim_model.specs.Tables.{Table, has_row, keys_in}

@@ -9,7 +9,7 @@ use Rattle.pim_ip.specs.Ipv4.{Packet, copy_text, header_length_of, header_text, 
 use Rattle.pim_ip.specs.Tests.{expect, ◌>>◌}
 use Rattle.pim_ip.specs.declared.refusal.Refusal.{Refusal}
 use Rattle.pim_types.specs.declared.outcome.Emission.{Emission}
-use Rattle.pim_wire.specs.Encoded.{type_of, version_of as pim_version_of}
+use Rattle.pim_wire.specs.Encoded.{pim_type_of, pim_version_of}
 use Rattle.pim_wire.specs.Asserts.{assert_of, assert_test}
 use Rattle.pim_wire.specs.Hellos.{hello_of, hello_test}
 use Rattle.pim_wire.specs.JoinPrunes.{join_prune_of, join_prune_test}
@@ -117,7 +117,7 @@ module _ (m : List ℕ) (q : Packet) where
   of_reading : pim_reading m ≡ Ok (Register (Encapsulated q)) → ipv4_reading (drop 8 m) ≡ Ok q
   unfolding pim_reading body_reading
   of_reading e =
-      by_type (type_of m == 0) (type_of m == 1) (type_of m == 2) (type_of m == 3) (type_of m == 5)
+      by_type (pim_type_of m == 0) (pim_type_of m == 1) (pim_type_of m == 2) (pim_type_of m == 3) (pim_type_of m == 5)
       (past (is_checksum_right m) Refusal.BadChecksum _ _ (past (not (is_register m) || nat_le 8 (length m)) Refusal.Short _ _
       (past (pim_version_of m == 2) Refusal.BadVersion _ _ (past (nat_le 4 (length m)) Refusal.Short _ _ e))))
     where

@@ -3,6 +3,7 @@ use Rattle.std.proofs.Common.{◌≡◌, ◌∙◌, ℕ, suc, zero, ◌<◌, ◌
 use Rattle.std.specs.List.{AllByRecursion}
 use Rattle.pim_types.specs.Keys.{source_key}
 use Rattle.pim_types.specs.declared.fact.Key.{Key}
+use Rattle.pim_wire.specs.RegisterParts.{registered_group, registered_source}
 use Rattle.pim_wire.specs.Values.{Encapsulated, JoinPrune, Null}
 use Rattle.igmp_wire.specs.Values.{Record}
 use Rattle.pim_model.specs.declared.accepted.Accepted.{Accepted}
@@ -11,7 +12,7 @@ use Rattle.pim_model.specs.Full.{makeable_keys, reported_groups}
 use Rattle.pim_model.specs.Messages.{Message}
 use Rattle.pim_model.specs.Querier.{is_querier, is_skipped, lower_group, lower_sources, querier_up, query_asked, query_group, query_sources, querying, record_seen, report_seen, send_sources, sources_sent}
 use Rattle.pim_model.specs.Records.{Asked, GroupRecord, with_members, with_record, with_repeats_of_rows}
-use Rattle.pim_model.specs.Registers.{register_stop_seen, registered_group, registered_source}
+use Rattle.pim_model.specs.Registers.{register_stop_seen}
 use Rattle.pim_model.specs.Seen.{seen}
 use Rattle.pim_model.specs.State.{State}
 use Rattle.pim_model.specs.Step.{change, done, iface_up, rps_replaced, taken}

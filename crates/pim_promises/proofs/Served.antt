@@ -75,57 +75,16 @@ record SameFacts (s t : State) : Type 0 where
   downstream : t.downstream ≡ s.downstream
   asserts : t.asserts ≡ s.asserts
 
-then_same : (s t u : State) → SameFacts s t → SameFacts t u → SameFacts s u
-then_same s t u f g = record {
-  configured = g.configured ∙ f.configured;
-  neighbours = g.neighbours ∙ f.neighbours;
-  groups = g.groups ∙ f.groups;
-  sources = g.sources ∙ f.sources;
-  downstream = g.downstream ∙ f.downstream;
-  asserts = g.asserts ∙ f.asserts;
-}
-
-module _ (s : State) (g src iif : ℕ) where
-  here_same : SameFacts s (source_here s g src iif)
-  unfolding source_here settle_register with_keepalive
-  here_same = record {
-    configured = grind arith;
-    neighbours = grind arith;
-    groups = grind arith;
-    sources = grind arith;
-    downstream = grind arith;
-    asserts = grind arith;
-  }
-
-  joined_same : SameFacts s (source_joined s g src iif)
-  unfolding source_joined with_keepalive
-  joined_same = record {
-    configured = grind arith;
-    neighbours = grind arith;
-    groups = grind arith;
-    sources = grind arith;
-    downstream = grind arith;
-    asserts = grind arith;
-  }
-
-  updated_same : SameFacts s (spt_updated s g src iif)
-  unfolding spt_updated with_spt_bit
-  updated_same = record {
-    configured = grind arith;
-    neighbours = grind arith;
-    groups = grind arith;
-    sources = grind arith;
-    downstream = grind arith;
-    asserts = grind arith;
-  }
-
 renewed_same : (s : State) (g src iif : ℕ) → SameFacts s (renewed s g src iif)
-unfolding renewed
-renewed_same s g src iif =
-    let here : State = source_here s g src iif in
-    let joined : State = source_joined here g src iif in
-    then_same s here (spt_updated joined g src iif) (here_same s g src iif)
-    (then_same here joined (spt_updated joined g src iif) (joined_same here g src iif) (updated_same joined g src iif))
+unfolding renewed source_here source_joined spt_updated settle_register with_keepalive with_spt_bit
+renewed_same s g src iif = record {
+  configured = grind arith;
+  neighbours = grind arith;
+  groups = grind arith;
+  sources = grind arith;
+  downstream = grind arith;
+  asserts = grind arith;
+}
 
 -- who is served before is served after
 module _ (s t : State) (g src j : ℕ) (same : SameFacts s t) where

@@ -33,12 +33,12 @@ pub record Hop (x y : Emission) : Type 0 where
   pub goes_on : GoesOn state event y
 
 -- each hop from the next to the one after it
-abbrev pub AreHops : List Emission → Type 0
-AreHops [] = Unit {0}
-AreHops (x ∷ []) = Unit {0}
-AreHops (x ∷ y ∷ more) = Hop x y × AreHops (y ∷ more)
+abbrev pub IsChainOfHops : List Emission → Type 0
+IsChainOfHops [] = Unit {0}
+IsChainOfHops (x ∷ []) = Unit {0}
+IsChainOfHops (x ∷ y ∷ more) = Hop x y × IsChainOfHops (y ∷ more)
 
 -- a packet makes fewer hops than its TTL, by whatever routers in whatever states, and whatever is lost, repeated or reordered
 abbrev pub HopsEnd : Type 0
-HopsEnd = (x y : Emission) (more : List Emission) (first : Hop x y) → AreHops (y ∷ more)
+HopsEnd = (x y : Emission) (more : List Emission) (first : Hop x y) → IsChainOfHops (y ∷ more)
     → length (y ∷ more) < first.packet.time_to_live

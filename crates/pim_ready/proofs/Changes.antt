@@ -5,10 +5,10 @@ use Rattle.pim_types.proofs.Keys.{same_key_same}
 use Rattle.pim_types.specs.declared.config.RpRange.{RpRange}
 use Rattle.pim_types.specs.declared.fact.InterfaceRow.{InterfaceRow}
 use Rattle.pim_types.specs.Keys.{iface_key, is_on, iface_in, same_key}
+use Rattle.pim_wire.specs.RegisterParts.{is_null, registered_group, registered_source}
 use Rattle.pim_wire.specs.Values.{Encapsulated, Null, Register}
 use Rattle.pim_model.specs.declared.accepted.Accepted.{Accepted}
 use Rattle.pim_model.specs.Forwarding.{Forwarded, register_received}
-use Rattle.pim_model.specs.Registers.{is_null, registered_group, registered_source}
 use Rattle.pim_model.specs.State.{State, is_up}
 use Rattle.pim_model.specs.Step.{Change, change, decapsulated, done, iface_down, iface_up, rps_replaced}
 use Rattle.pim_model.specs.Tables.{delay_in, drop_where, put, has_row}

@@ -2,7 +2,7 @@
 use Rattle.std.proofs.Common.{◌≡◌, ℕ, ◌≤◌, ◌==◌, nat_le, Bool, true, false, List, length, take, Result, Ok, refl, arith, eqb-true}
 use Rattle.std.proofs.lemmas.Bool.Decides.{nat_tests}
 use Rattle.pim_ip.specs.Checksum.{sum16}
-use Rattle.pim_ip.specs.Ipv4.{Packet, fragment_of, header_length_of, ipv4_reading, is_source, packet_limit, packet_of, protocol_of, source_of, total_length_of, version_of}
+use Rattle.pim_ip.specs.Ipv4.{Packet, fragment_of, header_length_of, ipv4_reading, is_source, packet_limit, packet_of, protocol_of, source_address_of, total_length_of, version_of}
 use Rattle.pim_ip.specs.Tests.{expect, ◌>>◌}
 use Rattle.pim_ip.specs.declared.refusal.Refusal.{Refusal}
 use Rattle.pim_ip.proofs.ReadingLemmas.{IsMeasured}
@@ -17,7 +17,7 @@ pub record Passed (b : List ℕ) : Type 0 where
   pub measured : IsMeasured b
   pub checksum : sum16 (take (header_length_of b) b) ≡ 0
   pub unfragmented : fragment_of b ≡ 0
-  pub source : is_source (protocol_of b) (source_of b) ≡ true
+  pub source : is_source (protocol_of b) (source_address_of b) ≡ true
 
 le : (a b : ℕ) → nat_le a b ≡ true → a ≤ b
 le a b e = grind (arith, nat_tests, e)
@@ -33,7 +33,7 @@ passed b p e =
     let t6 = held (nat_le (total_length_of b) (length b)) _ _ p t5.1 in
     let t7 = held (sum16 (take (header_length_of b) b) == 0) _ _ p t6.1 in
     let t8 = held (fragment_of b == 0) _ _ p t7.1 in
-    let t9 = held (is_source (protocol_of b) (source_of b)) _ _ p t8.1 in
+    let t9 = held (is_source (protocol_of b) (source_address_of b)) _ _ p t8.1 in
     record {
       measured = record {
         within_limit = le (length b) packet_limit t1.0;

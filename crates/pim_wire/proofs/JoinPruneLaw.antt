@@ -9,7 +9,7 @@ use Rattle.byteorder.specs.Numbers.{big_number-reads_back}
 use Rattle.pim_ip.specs.Checksum.{with_checksum}
 use Rattle.pim_ip.specs.Ipv4.{is_unicast, is_multicast}
 use Rattle.pim_wire.specs.declared.join_prune.Entry.{Entry}
-use Rattle.pim_wire.specs.Encoded.{address_at, mask_length_at, unicast_at, version_of, type_of, is_native_ipv4, field_test, unicast_test, source_test, group_test, pim_text}
+use Rattle.pim_wire.specs.Encoded.{address_at, mask_length_at, unicast_at, pim_version_of, pim_type_of, is_native_ipv4, field_test, unicast_test, source_test, group_test, pim_text}
 use Rattle.pim_wire.specs.JoinPrunes.{join_count_at, prune_count_at, entries_at, entry_text, join_prune_text, join_prune_holdtime, join_prune_test, join_prune_of, sources_test, groups_test, groups_at, group_at, group_count_of}
 use Rattle.pim_wire.specs.Messages.{body_reading, pim_reading, is_checksum_right}
 use Rattle.pim_wire.specs.declared.view.PimView.TheVariants.{JoinPrune}
@@ -118,11 +118,11 @@ module _ (upstream group : ℕ) (joins prunes : List Entry) (upstream_fits : ups
   unfolding join_prune_of
   value = rw (text-upstream, holdtime, count, groups) refl
 
-  version : version_of text ≡ 2
+  version : pim_version_of text ≡ 2
   unfolding join_prune_text pim_text with_checksum
   version = refl
 
-  type : type_of text ≡ 3
+  type : pim_type_of text ≡ 3
   unfolding join_prune_text pim_text with_checksum
   type = refl
 

@@ -10,7 +10,7 @@ use Rattle.pim_ip.specs.Tests.{◌>>◌}
 use Rattle.pim_ip.proofs.ChecksumLemmas.{sum16-with_checksum}
 use Rattle.pim_wire.specs.declared.view.PimView.TheVariants.{Register, RegisterStop, Assert}
 use Rattle.pim_wire.specs.Values.{Encapsulated, Null}
-use Rattle.pim_wire.specs.Encoded.{version_of, type_of, address_at, unicast_at, unicast_test, source_test, group_test, unicast_text, group_text, pim_text}
+use Rattle.pim_wire.specs.Encoded.{pim_version_of, pim_type_of, address_at, unicast_at, unicast_test, source_test, group_test, unicast_text, group_text, pim_text}
 use Rattle.pim_ip.specs.Addr.{addr}
 use Rattle.pim_wire.specs.Asserts.{assert_text, assert_test, assert_of}
 use Rattle.pim_wire.specs.Hellos.{hello_text, hello_test, hello_of, options_test, is_option_length, with_options, with_option, lan_delay_at}
@@ -20,7 +20,7 @@ use Rattle.pim_wire.specs.ReadsBack.{HelloReads}
 use Rattle.pim_wire.proofs.Inner.{inner_right}
 
 -- past the tests of the header
-pub pim_reads : (b : List ℕ) (type : ℕ) → 8 ≤ length b → version_of b ≡ 2 → type_of b ≡ type → is_checksum_right b ≡ true
+pub pim_reads : (b : List ℕ) (type : ℕ) → 8 ≤ length b → pim_version_of b ≡ 2 → pim_type_of b ≡ type → is_checksum_right b ≡ true
     → pim_reading b ≡ body_reading type b
 unfolding pim_reading
 pim_reads b type long version is sum = grind (arith, nat_tests)

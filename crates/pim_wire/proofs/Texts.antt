@@ -6,7 +6,7 @@ use Rattle.pim_ip.specs.Checksum.{with_checksum}
 use Rattle.pim_wire.specs.declared.join_prune.Entry.{Entry}
 use Rattle.pim_wire.specs.Encoded.{pim_text}
 use Rattle.pim_wire.specs.JoinPrunes.{entry_text, join_prune_text}
-use Rattle.pim_wire.specs.JoinPruneTexts.{header_text}
+use Rattle.pim_wire.specs.JoinPruneTexts.{join_prune_header_text}
 
 -- what stands first stays first
 pub kept_more : (a b c : List ℕ) → take (length a) b ≡ a → take (length b) c ≡ b → take (length a) c ≡ a
@@ -19,17 +19,17 @@ kept_first a b c e = rw e (take_at a c (length a) refl)
 
 -- the text of a Join/Prune is that with 0 for the checksum, after its checksum is made
 pub join_prune_summed : (upstream group : ℕ) (joins prunes : List Entry) (text : List ℕ)
-    → text ≡ header_text upstream group (length joins) (length prunes) ++ flat_map entry_text joins ++ flat_map entry_text prunes
+    → text ≡ join_prune_header_text upstream group (length joins) (length prunes) ++ flat_map entry_text joins ++ flat_map entry_text prunes
     → with_checksum (take 2 text) (drop 4 text) ≡ join_prune_text upstream group joins prunes
-unfolding header_text join_prune_text pim_text
+unfolding join_prune_header_text join_prune_text pim_text
 join_prune_summed upstream group joins prunes text e = rw e refl
 
 -- a text behind others has room for its checksum
 pub has_checksum : (upstream group joins prunes : ℕ) (old items xs ys : List ℕ)
-    → items ≡ old ++ (header_text upstream group joins prunes ++ xs ++ ys) → length old + 4 ≤ length items
-unfolding header_text
+    → items ≡ old ++ (join_prune_header_text upstream group joins prunes ++ xs ++ ys) → length old + 4 ≤ length items
+unfolding join_prune_header_text
 has_checksum upstream group joins prunes old items xs ys e =
-    omega (arith, ap length e, length-append old (header_text upstream group joins prunes ++ xs ++ ys))
+    omega (arith, ap length e, length-append old (join_prune_header_text upstream group joins prunes ++ xs ++ ys))
 
 -- the checksum is made in the text behind others
 pub summed_behind : (old text items new : List ℕ) (start : ℕ) → items ≡ old ++ text → start ≡ length old

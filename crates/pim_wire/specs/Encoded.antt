@@ -8,11 +8,11 @@ use Rattle.pim_ip.specs.Tests.{expect, ◌>>◌}
 use Rattle.pim_ip.specs.Checksum.{with_checksum}
 use Rattle.pim_ip.specs.Ipv4.{is_multicast}
 
-abbrev pub version_of : List ℕ → ℕ
-version_of b = slice_index b 0 / 16
+abbrev pub pim_version_of : List ℕ → ℕ
+pim_version_of b = slice_index b 0 / 16
 
-abbrev pub type_of : List ℕ → ℕ
-type_of b = slice_index b 0 % 16
+abbrev pub pim_type_of : List ℕ → ℕ
+pim_type_of b = slice_index b 0 % 16
 
 -- n bytes are there from place p on
 abbrev pub field_test : List ℕ → ℕ → ℕ → Result (Unit {0}) Refusal

@@ -6,14 +6,14 @@ use Rattle.pim_ip.specs.Tests.{expect, ◌>>◌}
 use Rattle.pim_ip.specs.Checksum.{sum16}
 use Rattle.pim_wire.specs.declared.view.PimView.{PimView}
 use Rattle.pim_wire.specs.declared.view.PimView.TheVariants.{Hello, Register, RegisterStop, JoinPrune, Assert, Other}
-use Rattle.pim_wire.specs.Encoded.{version_of, type_of}
+use Rattle.pim_wire.specs.Encoded.{pim_version_of, pim_type_of}
 use Rattle.pim_wire.specs.Hellos.{hello_test, hello_of}
 use Rattle.pim_wire.specs.Registers.{register_test, register_of, register_stop_test, register_stop_of}
 use Rattle.pim_wire.specs.JoinPrunes.{join_prune_test, join_prune_of}
 use Rattle.pim_wire.specs.Asserts.{assert_test, assert_of}
 
 abbrev pub is_register : List ℕ → Bool
-is_register b = type_of b == 1
+is_register b = pim_type_of b == 1
 
 -- right over the whole message, or for a Register over its first 8 bytes
 unfoldable pub is_checksum_right : List ℕ → Bool
@@ -32,7 +32,7 @@ body_reading type b =
 unfoldable pub pim_reading : List ℕ → Result PimView Refusal
 pim_reading b =
     expect (nat_le 4 (length b)) Short
-    >> expect (version_of b == 2) BadVersion
+    >> expect (pim_version_of b == 2) BadVersion
     >> expect (not (is_register b) || nat_le 8 (length b)) Short
     >> expect (is_checksum_right b) BadChecksum
-    >> body_reading (type_of b) b
+    >> body_reading (pim_type_of b) b

@@ -3,22 +3,22 @@ use Rattle.std.specs.Prelude.{ℕ, Bool, true, false, Option, Some, None}
 use Rattle.pim_ip.specs.Ipv4.{Packet}
 use Rattle.pim_wire.specs.Values.{Register, Encapsulated, Null}
 
--- whether it is a Null-Register
+-- whether it is a Null-Register: pkt.NullRegisterBit (RFC 7761, section 4.4.2)
 abbrev pub is_null : Register → Bool
 is_null (Encapsulated packet) = false
 is_null (Null source group) = true
 
--- the source that sends
-abbrev pub source_in : Register → ℕ
-source_in (Encapsulated packet) = packet.source
-source_in (Null source group) = source
+-- the source that it names
+abbrev pub registered_source : Register → ℕ
+registered_source (Encapsulated packet) = packet.source
+registered_source (Null source group) = source
 
--- the group that it sends to
-abbrev pub group_in : Register → ℕ
-group_in (Encapsulated packet) = packet.destination
-group_in (Null source group) = group
+-- the group that it names
+abbrev pub registered_group : Register → ℕ
+registered_group (Encapsulated packet) = packet.destination
+registered_group (Null source group) = group
 
 -- the data packet, if it holds one
-abbrev pub packet_in : Register → Option Packet
-packet_in (Encapsulated packet) = Some packet
-packet_in (Null source group) = None
+abbrev pub registered_packet : Register → Option Packet
+registered_packet (Encapsulated packet) = Some packet
+registered_packet (Null source group) = None

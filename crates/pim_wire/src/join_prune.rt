@@ -3,7 +3,7 @@ ghost use Rattle.std.specs.Prelude.{◌≡◌, ◌+◌, ◌*◌, ◌^◌, ◌<�
 ghost use Rattle.pim_ip.specs.Checksum.{with_checksum};
 ghost use Rattle.pim_wire.specs.Bodies.{join_prune_reading};
 ghost use Rattle.pim_wire.specs.Groups.{one_group_test};
-ghost use Rattle.pim_wire.specs.JoinPruneTexts.{header_text};
+ghost use Rattle.pim_wire.specs.JoinPruneTexts.{join_prune_header_text};
 ghost use Rattle.pim_wire.specs.JoinPrunes.{sources_test, groups_test, kind_of, entry_at, group_at, join_count_at, prune_count_at, after_group, flags_of, entry_text, join_prune_text};
 ghost use Rattle.pim_wire.specs.ReadsBack.{JoinPruneReads};
 
@@ -372,10 +372,10 @@ pub(crate) fn read_join_prune(message: &[u8]) -> Result<JoinPruneView<'_>, Refus
 }
 
 /// A Join/Prune for one group up to its joins, with 0 for the checksum.
-#[tactic(auto, unfolding(crate::specs::JoinPruneTexts::header_text))]
+#[tactic(auto, unfolding(crate::specs::JoinPruneTexts::join_prune_header_text))]
 fn header_bytes(upstream: Addr, group: Addr, joins: u16, prunes: u16) -> [u8; 26]
     ensures in_range { upstream.bits < 2 ^ 32 }
-    ensures value { result ≡ header_text upstream.bits group.bits joins prunes }
+    ensures value { result ≡ join_prune_header_text upstream.bits group.bits joins prunes }
 {
     let mut bytes = [0; 26];
     bytes[0] = VERSION_BITS + 3;
@@ -409,7 +409,7 @@ fn push_join_prune(
     requires prunes { length prunes.now < 2 ^ 16 }
     ensures in_range { upstream.bits < 2 ^ 32 }
     ensures ok { OnOk result (out.new.items
-        ≡ out.old.items ++ (header_text upstream.bits group.bits (length joins.now) (length prunes.now)
+        ≡ out.old.items ++ (join_prune_header_text upstream.bits group.bits (length joins.now) (length prunes.now)
         ++ flat_map entry_text joins.now ++ flat_map entry_text prunes.now)) }
     ensures kept { take (length out.old.items) out.new.items ≡ out.old.items }
 {

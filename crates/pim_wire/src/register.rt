@@ -53,7 +53,7 @@ impl<'a> Model for RegisterView<'a> {
 }
 
 impl<'a> RegisterView<'a> {
-    ghost use Rattle.pim_wire.specs.RegisterParts.{is_null, source_in, group_in, packet_in};
+    ghost use Rattle.pim_wire.specs.RegisterParts.{is_null, registered_source, registered_group, registered_packet};
 
     /// Whether this is a Null-Register.
     pub fn is_null(&self) -> bool
@@ -64,7 +64,7 @@ impl<'a> RegisterView<'a> {
 
     /// The source that sends.
     pub fn source(&self) -> Addr
-        ensures { result.bits ≡ source_in self.now }
+        ensures { result.bits ≡ registered_source self.now }
     {
         match &self.content {
             Content::Packet(packet) => packet.source(),
@@ -74,7 +74,7 @@ impl<'a> RegisterView<'a> {
 
     /// The group that it sends to.
     pub fn group(&self) -> Addr
-        ensures { result.bits ≡ group_in self.now }
+        ensures { result.bits ≡ registered_group self.now }
     {
         match &self.content {
             Content::Packet(packet) => packet.destination(),
@@ -84,7 +84,7 @@ impl<'a> RegisterView<'a> {
 
     /// The data packet; a Null-Register has none.
     pub fn inner(&self) -> Option<&Ipv4View<'a>>
-        ensures { option_copied result ≡ packet_in self.now }
+        ensures { option_copied result ≡ registered_packet self.now }
     {
         match &self.content {
             Content::Packet(packet) => Some(packet),

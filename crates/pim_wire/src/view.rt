@@ -1,6 +1,6 @@
 //! A PIM message of any type, read: the tests of its header and its type.
 ghost use Rattle.std.specs.Prelude.{◌≡◌, ◌≤◌, true, length};
-ghost use Rattle.pim_wire.specs.Encoded.{type_of};
+ghost use Rattle.pim_wire.specs.Encoded.{pim_type_of};
 ghost use Rattle.pim_wire.specs.Messages.{is_register, is_checksum_right, body_reading, pim_reading};
 
 use crate::assert::{Assert, read_assert};

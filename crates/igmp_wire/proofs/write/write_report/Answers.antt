@@ -1,7 +1,7 @@
 use Rattle.std.proofs.Common.{arith, rules}
 use Rattle.std.proofs.lemmas.List.{length-map}
 use Rattle.igmp_wire.specs.Reports.{report_text}
-use Rattle.igmp_wire.specs.Written.{record_of, records_of, unsummed_report}
+use Rattle.igmp_wire.specs.Written.{record_to_write, records_of, unsummed_report}
 use Rattle.igmp_wire.proofs.RoundTrip.{report_reads, source_counts}
 use Rattle.igmp_wire.proofs.WritingLaws.{finished}
 use Rattle.igmp_wire.proofs.write.write_report.Goals as goal
@@ -15,5 +15,5 @@ returns-clause-ok c =
 
 pub returns-clause-reads : goal.returns-clause-reads
 returns-clause-reads c =
-    let count = length-map c.args.records.now record_of in
+    let count = length-map c.args.records.now record_to_write in
     report_reads (records_of c.args.records.now) (omega arith) (source_counts c.args.records.now c.requires.sources)

@@ -2,11 +2,11 @@ use Rattle.std.proofs.Common.{arith, rules, ◌++◌, ap, ◌∙◌}
 use Rattle.pim_ip.proofs.ViewLemmas.{copy_reads}
 use Rattle.pim_ip.proofs.WritingLemmas.{lowered_behind}
 use Rattle.pim_ip.specs.Ipv4.{copy_text}
-use Rattle.pim_ip.specs.View.{lowered}
+use Rattle.pim_ip.specs.View.{lowered_header}
 use Rattle.pim_ip.proofs.ipv4.write_copy.Goals as goal
 
 pub returns-clause-ok : goal.returns-clause-ok
-unfolding copy_text lowered
+unfolding copy_text lowered_header
 returns-clause-ok c =
     let header = c.packet.inside.header.now in
     let payload = c.packet.inside.payload.now in

@@ -1,7 +1,7 @@
 use Rattle.std.proofs.Common.{◌≡◌, ℕ, List, ◌++◌, length, ◌∙◌, arith, refl}
 use Rattle.std.specs.List.{flat_map}
 use Rattle.pim_wire.specs.JoinPrunes.{entry_text}
-use Rattle.pim_wire.specs.JoinPruneTexts.{header_text}
+use Rattle.pim_wire.specs.JoinPruneTexts.{join_prune_header_text}
 use Rattle.pim_wire.proofs.JoinPruneLaw.{join_prune_reads}
 use Rattle.pim_wire.proofs.Texts.{has_checksum, summed_behind, join_prune_summed}
 use Rattle.pim_wire.proofs.join_prune.write_join_prune.Goals as goal
@@ -16,7 +16,7 @@ pub returns-in-Ok-clause-ok : goal.returns-in-Ok-clause-ok
 returns-in-Ok-clause-ok c =
     let a = c.args in
     let start : c.len-start.result ≡ length a.out.now.items = omega (arith, c.len-start.ensures) in
-    let text : List ℕ = header_text a.upstream.bits a.group.bits (length a.joins.now) (length a.prunes.now) ++ flat_map entry_text a.joins.now ++ flat_map entry_text a.prunes.now in
+    let text : List ℕ = join_prune_header_text a.upstream.bits a.group.bits (length a.joins.now) (length a.prunes.now) ++ flat_map entry_text a.joins.now ++ flat_map entry_text a.prunes.now in
     summed_behind a.out.now.items text c.push_join_prune.new.out.items c.sum_from.new.out.items c.len-start.result c.in-Ok.ensures.ok start c.sum_from.ensures
     ∙ rw (join_prune_summed a.upstream.bits a.group.bits a.joins.now a.prunes.now text refl) refl
 
