@@ -1,11 +1,12 @@
 //! What is under one group.
-ghost use Rattle.std.specs.Prelude.{◌≡◌, ◌≤◌, ◌∷◌, ◌↔◌, [], IsTrue, IsOk, IfOk, IsSome, None, OnOk, OnErr, Some, false, option_copied};
+ghost use Rattle.std.specs.Prelude.{◌≡◌, ◌≤◌, ◌∷◌, ◌↔◌, [], IsTrue, IsOk, IfOk, IsSome, None, OnOk, OnErr, Some, false, is_some, option_copied};
 ghost use Rattle.std.specs.Box.{box_value};
 ghost use Rattle.std.specs.BTreeMap.{insert_entry, is_at};
 ghost use Rattle.pim_source_trie.specs.Kept.{kept_rows};
-ghost use Rattle.pim_source_trie.specs.Rows.{row_cmp, row_in, row_nodes, source_of, without_row};
+ghost use Rattle.pim_source_trie.specs.Rows.{row_altered, row_cmp, row_in, row_nodes, source_address_bits, without_row_under};
 ghost use Rattle.pim_trie.specs.Meter.{raised};
 
+use crate::alter::{Alter, altered_box};
 use crate::parts::Parts;
 use pim_ip::Addr;
 use pim_trie::Meter;
@@ -43,7 +44,7 @@ impl<V> Group<V> {
     pub(crate) fn with(alloc: Global, source: Option<Addr>, value: V) -> Result<Self, AllocError>
     where
         V: Drop,
-        ensures { IfOk result (λ group. group ≡ (source_of source, value) ∷ []) }
+        ensures { IfOk result (λ group. group ≡ (source_address_bits source, value) ∷ []) }
     {
         let kept = single(source, Box::new(alloc, value)?);
         Ok(Group { alloc, kept })
@@ -64,9 +65,9 @@ impl<V> Group<V> {
     // The value of (*,G), or of a source.
     #[tactic(auto, using(crate::proofs::Visited::rows_at_most))]
     pub(crate) fn get(&self, source: Option<Addr>, meter: &mut Meter) -> Option<&V>
-        ensures value { option_copied result ≡ row_in (source_of source) self.now }
-        ensures visited { meter.new ≡ raised meter.old (row_nodes self.now (source_of source)) }
-        ensures at_most { row_nodes self.now (source_of source) ≤ 33 }
+        ensures value { option_copied result ≡ row_in (source_address_bits source) self.now }
+        ensures visited { meter.new ≡ raised meter.old (row_nodes self.now (source_address_bits source)) }
+        ensures at_most { row_nodes self.now (source_address_bits source) ≤ 33 }
     {
         match &self.kept {
             Kept::Empty => None,
@@ -80,8 +81,8 @@ impl<V> Group<V> {
     pub(crate) fn put(&mut self, source: Option<Addr>, value: V) -> Result<(), AllocError>
     where
         V: Drop,
-        ensures ok { OnOk result (self.new ≡ insert_entry row_cmp self.old (source_of source) value) }
-        ensures overwrites { IsSome (row_in (source_of source) self.old) → IsOk result }
+        ensures ok { OnOk result (self.new ≡ insert_entry row_cmp self.old (source_address_bits source) value) }
+        ensures overwrites { IsSome (row_in (source_address_bits source) self.old) → IsOk result }
         ensures err { OnErr result (self.new ≡ self.old) }
     {
         let kept = mem::replace(&mut self.kept, Kept::Empty);
@@ -94,15 +95,36 @@ impl<V> Group<V> {
     pub(crate) fn remove(&mut self, source: Option<Addr>)
     where
         V: Drop,
-        ensures { self.new ≡ without_row (source_of source) self.old }
+        ensures { self.new ≡ without_row_under (source_address_bits source) self.old }
     {
         self.kept = without(mem::replace(&mut self.kept, Kept::Empty), source);
+    }
+
+    // Changes the value, or takes it away, and says whether there was one.
+    #[tactic(auto, using(crate::proofs::Visited::rows_at_most))]
+    pub(crate) fn alter<A: Alter<V>>(
+        &mut self,
+        source: Option<Addr>,
+        alteration: A,
+        meter: &mut Meter,
+    ) -> bool
+    where
+        V: Drop,
+        ensures changed { self.new ≡ row_altered (A.after alteration) (source_address_bits source) self.old }
+        ensures there { result ≡ is_some (row_in (source_address_bits source) self.old) }
+        ensures visited { meter.new ≡ raised meter.old (row_nodes self.old (source_address_bits source)) }
+        ensures at_most { row_nodes self.old (source_address_bits source) ≤ 33 }
+    {
+        let kept = mem::replace(&mut self.kept, Kept::Empty);
+        let (kept, there) = altered(kept, source, alteration, meter);
+        self.kept = kept;
+        there
     }
 }
 
 // A single value.
 fn single<V>(source: Option<Addr>, value: Box<V>) -> Kept<V>
-    ensures { kept_rows result ≡ (source_of source, box_value value) ∷ [] }
+    ensures { kept_rows result ≡ (source_address_bits source, box_value value) ∷ [] }
 {
     match source {
         None => Kept::Star(value),
@@ -113,7 +135,7 @@ fn single<V>(source: Option<Addr>, value: Box<V>) -> Kept<V>
 // The value of (*,G), which alone there is, where it is asked for.
 #[tactic(auto, unfolding(crate::specs::Rows::row_cmp))]
 fn star_in<'a, V>(value: &'a Box<V>, source: Option<Addr>) -> Option<&'a V>
-    ensures { option_copied result ≡ row_in (source_of source) ((None, box_value value.now) ∷ []) }
+    ensures { option_copied result ≡ row_in (source_address_bits source) ((None, box_value value.now) ∷ []) }
 {
     match source {
         None => Some(&**value),
@@ -129,9 +151,9 @@ fn source_in<'a, V>(
     source: Option<Addr>,
     meter: &mut Meter,
 ) -> Option<&'a V>
-    ensures value { option_copied result ≡ row_in (source_of source) ((Some own.bits, box_value value.now) ∷ []) }
+    ensures value { option_copied result ≡ row_in (source_address_bits source) ((Some own.bits, box_value value.now) ∷ []) }
     ensures visited { meter.new
-        ≡ raised meter.old (row_nodes ((Some own.bits, box_value value.now) ∷ []) (source_of source)) }
+        ≡ raised meter.old (row_nodes ((Some own.bits, box_value value.now) ∷ []) (source_address_bits source)) }
 {
     let Some(source) = source else {
         return None;
@@ -151,8 +173,8 @@ fn with_row<V: Drop>(
     source: Option<Addr>,
     value: V,
 ) -> (Kept<V>, Result<(), AllocError>)
-    ensures ok { OnOk result.1 (kept_rows result.0 ≡ insert_entry row_cmp (kept_rows kept) (source_of source) value) }
-    ensures overwrites { IsSome (row_in (source_of source) (kept_rows kept)) → IsOk result.1 }
+    ensures ok { OnOk result.1 (kept_rows result.0 ≡ insert_entry row_cmp (kept_rows kept) (source_address_bits source) value) }
+    ensures overwrites { IsSome (row_in (source_address_bits source) (kept_rows kept)) → IsOk result.1 }
     ensures err { OnErr result.1 (kept_rows result.0 ≡ kept_rows kept) }
 {
     match kept {
@@ -178,8 +200,8 @@ fn with_star<V: Drop>(
     value: V,
 ) -> (Kept<V>, Result<(), AllocError>)
     ensures ok { OnOk result.1 (kept_rows result.0
-        ≡ insert_entry row_cmp ((None, box_value found) ∷ []) (source_of source) value) }
-    ensures overwrites { IsSome (row_in (source_of source) ((None, box_value found) ∷ [])) → IsOk result.1 }
+        ≡ insert_entry row_cmp ((None, box_value found) ∷ []) (source_address_bits source) value) }
+    ensures overwrites { IsSome (row_in (source_address_bits source) ((None, box_value found) ∷ [])) → IsOk result.1 }
     ensures err { OnErr result.1 (kept_rows result.0 ≡ (None, box_value found) ∷ []) }
 {
     if source.is_none() {
@@ -199,8 +221,8 @@ fn with_star<V: Drop>(
 // Whether it is this source.
 #[tactic(auto, unfolding(crate::specs::Rows::row_cmp))]
 fn is_source(source: Option<Addr>, own: Addr) -> bool
-    ensures same { IsTrue result → source_of source ≡ Some own.bits }
-    ensures other { result ≡ false → is_at (row_cmp (source_of source)) (Some own.bits) ≡ false }
+    ensures same { IsTrue result → source_address_bits source ≡ Some own.bits }
+    ensures other { result ≡ false → is_at (row_cmp (source_address_bits source)) (Some own.bits) ≡ false }
 {
     match source {
         Some(source) => source.bits == own.bits,
@@ -218,8 +240,8 @@ fn with_source<V: Drop>(
     value: V,
 ) -> (Kept<V>, Result<(), AllocError>)
     ensures ok { OnOk result.1 (kept_rows result.0
-        ≡ insert_entry row_cmp ((Some own.bits, box_value found) ∷ []) (source_of source) value) }
-    ensures overwrites { IsSome (row_in (source_of source) ((Some own.bits, box_value found) ∷ [])) → IsOk result.1 }
+        ≡ insert_entry row_cmp ((Some own.bits, box_value found) ∷ []) (source_address_bits source) value) }
+    ensures overwrites { IsSome (row_in (source_address_bits source) ((Some own.bits, box_value found) ∷ [])) → IsOk result.1 }
     ensures err { OnErr result.1 (kept_rows result.0 ≡ (Some own.bits, box_value found) ∷ []) }
 {
     if is_source(source, own) {
@@ -239,7 +261,7 @@ fn with_source<V: Drop>(
 // What is kept once the value is taken away.
 #[tactic(auto, unfolding(crate::specs::Rows::row_cmp))]
 fn without<V: Drop>(kept: Kept<V>, source: Option<Addr>) -> Kept<V>
-    ensures { kept_rows result ≡ without_row (source_of source) (kept_rows kept) }
+    ensures { kept_rows result ≡ without_row_under (source_address_bits source) (kept_rows kept) }
 {
     match kept {
         Kept::Empty => Kept::Empty,
@@ -259,5 +281,75 @@ fn without<V: Drop>(kept: Kept<V>, source: Option<Addr>) -> Kept<V>
             parts.remove(source);
             Kept::More(parts)
         }
+    }
+}
+
+// What is kept once the value is changed, or taken away, and whether there was one.
+fn altered<V: Drop, A: Alter<V>>(
+    kept: Kept<V>,
+    source: Option<Addr>,
+    alteration: A,
+    meter: &mut Meter,
+) -> (Kept<V>, bool)
+    ensures changed { kept_rows result.0 ≡ row_altered (A.after alteration) (source_address_bits source) (kept_rows kept) }
+    ensures there { result.1 ≡ is_some (row_in (source_address_bits source) (kept_rows kept)) }
+    ensures visited { meter.new ≡ raised meter.old (row_nodes (kept_rows kept) (source_address_bits source)) }
+{
+    match kept {
+        Kept::Empty => (Kept::Empty, false),
+        Kept::Star(value) => altered_star(value, source, alteration),
+        Kept::Source(own, value) => altered_source(own, value, source, alteration, meter),
+        Kept::More(mut parts) => {
+            let there = parts.alter(source, alteration, meter);
+            (Kept::More(parts), there)
+        }
+    }
+}
+
+// The same of the value of (*,G), which alone there is.
+#[tactic(auto, unfolding(crate::specs::Rows::row_cmp))]
+fn altered_star<V: Drop, A: Alter<V>>(
+    value: Box<V>,
+    source: Option<Addr>,
+    alteration: A,
+) -> (Kept<V>, bool)
+    ensures changed { kept_rows result.0
+        ≡ row_altered (A.after alteration) (source_address_bits source) ((None, box_value value) ∷ []) }
+    ensures there { result.1 ≡ is_some (row_in (source_address_bits source) ((None, box_value value) ∷ [])) }
+{
+    if source.is_some() {
+        return (Kept::Star(value), false);
+    }
+    match altered_box(value, alteration) {
+        Some(value) => (Kept::Star(value), true),
+        None => (Kept::Empty, true),
+    }
+}
+
+// The same of the value of a source, which alone there is. The meter rises as it does in a trie of it.
+#[tactic(auto, unfolding(crate::specs::Rows::row_cmp), using(crate::proofs::Visited::raised_by_none))]
+fn altered_source<V: Drop, A: Alter<V>>(
+    own: Addr,
+    value: Box<V>,
+    source: Option<Addr>,
+    alteration: A,
+    meter: &mut Meter,
+) -> (Kept<V>, bool)
+    ensures changed { kept_rows result.0
+        ≡ row_altered (A.after alteration) (source_address_bits source) ((Some own.bits, box_value value) ∷ []) }
+    ensures there { result.1 ≡ is_some (row_in (source_address_bits source) ((Some own.bits, box_value value) ∷ [])) }
+    ensures visited { meter.new
+        ≡ raised meter.old (row_nodes ((Some own.bits, box_value value) ∷ []) (source_address_bits source)) }
+{
+    let Some(source) = source else {
+        return (Kept::Source(own, value), false);
+    };
+    meter.visit();
+    if own.bits != source.bits {
+        return (Kept::Source(own, value), false);
+    }
+    match altered_box(value, alteration) {
+        Some(value) => (Kept::Source(own, value), true),
+        None => (Kept::Empty, true),
     }
 }

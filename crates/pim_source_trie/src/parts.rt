@@ -1,10 +1,11 @@
 //! What is under a group with more than one value.
-ghost use Rattle.std.specs.Prelude.{◌≡◌, ◌≤◌, ◌∷◌, ◌↔◌, [], IsTrue, IsOk, IsSome, None, OnOk, OnErr, Some, option_copied, option_map};
+ghost use Rattle.std.specs.Prelude.{◌≡◌, ◌≤◌, ◌∷◌, ◌↔◌, [], IsTrue, IsOk, IsSome, None, OnOk, OnErr, Some, is_some, option_copied, option_map};
 ghost use Rattle.std.specs.Box.{box_value};
 ghost use Rattle.std.specs.BTreeMap.{insert_entry};
-ghost use Rattle.pim_source_trie.specs.Rows.{row_cmp, row_in, row_nodes, source_of, without_row};
+ghost use Rattle.pim_source_trie.specs.Rows.{altered, row_altered, row_cmp, row_in, row_nodes, source_address_bits, without_row_under};
 ghost use Rattle.pim_trie.specs.Meter.{raised};
 
+use crate::alter::{Alter, altered_box};
 use crate::sources::Sources;
 use pim_ip::Addr;
 use pim_trie::Meter;
@@ -87,9 +88,9 @@ impl<V> Parts<V> {
     // The value of (*,G), or of a source.
     #[tactic(auto, using(crate::proofs::Visited::raised_by_none, crate::proofs::Visited::rows_at_most))]
     pub(crate) fn get(&self, source: Option<Addr>, meter: &mut Meter) -> Option<&V>
-        ensures value { option_copied result ≡ row_in (source_of source) self.now }
-        ensures visited { meter.new ≡ raised meter.old (row_nodes self.now (source_of source)) }
-        ensures at_most { row_nodes self.now (source_of source) ≤ 33 }
+        ensures value { option_copied result ≡ row_in (source_address_bits source) self.now }
+        ensures visited { meter.new ≡ raised meter.old (row_nodes self.now (source_address_bits source)) }
+        ensures at_most { row_nodes self.now (source_address_bits source) ≤ 33 }
     {
         match source {
             None => unboxed(&self.star),
@@ -101,8 +102,8 @@ impl<V> Parts<V> {
     pub(crate) fn put(&mut self, source: Option<Addr>, value: V) -> Result<(), AllocError>
     where
         V: Drop,
-        ensures ok { OnOk result (self.new ≡ insert_entry row_cmp self.old (source_of source) value) }
-        ensures overwrites { IsSome (row_in (source_of source) self.old) → IsOk result }
+        ensures ok { OnOk result (self.new ≡ insert_entry row_cmp self.old (source_address_bits source) value) }
+        ensures overwrites { IsSome (row_in (source_address_bits source) self.old) → IsOk result }
         ensures err { OnErr result (self.new ≡ self.old) }
     {
         match source {
@@ -115,11 +116,31 @@ impl<V> Parts<V> {
     pub(crate) fn remove(&mut self, source: Option<Addr>)
     where
         V: Drop,
-        ensures { self.new ≡ without_row (source_of source) self.old }
+        ensures { self.new ≡ without_row_under (source_address_bits source) self.old }
     {
         match source {
             None => drop(self.star.take()),
             Some(source) => self.sources.remove(source),
+        }
+    }
+
+    // Changes the value, or takes it away, and says whether there was one.
+    #[tactic(auto, using(crate::proofs::Visited::raised_by_none))]
+    pub(crate) fn alter<A: Alter<V>>(
+        &mut self,
+        source: Option<Addr>,
+        alteration: A,
+        meter: &mut Meter,
+    ) -> bool
+    where
+        V: Drop,
+        ensures changed { self.new ≡ row_altered (A.after alteration) (source_address_bits source) self.old }
+        ensures there { result ≡ is_some (row_in (source_address_bits source) self.old) }
+        ensures visited { meter.new ≡ raised meter.old (row_nodes self.old (source_address_bits source)) }
+    {
+        match source {
+            None => alter_boxed(&mut self.star, alteration),
+            Some(source) => self.sources.alter(source, alteration, meter),
         }
     }
 }
@@ -136,4 +157,16 @@ fn put_boxed<V: Drop>(alloc: Global, held: &mut Option<Box<V>>, value: V) -> Res
     }
     *held = Some(Box::new(alloc, value)?);
     Ok(())
+}
+
+// Changes the value in the box, or takes it away, and says whether there was one.
+fn alter_boxed<V: Drop, A: Alter<V>>(held: &mut Option<Box<V>>, alteration: A) -> bool
+    ensures changed { option_map box_value held.new ≡ altered (A.after alteration) (option_map box_value held.old) }
+    ensures there { result ≡ is_some held.old }
+{
+    let Some(value) = held.take() else {
+        return false;
+    };
+    *held = altered_box(value, alteration);
+    true
 }

@@ -1,14 +1,15 @@
 //! The map of groups and sources.
 ghost use Rattle.std.specs.Prelude.{◌≡◌, ◌≤◌, ◌+◌, ◌↔◌, [], All, IsTrue, IsOk, OnOk, OnErr, None, option_copied, filter, map};
 ghost use Rattle.std.specs.List.Sorted.{IsStrictlySortedBy};
-ghost use Rattle.pim_model.specs.Tables.{ascending, drop_at, has_row, keys_in, put, row_at};
+ghost use Rattle.pim_model.specs.Tables.{ascending, change_row, drop_at, has_row, keys_in, put, row_at};
 ghost use Rattle.pim_types.specs.Keys.{group_in, is_of_group, key_cmp};
 ghost use Rattle.pim_source_trie.specs.Entries.{entry_key, nodes_visited};
 ghost use Rattle.pim_trie.specs.Meter.{raised};
 
+use crate::alter::Alter;
 use crate::group::Group;
 use crate::sources::host;
-use crate::walks::{Entries, Groups};
+use crate::walks::{AllEntries, Entries, Groups};
 use pim_ip::Addr;
 use pim_trie::{Meter, Trie};
 use std::alloc::{AllocError, Global};
@@ -113,6 +114,36 @@ impl<V> SourceTrie<V> {
         }
     }
 
+    /// Changes the value of (*,G), where `source` is `None`, or of a source of the group, in its place, or takes it
+    /// away, as the alteration says; whether there was one. It takes no memory. The meter rises as that of `get`
+    /// does, and no more where the value goes.
+    #[tactic(auto, using(crate::proofs::Visited::star_at_most, crate::proofs::Visited::visited_at_most))]
+    pub fn alter<A: Alter<V>>(
+        &mut self,
+        group: Addr,
+        source: Option<Addr>,
+        alteration: A,
+        meter: &mut Meter,
+    ) -> bool
+    where
+        V: Drop,
+        ensures changed { self.new ≡ change_row (A.after alteration) (entry_key group source) self.old }
+        ensures there { result ≡ has_row self.old (entry_key group source) }
+        ensures visited { meter.new ≡ raised meter.old (nodes_visited (keys_in self.old) group source) }
+        ensures at_most { nodes_visited (keys_in self.old) group source ≤ 66 }
+        ensures star_at_most { nodes_visited (keys_in self.old) group None ≤ 33 }
+    {
+        let prefix = host(group);
+        let Some(found) = self.groups.get_mut_counted(prefix, meter) else {
+            return false;
+        };
+        let there = found.alter(source, alteration, meter);
+        if found.is_empty() {
+            drop(self.groups.remove(prefix));
+        }
+        there
+    }
+
     /// The entries of the group: (*,G) first, and then its sources ascending. The meter rises by the nodes that lead to
     /// the group; a walk down from there looks nothing up.
     pub fn walk(&self, group: Addr, meter: &mut Meter) -> Entries<'_, V>
@@ -130,5 +161,12 @@ impl<V> SourceTrie<V> {
         ensures { result ≡ ascending (map group_in (keys_in self.now)) }
     {
         Groups::of(&self.groups)
+    }
+
+    /// All entries, by rising key. It looks nothing up.
+    pub fn iter(&self) -> AllEntries<'_, V>
+        ensures { result ≡ self.now }
+    {
+        AllEntries::of(&self.groups)
     }
 }

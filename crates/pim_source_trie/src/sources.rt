@@ -1,14 +1,15 @@
 //! The values of the sources of one group.
-ghost use Rattle.std.specs.Prelude.{◌≡◌, ◌≢◌, ◌∷◌, ◌↔◌, [], IsTrue, IsOk, IsSome, IfErr, IfOk, OnErr, OnOk, option_copied};
+ghost use Rattle.std.specs.Prelude.{◌≡◌, ◌≢◌, ◌∷◌, ◌↔◌, [], IsTrue, IsOk, IsSome, IfErr, IfOk, OnErr, OnOk, is_some, option_copied};
 ghost use Rattle.std.specs.Box.{box_value};
 ghost use Rattle.std.specs.BTreeMap.{insert_entry};
 ghost use Rattle.std.specs.Iterator.{YieldsFirstBy, item_count};
 ghost use Rattle.std.specs.Ordering.{nat_cmp};
 ghost use Rattle.pim_source_trie.specs.Entries.{host_of};
 ghost use Rattle.pim_source_trie.specs.Held.{AreHosts, source_seen, trie_values, values_held};
-ghost use Rattle.pim_source_trie.specs.Rows.{IsHosts, nodes_among, source_at, without_source};
+ghost use Rattle.pim_source_trie.specs.Rows.{IsHosts, nodes_among, source_altered, source_at, without_value_of};
 ghost use Rattle.pim_trie.specs.Meter.{raised};
 
+use crate::alter::{Alter, altered_box};
 use pim_ip::{Addr, Prefix};
 use pim_trie::{Meter, Trie, Under};
 use std::alloc::{AllocError, AllocFailed, Global};
@@ -121,9 +122,28 @@ impl<V> Sources<V> {
     pub(crate) fn remove(&mut self, source: Addr)
     where
         V: Drop,
-        ensures { self.new ≡ without_source source.bits self.old }
+        ensures { self.new ≡ without_value_of source.bits self.old }
     {
         self.held = without(mem::replace(&mut self.held, Held::Empty), source);
+    }
+
+    // Changes the value of a source, or takes it away, and says whether there was one.
+    pub(crate) fn alter<A: Alter<V>>(
+        &mut self,
+        source: Addr,
+        alteration: A,
+        meter: &mut Meter,
+    ) -> bool
+    where
+        V: Drop,
+        ensures changed { self.new ≡ source_altered (A.after alteration) source.bits self.old }
+        ensures there { result ≡ is_some (source_at source.bits self.old) }
+        ensures visited { meter.new ≡ raised meter.old (nodes_among self.old source.bits) }
+    {
+        let held = mem::replace(&mut self.held, Held::Empty);
+        let (held, there) = altered(held, source, alteration, meter);
+        self.held = held;
+        there
     }
 
     // All of them, ascending.
@@ -286,7 +306,7 @@ fn add_box<V: Drop>(
 fn without<V: Drop>(held: Held<V>, source: Addr) -> Held<V>
     requires { AreHosts held }
     ensures hosts { AreHosts result }
-    ensures values { values_held result ≡ without_source source.bits (values_held held) }
+    ensures values { values_held result ≡ without_value_of source.bits (values_held held) }
 {
     match held {
         Held::Empty => Held::Empty,
@@ -304,6 +324,82 @@ fn without<V: Drop>(held: Held<V>, source: Addr) -> Held<V>
             Held::Many(trie)
         }
     }
+}
+
+// What is held once the value of the source is changed, or taken away, and whether there was one.
+fn altered<V: Drop, A: Alter<V>>(
+    held: Held<V>,
+    source: Addr,
+    alteration: A,
+    meter: &mut Meter,
+) -> (Held<V>, bool)
+    requires { AreHosts held }
+    ensures hosts { AreHosts result.0 }
+    ensures changed { values_held result.0 ≡ source_altered (A.after alteration) source.bits (values_held held) }
+    ensures there { result.1 ≡ is_some (source_at source.bits (values_held held)) }
+    ensures visited { meter.new ≡ raised meter.old (nodes_among (values_held held) source.bits) }
+{
+    match held {
+        Held::Empty => (Held::Empty, false),
+        Held::One(own, value) => altered_one(own, value, source, alteration, meter),
+        Held::Many(mut trie) => {
+            let there = alter_among(&mut trie, source, alteration, meter);
+            if trie.is_empty() {
+                return (Held::Empty, there);
+            }
+            (Held::Many(trie), there)
+        }
+    }
+}
+
+// The same of a single source. The meter rises as it does in a trie of it.
+fn altered_one<V: Drop, A: Alter<V>>(
+    own: Addr,
+    value: Box<V>,
+    source: Addr,
+    alteration: A,
+    meter: &mut Meter,
+) -> (Held<V>, bool)
+    ensures hosts { AreHosts result.0 }
+    ensures changed { values_held result.0
+        ≡ source_altered (A.after alteration) source.bits ((own.bits, box_value value) ∷ []) }
+    ensures there { result.1 ≡ is_some (source_at source.bits ((own.bits, box_value value) ∷ [])) }
+    ensures visited { meter.new ≡ raised meter.old (nodes_among ((own.bits, box_value value) ∷ []) source.bits) }
+{
+    meter.visit();
+    if own.bits != source.bits {
+        return (Held::One(own, value), false);
+    }
+    match altered_box(value, alteration) {
+        Some(value) => (Held::One(own, value), true),
+        None => (Held::Empty, true),
+    }
+}
+
+// Changes the value of a source in a trie, or takes it away, and says whether there was one.
+fn alter_among<V: Drop, A: Alter<V>>(
+    trie: &mut Trie<Box<V>>,
+    source: Addr,
+    alteration: A,
+    meter: &mut Meter,
+) -> bool
+    requires { IsHosts trie.old }
+    ensures hosts { IsHosts trie.new }
+    ensures changed { trie_values trie.new
+        ≡ source_altered (A.after alteration) source.bits (trie_values trie.old) }
+    ensures there { result ≡ is_some (source_at source.bits (trie_values trie.old)) }
+    ensures visited { meter.new ≡ raised meter.old (nodes_among (trie_values trie.old) source.bits) }
+{
+    // It tells that the prefixes rise.
+    let _ = trie.len();
+    let prefix = host(source);
+    let Some(found) = trie.get_mut_counted(prefix, meter) else {
+        return false;
+    };
+    if !alteration.alter(&mut **found) {
+        drop(trie.remove(prefix));
+    }
+    true
 }
 
 // The sources that are left, ascending, each with its value.

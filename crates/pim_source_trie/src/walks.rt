@@ -3,7 +3,7 @@
 
 ghost use Rattle.std.specs.Prelude.{◌≡◌, ◌∷◌, [], None, Some, map};
 ghost use Rattle.std.specs.Iterator.{YieldsFirstBy, item_count};
-ghost use Rattle.pim_source_trie.specs.Entries.{bits_of, entry_seen};
+ghost use Rattle.pim_source_trie.specs.Entries.{address_bits, table_entry_seen};
 ghost use Rattle.pim_source_trie.specs.Rows.{address_in, keyed};
 
 use crate::group::{Group, Kept};
@@ -105,7 +105,7 @@ impl<'a, V> Entries<'a, V> {
 impl<'a, V> Iterator for Entries<'a, V> {
     type Item = (Key, &'a V);
 
-    ghost next_gives = { YieldsFirstBy entry_seen (λ rest. rest) };
+    ghost next_gives = { YieldsFirstBy table_entry_seen (λ rest. rest) };
 
     ghost remaining = { item_count (λ rest. rest) };
 
@@ -159,7 +159,7 @@ impl<'a, V> Groups<'a, V> {
 impl<'a, V> Iterator for Groups<'a, V> {
     type Item = Addr;
 
-    ghost next_gives = { YieldsFirstBy bits_of (λ rest. rest) };
+    ghost next_gives = { YieldsFirstBy address_bits (λ rest. rest) };
 
     ghost remaining = { item_count (λ rest. rest) };
 
@@ -170,3 +170,68 @@ impl<'a, V> Iterator for Groups<'a, V> {
 }
 
 impl<'a, V> FusedIterator for Groups<'a, V> {}
+
+/// All entries that are left, by rising key.
+pub struct AllEntries<'a, V> {
+    // Those of the group that the walk has come to.
+    entries: Entries<'a, V>,
+    groups: Under<'a, Group<V>>,
+}
+
+// Written out, so that it is proved once (docs/PROOF_NOTES.md, Drops).
+impl<'a, V> Drop for AllEntries<'a, V> {
+    fn drop(self) {
+        let AllEntries {
+            entries: _,
+            groups: _,
+        } = self;
+    }
+}
+
+impl<'a, V> Model for AllEntries<'a, V> {
+    ghost use Rattle.std.specs.Prelude.{◌++◌};
+    ghost use Rattle.std.specs.List.{AllByRecursion};
+    ghost use Rattle.pim_model.specs.Tables.{Table};
+    ghost use Rattle.pim_source_trie.specs.Groups.{HasRisingRows, table_of};
+
+    ghost Value = { Table V };
+
+    ghost view = { λ a. a.entries ++ table_of a.groups };
+
+    ghost invariant = { λ a. AllByRecursion HasRisingRows a.groups };
+}
+
+impl<'a, V> AllEntries<'a, V> {
+    ghost use Rattle.std.specs.List.{AllByRecursion};
+    ghost use Rattle.pim_source_trie.specs.Groups.{HasRisingRows, table_of};
+
+    // Those of the trie, of whose groups each has a value.
+    pub(crate) fn of(groups: &'a Trie<Group<V>>) -> Self
+        requires { AllByRecursion HasRisingRows groups.now }
+        ensures { result ≡ table_of groups.now }
+    {
+        AllEntries {
+            entries: Entries::none(Addr::NONE),
+            groups: groups.iter(),
+        }
+    }
+}
+
+impl<'a, V> Iterator for AllEntries<'a, V> {
+    type Item = (Key, &'a V);
+
+    ghost next_gives = { YieldsFirstBy table_entry_seen (λ rest. rest) };
+
+    ghost remaining = { item_count (λ rest. rest) };
+
+    fn next(&mut self) -> Option<(Key, &'a V)> {
+        if let Some(entry) = self.entries.next() {
+            return Some(entry);
+        }
+        let (prefix, group) = self.groups.next()?;
+        self.entries = Entries::of(prefix.address, group);
+        self.entries.next()
+    }
+}
+
+impl<'a, V> FusedIterator for AllEntries<'a, V> {}

@@ -9,7 +9,7 @@ ghost use Rattle.pim_trie.specs.Tree.{Tree, common, address_path, prefix_of, pat
 ghost use Rattle.pim_trie.specs.Entries.{entry_seen, is_under};
 ghost use Rattle.pim_trie.specs.Links.{AreNarrow, IsNarrow};
 ghost use Rattle.pim_trie.specs.Meter.{raised};
-ghost use Rattle.pim_trie.specs.Nodes.{way_to, way_on, IsHeld, Held, Leads, Locates, LeavesAt, HasRoom, HasRoomToPut, Rebuilds, Prunes, IsPending, pending_entries, entries_of};
+ghost use Rattle.pim_trie.specs.Nodes.{way_to, way_on, LinksSomeTree, LinksTree, Leads, Locates, LeavesAt, HasRoom, HasRoomToPut, Rebuilds, Prunes, IsPending, pending_entries, entries_in_nodes};
 
 use crate::meter::Meter;
 use crate::node::{Node, first_bits, next_bit};
@@ -30,9 +30,9 @@ fn reach<V>(
     meter: &mut Meter,
 ) -> Option<usize>
     requires whole { prefix.length ≤ 32 }
-    requires held { IsHeld nodes.now [] root }
-    ensures leads { (t : Tree V) → Held nodes.now [] root t → Leads nodes.now root (path_of prefix) t result }
-    ensures visited { (t : Tree V) → Held nodes.now [] root t
+    requires held { LinksSomeTree nodes.now [] root }
+    ensures leads { (t : Tree V) → LinksTree nodes.now [] root t → Leads nodes.now root (path_of prefix) t result }
+    ensures visited { (t : Tree V) → LinksTree nodes.now [] root t
         → meter.new ≡ raised meter.old (visits t (path_of prefix)) }
 {
     let mut link = root;
@@ -61,9 +61,9 @@ pub(crate) fn locate<V>(
     meter: &mut Meter,
 ) -> Option<usize>
     requires whole { prefix.length ≤ 32 }
-    requires held { IsHeld nodes.now [] root }
-    ensures located { (t : Tree V) → Held nodes.now [] root t → Locates nodes.now root (path_of prefix) t result }
-    ensures visited { (t : Tree V) → Held nodes.now [] root t
+    requires held { LinksSomeTree nodes.now [] root }
+    ensures located { (t : Tree V) → LinksTree nodes.now [] root t → Locates nodes.now root (path_of prefix) t result }
+    ensures visited { (t : Tree V) → LinksTree nodes.now [] root t
         → meter.new ≡ raised meter.old (visits t (path_of prefix)) }
 {
     let key = reach(nodes, root, prefix, meter)?;
@@ -89,13 +89,13 @@ pub(crate) fn part_under<V>(
     prefix: Prefix,
     meter: &mut Meter,
 ) -> Option<usize>
-    requires { IsHeld nodes.now [] root }
-    ensures visited { prefix.length ≤ 32 → (t : Tree V) → Held nodes.now [] root t
+    requires { LinksSomeTree nodes.now [] root }
+    ensures visited { prefix.length ≤ 32 → (t : Tree V) → LinksTree nodes.now [] root t
         → meter.new ≡ raised meter.old (visits t (path_of prefix)) }
     ensures rises { meter.old ≤ meter.new }
     ensures pending { IsPending nodes.now (option_to_list result) }
     ensures entries { pending_entries nodes.now (option_to_list result)
-        ≡ filter (is_under prefix) (entries_of nodes.now root) }
+        ≡ filter (is_under prefix) (entries_in_nodes nodes.now root) }
 {
     if prefix.length > 32 {
         return None;
@@ -110,10 +110,10 @@ pub(crate) fn longest<'a, V>(
     address: Addr,
     meter: &mut Meter,
 ) -> Option<(Prefix, &'a V)>
-    requires { IsHeld nodes.now [] root }
-    ensures value { (t : Tree V) → Held nodes.now [] root t → option_map entry_seen result
+    requires { LinksSomeTree nodes.now [] root }
+    ensures value { (t : Tree V) → LinksTree nodes.now [] root t → option_map entry_seen result
         ≡ option_map named_entry (deepest t (address_path address.bits)) }
-    ensures visited { (t : Tree V) → Held nodes.now [] root t
+    ensures visited { (t : Tree V) → LinksTree nodes.now [] root t
         → meter.new ≡ raised meter.old (visits t (address_path address.bits)) }
 {
     let mut best = None;
@@ -171,10 +171,10 @@ pub(crate) fn make_room<V>(
     prefix: Prefix,
 ) -> Result<(), AllocError>
     requires whole { prefix.length ≤ 32 }
-    requires held { IsHeld nodes.old [] root }
-    ensures room { OnOk result ((t : Tree V) → Held nodes.old [] root t → find t (path_of prefix) ≡ None
+    requires held { LinksSomeTree nodes.old [] root }
+    ensures room { OnOk result ((t : Tree V) → LinksTree nodes.old [] root t → find t (path_of prefix) ≡ None
         → HasRoom nodes.new root) }
-    ensures overwrites { (t : Tree V) → Held nodes.old [] root t → IsSome (find t (path_of prefix)) → IsOk result }
+    ensures overwrites { (t : Tree V) → LinksTree nodes.old [] root t → IsSome (find t (path_of prefix)) → IsOk result }
     ensures kept { nodes.new ≡ record nodes.old { capacity = nodes.new.capacity } }
 {
     if has_room(nodes) {
@@ -224,7 +224,7 @@ fn put_above<V>(
     requires below { shared < 32 }
     requires there { ContainsKey nodes.old key }
     requires room { HasRoom nodes.old (Some key) }
-    ensures built { (depth : ℕ) (t : Tree V) → Held nodes.old (way_to prefix depth) (Some key) t
+    ensures built { (depth : ℕ) (t : Tree V) → LinksTree nodes.old (way_to prefix depth) (Some key) t
         → LeavesAt nodes.old key prefix depth shared
         → Rebuilds (way_to prefix depth) nodes.old nodes.new t (put t (way_on prefix depth) value) (Some result) }
     ensures narrow { IsNarrow (Some result) }
@@ -255,9 +255,9 @@ pub(crate) fn insert<V>(
     requires whole { prefix.length ≤ 32 }
     requires canonical { prefix_of (path_of prefix) ≡ prefix }
     requires room { HasRoomToPut nodes.old (way_to prefix depth) (way_on prefix depth) link }
-    ensures built { (t : Tree V) → Held nodes.old (way_to prefix depth) link t
+    ensures built { (t : Tree V) → LinksTree nodes.old (way_to prefix depth) link t
         → Rebuilds (way_to prefix depth) nodes.old nodes.new t (put t (way_on prefix depth) value) (Some result.0) }
-    ensures replaced { (t : Tree V) → Held nodes.old (way_to prefix depth) link t
+    ensures replaced { (t : Tree V) → LinksTree nodes.old (way_to prefix depth) link t
         → result.1 ≡ find t (way_on prefix depth) }
     ensures narrow { IsNarrow link → IsNarrow (Some result.0) }
 {
@@ -290,10 +290,10 @@ pub(crate) fn remove<V: Drop>(
 ) -> (Option<usize>, Option<V>)
     requires within { depth ≤ prefix.length }
     requires whole { prefix.length ≤ 32 }
-    requires held { IsHeld nodes.old (way_to prefix depth) link }
-    ensures built { (t : Tree V) → Held nodes.old (way_to prefix depth) link t
+    requires held { LinksSomeTree nodes.old (way_to prefix depth) link }
+    ensures built { (t : Tree V) → LinksTree nodes.old (way_to prefix depth) link t
         → Rebuilds (way_to prefix depth) nodes.old nodes.new t (cut t (way_on prefix depth)) result.0 }
-    ensures removed { (t : Tree V) → Held nodes.old (way_to prefix depth) link t
+    ensures removed { (t : Tree V) → LinksTree nodes.old (way_to prefix depth) link t
         → result.1 ≡ find t (way_on prefix depth) }
     ensures narrow { IsNarrow link → IsNarrow result.0 }
 {
