@@ -7,7 +7,8 @@ pub mod Lookups
 pub mod Orders
 pub mod RisingRows
 pub mod Rows
+pub mod RowsIn
 mod Standing
-mod Steps
+pub mod Steps
 pub mod Updates
 mod Walks

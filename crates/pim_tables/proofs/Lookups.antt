@@ -17,7 +17,7 @@ use Rattle.pim_types.specs.declared.timer.TimerKind.{TimerKind}
 use Rattle.pim_types.specs.Keys.{is_on, key_cmp, same_key}
 use Rattle.pim_types.proofs.Keys.{equal_keys, key_cmp_total, same_key_same}
 use Rattle.pim_model.specs.Tables.{Table, change_row, drop_at, drop_where, has_row, keys_in, put, row_at}
-use Rattle.pim_tables.specs.Ends.{left_at}
+use Rattle.pim_tables.specs.Ends.{DifferAt, left_at}
 use Rattle.pim_tables.proofs.Rows.{absent_is_unchanged, dropped_is_changed, written_is_changed}
 
 pub same_key_symm : (k q : Key) → same_key k q ≡ same_key q k
@@ -161,12 +161,12 @@ module _ {R : Type 0} (k : Key) where
   absent_is_left None t none = refl
   absent_is_left (Some kind) t none = sym (none_goes t none)
 
-  pub absent_is_dropped : (t : Table R) → row_at t k ≡ None
-      → (q : Key) → row_at t q ≡ cond (same_key q k) None (row_at t q)
-  absent_is_dropped t none q = go (same_key q k) refl
+  -- a table differs from itself at no key
+  pub as_it_is : (t : Table R) (w : Option R) → row_at t k ≡ w → DifferAt t t k w
+  as_it_is t w is q = go (same_key q k) refl
     where
-      go : (b : Bool) → same_key q k ≡ b → row_at t q ≡ cond b None (row_at t q)
-      go true same = ap (λ (x : Key). row_at t x) (equal_keys q k same) ∙ none
+      go : (b : Bool) → same_key q k ≡ b → row_at t q ≡ cond b w (row_at t q)
+      go true same = ap (λ (x : Key). row_at t x) (equal_keys q k same) ∙ is
       go false other = refl
 
   -- what may be left goes too

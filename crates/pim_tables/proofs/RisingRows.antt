@@ -34,6 +34,16 @@ module _ {R : Type 0} where
   up_of_sorted [] e = tt
   up_of_sorted (x ∷ xs) e = (above_of x.0 xs e.0, up_of_sorted xs e.1)
 
+  keys_above : (k : Key) (t : Table R) → Above k t → AllByRecursion (λ q. key_cmp k q ≡ Less) (keys_in t)
+  unfolding keys_in
+  keys_above k [] a = tt
+  keys_above k (e ∷ t) a = (a.0, keys_above k t a.1)
+
+  pub sorted_of_up : (t : Table R) → Up t → IsStrictlySortedBy key_cmp (keys_in t)
+  unfolding keys_in IsStrictlySortedBy
+  sorted_of_up [] up = tt
+  sorted_of_up (x ∷ xs) up = (keys_above x.0 xs up.0, sorted_of_up xs up.1)
+
   above_both : (k q : Key) (t : Table R) → key_cmp k q ≡ Less → Above q t → Above k t
   above_both k q t less =
       each_more (λ (e : Key × R). key_cmp q e.0 ≡ Less) (λ (e : Key × R). key_cmp k e.0 ≡ Less)

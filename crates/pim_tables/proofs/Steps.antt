@@ -20,7 +20,7 @@ use Rattle.pim_timers.proofs.Armed.{Owes, all_owed, armed_after, no_end_armed, n
 use Rattle.pim_timers.proofs.Ranks.{kind_ties, nat_ties}
 use Rattle.pim_model.specs.Tables.{Table, drop_where, row_at}
 use Rattle.pim_tables.proofs.Lookups.{row_at-drop_on}
-use Rattle.pim_tables.specs.Ends.{InStep, IsRowArmed, Kinds, end_of, ends_in, ends_under, is_second, most_ends, same_kind, timer_of}
+use Rattle.pim_tables.specs.Ends.{DifferAt, InStep, InStepBeside, IsRowArmed, Kinds, end_of, ends_in, ends_under, is_second, most_ends, same_kind, timer_of}
 
 -- ---- one timer
 
@@ -199,16 +199,25 @@ module _ {R : Type 0} (kinds : Kinds) (ends : R → Option ℕ × Option ℕ) wh
     rows_right =
         right_after (λ t. same_key t.key k) (ends_in kinds ends rows) (ends_in kinds ends after) h0 h1 stays grows
 
-  -- the rows are as they were
-  pub still_armed : (rows : Table R) (h0 h1 : Due → Bool) → Grows h0 h1 → AreArmed (ends_in kinds ends rows) h0
-      → AreArmed (ends_in kinds ends rows) h1
-  still_armed rows h0 h1 grows armed t m is = let v = armed t m is in (v.0, v.1, grows (v.0, t) v.2)
+  -- a queue that grew by the ends of one key, beside rows that changed there
+  pub armed_beside : (before now : Entries) (rows after : Table R) (k : Key) (w : Option R) → Grows (holds before) (holds now)
+      → ((d : Due) → same_key d.1.key k ≡ false → holds now d ≡ holds before d) → InStep kinds ends before rows
+      → DifferAt rows after k w → IsRowArmed kinds ends (holds now) k w → InStepBeside kinds ends now after k
+  armed_beside before now rows after k w grows others step row armed = record {
+    armed = rows_armed rows after k w (holds before) (holds now) grows row step.armed armed;
+    others = rows_right rows after k w (holds before) (holds now) grows row step.real others;
+  }
 
-  pub still_right : (rows : Table R) (k : Key) (h0 h1 : Due → Bool) → Grows h0 h1 → IsReal (ends_in kinds ends rows) h0
-      → ((d : Due) → same_key d.1.key k ≡ false → h1 d ≡ h0 d) → (due : Due) → IsFirst h1 (Some due)
-      → same_key due.1.key k ≡ false → ends_in kinds ends rows due.1 ≡ Some due.0
-  still_right rows k h0 h1 grows =
-      right_after (λ t. same_key t.key k) (ends_in kinds ends rows) (ends_in kinds ends rows) h0 h1 (λ t other. refl) grows
+  -- a queue as it was, beside rows that changed at the key
+  pub still_beside : (queue : Entries) (rows after : Table R) (k : Key) (w : Option R) → InStep kinds ends queue rows
+      → DifferAt rows after k w → IsRowArmed kinds ends (holds queue) k w → InStepBeside kinds ends queue after k
+  still_beside queue rows after k w = armed_beside queue queue rows after k w (λ d is. is) (λ d other. refl)
+
+  -- the row under the key went
+  pub gone_beside : (queue : Entries) (rows after : Table R) (k : Key) → InStep kinds ends queue rows
+      → DifferAt rows after k None → InStepBeside kinds ends queue after k
+  gone_beside queue rows after k step row =
+      still_beside queue rows after k None step row (no_row_armed (holds queue) k)
 
   -- those of an interface went
   pub fewer_armed : (rows after : Table R) (i : ℕ) (h : Due → Bool) → after ≡ drop_where (is_on i) rows

@@ -5,10 +5,9 @@ use Rattle.pim_types.specs.declared.fact.Key.{Key}
 use Rattle.pim_types.specs.declared.timer.TimerKind.{TimerKind}
 use Rattle.pim_types.specs.Keys.{key_cmp, same_key}
 use Rattle.pim_timers.specs.Dues.{Due}
-use Rattle.pim_types.proofs.Keys.{equal_keys}
 use Rattle.pim_model.specs.Tables.{Table, change_row, drop_at, drop_where, has_row, keys_in, put, row_at}
 use Rattle.pim_tables.specs.Ends.{IsRowArmed, Kinds, back_at, left_at}
-use Rattle.pim_tables.proofs.Lookups.{put_is_changed, row_at-drop_at, row_at-put}
+use Rattle.pim_tables.proofs.Lookups.{as_it_is, put_is_changed, row_at-drop_at, row_at-put}
 use Rattle.pim_tables.proofs.Steps.{no_row_armed}
 use Rattle.pim_tables.proofs.Rows.{absent_is_unchanged, changed_back, changed_to, change_first}
 
@@ -80,16 +79,9 @@ module _ {R : Type 0} (k : Key) (after : R → R) (t : Table R) (before : R) (th
   put_back_left second sorted mid last is back =
       back ∙ ap (λ (u : Table R). back_at second u k before) is ∙ back_is_left second sorted
 
-  as_it_was : (q : Key) → row_at t q ≡ cond (same_key q k) (Some before) (row_at t q)
-  as_it_was q = go (same_key q k) refl
-    where
-      go : (b : Bool) → same_key q k ≡ b → row_at t q ≡ cond b (Some before) (row_at t q)
-      go true same = ap (λ (x : Key). row_at t x) (equal_keys q k same) ∙ there
-      go false other = refl
-
   pub found_left : (second : Option TimerKind) (q : Key)
       → row_at (left_at second t k) q ≡ cond (same_key q k) (left_row second (Some before)) (row_at t q)
-  found_left None q = as_it_was q
+  found_left None q = as_it_is k t (Some before) there q
   found_left (Some kind) q = row_at-drop_at k q t
 
 pub left_armed : {R : Type 0} (kinds : Kinds) (ends : R → Option ℕ × Option ℕ) (h : Due → Bool) (k : Key) (before : Option R)

@@ -96,10 +96,7 @@ module _ {R : Type 0} (i : ℕ) (group : Option Addr) where
   none_later k [] e other f = refl
   none_later k (x ∷ t) e other f = rw (above i group k x.0 e other f.0) (none_later k t e other f.1)
 
-  -- the first is one of them, or none is left
-  pub goes_on : (e : Key × R) (t : Table R) → is_one e ≡ true → of_them (e ∷ t) ≡ e ∷ of_them t
-  goes_on e t here = rw here refl
-
+  -- where the first isn't one of them, none is left
   pub is_over : (e : Key × R) (t : Table R) → RiseFrom i group (e ∷ t) → is_one e ≡ false
       → (of_them (e ∷ t) ≡ []) × (of_them t ≡ [])
   unfolding keys_in IsStrictlySortedBy

@@ -1,11 +1,12 @@
 -- When the rows of a table end. A row has two ends at most, each of a kind of its own.
-use Rattle.std.specs.Prelude.{ℕ, ◌+◌, ◌++◌, ◌==◌, Bool, false, if◌then◌else◌, List, Option, Some, None, length}
+use Rattle.std.specs.Prelude.{ℕ, ◌≡◌, ◌+◌, ◌++◌, ◌==◌, Bool, false, if◌then◌else◌, List, Option, Some, None, length}
 use Rattle.pim_types.specs.declared.fact.Key.{Key}
 use Rattle.pim_types.specs.declared.timer.Timer.{Timer}
 use Rattle.pim_types.specs.declared.timer.TimerKind.{TimerKind}
+use Rattle.pim_types.specs.Keys.{same_key}
 use Rattle.pim_types.specs.Timers.{rank}
-use Rattle.pim_timers.specs.Armed.{Entries, IsArmed, IsSettled}
-use Rattle.pim_timers.specs.Dues.{Due}
+use Rattle.pim_timers.specs.Armed.{AreArmed, Entries, IsArmed, IsSettled, holds}
+use Rattle.pim_timers.specs.Dues.{Due, IsFirst}
 use Rattle.pim_model.specs.Tables.{Table, change_row, drop_at, row_at}
 use Rattle.pim_model.specs.Timers.{Ending, endings}
 
@@ -43,6 +44,10 @@ module _ {R : Type 0} where
   back_at None rows k before = change_row (λ _. Some before) k rows
   back_at (Some kind) rows k before = drop_at rows k
 
+  -- the second has this under the key, a row or none, and under each other key what the first has
+  abbrev pub DifferAt : (rows after : Table R) → Key → Option R → Type 0
+  DifferAt rows after k w = (q : Key) → row_at after q ≡ (if same_key q k then w else row_at rows q)
+
   abbrev pub second_endings : Option TimerKind → (R → Option ℕ) → Table R → List Ending → List Ending
   second_endings None end_of rows first = first
   second_endings (Some kind) end_of rows first = first ++ endings kind end_of rows
@@ -75,3 +80,9 @@ module _ {R : Type 0} where
     -- the queue is settled for the ends of the rows
     abbrev pub InStep : Entries → Table R → Type 0
     InStep queue rows = IsSettled (ends_in rows) (most_ends kinds.1 (length rows)) queue
+
+    -- the queue is settled for the ends of the rows, but that its first may be of the key
+    pub record InStepBeside (queue : Entries) (rows : Table R) (k : Key) : Type 0 where
+      pub armed : AreArmed (ends_in rows) (holds queue)
+      pub others : (due : Due) → IsFirst (holds queue) (Some due) → same_key due.1.key k ≡ false
+          → ends_in rows due.1 ≡ Some due.0

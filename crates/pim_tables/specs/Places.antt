@@ -8,15 +8,15 @@ use Rattle.pim_model.specs.Tables.{Table, keys_in, row_at}
 
 module _ {R : Type 0} where
   -- the rows, in the order of the table of places
-  abbrev pub standing : (ℕ → Option (Key × R)) → Table ℕ → Table R
-  standing at places = filter_map (λ e. at e.1) places
+  abbrev pub rows_placed : (ℕ → Option (Key × R)) → Table ℕ → Table R
+  rows_placed at places = filter_map (λ e. at e.1) places
 
   -- the key of the row at a place, if one stands there
-  abbrev pub key_of : (ℕ → Option (Key × R)) → ℕ → Option Key
-  key_of at p = option_map (λ (e : Key × R). e.0) (at p)
+  abbrev pub key_placed : (ℕ → Option (Key × R)) → ℕ → Option Key
+  key_placed at p = option_map (λ (e : Key × R). e.0) (at p)
 
   -- the table tells of each row that stands at a place, and of no other
   pub record ArePlaced (at : ℕ → Option (Key × R)) (places : Table ℕ) : Type 0 where
     pub rise : IsStrictlySortedBy key_cmp (keys_in places)
-    pub there : (k : Key) (p : ℕ) → row_at places k ≡ Some p → key_of at p ≡ Some k
-    pub told : (k : Key) (p : ℕ) → key_of at p ≡ Some k → row_at places k ≡ Some p
+    pub there : (k : Key) (p : ℕ) → row_at places k ≡ Some p → key_placed at p ≡ Some k
+    pub told : (k : Key) (p : ℕ) → key_placed at p ≡ Some k → row_at places k ≡ Some p

@@ -10,7 +10,7 @@ ghost use Rattle.pim_tables.specs.RowsOf.{first_key};
 use crate::change::Change;
 use crate::ended::arm_row;
 use crate::ends::Ends;
-use crate::keeping::Keeping;
+use crate::keeping::{Holding, Keeping};
 use crate::rows_of::RowsOf;
 use pim_ip::Addr;
 use pim_timers::Queue;
@@ -229,12 +229,8 @@ impl<R: Copy> Facts<R> {
     }
 }
 
-impl<R: Ends> Keeping<R> for Facts<R> {
+impl<R: Ends> Holding<R> for Facts<R> {
     ghost table = { λ f. f };
-
-    fn none(alloc: Global) -> Self {
-        Facts::new(alloc)
-    }
 
     fn count(&self) -> usize {
         self.len()
@@ -250,6 +246,18 @@ impl<R: Ends> Keeping<R> for Facts<R> {
 
     fn at(&self, key: Key) -> Option<R> {
         self.get(key)
+    }
+
+    fn arm_all(&self, queue: &mut Queue) {
+        for (key, row) in self.rows.iter() {
+            arm_row(queue, *key, *row);
+        }
+    }
+}
+
+impl<R: Ends> Keeping<R> for Facts<R> {
+    fn none(alloc: Global) -> Self {
+        Facts::new(alloc)
     }
 
     fn insert(&mut self, key: Key, row: R) -> Result<(), AllocError> {
@@ -269,11 +277,5 @@ impl<R: Ends> Keeping<R> for Facts<R> {
 
     fn take(&mut self, key: Key) -> Option<R> {
         self.pull(key)
-    }
-
-    fn arm_all(&self, queue: &mut Queue) {
-        for (key, row) in self.rows.iter() {
-            arm_row(queue, *key, *row);
-        }
     }
 }

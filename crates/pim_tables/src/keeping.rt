@@ -1,5 +1,5 @@
-//! What a table of rows offers, however it keeps them.
-ghost use Rattle.std.specs.Prelude.{◌≡◌, ◌+◌, ◌≤◌, [], length, Option, Some, None, OnOk, OnErr};
+//! What rows offer, however they are kept.
+ghost use Rattle.std.specs.Prelude.{◌≡◌, ◌+◌, ◌≤◌, [], length, Option, Some, OnOk, OnErr};
 ghost use Rattle.std.specs.List.Sorted.{IsStrictlySortedBy};
 ghost use Rattle.pim_model.specs.Tables.{Table, keys_in, row_at, has_row, put, drop_at, change_row};
 ghost use Rattle.pim_timers.specs.Armed.{AreArmed, holds};
@@ -13,13 +13,9 @@ use pim_types::Key;
 use std::alloc::{AllocError, Global};
 
 /// Rows, each under its key.
-pub trait Keeping<R: Ends> {
+pub trait Holding<R: Ends> {
     /// The rows, by rising key.
     ghost table: { Self → Table R };
-
-    /// No rows; it takes no memory.
-    fn none(alloc: Global) -> Self
-        ensures { table result ≡ [] };
 
     /// How many rows there are.
     fn count(&self) -> usize
@@ -37,26 +33,34 @@ pub trait Keeping<R: Ends> {
     fn at(&self, key: Key) -> Option<R>
         ensures { result ≡ row_at (table self.now) key };
 
-    /// Puts the row under the key, in place of one that is there. An error is want of memory, and changes nothing.
-    fn insert(&mut self, key: Key, row: R) -> Result<(), AllocError>
-        ensures ok { OnOk result (table self.new ≡ put (table self.old) key row) }
-        ensures err { OnErr result (table self.new ≡ table self.old) };
-
-    /// Changes the row under the key, where there is one, in its place; what it was. A hint may tell the place of the row,
-    /// so that its key isn't looked up; whatever it is, it changes nothing of what is done.
-    fn replace<C: Change<R>>(&mut self, hint: Option<usize>, key: Key, change: C) -> Option<R>
-        ensures before { result ≡ row_at (table self.old) key }
-        ensures changed { table self.new ≡ change_row (λ before. Some (C.after change before)) key (table self.old) };
-
-    /// Takes the row under the key away, and gives it.
-    fn take(&mut self, key: Key) -> Option<R>
-        ensures taken { result ≡ row_at (table self.old) key }
-        ensures left { table self.new ≡ drop_at (table self.old) key };
-
     /// Puts the ends of all rows into a queue that has room for them.
     fn arm_all(&self, queue: &mut Queue)
         requires { most_ends R.kinds.1 (length (table self.now)) ≤ queue.old.room }
         ensures armed { AreArmed (ends_in R.kinds R.ends (table self.now)) (holds queue.new) }
         ensures few { length queue.new.dues
             ≤ most_ends R.kinds.1 (length (table self.now)) + length queue.old.dues };
+}
+
+/// Rows that change.
+pub trait Keeping<R: Ends>: Holding<R> {
+    /// No rows; it takes no memory.
+    fn none(alloc: Global) -> Self
+        ensures { Self.table result ≡ [] };
+
+    /// Puts the row under the key, in place of one that is there. An error is want of memory, and changes nothing.
+    fn insert(&mut self, key: Key, row: R) -> Result<(), AllocError>
+        ensures ok { OnOk result (Self.table self.new ≡ put (Self.table self.old) key row) }
+        ensures err { OnErr result (Self.table self.new ≡ Self.table self.old) };
+
+    /// Changes the row under the key, where there is one, in its place; what it was. A hint may tell the place of the row,
+    /// so that its key isn't looked up; whatever it is, it changes nothing of what is done.
+    fn replace<C: Change<R>>(&mut self, hint: Option<usize>, key: Key, change: C) -> Option<R>
+        ensures before { result ≡ row_at (Self.table self.old) key }
+        ensures changed { Self.table self.new
+            ≡ change_row (λ before. Some (C.after change before)) key (Self.table self.old) };
+
+    /// Takes the row under the key away, and gives it.
+    fn take(&mut self, key: Key) -> Option<R>
+        ensures taken { result ≡ row_at (Self.table self.old) key }
+        ensures left { Self.table self.new ≡ drop_at (Self.table self.old) key };
 }

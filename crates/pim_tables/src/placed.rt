@@ -1,9 +1,9 @@
 //! Rows that keep their places, so that one whose place is known is found with no look-up of its key.
-ghost use Rattle.std.specs.Prelude.{◌≡◌, ◌≢◌, ℕ, IfSome, IsSome, IsTrue, Option, Some, None, OnOk, OnErr, is_some, option_map, true};
+ghost use Rattle.std.specs.Prelude.{◌≡◌, ◌≢◌, ℕ, Option, Some, None, OnOk, OnErr, is_some, option_map, true};
 ghost use Rattle.std.specs.Iterator.{YieldsFirstBy, item_count};
 ghost use Rattle.slab.specs.Slab.{get};
 ghost use Rattle.pim_model.specs.Tables.{change_row, drop_at, has_row, put, row_at};
-ghost use Rattle.pim_tables.specs.Places.{ArePlaced, key_of, standing};
+ghost use Rattle.pim_tables.specs.Places.{ArePlaced, key_placed, rows_placed};
 ghost use Rattle.pim_tables.specs.RowsOf.{row_seen};
 ghost use Rattle.pim_types.specs.declared.fact.Key.{Key as KeyValue};
 
@@ -11,7 +11,7 @@ use crate::change::{Change, To};
 use crate::ended::arm_row;
 use crate::ends::Ends;
 use crate::facts::Facts;
-use crate::keeping::Keeping;
+use crate::keeping::{Holding, Keeping};
 use pim_timers::Queue;
 use pim_types::Key;
 use slab::Slab;
@@ -35,19 +35,19 @@ impl<R: Drop> Drop for Placed<R> {
 
 impl<R> Model for Placed<R> {
     ghost use Rattle.pim_model.specs.Tables.{Table};
-    ghost use Rattle.pim_tables.specs.Places.{ArePlaced, standing};
+    ghost use Rattle.pim_tables.specs.Places.{ArePlaced, rows_placed};
     ghost use Rattle.slab.specs.Slab.{get};
 
     ghost Value = { Table R };
 
-    ghost view = { λ p. standing (get p.rows) p.places };
+    ghost view = { λ p. rows_placed (get p.rows) p.places };
 
     ghost invariant = { λ p. ArePlaced (get p.rows) p.places };
 }
 
 // Whether the row under the key stands at the place.
 fn stands_at<R>(rows: &Slab<(Key, R)>, place: usize, key: Key) -> bool
-    ensures { result ≡ true → key_of (get rows.now) place ≡ Some key }
+    ensures { result ≡ true → key_placed (get rows.now) place ≡ Some key }
 {
     match rows.get(place) {
         Some((found, _)) => *found == key,
@@ -96,9 +96,9 @@ fn replace_placed<R: Copy, C: Change<R>>(
     change: C,
 ) -> Option<R>
     requires { ArePlaced (get rows.old) places.now }
-    ensures before { result ≡ row_at (standing (get rows.old) places.now) key }
-    ensures changed { standing (get rows.new) places.now
-        ≡ change_row (λ before. Some (C.after change before)) key (standing (get rows.old) places.now) }
+    ensures before { result ≡ row_at (rows_placed (get rows.old) places.now) key }
+    ensures changed { rows_placed (get rows.new) places.now
+        ≡ change_row (λ before. Some (C.after change before)) key (rows_placed (get rows.old) places.now) }
     ensures placed { ArePlaced (get rows.new) places.now }
 {
     match find(places, rows, hint, key) {
@@ -116,8 +116,8 @@ fn add_placed<R: Copy>(
 ) -> Result<(), AllocError>
     requires placed { ArePlaced (get rows.old) places.old }
     requires absent { row_at places.old key ≡ None }
-    ensures ok { OnOk result (standing (get rows.new) places.new ≡ put (standing (get rows.old) places.old) key row) }
-    ensures err { OnErr result (standing (get rows.new) places.new ≡ standing (get rows.old) places.old) }
+    ensures ok { OnOk result (rows_placed (get rows.new) places.new ≡ put (rows_placed (get rows.old) places.old) key row) }
+    ensures err { OnErr result (rows_placed (get rows.new) places.new ≡ rows_placed (get rows.old) places.old) }
     ensures placed { ArePlaced (get rows.new) places.new }
 {
     rows.reserve(1)?;
@@ -132,8 +132,8 @@ fn add_placed<R: Copy>(
 // Takes the row under the key away, and gives it.
 fn take_placed<R: Copy>(places: &mut Facts<usize>, rows: &mut Slab<(Key, R)>, key: Key) -> Option<R>
     requires { ArePlaced (get rows.old) places.old }
-    ensures taken { result ≡ row_at (standing (get rows.old) places.old) key }
-    ensures left { standing (get rows.new) places.new ≡ drop_at (standing (get rows.old) places.old) key }
+    ensures taken { result ≡ row_at (rows_placed (get rows.old) places.old) key }
+    ensures left { rows_placed (get rows.new) places.new ≡ drop_at (rows_placed (get rows.old) places.old) key }
     ensures placed { ArePlaced (get rows.new) places.new }
 {
     match places.pull(key) {
@@ -169,15 +169,8 @@ impl<R> Placed<R> {
     }
 }
 
-impl<R: Ends> Keeping<R> for Placed<R> {
+impl<R: Ends> Holding<R> for Placed<R> {
     ghost table = { λ p. p };
-
-    fn none(alloc: Global) -> Self {
-        Placed {
-            places: Facts::new(alloc),
-            rows: Slab::new(alloc),
-        }
-    }
 
     fn count(&self) -> usize {
         self.places.len()
@@ -197,6 +190,21 @@ impl<R: Ends> Keeping<R> for Placed<R> {
         Some(*row)
     }
 
+    fn arm_all(&self, queue: &mut Queue) {
+        for (key, row) in self.iter() {
+            arm_row(queue, *key, *row);
+        }
+    }
+}
+
+impl<R: Ends> Keeping<R> for Placed<R> {
+    fn none(alloc: Global) -> Self {
+        Placed {
+            places: Facts::new(alloc),
+            rows: Slab::new(alloc),
+        }
+    }
+
     fn insert(&mut self, key: Key, row: R) -> Result<(), AllocError> {
         if self.places.contains(key) {
             replace_placed(&self.places, &mut self.rows, None, key, To { row });
@@ -211,12 +219,6 @@ impl<R: Ends> Keeping<R> for Placed<R> {
 
     fn take(&mut self, key: Key) -> Option<R> {
         take_placed(&mut self.places, &mut self.rows, key)
-    }
-
-    fn arm_all(&self, queue: &mut Queue) {
-        for (key, row) in self.iter() {
-            arm_row(queue, *key, *row);
-        }
     }
 }
 
@@ -235,12 +237,12 @@ impl<'a, R> Drop for PlacedRows<'a, R> {
 
 impl<'a, R> Model for PlacedRows<'a, R> {
     ghost use Rattle.pim_model.specs.Tables.{Table};
-    ghost use Rattle.pim_tables.specs.Places.{standing};
+    ghost use Rattle.pim_tables.specs.Places.{rows_placed};
     ghost use Rattle.slab.specs.Slab.{get};
 
     ghost Value = { Table R };
 
-    ghost view = { λ w. standing (get w.rows.now) w.places };
+    ghost view = { λ w. rows_placed (get w.rows.now) w.places };
 }
 
 impl<'a, R> Iterator for PlacedRows<'a, R> {

@@ -1,34 +1,31 @@
 //! A table whose rows end. A queue of the ends that the rows know stands beside them, so that no caller sets a timer.
-ghost use Rattle.std.specs.Prelude.{◌≡◌, [], false, length, IfOk, IfSome, OnOk, OnErr, Option, Some, None, option_map};
+ghost use Rattle.std.specs.Prelude.{◌≡◌, [], length, IfOk, IfSome, OnOk, OnErr, Option, Some, None, option_map};
 ghost use Rattle.std.specs.List.Sorted.{IsStrictlySortedBy};
 ghost use Rattle.pim_model.specs.Clearing.{first_by};
 ghost use Rattle.pim_model.specs.Tables.{keys_in, row_at, has_row, put, drop_at, drop_where, set_row, change_row};
 ghost use Rattle.pim_model.specs.Timers.{is_ending_first};
-ghost use Rattle.pim_timers.specs.Armed.{AreArmed, holds};
-ghost use Rattle.pim_timers.specs.Dues.{Due, IsFirst};
-ghost use Rattle.pim_types.specs.Keys.{key_cmp, is_on, same_key};
-ghost use Rattle.pim_tables.specs.Ends.{InStep, back_at, due_of, ends_in, left_at, row_endings};
+ghost use Rattle.pim_types.specs.Keys.{key_cmp, is_on};
+ghost use Rattle.pim_tables.specs.Ends.{InStep, InStepBeside, back_at, due_of, left_at, row_endings};
 
 use crate::change::{Change, To};
-use crate::ended::{Ended, arm_ends, settle};
+use crate::end_queue::EndQueue;
 use crate::ends::Ends;
 use crate::facts::Facts;
 use crate::keeping::Keeping;
-use pim_timers::Queue;
 use pim_types::{IfaceId, Key, Timer};
 use std::alloc::{AllocError, Global};
-use std::marker::{Model, PhantomData};
+use std::marker::Model;
 
 /// The facts of one kind, which end.
 pub struct Timed<R: Ends, K: Keeping<R> = Facts<R>> {
-    ended: Ended<R, K>,
-    queue: Queue,
+    rows: K,
+    queue: EndQueue<R>,
 }
 
 // Written out, so that it is proved once (docs/PROOF_NOTES.md, Drops).
 impl<R: Ends + Drop, K: Keeping<R> + Drop> Drop for Timed<R, K> {
     fn drop(self) {
-        let Timed { ended: _, queue: _ } = self;
+        let Timed { rows: _, queue: _ } = self;
     }
 }
 
@@ -38,9 +35,9 @@ impl<R: Ends, K: Keeping<R>> Model for Timed<R, K> {
 
     ghost Value = { Table R };
 
-    ghost view = { λ a. K.table a.ended.rows };
+    ghost view = { λ a. K.table a.rows };
 
-    ghost invariant = { λ a. InStep R.kinds R.ends a.queue (K.table a.ended.rows) };
+    ghost invariant = { λ a. InStep R.kinds R.ends a.queue (K.table a.rows) };
 }
 
 // Leaves what a refusal leaves under the key of a row that was changed: the row that was there, where rows have no second
@@ -61,38 +58,38 @@ fn put_back<R: Ends, K: Keeping<R>>(rows: &mut K, hint: Option<usize>, key: Key,
 // Changes the row under the key, where there is one, in its place, and moves its ends; what it was. The row is looked up
 // once. An error is want of memory.
 fn update_in_step<R: Ends, K: Keeping<R>, C: Change<R>>(
-    ended: &mut Ended<R, K>,
-    queue: &mut Queue,
+    rows: &mut K,
+    queue: &mut EndQueue<R>,
     hint: Option<usize>,
     key: Key,
     change: C,
 ) -> Result<Option<R>, AllocError>
-    requires { InStep R.kinds R.ends queue.old (K.table ended.old.rows) }
-    ensures ok { OnOk result (K.table ended.new.rows
-        ≡ change_row (λ before. Some (C.after change before)) key (K.table ended.old.rows)) }
-    ensures before { IfOk result (λ before. before ≡ row_at (K.table ended.old.rows) key) }
-    ensures err { OnErr result (K.table ended.new.rows ≡ left_at R.kinds.1 (K.table ended.old.rows) key) }
-    ensures in_step { InStep R.kinds R.ends queue.new (K.table ended.new.rows) }
+    requires { InStep R.kinds R.ends queue.old (K.table rows.old) }
+    ensures ok { OnOk result (K.table rows.new
+        ≡ change_row (λ before. Some (C.after change before)) key (K.table rows.old)) }
+    ensures before { IfOk result (λ before. before ≡ row_at (K.table rows.old) key) }
+    ensures err { OnErr result (K.table rows.new ≡ left_at R.kinds.1 (K.table rows.old) key) }
+    ensures in_step { InStep R.kinds R.ends queue.new (K.table rows.new) }
 {
     // A key stands once, so that the row can be put back.
-    ended.rows.recall_rise();
-    let Some(before) = ended.rows.replace(hint, key, change) else {
+    rows.recall_rise();
+    let Some(before) = rows.replace(hint, key, change) else {
         return Ok(None);
     };
     let row = change.after(before);
-    if let Err(refused) = arm_ends(queue, key, Some(before), row) {
-        put_back(&mut ended.rows, hint, key, before);
-        settle(ended, queue, key);
+    if let Err(refused) = queue.arm(key, Some(before), row) {
+        put_back(rows, hint, key, before);
+        queue.settle(rows, key);
         return Err(refused);
     }
-    settle(ended, queue, key);
+    queue.settle(rows, key);
     Ok(Some(before))
 }
 
 // Puts a row under a key that has none, and its ends into the queue. An error is want of memory, and changes no row.
 fn insert_armed<R: Ends, K: Keeping<R>>(
     rows: &mut K,
-    queue: &mut Queue,
+    queue: &mut EndQueue<R>,
     key: Key,
     row: R,
 ) -> Result<(), AllocError>
@@ -100,49 +97,47 @@ fn insert_armed<R: Ends, K: Keeping<R>>(
     requires in_step { InStep R.kinds R.ends queue.old (K.table rows.old) }
     ensures ok { OnOk result (K.table rows.new ≡ put (K.table rows.old) key row) }
     ensures err { OnErr result (K.table rows.new ≡ K.table rows.old) }
-    ensures armed { AreArmed (ends_in R.kinds R.ends (K.table rows.new)) (holds queue.new) }
-    ensures others { (due : Due) → IsFirst (holds queue.new) (Some due) → same_key due.1.key key ≡ false
-        → ends_in R.kinds R.ends (K.table rows.new) due.1 ≡ Some due.0 }
+    ensures beside { InStepBeside R.kinds R.ends queue.new (K.table rows.new) key }
 {
-    arm_ends(queue, key, None, row)?;
+    queue.arm(key, None, row)?;
     rows.insert(key, row)
 }
 
 // Puts a row with its ends under a key that has none. An error is want of memory, and changes no row.
 fn add_in_step<R: Ends, K: Keeping<R>>(
-    ended: &mut Ended<R, K>,
-    queue: &mut Queue,
+    rows: &mut K,
+    queue: &mut EndQueue<R>,
     key: Key,
     row: R,
 ) -> Result<(), AllocError>
-    requires absent { row_at (K.table ended.old.rows) key ≡ None }
-    requires in_step { InStep R.kinds R.ends queue.old (K.table ended.old.rows) }
-    ensures ok { OnOk result (K.table ended.new.rows ≡ put (K.table ended.old.rows) key row) }
-    ensures err { OnErr result (K.table ended.new.rows ≡ K.table ended.old.rows) }
-    ensures in_step { InStep R.kinds R.ends queue.new (K.table ended.new.rows) }
+    requires absent { row_at (K.table rows.old) key ≡ None }
+    requires in_step { InStep R.kinds R.ends queue.old (K.table rows.old) }
+    ensures ok { OnOk result (K.table rows.new ≡ put (K.table rows.old) key row) }
+    ensures err { OnErr result (K.table rows.new ≡ K.table rows.old) }
+    ensures in_step { InStep R.kinds R.ends queue.new (K.table rows.new) }
 {
-    let added = insert_armed(&mut ended.rows, queue, key, row);
-    settle(ended, queue, key);
+    let added = insert_armed(rows, queue, key, row);
+    queue.settle(rows, key);
     added
 }
 
 // Puts the row with its ends under the key, in place of one that is there. An error is want of memory.
 fn put_in_step<R: Ends, K: Keeping<R>>(
-    ended: &mut Ended<R, K>,
-    queue: &mut Queue,
+    rows: &mut K,
+    queue: &mut EndQueue<R>,
     key: Key,
     row: R,
 ) -> Result<(), AllocError>
-    requires { InStep R.kinds R.ends queue.old (K.table ended.old.rows) }
-    ensures ok { OnOk result (K.table ended.new.rows ≡ put (K.table ended.old.rows) key row) }
-    ensures err { OnErr result (K.table ended.new.rows ≡ left_at R.kinds.1 (K.table ended.old.rows) key) }
-    ensures in_step { InStep R.kinds R.ends queue.new (K.table ended.new.rows) }
+    requires { InStep R.kinds R.ends queue.old (K.table rows.old) }
+    ensures ok { OnOk result (K.table rows.new ≡ put (K.table rows.old) key row) }
+    ensures err { OnErr result (K.table rows.new ≡ left_at R.kinds.1 (K.table rows.old) key) }
+    ensures in_step { InStep R.kinds R.ends queue.new (K.table rows.new) }
 {
     // What is put under a key that is there stands in its place.
-    ended.rows.recall_rise();
-    match update_in_step(ended, queue, None, key, To { row })? {
+    rows.recall_rise();
+    match update_in_step(rows, queue, None, key, To { row })? {
         Some(_) => Ok(()),
-        None => add_in_step(ended, queue, key, row),
+        None => add_in_step(rows, queue, key, row),
     }
 }
 
@@ -152,11 +147,8 @@ impl<R: Ends, K: Keeping<R>> Timed<R, K> {
         ensures { result ≡ [] }
     {
         Timed {
-            ended: Ended {
-                rows: K::none(alloc),
-                row: PhantomData,
-            },
-            queue: Queue::new(alloc),
+            rows: K::none(alloc),
+            queue: EndQueue::new(alloc),
         }
     }
 
@@ -164,7 +156,7 @@ impl<R: Ends, K: Keeping<R>> Timed<R, K> {
     pub fn rows(&self) -> &K
         ensures { K.table result.now ≡ self.now }
     {
-        &self.ended.rows
+        &self.rows
     }
 
     /// How many facts there are.
@@ -174,29 +166,29 @@ impl<R: Ends, K: Keeping<R>> Timed<R, K> {
         // Of every table: the keys rise.
         ensures ascending { IsStrictlySortedBy key_cmp (keys_in self.now) }
     {
-        self.ended.rows.recall_rise();
-        self.ended.rows.count()
+        self.rows.recall_rise();
+        self.rows.count()
     }
 
     /// The keys rise. It does nothing.
     pub fn recall_rising(&self)
         ensures { IsStrictlySortedBy key_cmp (keys_in self.now) }
     {
-        self.ended.rows.recall_rise();
+        self.rows.recall_rise();
     }
 
     /// Whether there is a fact under the key.
     pub fn contains(&self, key: Key) -> bool
         ensures { result ≡ has_row self.now key }
     {
-        self.ended.rows.has(key)
+        self.rows.has(key)
     }
 
     /// The fact under the key.
     pub fn get(&self, key: Key) -> Option<R>
         ensures { result ≡ row_at self.now key }
     {
-        self.ended.rows.at(key)
+        self.rows.at(key)
     }
 
     /// Which fact ends first, and when (ms): the least end by its moment, its kind and its key. `None`
@@ -205,7 +197,7 @@ impl<R: Ends, K: Keeping<R>> Timed<R, K> {
         ensures { result ≡ option_map due_of (first_by is_ending_first (row_endings R.kinds R.ends self.now)) }
     {
         // A key stands once, so that the queue holds all the ends.
-        self.ended.rows.recall_rise();
+        self.rows.recall_rise();
         self.queue.first()
     }
 
@@ -215,7 +207,7 @@ impl<R: Ends, K: Keeping<R>> Timed<R, K> {
         ensures ok { OnOk result (self.new ≡ put self.old key row) }
         ensures err { OnErr result (self.new ≡ left_at R.kinds.1 self.old key) }
     {
-        put_in_step(&mut self.ended, &mut self.queue, key, row)
+        put_in_step(&mut self.rows, &mut self.queue, key, row)
     }
 
     /// Puts the fact under a key that has none, so that no other is looked for. An error is want of memory, and changes no
@@ -225,7 +217,7 @@ impl<R: Ends, K: Keeping<R>> Timed<R, K> {
         ensures ok { OnOk result (self.new ≡ put self.old key row) }
         ensures err { OnErr result (self.new ≡ self.old) }
     {
-        add_in_step(&mut self.ended, &mut self.queue, key, row)
+        add_in_step(&mut self.rows, &mut self.queue, key, row)
     }
 
     /// Changes the fact under the key, where there is one, in its place, and answers what it was. The fact is looked up
@@ -241,15 +233,15 @@ impl<R: Ends, K: Keeping<R>> Timed<R, K> {
         ensures before { IfOk result (λ before. before ≡ row_at self.old key) }
         ensures err { OnErr result (self.new ≡ left_at R.kinds.1 self.old key) }
     {
-        update_in_step(&mut self.ended, &mut self.queue, hint, key, change)
+        update_in_step(&mut self.rows, &mut self.queue, hint, key, change)
     }
 
     /// Takes the fact under the key away.
     pub fn remove(&mut self, key: Key)
         ensures { self.new ≡ drop_at self.old key }
     {
-        self.ended.rows.take(key);
-        settle(&self.ended, &mut self.queue, key);
+        self.rows.take(key);
+        self.queue.settle(&self.rows, key);
     }
 
     /// Puts the fact under the key, or takes away the one that is there. An error is want of memory, and leaves
@@ -277,8 +269,8 @@ impl<R: Ends, K: Keeping<R>> Timed<R, K> {
         ensures err { OnErr result (self.new ≡ left_at R.kinds.1 self.old key) }
     {
         // A key stands once.
-        self.ended.rows.recall_rise();
-        update_in_step(&mut self.ended, &mut self.queue, None, key, To { row })?;
+        self.rows.recall_rise();
+        update_in_step(&mut self.rows, &mut self.queue, None, key, To { row })?;
         Ok(())
     }
 }
@@ -289,8 +281,8 @@ impl<R: Ends> Timed<R> {
     pub fn drop_on(&mut self, iface: IfaceId)
         ensures { self.new ≡ drop_where (is_on iface.number) self.old }
     {
-        self.ended.rows.drop_on(iface);
+        self.rows.drop_on(iface);
         // What ends first may have gone.
-        self.queue.settle(&self.ended, false);
+        self.queue.settle_all(&self.rows);
     }
 }

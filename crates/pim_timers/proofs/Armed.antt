@@ -72,14 +72,6 @@ module _ (own : Timer → Bool) (f g : Timer → Option ℕ) (h k : Due → Bool
       stay due.1 other
       ∙ real due (sym (kept due other) ∙ first.0, λ d is. first.1 d (grows d is))
 
--- a timer that ends no earlier is armed
-pub still_armed : (h : Due → Bool) (t : Timer) (before after : ℕ) → before ≤ after → IsArmed h t (Some before)
-    → IsArmed h t (Some after)
-still_armed h t before after later armed m is =
-    let w = armed before refl in
-    let same : after ≡ m = cc in
-    (w.0, omega (arith, later, w.1, same), w.2)
-
 pub no_end_armed : (h : Due → Bool) (t : Timer) (end : Option ℕ) → end ≡ None → IsArmed h t end
 no_end_armed h t end none m is = let no : None ≡ Some m = sym none ∙ is in cc
 

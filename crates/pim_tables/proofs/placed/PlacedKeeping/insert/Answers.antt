@@ -1,7 +1,7 @@
 use Rattle.std.proofs.Common.{Some, sym, ◌∙◌}
 use Rattle.slab.specs.Slab.{get}
 use Rattle.pim_model.specs.Tables.{row_at}
-use Rattle.pim_tables.specs.Places.{standing}
+use Rattle.pim_tables.specs.Places.{rows_placed}
 use Rattle.pim_tables.proofs.Lookups.{put_is_changed}
 use Rattle.pim_tables.proofs.Rows.{always}
 use Rattle.pim_tables.proofs.Standing.{has, rising}
@@ -9,7 +9,7 @@ use Rattle.pim_tables.proofs.placed.PlacedKeeping.insert.Goals as goal
 
 pub returns-then-contains-clause-ok : goal.returns-then-contains-clause-ok
 returns-then-contains-clause-ok g c =
-    let t = standing (get c.self.inside.rows) c.self.inside.places in
+    let t = rows_placed (get c.self.inside.rows) c.self.inside.places in
     rw (← c.self.view_is) (c.replace_placed.ensures.changed
     ∙ sym (put_is_changed c.args.key c.args.row (λ _. Some c.args.row) t (rising _ _ c.self.invariant)
     (has _ _ c.self.invariant c.args.key ∙ sym c.contains.ensures ∙ c.if-contains.true)

@@ -2,11 +2,11 @@ use Rattle.std.proofs.Common.{ap, arith, length, ◌∙◌}
 use Rattle.pim_timers.specs.Armed.{holds}
 use Rattle.pim_tables.specs.Ends.{most_ends}
 use Rattle.pim_tables.proofs.Steps.{most_more, none_left, row_owed_less, rows_owed}
-use Rattle.pim_tables.proofs.placed.PlacedKeeping.arm_all.Goals as goal
+use Rattle.pim_tables.proofs.facts.FactsHolding.arm_all.Goals as goal
 
 pub loop-key-init : goal.loop-key-init
 loop-key-init g c =
-    let is = c.into_iter-key-iterator.ensures.into_iter_gives ∙ c.iter-key-items.ensures in
+    let is = c.into_iter-key-iterator.ensures.into_iter_gives ∙ c.iter-key-items.ensures.rest ∙ c.self.view_is in
     let same = ap (λ t. most_ends g.R.Ends.kinds.1 (length t)) is in
     record {
       owes = rows_owed g.R.Ends.kinds g.R.Ends.ends c.args.self.now c.into_iter-key-iterator.result (holds c.args.queue.now) is;

@@ -1,6 +1,6 @@
 use Rattle.std.proofs.Common.{ap, option_copied, option_map, sym, ◌∙◌}
 use Rattle.pim_tables.proofs.Standing.{found_at, none_found}
-use Rattle.pim_tables.proofs.placed.PlacedKeeping.at.Goals as goal
+use Rattle.pim_tables.proofs.placed.PlacedHolding.at.Goals as goal
 
 pub returns-in_err-place : goal.returns-in_err-place
 returns-in_err-place g c =

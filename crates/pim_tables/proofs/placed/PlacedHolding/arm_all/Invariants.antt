@@ -2,7 +2,7 @@ use Rattle.std.proofs.Common.{◌≤◌, ◌+◌, length}
 use Rattle.pim_timers.specs.Armed.{holds}
 use Rattle.pim_tables.specs.Ends.{most_ends}
 use Rattle.pim_tables.proofs.Steps.{RowsOwed}
-use Rattle.pim_tables.proofs.placed.PlacedKeeping.arm_all.Given as goal
+use Rattle.pim_tables.proofs.placed.PlacedHolding.arm_all.Given as goal
 
 abbrev pub invariant-loop-key : goal.invariant-loop-key
 invariant-loop-key g l = record {
