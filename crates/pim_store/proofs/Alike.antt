@@ -8,7 +8,7 @@ use Rattle.pim_model.specs.Tables.{Table, has_row, row_at}
 use Rattle.pim_store.specs.Said.{SaysAlike, is_about, is_set_by}
 use Rattle.pim_store.specs.Telling.{is_second, is_set_by_either}
 use Rattle.pim_store.specs.declared.marks.Mark.{Mark}
-use Rattle.pim_store.specs.declared.marks.Mark.TheVariants.{Joined, Branched, Pruned, Lost, Won, HasJoinTimer, HasOverrideTimer, HasSource, HasRegister}
+use Rattle.pim_store.specs.declared.marks.Mark.TheVariants.{Joined, Branched, Pruned, Lost, Won, HasOverrideTimer, HasSource, HasRegister}
 
 -- ---- the marks that a row tells
 
@@ -21,7 +21,6 @@ set_by_itself Branched n = same_number n
 set_by_itself Pruned n = same_number n
 set_by_itself Lost n = same_number n
 set_by_itself Won n = same_number n
-set_by_itself HasJoinTimer n = refl
 set_by_itself HasOverrideTimer n = refl
 set_by_itself HasSource n = refl
 set_by_itself HasRegister n = refl

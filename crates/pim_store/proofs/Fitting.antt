@@ -5,7 +5,7 @@ use Rattle.pim_types.specs.declared.fact.Key.{Key}
 use Rattle.pim_types.specs.Keys.{is_on, same_key}
 use Rattle.pim_types.proofs.Keys.{same_key_same}
 use Rattle.pim_model.specs.Tables.{Table, has_row, row_at}
-use Rattle.pim_store.specs.Said.{is_of_iface, is_plain_of_iface, is_plain_of_router, is_source_of_router}
+use Rattle.pim_store.specs.Said.{is_of_iface, is_plain_of_iface, is_source_of_router}
 
 left_true : (a b : Bool) → (a && b) ≡ true → a ≡ true
 left_true true b e = refl
@@ -13,9 +13,6 @@ left_true false b e = cc
 
 pub below_when_plain : (k : Key) → is_plain_of_iface k ≡ true → is_of_iface k ≡ true
 below_when_plain k plain = left_true (is_of_iface k) (not k.rpt) plain
-
-pub of_router_when_plain : (k : Key) → is_plain_of_router k ≡ true → is_on 0 k ≡ true
-of_router_when_plain k plain = left_true (is_on 0 k) (not k.rpt) plain
 
 pub of_router_when_source : (k : Key) → is_source_of_router k ≡ true → is_on 0 k ≡ true
 of_router_when_source k source =

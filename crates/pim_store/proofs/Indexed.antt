@@ -4,7 +4,6 @@ use Rattle.std.specs.Option.{option_map_or}
 use Rattle.std.proofs.lemmas.Bool.Decides.{nat_tests}
 use Rattle.pim_types.specs.declared.fact.AssertRow.{AssertRow}
 use Rattle.pim_types.specs.declared.fact.DownstreamRow.{DownstreamRow}
-use Rattle.pim_types.specs.declared.fact.JoinTimerRow.{JoinTimerRow}
 use Rattle.pim_types.specs.declared.fact.Key.{Key}
 use Rattle.pim_types.specs.declared.fact.OverrideTimerRow.{OverrideTimerRow}
 use Rattle.pim_types.specs.declared.fact.RegisterRow.{RegisterRow}
@@ -12,9 +11,9 @@ use Rattle.pim_types.specs.declared.fact.SourceRow.{SourceRow}
 use Rattle.pim_model.specs.Sets.{is_loser, is_winner}
 use Rattle.pim_model.specs.Tables.{Table, has_row, row_at}
 use Rattle.pim_store.specs.PimTables.{PimTables}
-use Rattle.pim_store.specs.Said.{IsTold, KeepsOtherMarks, is_of_iface, is_plain_of_iface, is_plain_of_router, is_rpt_of_router, is_source_of_router, place, said}
+use Rattle.pim_store.specs.Said.{IsTold, KeepsMarks, KeepsOtherMarks, is_of_iface, is_plain_of_iface, is_rpt_of_router, is_source_of_router, place, said, timers_in}
 use Rattle.pim_store.specs.Stored.{IsIndexed}
-use Rattle.pim_store.specs.Telling.{assert_says, assert_table, downstream_says, downstream_table, is_there, is_told_by, join_timer_table, override_timer_table, register_table, source_table, table_of}
+use Rattle.pim_store.specs.Telling.{assert_says, assert_table, downstream_says, downstream_table, is_there, is_told_by, override_timer_table, register_table, source_table, table_of}
 use Rattle.pim_store.specs.declared.marks.Mark.{Mark}
 use Rattle.pim_store.specs.declared.marks.Marks.{Marks}
 
@@ -31,14 +30,21 @@ module _ {m m' : Table Marks} (changed : ℕ) (others : KeepsOtherMarks (is_told
     fit = is.fit;
   }
 
+as_before : {R : Type 0} {m m' : Table Marks} {tells : Mark → Bool} {says : Mark → R → Bool} {fits : Key → Bool} {t : Table R}
+    → KeepsMarks m m' → IsTold tells says fits m t → IsTold tells says fits m' t
+as_before same is = record {
+  told = λ x tell i g s. same x i g s ∙ is.told x tell i g s;
+  fit = is.fit;
+}
+
 module _ {m m' : Table Marks} {f : PimTables} (is : IsIndexed m f) where
   pub after_downstream : {t : Table DownstreamRow} → KeepsOtherMarks (is_told_by downstream_table) m m'
       → IsTold (is_told_by downstream_table) downstream_says is_of_iface m' t
-      → IsIndexed m' (record f { downstream = t })
+      → IsIndexed m' (record f { downstream = t; join_timers = timers_in m' })
   after_downstream others told = record {
     downstream = told;
     asserts = still downstream_table others assert_table refl is.asserts;
-    join_timers = still downstream_table others join_timer_table refl is.join_timers;
+    join_timers = refl;
     override_timers = still downstream_table others override_timer_table refl is.override_timers;
     sources = still downstream_table others source_table refl is.sources;
     registers = still downstream_table others register_table refl is.registers;
@@ -46,35 +52,33 @@ module _ {m m' : Table Marks} {f : PimTables} (is : IsIndexed m f) where
 
   pub after_asserts : {t : Table AssertRow} → KeepsOtherMarks (is_told_by assert_table) m m'
       → IsTold (is_told_by assert_table) assert_says is_plain_of_iface m' t
-      → IsIndexed m' (record f { asserts = t })
+      → IsIndexed m' (record f { asserts = t; join_timers = timers_in m' })
   after_asserts others told = record {
     downstream = still assert_table others downstream_table refl is.downstream;
     asserts = told;
-    join_timers = still assert_table others join_timer_table refl is.join_timers;
+    join_timers = refl;
     override_timers = still assert_table others override_timer_table refl is.override_timers;
     sources = still assert_table others source_table refl is.sources;
     registers = still assert_table others register_table refl is.registers;
   }
 
-  pub after_join_timers : {t : Table JoinTimerRow} → KeepsOtherMarks (is_told_by join_timer_table) m m'
-      → IsTold (is_told_by join_timer_table) is_there is_plain_of_router m' t
-      → IsIndexed m' (record f { join_timers = t })
-  after_join_timers others told = record {
-    downstream = still join_timer_table others downstream_table refl is.downstream;
-    asserts = still join_timer_table others assert_table refl is.asserts;
-    join_timers = told;
-    override_timers = still join_timer_table others override_timer_table refl is.override_timers;
-    sources = still join_timer_table others source_table refl is.sources;
-    registers = still join_timer_table others register_table refl is.registers;
+  pub after_join_timers : KeepsMarks m m' → IsIndexed m' (record f { join_timers = timers_in m' })
+  after_join_timers same = record {
+    downstream = as_before same is.downstream;
+    asserts = as_before same is.asserts;
+    join_timers = refl;
+    override_timers = as_before same is.override_timers;
+    sources = as_before same is.sources;
+    registers = as_before same is.registers;
   }
 
   pub after_override_timers : {t : Table OverrideTimerRow} → KeepsOtherMarks (is_told_by override_timer_table) m m'
       → IsTold (is_told_by override_timer_table) is_there is_rpt_of_router m' t
-      → IsIndexed m' (record f { override_timers = t })
+      → IsIndexed m' (record f { override_timers = t; join_timers = timers_in m' })
   after_override_timers others told = record {
     downstream = still override_timer_table others downstream_table refl is.downstream;
     asserts = still override_timer_table others assert_table refl is.asserts;
-    join_timers = still override_timer_table others join_timer_table refl is.join_timers;
+    join_timers = refl;
     override_timers = told;
     sources = still override_timer_table others source_table refl is.sources;
     registers = still override_timer_table others register_table refl is.registers;
@@ -82,11 +86,11 @@ module _ {m m' : Table Marks} {f : PimTables} (is : IsIndexed m f) where
 
   pub after_sources : {t : Table SourceRow} → KeepsOtherMarks (is_told_by source_table) m m'
       → IsTold (is_told_by source_table) is_there is_source_of_router m' t
-      → IsIndexed m' (record f { sources = t })
+      → IsIndexed m' (record f { sources = t; join_timers = timers_in m' })
   after_sources others told = record {
     downstream = still source_table others downstream_table refl is.downstream;
     asserts = still source_table others assert_table refl is.asserts;
-    join_timers = still source_table others join_timer_table refl is.join_timers;
+    join_timers = refl;
     override_timers = still source_table others override_timer_table refl is.override_timers;
     sources = told;
     registers = still source_table others register_table refl is.registers;
@@ -94,11 +98,11 @@ module _ {m m' : Table Marks} {f : PimTables} (is : IsIndexed m f) where
 
   pub after_registers : {t : Table RegisterRow} → KeepsOtherMarks (is_told_by register_table) m m'
       → IsTold (is_told_by register_table) is_there is_source_of_router m' t
-      → IsIndexed m' (record f { registers = t })
+      → IsIndexed m' (record f { registers = t; join_timers = timers_in m' })
   after_registers others told = record {
     downstream = still register_table others downstream_table refl is.downstream;
     asserts = still register_table others assert_table refl is.asserts;
-    join_timers = still register_table others join_timer_table refl is.join_timers;
+    join_timers = refl;
     override_timers = still register_table others override_timer_table refl is.override_timers;
     sources = still register_table others source_table refl is.sources;
     registers = told;

@@ -1,4 +1,6 @@
 mod Alike
+mod Altered
+mod Changed
 mod Dropped
 mod Empty
 mod Fitting
@@ -9,6 +11,7 @@ mod Losses
 mod Lowered
 mod Marked
 mod Places
+mod Timers
 mod Told
 mod Walked
 mod Writes

@@ -4,6 +4,7 @@ use Rattle.std.specs.Prelude.{IsSome}
 use Rattle.pim_ip.specs.declared.addr.Addr.{Addr}
 use Rattle.pim_types.specs.declared.fact.Key.{Key}
 use Rattle.pim_model.specs.Tables.{Table, has_row, row_at}
+use Rattle.pim_source_trie.specs.Entries.{entry_key}
 use Rattle.pim_source_trie.proofs.Visited.{raised_alike}
 use Rattle.pim_trie.specs.Meter.{raised}
 use Rattle.pim_store.specs.PimTables.{PimTables, fact_key}
@@ -33,14 +34,13 @@ pub raised_rises : (old new nodes : ℕ) → new ≡ raised old nodes → old �
 unfolding raised
 raised_rises old new nodes e = omega (arith, e)
 
--- the same, where nothing had changed before the look-up
-pub looked_up_unchanged : {R T E : Type 0} (r : Result T E) (k : Key) (marks marks' : Table Marks) (t t' : Table R)
-    (old old' new : ℕ) → marks' ≡ marks → t' ≡ t → old' ≡ old → OnOk r (row_at t' k ≡ None → AreLookedUp marks' k old' new)
-    → OnOk r (row_at t k ≡ None → AreLookedUp marks k old new)
-looked_up_unchanged r k marks marks' t t' old old' new m n o h =
-    subst (λ (x : ℕ). OnOk r (row_at t k ≡ None → AreLookedUp marks k x new)) o
-    (subst (λ x. OnOk r (row_at x k ≡ None → AreLookedUp marks k old' new)) n
-    (subst (λ (x : Table Marks). OnOk r (row_at t' k ≡ None → AreLookedUp x k old' new)) m h))
+-- a look-up before which nothing had changed
+pub looked_up_unchanged : {T E : Type 0} (r : Result T E) (k : Key) (marks marks' : Table Marks) (old old' new : ℕ)
+    (P : Type 0) → marks' ≡ marks → old' ≡ old → OnOk r (AreLookedUp marks' k old' new)
+    → OnOk r (P → AreLookedUp marks k old new)
+looked_up_unchanged (Ok x) k marks marks' old old' new P m o looked = λ _.
+    subst (λ (y : ℕ). AreLookedUp marks k y new) o (subst (λ (y : Table Marks). AreLookedUp y k old' new) m looked)
+looked_up_unchanged (Err e) k marks marks' old old' new P m o looked = tt
 
 -- a row that is there isn't missing
 pub not_missing : {R P : Type 0} (t : Table R) (k q : Key) → k ≡ q → has_row t k ≡ true → row_at t q ≡ None → P
@@ -57,6 +57,12 @@ fact_named i group source rpt = λ j. record {
   source = sym (source_again source) j;
   rpt = rpt;
 }
+
+-- the entry of a fact of the whole router
+pub entry_named : (key : Key) (group : Addr) (source : Option Addr) → key ≡ fact_key 0 group source false
+    → entry_key key.group key.source ≡ fact_key 0 group source false
+entry_named key group source is =
+    ap (λ (k : Key). entry_key k.group k.source) is ∙ ap (entry_key group) (source_again source)
 
 -- a change of a row that says no more than that it is there
 module _ {R T E : Type 0} {tells : Mark → Bool} {says : Mark → R → Bool} (t : Table R) (k : Key) (P : Type 0)
@@ -76,9 +82,3 @@ module _ {R T E : Type 0} {tells : Mark → Bool} {says : Mark → R → Bool} (
 pub on_some : {R T E : Type 0} (P : Type 0) (r : Result T E) (row : R) → OnOk r (IsSome (Some row) → P) → OnOk r P
 on_some P (Ok x) row so = so refl
 on_some P (Err e) row so = tt
-
-pub kept_in_place : {R T E : Type 0} (tells : Mark → Bool) (says : Mark → R → Bool) (r : Result T E) (t : Table R) (k : Key)
-    (P : Type 0) (after before : R) → row_at t k ≡ Some before → ((x : Mark) → tells x ≡ true → says x after ≡ says x before)
-    → OnOk r ((before : R) → row_at t k ≡ Some before → SaysAlike tells says after before → P) → OnOk r P
-kept_in_place tells says (Ok x) t k P after before at same alike = alike before at same
-kept_in_place tells says (Err e) t k P after before at same alike = tt

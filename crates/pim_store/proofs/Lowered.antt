@@ -60,6 +60,15 @@ pub same_on_ok : {T E X Y : Type 0} (result : Result T E) (f : X → Y) (x y : X
 same_on_ok (Ok r) f x y same = ap f same
 same_on_ok (Err e) f x y same = tt
 
+pub both_same : {X Y Z : Type 0} (f : X → Y → Z) {x y : X} {u v : Y} → u ≡ v → x ≡ y → f x u ≡ f y v
+both_same f beside same = λ j. f (same j) (beside j)
+
+-- beside what has changed too
+pub same_beside : {T E X Y Z : Type 0} (result : Result T E) (f : X → Y → Z) (x y : X) (u v : Y) → u ≡ v
+    → OnOk result (x ≡ y) → OnOk result (f x u ≡ f y v)
+same_beside (Ok r) f x y u v beside same = λ j. f (same j) (beside j)
+same_beside (Err e) f x y u v beside same = tt
+
 pub on_ok_always : {T E P : Type 0} (result : Result T E) → P → OnOk result P
 on_ok_always (Ok r) p = p
 on_ok_always (Err e) p = tt

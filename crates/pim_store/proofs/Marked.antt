@@ -1,16 +1,21 @@
 -- What a row makes of the marks of its group, or of its source.
-use Rattle.std.proofs.Common.{◌≡◌, ◌&&◌, ◌||◌, ℕ, Bool, true, false, cond, Option, Some, None, refl, sym, ap, ◌∙◌}
-use Rattle.std.specs.Prelude.{Err, Ok, OnErr, OnOk, Result}
+use Rattle.std.proofs.Common.{◌≡◌, ◌&&◌, ◌||◌, ℕ, Bool, true, false, cond, Option, Some, None, is_some, refl, sym, ap, ◌∙◌, ◌<◌}
+use Rattle.std.specs.List.Sorted.{IsStrictlySortedBy}
+use Rattle.std.specs.Prelude.{Err, Ok, OnOk, Result}
 use Rattle.pim_types.specs.declared.fact.Key.{Key}
-use Rattle.pim_types.specs.Keys.{same_key}
+use Rattle.pim_types.specs.Keys.{key_cmp, same_key}
 use Rattle.pim_types.proofs.Keys.{equal_keys}
-use Rattle.pim_model.specs.Tables.{Table, row_at}
+use Rattle.pim_model.specs.Tables.{Table, change_row, has_row, keys_in, row_at}
+use Rattle.pim_tables.proofs.Lookups.{absent}
 use Rattle.pim_source_trie.specs.Entries.{entry_key}
+use Rattle.pim_store.specs.Entry.{is_plain, kept, with_mark, with_plain, without_either}
 use Rattle.pim_store.specs.Said.{SetsMarks, Writes, is_about, is_set_by, mark_key, row_says, said, seen, seen_in, source_bits}
 use Rattle.pim_store.specs.Telling.{is_set_by_either}
 use Rattle.pim_store.specs.declared.marks.Mark.{Mark}
-use Rattle.pim_store.specs.declared.marks.Mark.TheVariants.{Joined, Branched, Pruned, Lost, Won, HasJoinTimer, HasOverrideTimer, HasSource, HasRegister}
+use Rattle.pim_store.specs.declared.marks.Mark.TheVariants.{Joined, Branched, Pruned, Lost, Won, HasOverrideTimer, HasSource, HasRegister}
 use Rattle.pim_store.specs.declared.marks.Marks.{Marks}
+use Rattle.pim_store.proofs.Altered.{altered_writes, unaltered}
+use Rattle.pim_store.proofs.Changed.{seen_with, seen_without}
 use Rattle.pim_store.proofs.Places.{place_is}
 
 -- ---- one or two marks
@@ -26,8 +31,6 @@ same_mark Lost Lost n i e = refl
 same_mark Lost x n i e = cc
 same_mark Won Won n i e = refl
 same_mark Won x n i e = cc
-same_mark HasJoinTimer HasJoinTimer n i e = refl
-same_mark HasJoinTimer x n i e = cc
 same_mark HasOverrideTimer HasOverrideTimer n i e = refl
 same_mark HasOverrideTimer x n i e = cc
 same_mark HasSource HasSource n i e = refl
@@ -60,6 +63,20 @@ module _ (says : Mark → Bool) (n : ℕ) (x : Mark) (i : ℕ) where
       joined true false = refl
       joined false true = refl
       joined false false = refl
+
+  -- a mark alone
+  pub one_marked : (marks : Mark × Option Mark) (told first_said before after : Bool) → marks.1 ≡ None
+      → told ≡ is_set_by_either marks n x i → first_said ≡ says marks.0
+      → after ≡ cond (is_set_by marks.0 n x i) first_said before → after ≡ cond told (says x) before
+  one_marked marks told first_said before after is by one once =
+      once ∙ ap (λ (v : Bool). cond (is_set_by marks.0 n x i) v before) one
+      ∙ one_set marks.0 (is_set_by marks.0 n x i) refl before ∙ alone (is_set_by marks.0 n x i)
+      ∙ ap (λ (o : Option Mark). cond (is_set_by_either (marks.0, o) n x i) (says x) before) (sym is)
+      ∙ ap (λ (b : Bool). cond b (says x) before) (sym by)
+    where
+      alone : (a : Bool) → cond a (says x) before ≡ cond (a || false) (says x) before
+      alone true = refl
+      alone false = refl
 
 -- ---- written back
 
@@ -130,7 +147,59 @@ module _ {R T E : Type 0} (tells : Mark → Bool) (says : Mark → R → Bool) (
   marks_set (Ok x) writes = sets_marks tells says k row t t' before after got marked writes
   marks_set (Err e) writes = tt
 
-  pub marks_taken : (r : Result T E) → OnOk r (Writes t t' (entry_key k.group k.source) after) → OnErr r (t' ≡ t)
-      → OnErr r (row_at t (entry_key k.group k.source) ≡ None) → row ≡ None → SetsMarks tells says t t' k row
-  marks_taken (Ok x) writes kept absent is = sets_marks tells says k row t t' before after got marked writes
-  marks_taken (Err e) writes kept absent is = none_to_take tells says k row t t' is absent kept
+-- where there are none yet
+pub got_none : (k : Key) (t : Table Marks) (m : Marks) → ((x : Mark) (i : ℕ) → seen x m i ≡ false)
+    → has_row t (entry_key k.group k.source) ≡ false → (x : Mark) (i : ℕ)
+    → seen x m i ≡ said t x i k.group.bits (source_bits k.source)
+unfolding row_at
+got_none k t m silent none x i =
+    silent x i ∙ sym (ap (seen_in x i) (absent (entry_key k.group k.source) t none))
+
+pub not_some : {X : Type 0} (o : Option X) (b : Bool) → b ≡ is_some o → b ≡ false → o ≡ None
+not_some None b is none = refl
+not_some (Some x) b is none = cc
+
+-- in place
+module _ {R : Type 0} (tells : Mark → Bool) (says : Mark → R → Bool) (k : Key) (t t' : Table Marks) (n : ℕ)
+    (near : n < 120) (marks : Mark × Option Mark)
+    (told : (x : Mark) (i : ℕ) → (tells x && is_about x i k) ≡ is_set_by_either marks n x i) where
+  got_there : (m : Marks) → row_at t (entry_key k.group k.source) ≡ Some m → (x : Mark) (i : ℕ)
+      → seen x m i ≡ said t x i k.group.bits (source_bits k.source)
+  got_there m found x i = sym (ap (seen_in x i) found)
+
+  -- a mark that every entry has room for
+  pub plain_set : (row : R) (b : Bool) → marks.1 ≡ None → is_plain marks.0 ≡ true → b ≡ says marks.0 row
+      → has_row t (entry_key k.group k.source) ≡ true
+      → ((m : Marks) → row_at t (entry_key k.group k.source) ≡ Some m
+      → Writes t t' (entry_key k.group k.source) (with_plain marks.0 n b m)) → SetsMarks tells says t t' k (Some row)
+  unfolding has_row
+  plain_set row b alone plain said there writes = go (row_at t (entry_key k.group k.source)) refl there
+    where
+      with_it : (m : Marks) → with_plain marks.0 n b m ≡ with_mark marks.0 n b m
+      with_it m = ap (λ (c : Bool). cond c (with_mark marks.0 n b m) m) plain
+
+      go : (o : Option Marks) → row_at t (entry_key k.group k.source) ≡ o → is_some o ≡ true
+          → SetsMarks tells says t t' k (Some row)
+      go None found there = cc
+      go (Some m) found there =
+          sets_marks tells says k (Some row) t t' m (with_plain marks.0 n b m) (got_there m found)
+          (λ x i. one_marked (λ y. row_says tells says y (Some row)) n x i marks _ b _ _ alone (told x i) said
+          (ap (λ (u : Marks). seen x u i) (with_it m) ∙ seen_with marks.0 n b m near x i))
+          (writes m found)
+
+  -- the marks that a row told are cleared
+  pub marks_cleared : IsStrictlySortedBy key_cmp (keys_in t)
+      → t' ≡ change_row (λ m. kept (without_either marks.0 marks.1 n m)) (entry_key k.group k.source) t
+      → SetsMarks tells says t t' k None
+  unfolding has_row
+  marks_cleared sorted is = go (row_at t (entry_key k.group k.source)) refl
+    where
+      go : (o : Option Marks) → row_at t (entry_key k.group k.source) ≡ o → SetsMarks tells says t t' k None
+      go None found =
+          none_to_take tells says k None t t' refl found
+          (unaltered k.group k.source (λ m. without_either marks.0 marks.1 n m) t t' is (ap is_some found))
+      go (Some m) found =
+          sets_marks tells says k None t t' m (without_either marks.0 marks.1 n m) (got_there m found)
+          (λ x i. seen_without marks.0 marks.1 n m near x i
+          ∙ ap (λ (b : Bool). cond b false (seen x m i)) (sym (told x i)))
+          (altered_writes k.group k.source (λ m. without_either marks.0 marks.1 n m) t t' is sorted m found)

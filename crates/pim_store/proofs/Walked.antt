@@ -23,16 +23,17 @@ use Rattle.pim_model.specs.Tables.{Table, ascending, has_row, is_among, keys_in,
 use Rattle.pim_model.specs.Upstream.{groups_of, sources_of}
 use Rattle.pim_laws.proofs.TableLaws.{any_in_filter, any_of_map, row_is_there}
 use Rattle.pim_tables.proofs.Firsts.{all_found}
+use Rattle.pim_tables.proofs.RowsIn.{no_row_in, none_in}
 use Rattle.pim_laws.proofs.Numbers.{RisesFrom, any_ascending, members_tell, rises_ascending, same_numbers}
 use Rattle.pim_source_trie.specs.Entries.{entry_key, nodes_visited}
 use Rattle.pim_source_trie.proofs.Visited.{same_visited}
 use Rattle.pim_store.specs.PimTables.{PimTables, stored_keys}
-use Rattle.pim_store.specs.Said.{AreEntries, IsTold, is_about, is_plain_of_iface, is_plain_of_router, is_source_of_router, mark_key, place, row_says, said, seen_in, source_bits}
+use Rattle.pim_store.specs.Said.{AreEntries, IsTold, is_about, is_plain_of_iface, is_source_of_router, mark_key, place, row_says, said, seen_in, source_bits, timers_in}
 use Rattle.pim_store.specs.Sources.{sources_in}
 use Rattle.pim_store.specs.Stored.{IsIndexed}
 use Rattle.pim_store.specs.Telling.{assert_says, downstream_says, is_told_by}
 use Rattle.pim_store.specs.declared.marks.Mark.{Mark}
-use Rattle.pim_store.specs.declared.marks.Mark.TheVariants.{Joined, Branched, Pruned, Lost, Won, HasJoinTimer, HasOverrideTimer, HasSource, HasRegister}
+use Rattle.pim_store.specs.declared.marks.Mark.TheVariants.{Joined, Branched, Pruned, Lost, Won, HasOverrideTimer, HasSource, HasRegister}
 use Rattle.pim_store.specs.declared.marks.Marks.{Marks}
 use Rattle.pim_store.proofs.Places.{place_is, source_again}
 
@@ -229,12 +230,11 @@ module _ (marks : Table Marks) (f : PimTables) (entries : AreEntries marks) (is 
 
   -- where no mark is under a key that passes, no fact is
   none_marked : list_any p (keys_in marks) ≡ false → NoKey
+  unfolding timers_in
   none_marked none = record {
     downstream = none_among p f.downstream (λ k passes. no_row k is.downstream (λ r fit. downstream_speaks k r) (at k passes));
     asserts = none_among p f.asserts (λ k passes. no_row k is.asserts (assert_speaks k) (at k passes));
-    join_timers = none_among p f.join_timers (λ k passes.
-        no_row k is.join_timers (λ r fit. record { mark = HasJoinTimer; tell = refl; about = fit; yes_said = refl })
-        (at k passes));
+    join_timers = ap (λ t. list_any p (keys_in t)) is.join_timers ∙ no_timer;
     override_timers = none_among p f.override_timers (λ k passes.
         no_row k is.override_timers
         (λ r fit. record { mark = HasOverrideTimer; tell = refl; about = fit; yes_said = refl }) (at k passes));
@@ -246,8 +246,11 @@ module _ (marks : Table Marks) (f : PimTables) (entries : AreEntries marks) (is 
         (at k passes));
   }
     where
-      plain : (k : Key) → is_source_of_router k ≡ true → is_plain_of_router k ≡ true
-      plain k fit = first_so (is_plain_of_router k) (is_some k.source) fit
+      no_timer : list_any p (keys_in (timers_in marks)) ≡ false
+      no_timer = none_in (λ (m : Marks). m.join_timer) p marks none
+
+      plain : (k : Key) → is_source_of_router k ≡ true → ((iface_in k == 0) && not k.rpt) ≡ true
+      plain k fit = first_so ((iface_in k == 0) && not k.rpt) (is_some k.source) fit
 
       at : (k : Key) → p k ≡ true → row_at marks (mark_key (group_in k) (source_bits k.source)) ≡ None
       at k passes = none_under p marks (mark_key (group_in k) (source_bits k.source)) none (same k ∙ passes)
@@ -274,10 +277,15 @@ module _ (marks : Table Marks) (f : PimTables) (entries : AreEntries marks) (is 
     all_silent Pruned = no_word is.downstream none.downstream Pruned refl
     all_silent Lost = no_word is.asserts none.asserts Lost refl
     all_silent Won = no_word is.asserts none.asserts Won refl
-    all_silent HasJoinTimer = no_word is.join_timers none.join_timers HasJoinTimer refl
     all_silent HasOverrideTimer = no_word is.override_timers none.override_timers HasOverrideTimer refl
     all_silent HasSource = no_word is.sources none.sources HasSource refl
     all_silent HasRegister = no_word is.registers none.registers HasRegister refl
+
+    no_timer_there : (m : Marks) → row_at marks k ≡ Some m → m.join_timer ≡ None
+    unfolding timers_in
+    no_timer_there m found =
+        no_row_in (λ (m : Marks). m.join_timer) p marks k m
+        (ap (λ t. list_any p (keys_in t)) (sym is.join_timers) ∙ none.join_timers) found passes
 
     no_entry : has_row marks k ≡ false
     unfolding has_row
@@ -287,9 +295,11 @@ module _ (marks : Table Marks) (f : PimTables) (entries : AreEntries marks) (is 
         go None found = refl
         go (Some m) found =
             let entry = entries k m found in
-            absurd (entry.speaks (λ x i.
+            absurd (entry.speaks
+            (λ x i.
             ap (seen_in x i) (sym found) ∙ ap (λ (q : Key). seen_in x i (row_at marks q)) entry.placed
-            ∙ all_silent x i))
+            ∙ all_silent x i)
+            (no_timer_there m found))
 
   pub any_marked : list_any p (keys_in marks) ≡ list_any p (stored_keys f)
   any_marked =

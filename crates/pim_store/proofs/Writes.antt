@@ -1,17 +1,18 @@
 -- What is written for a group or a source.
-use Rattle.std.proofs.Common.{◌≡◌, ◌↔◌, Bool, true, false, cond, [], Option, Some, None, refl, sym, ap, ◌∙◌, subst}
-use Rattle.std.specs.Prelude.{IsOk, IsTrue, OnErr, OnOk, Result, Ok, Err}
+use Rattle.std.proofs.Common.{◌≡◌, Bool, true, false, cond, [], Option, Some, None, refl, sym, ap, ◌∙◌, subst}
+use Rattle.std.specs.Prelude.{OnErr, OnOk, Result, Ok, Err}
 use Rattle.std.proofs.lemmas.Bool.{true≢false}
 use Rattle.pim_ip.specs.declared.addr.Addr.{Addr}
 use Rattle.pim_types.specs.declared.fact.Key.{Key}
 use Rattle.pim_types.specs.Keys.{same_key}
 use Rattle.pim_types.proofs.Keys.{equal_keys}
-use Rattle.pim_model.specs.Tables.{Table, drop_at, has_row, put, row_at}
-use Rattle.pim_tables.proofs.Lookups.{absent, row_at-drop_at, row_at-put}
+use Rattle.pim_model.specs.Tables.{Table, drop_at, put, row_at}
+use Rattle.pim_tables.proofs.Lookups.{row_at-drop_at, row_at-put}
 use Rattle.pim_source_trie.specs.Entries.{entry_key}
-use Rattle.pim_store.specs.Said.{AreEntries, IsEntry, Writes, mark_key, said, seen, seen_in}
+use Rattle.pim_store.specs.Entry.{are_none}
+use Rattle.pim_store.specs.Said.{AreEntries, IsEntry, Writes, WritesTimer, mark_key, said, seen, seen_in, timer_in}
 use Rattle.pim_store.specs.declared.marks.Marks.{Marks}
-use Rattle.pim_store.proofs.Empty.{AreBare, AreSilent}
+use Rattle.pim_store.proofs.Empty.{AreBare, AreSilent, none_when_silent}
 use Rattle.pim_store.proofs.Places.{source_again}
 
 pub no_entries : (t : Table Marks) → t ≡ [] → AreEntries t
@@ -20,7 +21,7 @@ no_entries t is k m found =
     let none : row_at t k ≡ None = ap (λ (u : Table Marks). row_at u k) is in cc
 
 module _ (t : Table Marks) (k : Key) (m : Marks) where
-  dropped : (q : Key) (b : Bool) (o u : Option Marks) → u ≡ cond b None o
+  pub dropped : (q : Key) (b : Bool) (o u : Option Marks) → u ≡ cond b None o
       → ((m : Marks) → o ≡ Some m → IsEntry q m) → (m : Marks) → u ≡ Some m → IsEntry q m
   dropped q true o u is all m found = let none : None ≡ Some m = sym is ∙ found in cc
   dropped q false o u is all m found = all m (sym is ∙ found)
@@ -39,7 +40,15 @@ module _ (t : Table Marks) (k : Key) (m : Marks) where
       go true = sym (silent x i)
       go false = refl
 
-  written : (q : Key) (b : Bool) → (b ≡ true → IsEntry q m) → (o u : Option Marks) → u ≡ cond b (Some m) o
+  pub drop_timer : (t' : Table Marks) → t' ≡ drop_at t k → m.join_timer ≡ None → WritesTimer t t' k m.join_timer
+  drop_timer t' is none q =
+      ap timer_in (ap (λ (u : Table Marks). row_at u q) is ∙ row_at-drop_at k q t) ∙ go (same_key q k)
+    where
+      go : (b : Bool) → timer_in (cond b None (row_at t q)) ≡ cond b m.join_timer (timer_in (row_at t q))
+      go true = sym none
+      go false = refl
+
+  pub written : (q : Key) (b : Bool) → (b ≡ true → IsEntry q m) → (o u : Option Marks) → u ≡ cond b (Some m) o
       → ((m : Marks) → o ≡ Some m → IsEntry q m) → (m : Marks) → u ≡ Some m → IsEntry q m
   written q true entry o u is all n found =
       let same : m ≡ n = cc (sym is ∙ found) in subst (IsEntry q) same (entry refl)
@@ -60,32 +69,33 @@ module _ (t : Table Marks) (k : Key) (m : Marks) where
       go true = refl
       go false = refl
 
+  put_timer : (t' : Table Marks) → t' ≡ put t k m → WritesTimer t t' k m.join_timer
+  put_timer t' is q =
+      ap timer_in (ap (λ (u : Table Marks). row_at u q) is ∙ row_at-put k q t m) ∙ go (same_key q k)
+    where
+      go : (b : Bool) → timer_in (cond b (Some m) (row_at t q)) ≡ cond b m.join_timer (timer_in (row_at t q))
+      go true = refl
+      go false = refl
+
   module _ {T E : Type 0} (t' : Table Marks) where
+    pub timer_after : (r : Result T E) → OnOk r (t' ≡ put t k m) → OnOk r (WritesTimer t t' k m.join_timer)
+    timer_after (Ok x) put = put_timer t' put
+    timer_after (Err e) put = tt
+
     pub entries_after : (r : Result T E) → OnOk r (t' ≡ put t k m) → OnErr r (t' ≡ t) → IsEntry k m → AreEntries t
         → AreEntries t'
     entries_after (Ok x) put kept entry all = entries_put t' put entry all
     entries_after (Err e) put kept entry all = subst AreEntries (sym kept) all
 
-    pub writes_after : (r : Result T E) → OnOk r (t' ≡ put t k m) → OnOk r (Writes t t' k m)
-    writes_after (Ok x) put = put_writes t' put
-    writes_after (Err e) put = tt
+    pub writes_as : (n : Marks) → m ≡ n → (r : Result T E) → OnOk r (t' ≡ put t k m) → OnOk r (Writes t t' k n)
+    writes_as n same (Ok x) put = subst (λ (u : Marks). Writes t t' k u) same (put_writes t' put)
+    writes_as n same (Err e) put = tt
 
--- marks that are not empty, and have no tunnel
-pub entry_of : (group : Addr) (source : Option Addr) (m : Marks) (b : Bool) → b ≡ false
-    → (IsTrue b ↔ (AreSilent m × AreBare m)) → AreBare m → IsEntry (entry_key group source) m
-entry_of group source m b is none bare = record {
+-- where some mark is set, or a Join timer runs, and no set has the tunnel
+pub entry_of : (group : Addr) (source : Option Addr) (m : Marks) → are_none m ≡ false → AreBare m
+    → IsEntry (entry_key group source) m
+entry_of group source m is bare = record {
   placed = ap (entry_key group) (sym (source_again source));
-  speaks = λ silent. true≢false (sym (none.1 (silent, bare)) ∙ is);
+  speaks = λ silent none. true≢false (sym (none_when_silent m silent bare none) ∙ is);
   bare = bare;
 }
-
--- a call that is refused only where there is no row
-pub none_there : {T E R : Type 0} (r : Result T E) (t : Table R) (k : Key) → (has_row t k ≡ true → IsOk r)
-    → OnErr r (row_at t k ≡ None)
-unfolding row_at
-none_there (Ok x) t k over = tt
-none_there (Err e) t k over = absent k t (go (has_row t k) refl)
-  where
-    go : (b : Bool) → has_row t k ≡ b → b ≡ false
-    go true is = cc (over is)
-    go false is = refl

@@ -1,4 +1,6 @@
 pub mod Bare
+pub mod Entry
+pub mod JoinTimers
 pub mod PimTables
 pub mod Said
 pub mod Sources

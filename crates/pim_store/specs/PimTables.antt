@@ -77,8 +77,8 @@ abbrev pub kept_alive : ℕ → Option SourceRow → SourceRow
 kept_alive end row = record { keepalive = Some end; spt = option_map_or (λ (r : SourceRow). r.spt) row false }
 
 -- a Join timer that is lowered to an end
-abbrev pub lowered : ℕ → JoinTimerRow → Option JoinTimerRow
-lowered end row = Some (record { end = min row.end end })
+abbrev pub lowered_join_timer : ℕ → JoinTimerRow → Option JoinTimerRow
+lowered_join_timer end row = Some (record { end = min row.end end })
 
 -- the keys of all facts
 unfoldable pub stored_keys : PimTables → List Key

@@ -3,12 +3,14 @@ use Rattle.std.specs.Option.{option_map_or}
 use Rattle.std.specs.Prelude.{Bool, None, Option, Some, cond, false, is_some, nat_lt, not, option_map, true, ℕ, ◌&&◌, ◌==◌, ◌≡◌}
 use Rattle.pim_ip.specs.declared.addr.Addr.{Addr}
 use Rattle.pim_ifset.specs.Members.{has}
+use Rattle.pim_types.specs.declared.fact.JoinTimerRow.{JoinTimerRow}
 use Rattle.pim_types.specs.declared.fact.Key.{Key}
 use Rattle.pim_types.specs.Keys.{iface_in, key_of, same_key}
 use Rattle.pim_model.specs.Tables.{Table, has_row, keys_in, row_at, same_bool}
+use Rattle.pim_tables.specs.RowsIn.{rows_in}
 use Rattle.pim_source_trie.specs.Entries.{entry_key, nodes_visited, raised}
 use Rattle.pim_store.specs.declared.marks.Mark.{Mark}
-use Rattle.pim_store.specs.declared.marks.Mark.TheVariants.{Joined, Branched, Pruned, Lost, Won, HasJoinTimer, HasOverrideTimer, HasSource, HasRegister}
+use Rattle.pim_store.specs.declared.marks.Mark.TheVariants.{Joined, Branched, Pruned, Lost, Won, HasOverrideTimer, HasSource, HasRegister}
 use Rattle.pim_store.specs.declared.marks.Marks.{Marks}
 
 -- ---- the marks of one group or source
@@ -20,7 +22,6 @@ seen Branched m i = has m.branched i
 seen Pruned m i = has m.pruned i
 seen Lost m i = has m.lost i
 seen Won m i = has m.won i
-seen HasJoinTimer m i = m.has_join_timer
 seen HasOverrideTimer m i = m.has_override_timer
 seen HasSource m i = m.has_source
 seen HasRegister m i = m.has_register
@@ -41,7 +42,6 @@ is_set_by Branched i Branched q = q == i
 is_set_by Pruned i Pruned q = q == i
 is_set_by Lost i Lost q = q == i
 is_set_by Won i Won q = q == i
-is_set_by HasJoinTimer i HasJoinTimer q = true
 is_set_by HasOverrideTimer i HasOverrideTimer q = true
 is_set_by HasSource i HasSource q = true
 is_set_by HasRegister i HasRegister q = true
@@ -97,10 +97,19 @@ seen_in x i (Some m) = seen x m i
 abbrev pub said : Table Marks → Mark → ℕ → ℕ → Option ℕ → Bool
 said t x i g s = seen_in x i (row_at t (mark_key g s))
 
--- under the key of a group or a source some mark is set, and no set has the tunnel
+-- the Join timer that runs there
+abbrev pub timer_in : Option Marks → Option JoinTimerRow
+timer_in None = None
+timer_in (Some m) = m.join_timer
+
+-- all Join timers, by rising key
+unfoldable pub timers_in : Table Marks → Table JoinTimerRow
+timers_in marks = rows_in (λ (m : Marks). m.join_timer) marks
+
+-- under the key of a group or a source some mark is set, or a Join timer runs, and no set has the tunnel
 pub record IsEntry (k : Key) (m : Marks) : Type 0 where
   pub placed : k ≡ entry_key k.group k.source
-  pub speaks : ((x : Mark) (i : ℕ) → seen x m i ≡ false) → ⊥
+  pub speaks : ((x : Mark) (i : ℕ) → seen x m i ≡ false) → m.join_timer ≡ None → ⊥
   pub bare : (x : Mark) → tunnel_in x m ≡ false
 
 abbrev pub AreEntries : Table Marks → Type 0
@@ -110,6 +119,15 @@ AreEntries t = (k : Key) (m : Marks) → row_at t k ≡ Some m → IsEntry k m
 pub record AreLookedUp (marks : Table Marks) (k : Key) (old new : ℕ) : Type 0 where
   pub entries : AreEntries marks
   pub visited : new ≡ raised old (nodes_visited (keys_in marks) k.group k.source)
+
+-- the Join timer under the key is this, or none, and each other one is as it was
+abbrev pub WritesTimer : (before after : Table Marks) → Key → Option JoinTimerRow → Type 0
+WritesTimer before after k row =
+    (q : Key) → timer_in (row_at after q) ≡ cond (same_key q k) row (timer_in (row_at before q))
+
+-- all marks are as they were
+abbrev pub KeepsMarks : (before after : Table Marks) → Type 0
+KeepsMarks before after = (x : Mark) (i g : ℕ) (s : Option ℕ) → said after x i g s ≡ said before x i g s
 
 -- a value is written for a group or a source, or taken away where nothing is marked
 abbrev pub Writes : (before after : Table Marks) → Key → Marks → Type 0
@@ -125,9 +143,6 @@ is_of_iface k = nat_lt (iface_in k) 120
 
 abbrev pub is_plain_of_iface : Key → Bool
 is_plain_of_iface k = is_of_iface k && not k.rpt
-
-abbrev pub is_plain_of_router : Key → Bool
-is_plain_of_router k = (iface_in k == 0) && not k.rpt
 
 abbrev pub is_source_of_router : Key → Bool
 is_source_of_router k = (iface_in k == 0) && not k.rpt && is_some k.source

@@ -1,26 +1,28 @@
--- A store: its tables, and what is marked of them. No public clause cites this module.
+-- A store: its tables, and what stands at groups and sources. No public clause cites this module.
+use Rattle.std.specs.Prelude.{◌≡◌}
 use Rattle.pim_model.specs.Tables.{Table}
 use Rattle.pim_store.specs.PimTables.{PimTables}
-use Rattle.pim_store.specs.Said.{IsTold, is_of_iface, is_plain_of_iface, is_plain_of_router, is_rpt_of_router, is_source_of_router}
-use Rattle.pim_store.specs.Telling.{assert_says, assert_table, downstream_says, downstream_table, is_there, is_told_by, join_timer_table, override_timer_table, register_table, source_table}
+use Rattle.pim_store.specs.Said.{IsTold, is_of_iface, is_plain_of_iface, is_rpt_of_router, is_source_of_router, timers_in}
+use Rattle.pim_store.specs.Telling.{assert_says, assert_table, downstream_says, downstream_table, is_there, is_told_by, override_timer_table, register_table, source_table}
 use Rattle.pim_store.specs.declared.marks.Marks.{Marks}
 use Rattle.pim_store.specs.declared.store.Store.TheInside.{Inside}
 
+-- the Join timers are taken out of the index
 abbrev pub tables_of : Inside → PimTables
 tables_of s = record {
   downstream = s.downstream;
   asserts = s.asserts;
-  join_timers = s.join_timers;
+  join_timers = timers_in s.index;
   override_timers = s.override_timers;
   sources = s.sources;
   registers = s.registers;
 }
 
--- the marks are as the rows of all tables say
+-- the marks are as the rows of all tables say, and the Join timers stand beside them
 pub record IsIndexed (marks : Table Marks) (f : PimTables) : Type 0 where
   pub downstream : IsTold (is_told_by downstream_table) downstream_says is_of_iface marks f.downstream
   pub asserts : IsTold (is_told_by assert_table) assert_says is_plain_of_iface marks f.asserts
-  pub join_timers : IsTold (is_told_by join_timer_table) is_there is_plain_of_router marks f.join_timers
+  pub join_timers : f.join_timers ≡ timers_in marks
   pub override_timers : IsTold (is_told_by override_timer_table) is_there is_rpt_of_router marks f.override_timers
   pub sources : IsTold (is_told_by source_table) is_there is_source_of_router marks f.sources
   pub registers : IsTold (is_told_by register_table) is_there is_source_of_router marks f.registers

@@ -5,7 +5,7 @@ use Rattle.pim_types.specs.declared.fact.DownstreamRow.{DownstreamRow}
 use Rattle.pim_model.specs.Sets.{is_loser, is_winner}
 use Rattle.pim_store.specs.Said.{is_set_by}
 use Rattle.pim_store.specs.declared.marks.Mark.{Mark}
-use Rattle.pim_store.specs.declared.marks.Mark.TheVariants.{Joined, Branched, Pruned, Lost, Won, HasJoinTimer, HasOverrideTimer, HasSource, HasRegister}
+use Rattle.pim_store.specs.declared.marks.Mark.TheVariants.{Joined, Branched, Pruned, Lost, Won, HasOverrideTimer, HasSource, HasRegister}
 
 -- one of the two marks is the one that is set, and on the interface that it is set on
 abbrev pub is_second : Option Mark → ℕ → Mark → ℕ → Bool
@@ -22,17 +22,14 @@ downstream_table = 0
 abbrev pub assert_table : ℕ
 assert_table = 1
 
-abbrev pub join_timer_table : ℕ
-join_timer_table = 2
-
 abbrev pub override_timer_table : ℕ
-override_timer_table = 3
+override_timer_table = 2
 
 abbrev pub source_table : ℕ
-source_table = 4
+source_table = 3
 
 abbrev pub register_table : ℕ
-register_table = 5
+register_table = 4
 
 abbrev pub table_of : Mark → ℕ
 table_of Joined = downstream_table
@@ -40,7 +37,6 @@ table_of Branched = downstream_table
 table_of Pruned = downstream_table
 table_of Lost = assert_table
 table_of Won = assert_table
-table_of HasJoinTimer = join_timer_table
 table_of HasOverrideTimer = override_timer_table
 table_of HasSource = source_table
 table_of HasRegister = register_table

@@ -1,8 +1,8 @@
 //! Changes of a row that is there.
-ghost use Rattle.std.specs.Prelude.{Some};
+ghost use Rattle.std.specs.Prelude.{Some, min};
 
 use pim_tables::Change;
-use pim_types::fact::SourceRow;
+use pim_types::fact::{JoinTimerRow, SourceRow};
 
 // KAT(S,G) ends at this moment, in ms.
 #[derive(Clone, Copy)]
@@ -17,6 +17,22 @@ impl Change<SourceRow> for KeepAlive {
         SourceRow {
             keepalive: Some(self.end),
             ..before
+        }
+    }
+}
+
+// The end of a Join timer is lowered, in ms.
+#[derive(Clone, Copy)]
+pub(crate) struct Lowering {
+    pub(crate) end: u64,
+}
+
+impl Change<JoinTimerRow> for Lowering {
+    ghost after = { λ l before. record { end = min before.end l.end } };
+
+    fn after(self, before: JoinTimerRow) -> JoinTimerRow {
+        JoinTimerRow {
+            end: before.end.min(self.end),
         }
     }
 }

@@ -1,36 +1,49 @@
 //! The marks of all groups and sources.
-ghost use Rattle.std.specs.Prelude.{◌≡◌, ◌≤◌, ◌+◌, ◌&&◌, [], ℕ, IsTrue, None, Some, OnOk, OnErr, cond, false, filter, map};
+ghost use Rattle.std.specs.Prelude.{◌≡◌, ◌≤◌, ◌&&◌, [], ℕ, IsTrue, None, Some, OnOk, OnErr, cond, false, filter, map, option_map};
 ghost use Rattle.std.specs.List.Sorted.{IsStrictlySortedBy};
-ghost use Rattle.pim_model.specs.Tables.{ascending, has_row, keys_in, row_at};
+ghost use Rattle.pim_model.specs.Tables.{ascending, change_row, has_row, keys_in, row_at, set_row};
+ghost use Rattle.pim_model.specs.Clearing.{first_by};
+ghost use Rattle.pim_model.specs.Timers.{is_ending_first};
+ghost use Rattle.pim_tables.specs.Ends.{due_of, row_endings};
 ghost use Rattle.pim_types.specs.Keys.{group_in, is_of_group, key_cmp};
 ghost use Rattle.pim_source_trie.specs.Entries.{entry_key, nodes_visited, raised};
-ghost use Rattle.pim_store.specs.Said.{AreEntries, AreLookedUp, SetsMarks, Writes, is_about, row_says, said, seen, source_bits, tunnel_in};
+ghost use Rattle.pim_store.specs.Entry.{with_plain};
+ghost use Rattle.pim_store.specs.JoinTimers.{AreTimersBeside, AreTimersInStep, GivesBeside, IsThere, IsTimerArmed};
+ghost use Rattle.pim_store.specs.Said.{AreEntries, AreLookedUp, SetsMarks, KeepsMarks, Writes, WritesTimer, is_about, row_says, said, seen, source_bits, timer_in, timers_in, tunnel_in};
 ghost use Rattle.pim_store.specs.declared.marks.Mark.{Mark as MarkValue};
+ghost use Rattle.pim_store.specs.declared.marks.Marks.{Marks as MarksValue};
 
+use crate::entry::{Entry, Marking, Unmarking};
+use crate::join_timers::{JoinTimerRows, Lent, count_after, counted, is_placed, timer_key};
 use crate::marks::{Mark, Marks};
 use crate::telling::TellsMarks;
 use pim_ip::Addr;
 use pim_source_trie::{Entries, Groups, Meter, SourceTrie};
-use pim_types::Key;
+use pim_tables::{Change, EndQueue, Ends};
+use pim_types::fact::JoinTimerRow;
+use pim_types::{Key, Timer};
 use std::alloc::{AllocError, Global};
 use std::marker::Model;
 
 // The marks of the groups and sources that have any.
 #[derive(Drop)]
 pub(crate) struct Index {
-    entries: SourceTrie<Marks>,
+    alloc: Global,
+    entries: SourceTrie<Entry>,
+    ends: EndQueue<JoinTimerRow>,
+    timers: usize,
 }
 
 impl Model for Index {
     ghost use Rattle.pim_model.specs.Tables.{Table};
     ghost use Rattle.pim_store.specs.declared.marks.Marks.{Marks};
-    ghost use Rattle.pim_store.specs.Said.{AreEntries};
+    ghost use Rattle.pim_store.specs.JoinTimers.{AreKept};
 
     ghost Value = { Table Marks };
 
     ghost view = { λ a. a.entries };
 
-    ghost invariant = { λ a. AreEntries a.entries };
+    ghost invariant = { λ a. AreKept a.entries a.ends a.timers };
 }
 
 // Whether the row says this of the mark; nothing is said where there is no row.
@@ -49,6 +62,7 @@ fn marked<R: TellsMarks>(marks: Marks, key: Key, row: Option<R>) -> Marks
     ensures marks { (x : MarkValue) (i : ℕ)
         → seen x result i ≡ cond (R.tells x && is_about x i key) (row_says R.tells R.says x row) (seen x marks i) }
     ensures tunnels { (x : MarkValue) → tunnel_in x result ≡ tunnel_in x marks }
+    ensures timer { result.join_timer ≡ marks.join_timer }
 {
     let (first, second) = R::told(key);
     let changed = marks.with(first, key.iface, row_says(row, first));
@@ -58,18 +72,94 @@ fn marked<R: TellsMarks>(marks: Marks, key: Key, row: Option<R>) -> Marks
     }
 }
 
+// Makes these what there is of a group, or of a source. An error is want of memory, and then nothing has changed.
+fn write(
+    alloc: Global,
+    entries: &mut SourceTrie<Entry>,
+    group: Addr,
+    source: Option<Addr>,
+    marks: Marks,
+) -> Result<(), AllocError>
+    requires bare { (x : MarkValue) → tunnel_in x marks ≡ false }
+    requires entries { AreEntries entries.old }
+    ensures ok { OnOk result (Writes entries.old entries.new (entry_key group source) marks) }
+    ensures timers { OnOk result (WritesTimer entries.old entries.new (entry_key group source) marks.join_timer) }
+    ensures err { OnErr result (entries.new ≡ entries.old) }
+    ensures entries { AreEntries entries.new }
+{
+    if marks.is_empty() {
+        entries.remove(group, source);
+        return Ok(());
+    }
+    let entry = Entry::of(alloc, marks)?;
+    entries.put(group, source, entry)
+}
+
+// Arms the end of the Join timer that is to run under the key, if one is, beside that of the one before. An error is want of
+// memory.
+fn arm_timer(
+    ends: &mut EndQueue<JoinTimerRow>,
+    key: Key,
+    before: Option<JoinTimerRow>,
+    after: Option<JoinTimerRow>,
+) -> Result<(), AllocError>
+    requires { IsTimerArmed ends.old key before }
+    ensures ok { OnOk result (IsTimerArmed ends.new key after) }
+    ensures before { IsTimerArmed ends.new key before }
+    ensures beside { GivesBeside ends.old ends.new key }
+{
+    match after {
+        Some(row) => ends.arm(key, before, row),
+        None => Ok(()),
+    }
+}
+
+// Arms the end of the Join timer that these have, if one, beside that of the one before, and makes these what there is of the
+// key's group, or of its source; what is left is to settle. An error is want of memory, and then no entry has changed.
+fn write_armed(
+    alloc: Global,
+    entries: &mut SourceTrie<Entry>,
+    ends: &mut EndQueue<JoinTimerRow>,
+    key: Key,
+    before: Option<JoinTimerRow>,
+    marks: Marks,
+) -> Result<(), AllocError>
+    requires bare { (x : MarkValue) → tunnel_in x marks ≡ false }
+    requires entries { AreEntries entries.old }
+    requires placed { key ≡ entry_key key.group key.source }
+    requires before { before ≡ row_at (timers_in entries.old) key }
+    requires in_step { AreTimersInStep ends.old entries.old }
+    ensures ok { OnOk result (Writes entries.old entries.new key marks) }
+    ensures set { OnOk result (timers_in entries.new ≡ set_row (timers_in entries.old) key marks.join_timer) }
+    ensures err { OnErr result (entries.new ≡ entries.old) }
+    ensures entries { AreEntries entries.new }
+    ensures rise { IsStrictlySortedBy key_cmp (keys_in (timers_in entries.old)) }
+    ensures beside { AreTimersBeside ends.new entries.new key }
+{
+    // It tells that the keys rise.
+    let _ = entries.is_empty();
+    arm_timer(ends, key, before, marks.join_timer)?;
+    let written = write(alloc, entries, key.group, key.source, marks);
+    // The keys still rise.
+    let _ = entries.is_empty();
+    written
+}
+
 impl Index {
     // No marks; it takes no memory.
     pub(crate) fn new(alloc: Global) -> Index
         ensures { result ≡ [] }
     {
         Index {
+            alloc,
             entries: SourceTrie::new(alloc),
+            ends: EndQueue::new(alloc),
+            timers: 0,
         }
     }
 
     // The groups that have marks, or a source with some, ascending.
-    pub(crate) fn groups(&self) -> Groups<'_, Marks>
+    pub(crate) fn groups(&self) -> Groups<'_, Entry>
         ensures groups { result ≡ ascending (map group_in (keys_in self.now)) }
 
         // Of every index.
@@ -79,7 +169,7 @@ impl Index {
     }
 
     // The entries of a group, by rising key.
-    pub(crate) fn walk(&self, group: Addr, meter: &mut Meter) -> Entries<'_, Marks>
+    pub(crate) fn walk(&self, group: Addr, meter: &mut Meter) -> Entries<'_, Entry>
         ensures entries { result ≡ filter (λ e. is_of_group group.bits e.0) self.now }
         ensures visited { meter.new ≡ raised meter.old (nodes_visited (keys_in self.now) group None) }
 
@@ -96,13 +186,18 @@ impl Index {
     pub(crate) fn get(&self, group: Addr, source: Option<Addr>, meter: &mut Meter) -> Marks
         ensures marks { (x : MarkValue) (i : ℕ) → seen x result i ≡ said self.now x i group.bits (source_bits source) }
         ensures bare { (x : MarkValue) → tunnel_in x result ≡ false }
+        ensures timer { result.join_timer ≡ timer_in (row_at self.now (entry_key group source)) }
+        ensures row { result.join_timer ≡ row_at (timers_in self.now) (entry_key group source) }
         ensures visited { meter.new ≡ raised meter.old (nodes_visited (keys_in self.now) group source) }
 
         // Of every index.
+        ensures ascending { IsStrictlySortedBy key_cmp (keys_in self.now) }
         ensures entries { AreEntries self.now }
     {
+        // It tells that the keys rise.
+        let _ = self.entries.is_empty();
         match self.entries.get(group, source, meter) {
-            Some(marks) => *marks,
+            Some(entry) => entry.marks(),
             None => Marks::none(),
         }
     }
@@ -123,22 +218,45 @@ impl Index {
         }
     }
 
-    // Makes these the marks of a group, or of a source. Where some of them have to be kept and there was no
-    // place for them it may fail for want of memory, and then nothing has changed.
-    fn write(&mut self, group: Addr, source: Option<Addr>, marks: Marks) -> Result<(), AllocError>
-        requires { (x : MarkValue) → tunnel_in x marks ≡ false }
-        ensures ok { OnOk result (Writes self.old self.new (entry_key group source) marks) }
+    // Makes these what there is of the key's group, or of its source, whose Join timer stays. An error is want of memory, and then
+    // nothing has changed.
+    fn keep(&mut self, key: Key, marks: Marks) -> Result<(), AllocError>
+        requires bare { (x : MarkValue) → tunnel_in x marks ≡ false }
+        requires timer { marks.join_timer ≡ timer_in (row_at self.old (entry_key key.group key.source)) }
+        ensures ok { OnOk result (Writes self.old self.new (entry_key key.group key.source) marks) }
+        ensures timers { timers_in self.new ≡ timers_in self.old }
         ensures err { OnErr result (self.new ≡ self.old) }
-        ensures absent { OnErr result (row_at self.old (entry_key group source) ≡ None) }
     {
-        if marks.is_empty() {
-            self.entries.remove(group, source);
-            return Ok(());
-        }
-        self.entries.put(group, source, marks)
+        // It tells that the keys rise.
+        let _ = self.entries.is_empty();
+        let written = write(self.alloc, &mut self.entries, key.group, key.source, marks);
+        // The keys still rise.
+        let _ = self.entries.is_empty();
+        written
     }
 
-    // Marks what the row says. An error is want of memory, and then nothing has changed.
+    // Where there are marks of the key's group, or of its source, sets or clears one of them, if every entry has room for it;
+    // whether there are any.
+    fn set_plain(&mut self, key: Key, mark: Mark, is_set: bool, meter: &mut Meter) -> bool
+        ensures there { result ≡ has_row self.old (entry_key key.group key.source) }
+        ensures marks { (m : MarksValue) → row_at self.old (entry_key key.group key.source) ≡ Some m
+            → Writes self.old self.new (entry_key key.group key.source) (with_plain mark key.iface.number is_set m) }
+        ensures absent { result ≡ false → self.new ≡ self.old }
+        ensures timers { timers_in self.new ≡ timers_in self.old }
+        ensures visited { AreLookedUp self.old key meter.old meter.new }
+    {
+        // It tells that the keys rise.
+        let _ = self.entries.is_empty();
+        let marking = Marking {
+            mark,
+            iface: key.iface,
+            is_set,
+        };
+        self.entries.alter(key.group, key.source, marking, meter)
+    }
+
+    // Marks what the row says. An error is want of memory, and then nothing has changed. A mark that not every entry has room
+    // for may want some, so that the entry is made anew.
     pub(crate) fn mark<R: TellsMarks>(
         &mut self,
         key: Key,
@@ -147,23 +265,140 @@ impl Index {
     ) -> Result<(), AllocError>
         requires { IsTrue (R.fits key) }
         ensures ok { OnOk result (SetsMarks R.tells R.says self.old self.new key (Some row)) }
+        ensures timers { timers_in self.new ≡ timers_in self.old }
         ensures err { OnErr result (self.new ≡ self.old) }
         ensures visited { AreLookedUp self.old key meter.old meter.new }
         ensures rises { meter.old ≤ meter.new }
     {
-        let marks = self.get(key.group, key.source, meter);
-        self.write(key.group, key.source, marked(marks, key, Some(row)))
+        let (first, second) = R::told(key);
+        if second.is_some() || !first.is_plain() {
+            let marks = self.get(key.group, key.source, meter);
+            return self.keep(key, marked(marks, key, Some(row)));
+        }
+        if self.set_plain(key, first, row.says(first), meter) {
+            return Ok(());
+        }
+        let marks = marked(Marks::none(), key, Some(row));
+        self.keep(key, marks)
     }
 
     // Takes the marks away that a row under the key made; it takes no memory.
     pub(crate) fn unmark<R: TellsMarks>(&mut self, key: Key, meter: &mut Meter)
         requires { IsTrue (R.fits key) }
         ensures marks { SetsMarks R.tells R.says self.old self.new key None }
+        ensures timers { timers_in self.new ≡ timers_in self.old }
         ensures visited { AreLookedUp self.old key meter.old meter.new }
         ensures rises { meter.old ≤ meter.new }
     {
+        let (first, second) = R::told(key);
+        // It tells that the keys rise.
+        let _ = self.entries.is_empty();
+        let unmarking = Unmarking {
+            first,
+            second,
+            iface: key.iface,
+        };
+        let _ = self.entries.alter(key.group, key.source, unmarking, meter);
+    }
+
+    // The Join timer of the key's group, or of its source.
+    pub(crate) fn timer(&self, key: Key, meter: &mut Meter) -> Option<JoinTimerRow>
+        ensures timer { result ≡ row_at (timers_in self.now) (entry_key key.group key.source) }
+        ensures visited { AreLookedUp self.now key meter.old meter.new }
+    {
         let marks = self.get(key.group, key.source, meter);
-        // Where it fails there are no marks.
-        let _ = self.write(key.group, key.source, marked::<R>(marks, key, None));
+        marks.join_timer
+    }
+
+    // Which Join timer ends first, and when (ms).
+    pub(crate) fn next_timer(&self) -> Option<(u64, Timer)>
+        ensures { result ≡ option_map due_of (first_by is_ending_first
+            (row_endings ⟦<JoinTimerRow as Ends>⟧.kinds ⟦<JoinTimerRow as Ends>⟧.ends (timers_in self.now))) }
+    {
+        // It tells that the keys rise.
+        let _ = self.entries.is_empty();
+        self.ends.first()
+    }
+
+    // All Join timers, by rising key.
+    pub(crate) fn timers(&self) -> JoinTimerRows<'_>
+        ensures { result ≡ timers_in self.now }
+    {
+        JoinTimerRows::among(self.entries.iter())
+    }
+
+    // Sets the Join timer of the key's group, or of its source, or takes it away, where this is what there is of it. An error
+    // is want of memory, and then no timer has changed.
+    fn set_known(
+        &mut self,
+        key: Key,
+        marks: Marks,
+        row: Option<JoinTimerRow>,
+    ) -> Result<(), AllocError>
+        requires { IsThere self.old key marks }
+        ensures set { OnOk result (timers_in self.new
+            ≡ set_row (timers_in self.old) (entry_key key.group key.source) row) }
+        ensures marks { KeepsMarks self.old self.new }
+        ensures err { OnErr result (self.new ≡ self.old) }
+    {
+        let key = timer_key(key);
+        let Some(count) = counted(self.timers, marks.join_timer, row) else {
+            return Err(AllocError);
+        };
+        let marks_after = Marks {
+            join_timer: row,
+            ..marks
+        };
+        let set = write_armed(
+            self.alloc,
+            &mut self.entries,
+            &mut self.ends,
+            key,
+            marks.join_timer,
+            marks_after,
+        );
+        self.timers = count_after(&set, count, self.timers);
+        self.ends.settle(&Lent::of(&self.entries, self.timers), key);
+        set
+    }
+
+    // Sets the Join timer of the key's group, or of its source, or takes it away. An error is want of memory, and then no timer
+    // has changed. The meter rises by the nodes that lead there.
+    pub(crate) fn set_timer(
+        &mut self,
+        key: Key,
+        row: Option<JoinTimerRow>,
+        meter: &mut Meter,
+    ) -> Result<(), AllocError>
+        ensures set { OnOk result (timers_in self.new
+            ≡ set_row (timers_in self.old) (entry_key key.group key.source) row) }
+        ensures marks { KeepsMarks self.old self.new }
+        ensures visited { AreLookedUp self.old key meter.old meter.new }
+    {
+        let marks = self.get(key.group, key.source, meter);
+        self.set_known(key, marks, row)
+    }
+
+    // Changes the Join timer under the key, where there is one. An error is want of memory, and then none has changed. The meter
+    // rises by the nodes that lead to the key's group, or to its source.
+    pub(crate) fn change_timer<C: Change<JoinTimerRow>>(
+        &mut self,
+        key: Key,
+        change: C,
+        meter: &mut Meter,
+    ) -> Result<(), AllocError>
+        ensures changed { OnOk result (timers_in self.new
+            ≡ change_row (λ before. Some (C.after change before)) key (timers_in self.old)) }
+        ensures marks { KeepsMarks self.old self.new }
+        ensures visited { AreLookedUp self.old key meter.old meter.new }
+    {
+        let marks = self.get(key.group, key.source, meter);
+        let Some(before) = marks.join_timer else {
+            return Ok(());
+        };
+        if !is_placed(key) {
+            return Ok(());
+        }
+        self.set_known(key, marks, Some(change.after(before)))
     }
 }

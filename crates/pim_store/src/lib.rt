@@ -2,13 +2,17 @@
 #![tactic(auto)]
 
 mod changes;
+mod entry;
 mod index;
+pub mod join_timers;
 pub mod marks;
+mod rare;
 mod rows;
 pub mod store;
 mod telling;
 pub mod walks;
 
+pub use join_timers::{GroupJoinTimers, JoinTimerRows};
 pub use marks::Marks;
 pub use store::Store;
 pub use walks::Sources;

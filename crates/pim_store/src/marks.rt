@@ -1,11 +1,13 @@
 //! What there is of a group, or of one of its sources.
-ghost use Rattle.std.specs.Prelude.{◌≡◌, ◌<◌, ◌↔◌, ◌==◌, ◌||◌, ℕ, IsTrue, cond, false};
-ghost use Rattle.pim_ifset.specs.Members.{has};
-ghost use Rattle.pim_store.specs.Said.{is_set_by, seen, tunnel_in};
+ghost use Rattle.std.specs.Prelude.{◌≡◌, ◌||◌, ℕ, None, false, is_some};
+ghost use Rattle.pim_store.specs.Entry.{are_none, empty_set, is_empty_set, is_plain, with_iface, with_mark};
+ghost use Rattle.pim_store.specs.Said.{seen, tunnel_in};
 ghost use Rattle.pim_store.specs.declared.marks.Mark.{Mark as MarkValue};
 
+use crate::rare::Rare;
 use pim_ifset::IfSet;
 use pim_types::IfaceId;
+use pim_types::fact::JoinTimerRow;
 
 /// What there is of (*,G), or of (S,G) with its (S,G,rpt). No set has the register tunnel.
 #[derive(Clone, Copy)]
@@ -20,7 +22,8 @@ pub struct Marks {
     pub lost: IfSet,
     /// Those with an assert that was won.
     pub won: IfSet,
-    pub has_join_timer: bool,
+    /// The Join timer.
+    pub join_timer: Option<JoinTimerRow>,
     pub has_override_timer: bool,
     /// A row of the source: its keepalive timer runs, or its SPTbit is set.
     pub has_source: bool,
@@ -35,20 +38,46 @@ pub enum Mark {
     Pruned,
     Lost,
     Won,
-    HasJoinTimer,
     HasOverrideTimer,
     HasSource,
     HasRegister,
 }
 
-// The set with the interface, or without it.
-fn put(set: IfSet, iface: IfaceId, is_in: bool) -> IfSet
-    requires { iface.number < 120 }
-    ensures interfaces { (q : ℕ) → has result q ≡ cond (q == iface.number) is_in (has set q) }
-    ensures tunnel { result.tunnel ≡ set.tunnel }
+impl Mark {
+    // Whether every entry has room for it.
+    pub(crate) fn is_plain(self) -> bool
+        ensures { result ≡ is_plain self }
+    {
+        match self {
+            Mark::Branched => false,
+            Mark::Pruned => false,
+            Mark::Lost => false,
+            Mark::Won => false,
+            _ => true,
+        }
+    }
+}
+
+// The empty set.
+pub(crate) fn empty_set() -> IfSet
+    ensures { result ≡ empty_set }
+{
+    IfSet::new()
+}
+
+// Whether nothing is in the set.
+pub(crate) fn is_empty_set(set: IfSet) -> bool
+    ensures { result ≡ is_empty_set set }
+{
+    set.is_empty()
+}
+
+// The set with the interface, if a set can have it, or without it.
+pub(crate) fn put(set: IfSet, iface: IfaceId, is_in: bool) -> IfSet
+    ensures { result ≡ with_iface iface.number is_in set }
 {
     let mut changed = set;
-    if is_in {
+    if is_in && iface.number < IfSet::LIMIT {
         changed.insert(iface);
     } else {
         changed.remove(iface);
@@ -61,6 +90,7 @@ impl Marks {
     pub(crate) fn none() -> Marks
         ensures silent { (x : MarkValue) (i : ℕ) → seen x result i ≡ false }
         ensures bare { (x : MarkValue) → tunnel_in x result ≡ false }
+        ensures timer { result.join_timer ≡ None }
     {
         let none = IfSet::new();
         Marks {
@@ -69,48 +99,32 @@ impl Marks {
             pruned: none,
             lost: none,
             won: none,
-            has_join_timer: false,
+            join_timer: None,
             has_override_timer: false,
             has_source: false,
             has_register: false,
         }
     }
 
-    // All interfaces of all sets.
-    fn interfaces(&self) -> IfSet
-        ensures interfaces { (q : ℕ) → has result q ≡ (has (self.now).joined q || has (self.now).branched q
-            || has (self.now).pruned q || has (self.now).lost q || has (self.now).won q) }
-        ensures tunnel { result.tunnel ≡ ((self.now).joined.tunnel || (self.now).branched.tunnel
-            || (self.now).pruned.tunnel || (self.now).lost.tunnel || (self.now).won.tunnel) }
-    {
-        let states = self.joined.union(self.branched).union(self.pruned);
-        states.union(self.lost).union(self.won)
-    }
-
     // Whether there is something of the whole router.
     fn is_of_router(&self) -> bool
-        ensures { result ≡ ((self.now).has_join_timer || (self.now).has_override_timer
+        ensures { result ≡ (is_some (self.now).join_timer || (self.now).has_override_timer
             || (self.now).has_source || (self.now).has_register) }
     {
-        let is_timed = self.has_join_timer || self.has_override_timer;
+        let is_timed = self.join_timer.is_some() || self.has_override_timer;
         is_timed || self.has_source || self.has_register
     }
 
     // Whether no mark is set, and no set has the tunnel.
     pub(crate) fn is_empty(&self) -> bool
-        ensures { IsTrue result
-            ↔ (((x : MarkValue) (i : ℕ) → seen x self.now i ≡ false)
-            × ((x : MarkValue) → tunnel_in x self.now ≡ false)) }
+        ensures { result ≡ are_none self.now }
     {
-        self.interfaces().is_empty() && !self.is_of_router()
+        is_empty_set(self.joined) && Rare::of(*self).is_empty() && !self.is_of_router()
     }
 
     // With the mark set, or not set, on the interface or for the whole router.
     pub(crate) fn with(self, mark: Mark, iface: IfaceId, is_set: bool) -> Marks
-        requires { iface.number < 120 }
-        ensures marks { (x : MarkValue) (q : ℕ)
-            → seen x result q ≡ cond (is_set_by mark iface.number x q) is_set (seen x self q) }
-        ensures tunnels { (x : MarkValue) → tunnel_in x result ≡ tunnel_in x self }
+        ensures { result ≡ with_mark mark iface.number is_set self }
     {
         let mut changed = self;
         match mark {
@@ -119,7 +133,6 @@ impl Marks {
             Mark::Pruned => changed.pruned = put(self.pruned, iface, is_set),
             Mark::Lost => changed.lost = put(self.lost, iface, is_set),
             Mark::Won => changed.won = put(self.won, iface, is_set),
-            Mark::HasJoinTimer => changed.has_join_timer = is_set,
             Mark::HasOverrideTimer => changed.has_override_timer = is_set,
             Mark::HasSource => changed.has_source = is_set,
             Mark::HasRegister => changed.has_register = is_set,

@@ -1,8 +1,8 @@
 //! A table's rows, changed with the marks that they tell.
-ghost use Rattle.std.specs.Prelude.{◌≡◌, ◌≤◌, ◌&&◌, ℕ, None, Some, IfOk, IsTrue, OnErr, OnOk, false, true};
+ghost use Rattle.std.specs.Prelude.{◌≡◌, ◌≤◌, ◌&&◌, ℕ, None, Some, IfOk, IsTrue, OnOk, false, true};
 ghost use Rattle.pim_model.specs.Tables.{change_row, drop_at, drop_where, has_row, put, row_at, set_row};
 ghost use Rattle.pim_types.specs.Keys.{is_on};
-ghost use Rattle.pim_store.specs.Said.{AreLookedUp, IsTold, KeepsOtherMarks, SaysAlike, SetsMarks, is_about, row_says};
+ghost use Rattle.pim_store.specs.Said.{AreLookedUp, IsTold, KeepsOtherMarks, SaysAlike, SetsMarks, is_about, row_says, timers_in};
 ghost use Rattle.pim_store.specs.declared.marks.Mark.{Mark as MarkValue};
 
 use crate::index::Index;
@@ -46,6 +46,7 @@ pub(crate) fn update_row<R: TellsMarks, K: Keeping<R>, C: Change<R>>(
     ensures there { IfOk result (λ there. there ≡ has_row rows.old key) }
     ensures told { IsTold R.tells R.says R.fits index.new rows.new }
     ensures others { KeepsOtherMarks R.tells index.old index.new }
+    ensures timers { timers_in index.new ≡ timers_in index.old }
     ensures alike { OnOk result ((before : R) → row_at rows.old key ≡ Some before
         → SaysAlike R.tells R.says (C.after change before) before → meter.new ≡ meter.old) }
     ensures index { IfOk result (λ there. there ≡ false → index.new ≡ index.old) }
@@ -88,6 +89,7 @@ pub(crate) fn put_row<R: TellsMarks, K: Keeping<R>>(
     ensures put { OnOk result (rows.new ≡ put rows.old key row) }
     ensures told { IsTold R.tells R.says R.fits index.new rows.new }
     ensures others { KeepsOtherMarks R.tells index.old index.new }
+    ensures timers { timers_in index.new ≡ timers_in index.old }
     ensures alike { OnOk result ((before : R) → row_at rows.old key ≡ Some before → SaysAlike R.tells R.says row before
         → meter.new ≡ meter.old) }
     ensures new { OnOk result (row_at rows.old key ≡ None → AreLookedUp index.old key meter.old meter.new) }
@@ -102,7 +104,7 @@ pub(crate) fn put_row<R: TellsMarks, K: Keeping<R>>(
 }
 
 // Puts a row under a key that has none. An error is want of memory.
-fn add_row<R: TellsMarks, K: Keeping<R>>(
+pub(crate) fn add_row<R: TellsMarks, K: Keeping<R>>(
     rows: &mut Timed<R, K>,
     index: &mut Index,
     key: Key,
@@ -115,6 +117,7 @@ fn add_row<R: TellsMarks, K: Keeping<R>>(
     ensures put { OnOk result (rows.new ≡ put rows.old key row) }
     ensures told { IsTold R.tells R.says R.fits index.new rows.new }
     ensures others { KeepsOtherMarks R.tells index.old index.new }
+    ensures timers { timers_in index.new ≡ timers_in index.old }
     ensures visited { OnOk result (AreLookedUp index.old key meter.old meter.new) }
     ensures rises { OnOk result (meter.old ≤ meter.new) }
 {
@@ -136,6 +139,7 @@ fn drop_marked<R: TellsMarks, K: Keeping<R>>(
     requires { IsTrue (R.fits key) }
     ensures removed { rows.new ≡ drop_at rows.old key }
     ensures unmarked { SetsMarks R.tells R.says index.old index.new key None }
+    ensures timers { timers_in index.new ≡ timers_in index.old }
     ensures visited { AreLookedUp index.old key meter.old meter.new }
     ensures rises { meter.old ≤ meter.new }
 {
@@ -155,6 +159,7 @@ pub(crate) fn remove_row<R: TellsMarks, K: Keeping<R>>(
     ensures removed { rows.new ≡ drop_at rows.old key }
     ensures told { IsTold R.tells R.says R.fits index.new rows.new }
     ensures others { KeepsOtherMarks R.tells index.old index.new }
+    ensures timers { timers_in index.new ≡ timers_in index.old }
     ensures visited { AreLookedUp index.old key meter.old meter.new }
     ensures rises { meter.old ≤ meter.new }
 {
@@ -175,6 +180,7 @@ pub(crate) fn set_row<R: TellsMarks, K: Keeping<R>>(
     ensures set { OnOk result (rows.new ≡ set_row rows.old key row) }
     ensures told { IsTold R.tells R.says R.fits index.new rows.new }
     ensures others { KeepsOtherMarks R.tells index.old index.new }
+    ensures timers { timers_in index.new ≡ timers_in index.old }
     ensures alike { OnOk result ((after before : R) → row ≡ Some after → row_at rows.old key ≡ Some before
         → SaysAlike R.tells R.says after before → meter.new ≡ meter.old) }
     ensures new { OnOk result (row_at rows.old key ≡ None → AreLookedUp index.old key meter.old meter.new) }
@@ -202,6 +208,7 @@ pub(crate) fn change_row<R: TellsMarks, K: Keeping<R>>(
     ensures changed { OnOk result (rows.new ≡ change_row (λ before. row) key rows.old) }
     ensures told { IsTold R.tells R.says R.fits index.new rows.new }
     ensures others { KeepsOtherMarks R.tells index.old index.new }
+    ensures timers { timers_in index.new ≡ timers_in index.old }
     ensures absent { has_row rows.old key ≡ false → meter.new ≡ meter.old }
     ensures alike { OnOk result ((after before : R) → row ≡ Some after → row_at rows.old key ≡ Some before
         → SaysAlike R.tells R.says after before → meter.new ≡ meter.old) }
@@ -227,6 +234,7 @@ pub(crate) fn drop_row<R: TellsMarks, K: Keeping<R>>(
     ensures dropped { rows.new ≡ drop_at rows.old key }
     ensures told { IsTold R.tells R.says R.fits index.new rows.new }
     ensures others { KeepsOtherMarks R.tells index.old index.new }
+    ensures timers { timers_in index.new ≡ timers_in index.old }
     ensures absent { has_row rows.old key ≡ false → meter.new ≡ meter.old }
     ensures there { has_row rows.old key ≡ true → AreLookedUp index.old key meter.old meter.new }
     ensures rises { meter.old ≤ meter.new }
@@ -241,6 +249,7 @@ fn unmark_on<R: TellsMarks>(rows: &Timed<R>, index: &mut Index, iface: IfaceId, 
     requires { IsTold R.tells R.says R.fits index.old rows.now }
     ensures told { IsTold R.tells R.says R.fits index.new (drop_where (is_on iface.number) rows.now) }
     ensures others { KeepsOtherMarks R.tells index.old index.new }
+    ensures timers { timers_in index.new ≡ timers_in index.old }
     ensures rises { meter.old ≤ meter.new }
 {
     for (key, _) in rows.rows().iter() {
@@ -261,6 +270,7 @@ pub(crate) fn drop_rows_on<R: TellsMarks>(
     ensures dropped { rows.new ≡ drop_where (is_on iface.number) rows.old }
     ensures told { IsTold R.tells R.says R.fits index.new rows.new }
     ensures others { KeepsOtherMarks R.tells index.old index.new }
+    ensures timers { timers_in index.new ≡ timers_in index.old }
     ensures rises { meter.old ≤ meter.new }
 {
     unmark_on(rows, index, iface, meter);

@@ -12,17 +12,21 @@ ghost use Rattle.pim_source_trie.specs.Entries.{nodes_visited, raised};
 ghost use Rattle.pim_tables.specs.Ends.{due_of};
 ghost use Rattle.pim_types.specs.Keys.{group_in, iface_in, is_of_group, is_on, names_source, rpt_key, same_key, source_key};
 ghost use Rattle.pim_store.specs.Bare.{IsWithoutTunnel};
-ghost use Rattle.pim_store.specs.PimTables.{AreKeyed, counted_facts, fact_key, is_prune, kept_alive, lowered, no_facts, stored_endings, stored_keys};
+ghost use Rattle.pim_store.specs.PimTables.{AreKeyed, counted_facts, fact_key, is_prune, kept_alive, lowered_join_timer, no_facts, stored_endings, stored_keys};
 ghost use Rattle.pim_store.specs.Visits.{Visits};
 
-use crate::changes::KeepAlive;
+use crate::changes::{KeepAlive, Lowering};
+use crate::entry::Entry;
 use crate::index::{Index, row_says};
+use crate::join_timers::{GroupJoinTimers, JoinTimerRows};
 use crate::marks::{Mark, Marks};
-use crate::rows::{change_row, drop_row, drop_rows_on, put_row, remove_row, set_row, update_row};
+use crate::rows::{
+    add_row, change_row, drop_row, drop_rows_on, put_row, remove_row, set_row, update_row,
+};
 use crate::walks::Sources;
 use pim_ip::Addr;
 use pim_source_trie::{Groups, Meter};
-use pim_tables::{Placed, PlacedRows, RowsOf, Timed, earlier};
+use pim_tables::{Placed, PlacedRows, RowsOf, Timed, To, earlier};
 use pim_types::fact::{
     AssertRow, DownstreamRow, JoinTimerRow, OverrideTimerRow, RegisterRow, SourceRow,
 };
@@ -34,11 +38,12 @@ use std::marker::Model;
 
 /// The PIM facts of the router. After want of memory in a call that changes them nothing is promised of what they
 /// are, but that all that is told of them is true. What changes them raises the meter by the nodes that lead to the marks of
-/// a group or a source, wherever a row comes or goes there, or says something else than the one before.
+/// a group or a source, wherever a row comes or goes there, or says something else than the one before. A Join timer stands
+/// with those marks, so each call that reads or changes one raises it so, whether there is one or not. Not counted is what
+/// the ends of the Join timers are asked for as one of them is set or taken away.
 pub struct Store {
     downstream: Timed<DownstreamRow>,
     asserts: Timed<AssertRow>,
-    join_timers: Timed<JoinTimerRow>,
     override_timers: Timed<OverrideTimerRow>,
     sources: Timed<SourceRow, Placed<SourceRow>>,
     registers: Timed<RegisterRow>,
@@ -51,7 +56,6 @@ impl Drop for Store {
         let Store {
             downstream: _,
             asserts: _,
-            join_timers: _,
             override_timers: _,
             sources: _,
             registers: _,
@@ -72,6 +76,18 @@ impl Model for Store {
     ghost invariant = { λ s. IsIndexed s.index (tables_of s) };
 }
 
+// The key of (*,G), where `source` is `None`, or of (S,G), of the whole router.
+fn plain_key(group: Addr, source: Option<Addr>) -> Key
+    ensures { result ≡ fact_key 0 group source false }
+{
+    Key {
+        iface: IfaceId::NONE,
+        group,
+        source,
+        rpt: false,
+    }
+}
+
 impl Store {
     /// No facts. An error is want of memory.
     pub fn new(alloc: Global) -> Result<Store, AllocError>
@@ -80,7 +96,6 @@ impl Store {
         Ok(Store {
             downstream: Timed::new(alloc),
             asserts: Timed::new(alloc),
-            join_timers: Timed::new(alloc),
             override_timers: Timed::new(alloc),
             sources: Timed::new(alloc),
             registers: Timed::new(alloc),
@@ -105,10 +120,10 @@ impl Store {
     }
 
     /// The Join timers, by rising key.
-    pub fn join_timer_rows(&self) -> Iter<'_, Key, JoinTimerRow>
+    pub fn join_timer_rows(&self) -> JoinTimerRows<'_>
         ensures { result ≡ self.now.join_timers }
     {
-        self.join_timers.rows().iter()
+        self.index.timers()
     }
 
     /// The override timers, by rising key.
@@ -153,11 +168,17 @@ impl Store {
         self.asserts.get(key)
     }
 
-    /// The Join timer under the key.
-    pub fn join_timer(&self, key: Key) -> Option<JoinTimerRow>
-        ensures { result ≡ row_at self.now.join_timers key }
+    /// The Join timer of (*,G), where `source` is `None`, or of (S,G). The meter rises by the nodes that lead there.
+    pub fn join_timer(
+        &self,
+        group: Addr,
+        source: Option<Addr>,
+        meter: &mut Meter,
+    ) -> Option<JoinTimerRow>
+        ensures timer { result ≡ row_at self.now.join_timers (fact_key 0 group source false) }
+        ensures visited { Visits self.now group source meter.old meter.new }
     {
-        self.join_timers.get(key)
+        self.index.timer(plain_key(group, source), meter)
     }
 
     /// The override timer under the key.
@@ -245,37 +266,27 @@ impl Store {
         ensures set { OnOk result (self.new ≡ record self.old {
           join_timers = set_row self.old.join_timers (fact_key 0 group source false) row;
         }) }
-        ensures new { OnOk result (row_at self.old.join_timers (fact_key 0 group source false) ≡ None
-            → Visits self.old group source meter.old meter.new) }
-        ensures gone { row ≡ None → Visits self.old group source meter.old meter.new }
-        ensures rises { OnOk result (meter.old ≤ meter.new) }
+        ensures visited { Visits self.old group source meter.old meter.new }
     {
-        let key = Key {
-            iface: IfaceId::NONE,
-            group,
-            source,
-            rpt: false,
-        };
-        set_row(&mut self.join_timers, &mut self.index, key, row, meter)
+        self.index.set_timer(plain_key(group, source), row, meter)
     }
 
     /// Sets the override timer of (S,G,rpt), or takes it away. An error is want of memory.
     pub fn set_override_timer(
         &mut self,
-        group: Addr,
-        source: Addr,
+        name: SourceGroup,
         row: Option<OverrideTimerRow>,
         meter: &mut Meter,
     ) -> Result<(), AllocError>
         ensures set { OnOk result (self.new ≡ record self.old {
-          override_timers = set_row self.old.override_timers (rpt_key 0 group.bits source.bits) row;
+          override_timers = set_row self.old.override_timers (rpt_key 0 name.group.bits name.source.bits) row;
         }) }
-        ensures new { OnOk result (row_at self.old.override_timers (rpt_key 0 group.bits source.bits) ≡ None
-            → Visits self.old group (Some source) meter.old meter.new) }
-        ensures gone { row ≡ None → Visits self.old group (Some source) meter.old meter.new }
+        ensures new { OnOk result (row_at self.old.override_timers (rpt_key 0 name.group.bits name.source.bits) ≡ None
+            → Visits self.old name.group (Some name.source) meter.old meter.new) }
+        ensures gone { row ≡ None → Visits self.old name.group (Some name.source) meter.old meter.new }
         ensures rises { OnOk result (meter.old ≤ meter.new) }
     {
-        let key = SourceGroup { source, group }.rpt_key();
+        let key = name.rpt_key();
         set_row(&mut self.override_timers, &mut self.index, key, row, meter)
     }
 
@@ -283,22 +294,21 @@ impl Store {
     /// another row takes the place of one.
     pub fn set_source(
         &mut self,
-        group: Addr,
-        source: Addr,
+        name: SourceGroup,
         row: Option<SourceRow>,
         meter: &mut Meter,
     ) -> Result<(), AllocError>
         ensures set { OnOk result (self.new ≡ record self.old {
-          sources = set_row self.old.sources (source_key 0 group.bits source.bits) row;
+          sources = set_row self.old.sources (source_key 0 name.group.bits name.source.bits) row;
         }) }
-        ensures kept { OnOk result (IsSome row → IsTrue (has_row self.old.sources (source_key 0 group.bits source.bits))
+        ensures kept { OnOk result (IsSome row → IsTrue (has_row self.old.sources (source_key 0 name.group.bits name.source.bits))
             → meter.new ≡ meter.old) }
-        ensures new { OnOk result (row_at self.old.sources (source_key 0 group.bits source.bits) ≡ None
-            → Visits self.old group (Some source) meter.old meter.new) }
-        ensures gone { row ≡ None → Visits self.old group (Some source) meter.old meter.new }
+        ensures new { OnOk result (row_at self.old.sources (source_key 0 name.group.bits name.source.bits) ≡ None
+            → Visits self.old name.group (Some name.source) meter.old meter.new) }
+        ensures gone { row ≡ None → Visits self.old name.group (Some name.source) meter.old meter.new }
         ensures rises { OnOk result (meter.old ≤ meter.new) }
     {
-        let key = SourceGroup { source, group }.key();
+        let key = name.key();
         set_row(&mut self.sources, &mut self.index, key, row, meter)
     }
 
@@ -333,26 +343,25 @@ impl Store {
             keepalive: Some(end),
             spt: false,
         };
-        put_row(&mut self.sources, &mut self.index, key, row, meter)
+        add_row(&mut self.sources, &mut self.index, key, row, meter)
     }
 
     /// Gives the source of the group this register, or takes its register away. An error is want of memory.
     pub fn set_register(
         &mut self,
-        group: Addr,
-        source: Addr,
+        name: SourceGroup,
         row: Option<RegisterRow>,
         meter: &mut Meter,
     ) -> Result<(), AllocError>
         ensures set { OnOk result (self.new ≡ record self.old {
-          registers = set_row self.old.registers (source_key 0 group.bits source.bits) row;
+          registers = set_row self.old.registers (source_key 0 name.group.bits name.source.bits) row;
         }) }
-        ensures new { OnOk result (row_at self.old.registers (source_key 0 group.bits source.bits) ≡ None
-            → Visits self.old group (Some source) meter.old meter.new) }
-        ensures gone { row ≡ None → Visits self.old group (Some source) meter.old meter.new }
+        ensures new { OnOk result (row_at self.old.registers (source_key 0 name.group.bits name.source.bits) ≡ None
+            → Visits self.old name.group (Some name.source) meter.old meter.new) }
+        ensures gone { row ≡ None → Visits self.old name.group (Some name.source) meter.old meter.new }
         ensures rises { OnOk result (meter.old ≤ meter.new) }
     {
-        let key = SourceGroup { source, group }.key();
+        let key = name.key();
         set_row(&mut self.registers, &mut self.index, key, row, meter)
     }
 
@@ -437,7 +446,8 @@ impl Store {
         change_row(&mut self.registers, &mut self.index, key, Some(row), meter)
     }
 
-    /// Where there is a Join timer under the key, puts this one in its place. An error is want of memory.
+    /// Where there is a Join timer under the key, puts this one in its place. An error is want of memory. The meter rises by the
+    /// nodes that lead to its group, or to its source.
     pub fn change_join_timer(
         &mut self,
         key: Key,
@@ -446,15 +456,9 @@ impl Store {
     ) -> Result<(), AllocError>
         ensures changed { OnOk result (self.new
             ≡ record self.old { join_timers = change_row (λ before. Some row) key self.old.join_timers }) }
-        ensures kept { OnOk result (meter.new ≡ meter.old) }
+        ensures visited { Visits self.old key.group key.source meter.old meter.new }
     {
-        change_row(
-            &mut self.join_timers,
-            &mut self.index,
-            key,
-            Some(row),
-            meter,
-        )
+        self.index.change_timer(key, To { row }, meter)
     }
 
     /// Takes the override timer under the key away, if there is one.
@@ -467,7 +471,8 @@ impl Store {
         drop_row(&mut self.override_timers, &mut self.index, key, meter);
     }
 
-    /// Lowers the Join timer under the key, if there is one, to this end, in ms. An error is want of memory.
+    /// Lowers the Join timer under the key, if there is one, to this end, in ms. An error is want of memory. The meter rises by the
+    /// nodes that lead to its group, or to its source.
     pub fn lower_join_timer(
         &mut self,
         key: Key,
@@ -475,18 +480,10 @@ impl Store {
         meter: &mut Meter,
     ) -> Result<(), AllocError>
         ensures lowered { OnOk result (self.new
-            ≡ record self.old { join_timers = change_row (lowered end) key self.old.join_timers }) }
-        ensures kept { OnOk result (meter.new ≡ meter.old) }
+            ≡ record self.old { join_timers = change_row (lowered_join_timer end) key self.old.join_timers }) }
+        ensures visited { Visits self.old key.group key.source meter.old meter.new }
     {
-        // What is put under a key that is there stands in its place.
-        self.join_timers.recall_rising();
-        let Some(row) = self.join_timers.get(key) else {
-            return Ok(());
-        };
-        let lowered = JoinTimerRow {
-            end: row.end.min(end),
-        };
-        put_row(&mut self.join_timers, &mut self.index, key, lowered, meter)
+        self.index.change_timer(key, Lowering { end }, meter)
     }
 
     /// Ends the lost asserts under these keys.
@@ -528,7 +525,7 @@ impl Store {
     }
 
     /// The groups with any fact, ascending.
-    pub fn groups(&self) -> Groups<'_, Marks>
+    pub fn groups(&self) -> Groups<'_, Entry>
         ensures { result ≡ groups_of (stored_keys self.now) }
     {
         self.index.groups()
@@ -557,12 +554,13 @@ impl Store {
         self.downstream.rows().push_rpt_keys(iface, groups, keys)
     }
 
-    /// The Join timers of the group, by rising key: that of (*,G), then those of its sources. No timer of another group
-    /// is looked at, but for the one that comes next.
-    pub fn join_timers_of(&self, group: Addr) -> RowsOf<'_, JoinTimerRow>
-        ensures { result ≡ filter (λ e. is_of_group group.bits e.0) self.now.join_timers }
+    /// The Join timers of the group, by rising key: that of (*,G), then those of its sources. All its sources are gone through.
+    /// The meter rises by the nodes that lead to the group.
+    pub fn join_timers_of(&self, group: Addr, meter: &mut Meter) -> GroupJoinTimers<'_>
+        ensures timers { result ≡ filter (λ e. is_of_group group.bits e.0) self.now.join_timers }
+        ensures visited { Visits self.now group None meter.old meter.new }
     {
-        self.join_timers.rows().rows_at(IfaceId::NONE, group)
+        GroupJoinTimers::among(self.index.walk(group, meter))
     }
 
     /// The registers of the group, ascending by source. No register of another group is looked at, but for the one that
@@ -575,12 +573,12 @@ impl Store {
 
     /// Whether there is a fact of the source of the group. The meter rises by the nodes that it visits.
     #[tactic(auto, using(pim_source_trie::proofs::Visited::visited_at_most))]
-    pub fn has_facts(&self, group: Addr, source: Addr, meter: &mut Meter) -> bool
-        ensures has { result ≡ list_any (names_source group.bits source.bits) (stored_keys self.now) }
-        ensures visited { meter.new ≡ raised meter.old (nodes_visited (stored_keys self.now) group (Some source)) }
-        ensures at_most { nodes_visited (stored_keys self.now) group (Some source) ≤ 66 }
+    pub fn has_facts(&self, name: SourceGroup, meter: &mut Meter) -> bool
+        ensures has { result ≡ list_any (names_source name.group.bits name.source.bits) (stored_keys self.now) }
+        ensures visited { meter.new ≡ raised meter.old (nodes_visited (stored_keys self.now) name.group (Some name.source)) }
+        ensures at_most { nodes_visited (stored_keys self.now) name.group (Some name.source) ≤ 66 }
     {
-        self.index.contains(group, source, meter)
+        self.index.contains(name.group, name.source, meter)
     }
 
     /// Asserts, sources and registers are under keys of their kind, which rise.
@@ -611,7 +609,7 @@ impl Store {
         let sources = earlier(earlier(states, self.sources.next()), self.registers.next());
         earlier(
             earlier(sources, self.override_timers.next()),
-            self.join_timers.next(),
+            self.index.next_timer(),
         )
     }
 
@@ -629,7 +627,7 @@ impl Store {
             → has result.lost i ≡ is_loser (row_at self.now.asserts (fact_key i group source false)) }
         ensures won { (i : ℕ)
             → has result.won i ≡ is_winner (row_at self.now.asserts (fact_key i group source false)) }
-        ensures join_timer { result.has_join_timer ≡ has_row self.now.join_timers (fact_key 0 group source false) }
+        ensures join_timer { result.join_timer ≡ row_at self.now.join_timers (fact_key 0 group source false) }
         ensures override_timer { result.has_override_timer
             ≡ has_row self.now.override_timers (fact_key 0 group source true) }
         ensures source { result.has_source ≡ has_row self.now.sources (fact_key 0 group source false) }

@@ -1,15 +1,15 @@
 //! What the rows of each table tell of their groups and sources.
 ghost use Rattle.std.specs.Prelude.{◌≡◌, ◌<◌, ◌&&◌, ℕ, Bool, IsTrue};
 ghost use Rattle.pim_types.specs.declared.fact.Key.{Key as KeyValue};
-ghost use Rattle.pim_store.specs.Said.{is_about, is_of_iface, is_plain_of_iface, is_plain_of_router, is_rpt_of_router, is_source_of_router};
-ghost use Rattle.pim_store.specs.Telling.{assert_says, assert_table, downstream_says, downstream_table, is_set_by_either, is_there, is_told_by, join_timer_table, override_timer_table, register_table, source_table};
+ghost use Rattle.pim_store.specs.Said.{is_about, is_of_iface, is_plain_of_iface, is_rpt_of_router, is_source_of_router};
+ghost use Rattle.pim_store.specs.Telling.{assert_says, assert_table, downstream_says, downstream_table, is_set_by_either, is_there, is_told_by, override_timer_table, register_table, source_table};
 ghost use Rattle.pim_store.specs.declared.marks.Mark.{Mark as MarkValue};
 
 use crate::marks::Mark;
 use pim_tables::Ends;
 use pim_types::Key;
 use pim_types::fact::{
-    AssertRole, AssertRow, DownstreamRow, JoinTimerRow, OverrideTimerRow, RegisterRow, SourceRow,
+    AssertRole, AssertRow, DownstreamRow, OverrideTimerRow, RegisterRow, SourceRow,
 };
 
 // A row, and what it says of its group, or of its source.
@@ -75,22 +75,6 @@ impl TellsMarks for AssertRow {
             Mark::Won => matches!(self.role, AssertRole::Winner),
             _ => false,
         }
-    }
-}
-
-impl TellsMarks for JoinTimerRow {
-    ghost tells = { is_told_by join_timer_table };
-
-    ghost says = { is_there };
-
-    ghost fits = { is_plain_of_router };
-
-    fn told(_key: Key) -> (Mark, Option<Mark>) {
-        (Mark::HasJoinTimer, None)
-    }
-
-    fn says(self, _mark: Mark) -> bool {
-        true
     }
 }
 

@@ -1,17 +1,17 @@
 //! Walks of the sources of a group.
 ghost use Rattle.std.specs.Prelude.{◌≡◌};
 ghost use Rattle.std.specs.Iterator.{YieldsFirstBy, item_count};
-ghost use Rattle.pim_source_trie.specs.Entries.{bits_of};
+ghost use Rattle.pim_source_trie.specs.Entries.{address_bits};
 ghost use Rattle.pim_store.specs.Sources.{sources_in};
 
-use crate::marks::Marks;
+use crate::entry::Entry;
 use pim_ip::Addr;
 use pim_source_trie::Entries;
 use std::marker::Model;
 
 /// The sources of a group that are left, ascending.
 pub struct Sources<'a> {
-    entries: Entries<'a, Marks>,
+    entries: Entries<'a, Entry>,
 }
 
 // Written out, so that it is proved once (docs/PROOF_NOTES.md, Drops).
@@ -32,7 +32,7 @@ impl<'a> Model for Sources<'a> {
 
 impl<'a> Sources<'a> {
     // Those of the entries of one group.
-    pub(crate) fn among(entries: Entries<'a, Marks>) -> Sources<'a>
+    pub(crate) fn among(entries: Entries<'a, Entry>) -> Sources<'a>
         ensures { result ≡ sources_in entries.entry }
     {
         Sources { entries }
@@ -42,7 +42,7 @@ impl<'a> Sources<'a> {
 impl<'a> Iterator for Sources<'a> {
     type Item = Addr;
 
-    ghost next_gives = { YieldsFirstBy bits_of (λ rest. rest) };
+    ghost next_gives = { YieldsFirstBy address_bits (λ rest. rest) };
 
     ghost remaining = { item_count (λ rest. rest) };
 

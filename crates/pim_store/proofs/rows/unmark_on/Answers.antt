@@ -1,4 +1,4 @@
-use Rattle.std.proofs.Common.{arith, sym, ◌∙◌}
+use Rattle.std.proofs.Common.{arith, refl, sym, ◌∙◌}
 use Rattle.pim_store.proofs.Dropped.{all_unmarked, another, at_first, fits_here, unmarked_here}
 use Rattle.pim_store.proofs.rows.unmark_on.Goals as goal
 
@@ -6,6 +6,7 @@ pub loop-key-init : goal.loop-key-init
 loop-key-init g c = record {
   unmarked = at_first g.R.TellsMarks.tells g.R.TellsMarks.says g.R.TellsMarks.fits c.args.iface.number _ _ _
       (c.into_iter-key-iterator.ensures.into_iter_gives ∙ c.iter-key-items.ensures ∙ c.rows.ensures) c.requires;
+  timers = refl;
   rises = omega arith;
 }
 
@@ -20,6 +21,7 @@ loop-key-preserved-then-eq g c = record {
   unmarked = unmarked_here g.R.TellsMarks.tells g.R.TellsMarks.says g.R.TellsMarks.fits c.args.iface.number _ _ c.args.rows.now
       c.loop-key.key-iterator c.next.new.self c.in-Some.key.now c.in-Some.field-0-1.now c.loop-key.invariant.unmarked
       c.in-Some.ensures.steps _ (sym c.if-eq.ensures) c.unmark.ensures.marks;
+  timers = c.unmark.ensures.timers ∙ c.loop-key.invariant.timers;
   rises = omega (arith, c.loop-key.invariant.rises, c.unmark.ensures.rises);
 }
 
@@ -28,6 +30,7 @@ loop-key-preserved g c = record {
   unmarked = another g.R.TellsMarks.tells g.R.TellsMarks.says g.R.TellsMarks.fits c.args.iface.number _ _ c.args.rows.now
       c.loop-key.key-iterator c.next.new.self c.in-Some.key.now c.in-Some.field-0-1.now c.loop-key.invariant.unmarked
       c.in-Some.ensures.steps (sym c.if-eq.ensures);
+  timers = c.loop-key.invariant.timers;
   rises = c.loop-key.invariant.rises;
 }
 
@@ -38,3 +41,6 @@ returns-clause-told g c =
 
 pub returns-clause-others : goal.returns-clause-others
 returns-clause-others g c = c.loop-key.invariant.unmarked.others
+
+pub returns-clause-timers : goal.returns-clause-timers
+returns-clause-timers g c = c.loop-key.invariant.timers

@@ -1,3 +1,8 @@
+use Rattle.pim_types.specs.declared.fact.DownstreamRow.{DownstreamRow}
+use Rattle.pim_store.proofs.Lowered.{same_beside}
+use Rattle.pim_store.specs.Stored.{tables_of}
+use Rattle.pim_model.specs.Tables.{Table}
+use Rattle.pim_types.specs.declared.fact.JoinTimerRow.{JoinTimerRow}
 use Rattle.pim_store.proofs.Indexed.{after_downstream}
 use Rattle.pim_store.proofs.store.Store.change_downstream.Goals as goal
 
@@ -6,3 +11,9 @@ change_row-requires c = c.self.invariant.downstream
 
 pub invariant_of-self : goal.invariant_of-self
 invariant_of-self c = after_downstream c.self.invariant c.change_row.ensures.others c.change_row.ensures.told
+
+pub returns-clause-changed : goal.returns-clause-changed
+returns-clause-changed c = rw (← c.self.view_is)
+    (same_beside c.change_row.result
+    (λ (t : Table DownstreamRow) (u : Table JoinTimerRow). record (tables_of c.self.inside) { downstream = t; join_timers = u })
+    c.change_row.new.rows _ _ _ c.change_row.ensures.timers c.change_row.ensures.changed)

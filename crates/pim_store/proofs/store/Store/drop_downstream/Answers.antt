@@ -1,3 +1,4 @@
+use Rattle.pim_store.specs.Stored.{tables_of}
 use Rattle.pim_store.proofs.Indexed.{after_downstream}
 use Rattle.std.proofs.Common.{refl}
 use Rattle.pim_store.proofs.LookedUp.{looked_up}
@@ -12,3 +13,7 @@ invariant_of-self c = after_downstream c.self.invariant c.drop_row.ensures.other
 pub returns-clause-there : goal.returns-clause-there
 returns-clause-there c = rw (← c.self.view_is) (λ there.
     looked_up _ _ c.self.invariant _ _ refl _ _ (c.drop_row.ensures.there there))
+
+pub returns-clause-dropped : goal.returns-clause-dropped
+returns-clause-dropped c = rw (← c.self.view_is)
+    (λ j. record (tables_of c.self.inside) { downstream = c.drop_row.ensures.dropped j; join_timers = c.drop_row.ensures.timers j })

@@ -1,12 +1,17 @@
-use Rattle.std.proofs.Common.{ap, filter, ◌∙◌}
-use Rattle.pim_types.specs.Keys.{is_of_group, is_on}
-use Rattle.pim_model.specs.Records.{is_at_group}
-use Rattle.pim_store.proofs.Fitting.{all_fit, of_router_when_plain, passed_by_all}
+use Rattle.std.proofs.Common.{None, ap, ◌∙◌}
+use Rattle.pim_source_trie.proofs.Visited.{raised_alike}
+use Rattle.pim_types.specs.Keys.{is_of_group}
+use Rattle.pim_store.specs.Said.{timers_in}
+use Rattle.pim_store.proofs.Timers.{timers_filtered}
+use Rattle.pim_store.proofs.Walked.{marks_visited}
 use Rattle.pim_store.proofs.store.Store.join_timers_of.Goals as goal
 
-pub returns : goal.returns
-returns c = rw (← c.self.view_is)
-    (c.rows_at.ensures ∙ ap (filter (λ e. is_at_group 0 c.args.group.bits e.0)) c.rows.ensures
-    ∙ passed_by_all (λ e. is_on 0 e.0) (λ e. is_of_group c.args.group.bits e.0) c.self.inside.join_timers
-    (all_fit (is_on 0) c.self.inside.join_timers
-    (λ k there. of_router_when_plain k (c.self.invariant.join_timers.fit k there))))
+pub returns-clause-timers : goal.returns-clause-timers
+returns-clause-timers c = rw (← c.self.view_is)
+    (c.among.ensures ∙ ap timers_in c.walk.ensures.entries ∙ timers_filtered (is_of_group c.args.group.bits) _)
+
+pub returns-clause-visited : goal.returns-clause-visited
+returns-clause-visited c =
+    rw (← c.self.view_is)
+    (raised_alike _ _ _ _ c.walk.ensures.visited
+    (marks_visited _ _ c.walk.ensures.all c.self.invariant c.args.group None))

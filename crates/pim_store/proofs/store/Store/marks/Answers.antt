@@ -1,5 +1,5 @@
 use Rattle.std.proofs.Common.{refl, ◌∙◌}
-use Rattle.pim_store.specs.declared.marks.Mark.TheVariants.{Joined, Branched, Pruned, Lost, Won, HasJoinTimer, HasOverrideTimer, HasSource, HasRegister}
+use Rattle.pim_store.specs.declared.marks.Mark.TheVariants.{Joined, Branched, Pruned, Lost, Won, HasOverrideTimer, HasSource, HasRegister}
 use Rattle.pim_store.proofs.Indexed.{row_lost, row_there, row_won}
 use Rattle.pim_source_trie.proofs.Visited.{raised_alike}
 use Rattle.pim_store.proofs.Walked.{marks_visited}
@@ -27,7 +27,7 @@ returns-clause-won c = rw (← c.self.view_is) (λ i.
 
 pub returns-clause-join_timer : goal.returns-clause-join_timer
 returns-clause-join_timer c = rw (← c.self.view_is)
-    (c.get.ensures.marks HasJoinTimer 0 ∙ c.self.invariant.join_timers.told HasJoinTimer refl 0 _ _ ∙ row_there _ _)
+    c.get.ensures.row
 
 pub returns-clause-override_timer : goal.returns-clause-override_timer
 returns-clause-override_timer c = rw (← c.self.view_is)

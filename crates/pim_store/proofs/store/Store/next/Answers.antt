@@ -9,4 +9,4 @@ returns c = rw (← c.self.view_is)
     (c.earlier-2.ensures _ _
     (c.earlier-sources.ensures _ _
     (c.earlier.ensures _ _ (c.earlier-states.ensures _ _ c.next.ensures c.next-2.ensures) c.next-3.ensures)
-    c.next-4.ensures) c.next-5.ensures) c.next-6.ensures)
+    c.next-4.ensures) c.next-5.ensures) c.next_timer.ensures)

@@ -1,5 +1,10 @@
+use Rattle.pim_types.specs.declared.fact.AssertRow.{AssertRow}
+use Rattle.pim_store.proofs.Lowered.{same_beside}
+use Rattle.pim_store.specs.Stored.{tables_of}
+use Rattle.pim_model.specs.Tables.{Table, set_row}
+use Rattle.pim_types.specs.declared.fact.JoinTimerRow.{JoinTimerRow}
 use Rattle.pim_store.proofs.Indexed.{after_asserts}
-use Rattle.std.proofs.Common.{false, refl}
+use Rattle.std.proofs.Common.{false, refl, ◌≡◌, OnOk, subst}
 use Rattle.pim_store.proofs.LookedUp.{fact_named, looked_up, looked_up_new}
 use Rattle.pim_store.proofs.store.Store.set_assert.Goals as goal
 
@@ -17,3 +22,11 @@ returns-clause-new c = rw (← c.self.view_is)
 pub returns-clause-gone : goal.returns-clause-gone
 returns-clause-gone c = rw (← c.self.view_is) (λ none.
     looked_up _ _ c.self.invariant _ _ refl _ _ (c.set_row.ensures.gone none))
+
+pub returns-clause-set : goal.returns-clause-set
+returns-clause-set c = rw (← c.self.view_is)
+    (same_beside c.set_row.result
+    (λ (t : Table AssertRow) (u : Table JoinTimerRow). record (tables_of c.self.inside) { asserts = t; join_timers = u })
+    c.set_row.new.rows _ _ _ c.set_row.ensures.timers
+    (subst (λ k. OnOk c.set_row.result (c.set_row.new.rows ≡ set_row c.self.inside.asserts k c.args.row))
+    (fact_named c.args.iface.number c.args.group c.args.source false) c.set_row.ensures.set))

@@ -1,3 +1,8 @@
+use Rattle.pim_types.specs.declared.fact.DownstreamRow.{DownstreamRow}
+use Rattle.pim_store.proofs.Lowered.{same_beside}
+use Rattle.pim_store.specs.Stored.{tables_of}
+use Rattle.pim_model.specs.Tables.{Table}
+use Rattle.pim_types.specs.declared.fact.JoinTimerRow.{JoinTimerRow}
 use Rattle.pim_store.proofs.Indexed.{after_downstream}
 use Rattle.std.proofs.Common.{refl}
 use Rattle.pim_store.proofs.LookedUp.{looked_up, looked_up_new}
@@ -17,3 +22,10 @@ returns-clause-new c = rw (← c.self.view_is)
 pub returns-clause-gone : goal.returns-clause-gone
 returns-clause-gone c = rw (← c.self.view_is) (λ none.
     looked_up _ _ c.self.invariant _ _ refl _ _ (c.set_row.ensures.gone none))
+
+pub returns-clause-set : goal.returns-clause-set
+returns-clause-set c = rw (← c.self.view_is)
+    (same_beside c.set_row.result
+    (λ (t : Table DownstreamRow) (u : Table JoinTimerRow). record (tables_of c.self.inside) { downstream = t; join_timers = u })
+    c.set_row.new.rows _ _ _ c.set_row.ensures.timers
+    c.set_row.ensures.set)

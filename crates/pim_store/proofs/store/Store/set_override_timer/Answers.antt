@@ -1,3 +1,9 @@
+use Rattle.std.proofs.Common.{◌≡◌, OnOk, subst}
+use Rattle.pim_types.specs.declared.fact.OverrideTimerRow.{OverrideTimerRow}
+use Rattle.pim_store.proofs.Lowered.{same_beside}
+use Rattle.pim_store.specs.Stored.{tables_of}
+use Rattle.pim_model.specs.Tables.{Table, set_row}
+use Rattle.pim_types.specs.declared.fact.JoinTimerRow.{JoinTimerRow}
 use Rattle.pim_store.proofs.Indexed.{after_override_timers}
 use Rattle.pim_store.proofs.LookedUp.{looked_up, looked_up_new}
 use Rattle.pim_store.proofs.store.Store.set_override_timer.Goals as goal
@@ -16,3 +22,11 @@ returns-clause-new c = rw (← c.self.view_is)
 pub returns-clause-gone : goal.returns-clause-gone
 returns-clause-gone c = rw (← c.self.view_is) (λ none.
     looked_up _ _ c.self.invariant _ _ c.rpt_key-key.ensures _ _ (c.set_row.ensures.gone none))
+
+pub returns-clause-set : goal.returns-clause-set
+returns-clause-set c = rw (← c.self.view_is)
+    (same_beside c.set_row.result
+    (λ (t : Table OverrideTimerRow) (u : Table JoinTimerRow). record (tables_of c.self.inside) { override_timers = t; join_timers = u })
+    c.set_row.new.rows _ _ _ c.set_row.ensures.timers
+    (subst (λ k. OnOk c.set_row.result (c.set_row.new.rows ≡ set_row c.self.inside.override_timers k c.args.row))
+    (c.rpt_key-key.ensures) c.set_row.ensures.set))

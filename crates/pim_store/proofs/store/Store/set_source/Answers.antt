@@ -1,4 +1,9 @@
-use Rattle.std.proofs.Common.{refl}
+use Rattle.pim_types.specs.declared.fact.SourceRow.{SourceRow}
+use Rattle.pim_store.proofs.Lowered.{same_beside}
+use Rattle.pim_store.specs.Stored.{tables_of}
+use Rattle.pim_model.specs.Tables.{Table, set_row}
+use Rattle.pim_types.specs.declared.fact.JoinTimerRow.{JoinTimerRow}
+use Rattle.std.proofs.Common.{refl, ◌≡◌, OnOk, subst}
 use Rattle.pim_store.proofs.Alike.{kept_there}
 use Rattle.pim_store.proofs.Indexed.{after_sources}
 use Rattle.pim_store.proofs.LookedUp.{looked_up, looked_up_new}
@@ -24,3 +29,11 @@ returns-clause-new c = rw (← c.self.view_is)
 pub returns-clause-gone : goal.returns-clause-gone
 returns-clause-gone c = rw (← c.self.view_is) (λ none.
     looked_up _ _ c.self.invariant _ _ c.key-key.ensures _ _ (c.set_row.ensures.gone none))
+
+pub returns-clause-set : goal.returns-clause-set
+returns-clause-set c = rw (← c.self.view_is)
+    (same_beside c.set_row.result
+    (λ (t : Table SourceRow) (u : Table JoinTimerRow). record (tables_of c.self.inside) { sources = t; join_timers = u })
+    c.set_row.new.rows _ _ _ c.set_row.ensures.timers
+    (subst (λ k. OnOk c.set_row.result (c.set_row.new.rows ≡ set_row c.self.inside.sources k c.args.row))
+    (c.key-key.ensures) c.set_row.ensures.set))
