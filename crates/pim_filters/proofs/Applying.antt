@@ -7,9 +7,9 @@ use Rattle.std.specs.declared.cmp.Ordering.TheVariants.{Less}
 use Rattle.std.proofs.lemmas.List.Folds.{list_any-append}
 use Rattle.igmp_wire.specs.declared.report.RecordType.{RecordType}
 use Rattle.pim_filters.specs.Asking.{asked_in_order}
-use Rattle.pim_filters.specs.Cases.{CaseValue, cases_in, cases_with, member_case, new_case, value_of}
+use Rattle.pim_filters.specs.Cases.{CaseValue, cases_in, cases_with, member_case, new_case, case_value}
 use Rattle.pim_filters.specs.Changes.{asked_after, entry_after}
-use Rattle.pim_filters.specs.Members.{IsAscending, bits_of, entries_of, entry_of, fate_at, fate_of}
+use Rattle.pim_filters.specs.Members.{IsAscending, bits_of, member_entries, member_entry, fate_at, fate_of}
 use Rattle.pim_filters.specs.Rules.{asks_group, asks_sources, fate_after, is_asked, kept_or, timer_after}
 use Rattle.pim_filters.specs.declared.case.Case.{Case}
 use Rattle.pim_filters.specs.declared.member.Member.{Member}
@@ -37,17 +37,17 @@ keys_of_cases ms named rises =
 abbrev pub told_of : List records.Member → List ℕ → ℕ → CaseValue
 told_of es named k = (k, fate_among es k, is_among k named)
 
-pub values_are : (ms : List Member) (named : List ℕ) → IsAscending (entries_of ms)
-    → map value_of (cases_in ms (ascending named)) ≡ map (told_of (entries_of ms) named) (ascending (sources_in ms ++ named))
+pub values_are : (ms : List Member) (named : List ℕ) → IsAscending (member_entries ms)
+    → map case_value (cases_in ms (ascending named)) ≡ map (told_of (member_entries ms) named) (ascending (sources_in ms ++ named))
 values_are ms named ascends =
     let rises : Rises (sources_in ms) = Rises-from_sorted (sources_in ms) ascends in
     let g : ℕ → Bool = λ k. is_among k named in
-    let tells : Tells 0 (fate_among (entries_of ms)) g ms (ascending named) = record {
+    let tells : Tells 0 (fate_among (member_entries ms)) g ms (ascending named) = record {
       fates = λ k le. refl;
       names = λ k le. sym (is_among-ascending k named);
     } in
-    values_of_cases (fate_among (entries_of ms)) g 0 ms (ascending named) (AtLeast-zero (sources_in ms)) (AtLeast-zero (ascending named)) rises (Rises-ascending named) tells
-    ∙ ap (map (told_of (entries_of ms) named)) (keys_of_cases ms named rises)
+    values_of_cases (fate_among (member_entries ms)) g 0 ms (ascending named) (AtLeast-zero (sources_in ms)) (AtLeast-zero (ascending named)) rises (Rises-ascending named) tells
+    ∙ ap (map (told_of (member_entries ms) named)) (keys_of_cases ms named rises)
 
 -- ---- what a test or a change makes of values
 
@@ -75,58 +75,58 @@ module _ (full : ℕ) (timer : Option ℕ) (type : RecordType) where
   abbrev pub entry_told : CaseValue → Option records.Member
   entry_told v = records.member_of v.0 (fate_after full timer type v.1 v.2)
 
-  pub entries_are : (ms : List Member) (named : List ℕ) → IsAscending (entries_of ms)
-      → filter_map (λ c. entry_told (value_of c)) (cases_in ms (ascending named))
-      ≡ filter_map (λ k. entry_told (told_of (entries_of ms) named k)) (ascending (sources_in ms ++ named))
+  pub entries_are : (ms : List Member) (named : List ℕ) → IsAscending (member_entries ms)
+      → filter_map (λ c. entry_told (case_value c)) (cases_in ms (ascending named))
+      ≡ filter_map (λ k. entry_told (told_of (member_entries ms) named k)) (ascending (sources_in ms ++ named))
   entries_are ms named ascends =
-      sym (filter_map-of_map value_of entry_told (cases_in ms (ascending named)))
+      sym (filter_map-of_map case_value entry_told (cases_in ms (ascending named)))
       ∙ ap (filter_map entry_told) (values_are ms named ascends)
-      ∙ filter_map-of_map (told_of (entries_of ms) named) entry_told (ascending (sources_in ms ++ named))
+      ∙ filter_map-of_map (told_of (member_entries ms) named) entry_told (ascending (sources_in ms ++ named))
 
 module _ (timer : Option ℕ) (type : RecordType) where
   abbrev pub is_told_asked : CaseValue → Bool
   is_told_asked v = is_asked timer type v.1 v.2
 
-  pub asked_are : (ms : List Member) (named : List ℕ) → IsAscending (entries_of ms)
-      → bits_of (map (λ (c : Case). c.source) (filter (λ c. is_told_asked (value_of c)) (cases_in ms (ascending named))))
-      ≡ filter (λ k. is_told_asked (told_of (entries_of ms) named k)) (ascending (sources_in ms ++ named))
+  pub asked_are : (ms : List Member) (named : List ℕ) → IsAscending (member_entries ms)
+      → bits_of (map (λ (c : Case). c.source) (filter (λ c. is_told_asked (case_value c)) (cases_in ms (ascending named))))
+      ≡ filter (λ k. is_told_asked (told_of (member_entries ms) named k)) (ascending (sources_in ms ++ named))
   asked_are ms named ascends =
       let cs : List Case = cases_in ms (ascending named) in
       let all : List ℕ = ascending (sources_in ms ++ named) in
-      let asked : List Case = filter (λ c. is_told_asked (value_of c)) cs in
+      let asked : List Case = filter (λ c. is_told_asked (case_value c)) cs in
       let first : CaseValue → ℕ = λ v. v.0 in
       map-of_map (λ (c : Case). c.source) (λ a. a.bits) asked
-      ∙ sym (map-of_map value_of first asked)
-      ∙ ap (map first) (sym (filter-of_map value_of is_told_asked cs) ∙ ap (filter is_told_asked) (values_are ms named ascends) ∙ filter-of_map (told_of (entries_of ms) named) is_told_asked all)
-      ∙ map-of_map (told_of (entries_of ms) named) first (filter (λ k. is_told_asked (told_of (entries_of ms) named k)) all)
-      ∙ map_itself (filter (λ k. is_told_asked (told_of (entries_of ms) named k)) all)
+      ∙ sym (map-of_map case_value first asked)
+      ∙ ap (map first) (sym (filter-of_map case_value is_told_asked cs) ∙ ap (filter is_told_asked) (values_are ms named ascends) ∙ filter-of_map (told_of (member_entries ms) named) is_told_asked all)
+      ∙ map-of_map (told_of (member_entries ms) named) first (filter (λ k. is_told_asked (told_of (member_entries ms) named k)) all)
+      ∙ map_itself (filter (λ k. is_told_asked (told_of (member_entries ms) named k)) all)
 
 -- ---- a record that stays
 
 abbrev pub entry_before : CaseValue → Option records.Member
 entry_before v = records.member_of v.0 v.1
 
-entry_of_member : (b : Bool) (m : Member) → entry_before (value_of (member_case b m)) ≡ Some (entry_of m)
+entry_of_member : (b : Bool) (m : Member) → entry_before (case_value (member_case b m)) ≡ Some (member_entry m)
 entry_of_member b m = go m.end
   where
     go : (end : Option ℕ) → records.member_of m.source.bits (fate_of (fate_at end)) ≡ Some (m.source.bits, end)
     go None = refl
     go (Some end) = refl
 
-none_of_names : (ns : List ℕ) → filter_map (λ c. entry_before (value_of c)) (map new_case ns) ≡ []
+none_of_names : (ns : List ℕ) → filter_map (λ c. entry_before (case_value c)) (map new_case ns) ≡ []
 none_of_names [] = refl
 none_of_names (n ∷ ns) = none_of_names ns
 
 stays_step : (m : Member) (ms : List Member) (n : ℕ) (ns : List ℕ) (b c : Bool)
-    → filter_map (λ c. entry_before (value_of c)) (cases_in (m ∷ ms) ns) ≡ entries_of (m ∷ ms)
-    → filter_map (λ c. entry_before (value_of c)) (cases_in ms ns) ≡ entries_of ms
-    → filter_map (λ c. entry_before (value_of c)) (cases_in ms (n ∷ ns)) ≡ entries_of ms
-    → filter_map (λ c. entry_before (value_of c)) (cond b (new_case n ∷ cases_with m (cases_in ms) ns) (cond c (member_case true m ∷ cases_in ms ns) (member_case false m ∷ cases_in ms (n ∷ ns)))) ≡ entries_of (m ∷ ms)
+    → filter_map (λ c. entry_before (case_value c)) (cases_in (m ∷ ms) ns) ≡ member_entries (m ∷ ms)
+    → filter_map (λ c. entry_before (case_value c)) (cases_in ms ns) ≡ member_entries ms
+    → filter_map (λ c. entry_before (case_value c)) (cases_in ms (n ∷ ns)) ≡ member_entries ms
+    → filter_map (λ c. entry_before (case_value c)) (cond b (new_case n ∷ cases_with m (cases_in ms) ns) (cond c (member_case true m ∷ cases_in ms ns) (member_case false m ∷ cases_in ms (n ∷ ns)))) ≡ member_entries (m ∷ ms)
 stays_step m ms n ns true c earlier both later = earlier
 stays_step m ms n ns false true earlier both later = λ i. cons_option (entry_of_member true m i) (both i)
 stays_step m ms n ns false false earlier both later = λ i. cons_option (entry_of_member false m i) (later i)
 
-members_stay : (ms : List Member) (ns : List ℕ) → filter_map (λ c. entry_before (value_of c)) (cases_in ms ns) ≡ entries_of ms
+members_stay : (ms : List Member) (ns : List ℕ) → filter_map (λ c. entry_before (case_value c)) (cases_in ms ns) ≡ member_entries ms
 members_stay [] ns = none_of_names ns
 members_stay (m ∷ ms) [] = λ i. cons_option (entry_of_member false m i) (members_stay ms [] i)
 members_stay (m ∷ ms) (n ∷ ns) =
@@ -209,19 +209,19 @@ module _ (es : List records.Member) (named : List ℕ) where
   applies full (Some end) type stays = in_exclude full end type
 
 -- what the rule makes of the cases is the record and the queries after the message
-pub applied : (rule : Rule) (ms : List Member) (named : List ℕ) → IsAscending (entries_of ms)
-    → apply_record rule.full (record { timer = rule.timer; members = entries_of ms }) rule.record_type named
+pub applied : (rule : Rule) (ms : List Member) (named : List ℕ) → IsAscending (member_entries ms)
+    → apply_record rule.full (record { timer = rule.timer; members = member_entries ms }) rule.record_type named
     ≡ (
       record { timer = timer_after rule.full rule.timer rule.record_type; members = filter_map (entry_after rule) (cases_in ms (ascending named)) },
       asked_after rule (cases_in ms (ascending named)),
     )
 applied rule ms named ascends =
     let cs : List Case = cases_in ms (ascending named) in
-    let es : List records.Member = entries_of ms in
+    let es : List records.Member = member_entries ms in
     let stays : filter_map (λ k. entry_before (told_of es named k)) (all_of es named) ≡ es =
     sym (filter_map-of_map (told_of es named) entry_before (all_of es named))
     ∙ ap (filter_map entry_before) (sym (values_are ms named ascends))
-    ∙ filter_map-of_map value_of entry_before cs ∙ members_stay ms (ascending named) in
+    ∙ filter_map-of_map case_value entry_before cs ∙ members_stay ms (ascending named) in
     applies es named rule.full rule.timer rule.record_type stays
     ∙ (λ i. (
       record { timer = timer_after rule.full rule.timer rule.record_type; members = sym (entries_are rule.full rule.timer rule.record_type ms named ascends) i },
@@ -254,9 +254,9 @@ entries_ascend f (n ∷ ns) sorted = go (f n) (all_of_entries (λ m. nat_cmp n m
     go records.Excluded all rest = (all, rest)
     go (records.Until end) all rest = (all, rest)
 
-pub IsAscending-after : (rule : Rule) (ms : List Member) (named : List ℕ) → IsAscending (entries_of ms)
+pub IsAscending-after : (rule : Rule) (ms : List Member) (named : List ℕ) → IsAscending (member_entries ms)
     → IsAscending (filter_map (entry_after rule) (cases_in ms (ascending named)))
 IsAscending-after rule ms named ascends =
     subst IsAscending (sym (entries_are rule.full rule.timer rule.record_type ms named ascends))
-    (entries_ascend (λ k. fate_after rule.full rule.timer rule.record_type (fate_among (entries_of ms) k) (is_among k named))
-    (all_of (entries_of ms) named) (sorted_from_Rises _ (Rises-ascending (sources_in ms ++ named))))
+    (entries_ascend (λ k. fate_after rule.full rule.timer rule.record_type (fate_among (member_entries ms) k) (is_among k named))
+    (all_of (member_entries ms) named) (sorted_from_Rises _ (Rises-ascending (sources_in ms ++ named))))

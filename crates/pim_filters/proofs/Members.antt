@@ -12,7 +12,7 @@ use Rattle.smallvec.proofs.SmallVecLemmas.{items-with_items}
 use Rattle.smallvec.specs.SmallVec.{SmallVec, with_items}
 use Rattle.pim_filters.specs.declared.member.Member.{Member}
 use Rattle.pim_filters.specs.Lowering.{member_lowered}
-use Rattle.pim_filters.specs.Members.{IsAscending, bits_of, entry_of, entries_of, fate_at, fate_of, is_named, with_end_lowered, without_end}
+use Rattle.pim_filters.specs.Members.{IsAscending, bits_of, member_entry, member_entries, fate_at, fate_of, is_named_source, with_end_lowered, without_end}
 use Rattle.pim_model.specs.Querier.{lowered}
 use Rattle.pim_ip.specs.declared.addr.Addr.{Addr}
 use Rattle.pim_model.specs.Records as records
@@ -20,9 +20,9 @@ use Rattle.pim_model.specs.Tables.{is_among}
 
 -- the entry found is that of the member found
 pub find_entry : (s : ℕ) (ms : List Member)
-    → find (λ (e : records.Member). e.0 == s) (entries_of ms) ≡ option_map entry_of (find (λ (m : Member). m.source.bits == s) ms)
+    → find (λ (e : records.Member). e.0 == s) (member_entries ms) ≡ option_map member_entry (find (λ (m : Member). m.source.bits == s) ms)
 find_entry s [] = refl
-find_entry s (m ∷ ms) = elim (m.source.bits == s) as (λ b. cond b (Some (entry_of m)) (find (λ (e : records.Member). e.0 == s) (entries_of ms)) ≡ option_map entry_of (cond b (Some m) (find (λ (m : Member). m.source.bits == s) ms))) [
+find_entry s (m ∷ ms) = elim (m.source.bits == s) as (λ b. cond b (Some (member_entry m)) (find (λ (e : records.Member). e.0 == s) (member_entries ms)) ≡ option_map member_entry (cond b (Some m) (find (λ (m : Member). m.source.bits == s) ms))) [
   | true ↦ refl
   | false ↦ find_entry s ms
 ]
@@ -32,43 +32,43 @@ fate_at-is None = refl
 fate_at-is (Some end) = refl
 
 -- the end of a found member says what the record does
-pub fate_found : (r : records.GroupRecord) (s : ℕ) (ms : List Member) (o : Option Member) → entries_of ms ≡ r.members
+pub fate_found : (r : records.GroupRecord) (s : ℕ) (ms : List Member) (o : Option Member) → member_entries ms ≡ r.members
     → o ≡ find (λ (m : Member). m.source.bits == s) ms
     → records.fate_in r s ≡ option_map_or (λ (m : Member). fate_of (fate_at m.end)) o records.Gone
 unfolding records.fate_in
 fate_found r s ms o are found =
     let told : Option records.Member → records.Fate = λ o. option_map_or (λ (e : records.Member). option_map_or records.Until e.1 records.Excluded) o records.Gone in
     ap (λ es. told (find (λ (e : records.Member). e.0 == s) es)) (sym are)
-    ∙ ap told (find_entry s ms ∙ ap (option_map entry_of) (sym found))
+    ∙ ap told (find_entry s ms ∙ ap (option_map member_entry) (sym found))
     ∙ of_option o
   where
-    of_option : (o : Option Member) → option_map_or (λ (e : records.Member). option_map_or records.Until e.1 records.Excluded) (option_map entry_of o) records.Gone ≡ option_map_or (λ (m : Member). fate_of (fate_at m.end)) o records.Gone
+    of_option : (o : Option Member) → option_map_or (λ (e : records.Member). option_map_or records.Until e.1 records.Excluded) (option_map member_entry o) records.Gone ≡ option_map_or (λ (m : Member). fate_of (fate_at m.end)) o records.Gone
     of_option None = refl
     of_option (Some m) = fate_at-is m.end
 
 -- the entries of those that stay are those that stay of the entries
 pub entries_of-filter : (p : records.Member → Bool) (ms : List Member)
-    → entries_of (filter (λ (m : Member). p (entry_of m)) ms) ≡ filter p (entries_of ms)
+    → member_entries (filter (λ (m : Member). p (member_entry m)) ms) ≡ filter p (member_entries ms)
 entries_of-filter p [] = refl
-entries_of-filter p (m ∷ ms) = elim (p (entry_of m)) as (λ b. entries_of (cond b (m ∷ filter (λ (m : Member). p (entry_of m)) ms) (filter (λ (m : Member). p (entry_of m)) ms)) ≡ cond b (entry_of m ∷ filter p (entries_of ms)) (filter p (entries_of ms))) [
-  | true ↦ ap (λ es. entry_of m ∷ es) (entries_of-filter p ms)
+entries_of-filter p (m ∷ ms) = elim (p (member_entry m)) as (λ b. member_entries (cond b (m ∷ filter (λ (m : Member). p (member_entry m)) ms) (filter (λ (m : Member). p (member_entry m)) ms)) ≡ cond b (member_entry m ∷ filter p (member_entries ms)) (filter p (member_entries ms))) [
+  | true ↦ ap (λ es. member_entry m ∷ es) (entries_of-filter p ms)
   | false ↦ entries_of-filter p ms
 ]
 
 -- the entries of what a change of each makes
-pub entries_of-map : (f : Member → Member) (g : records.Member → records.Member) → ((m : Member) → entry_of (f m) ≡ g (entry_of m))
-    → (ms : List Member) → entries_of (map f ms) ≡ map g (entries_of ms)
+pub entries_of-map : (f : Member → Member) (g : records.Member → records.Member) → ((m : Member) → member_entry (f m) ≡ g (member_entry m))
+    → (ms : List Member) → member_entries (map f ms) ≡ map g (member_entries ms)
 entries_of-map f g same [] = refl
 entries_of-map f g same (m ∷ ms) = λ i. same m i ∷ entries_of-map f g same ms i
 
 -- the same where the change was written through the slice of a vector
-pub entries_of-write : (f : Member → Member) (g : records.Member → records.Member) → ((m : Member) → entry_of (f m) ≡ g (entry_of m))
+pub entries_of-write : (f : Member → Member) (g : records.Member → records.Member) → ((m : Member) → member_entry (f m) ≡ g (member_entry m))
     → (v : SmallVec Member) (lent written : List Member) → lent ≡ v.items → written ≡ map f lent
-    → entries_of (with_items v written).items ≡ map g (entries_of v.items)
+    → member_entries (with_items v written).items ≡ map g (member_entries v.items)
 entries_of-write f g same v lent written shows changed =
     let whole : written ≡ map f v.items = changed ∙ ap (map f) shows in
     let long : length written ≡ length v.items = ap length whole ∙ length-map v.items f in
-    ap entries_of (items-with_items v written long ∙ whole) ∙ entries_of-map f g same v.items
+    ap member_entries (items-with_items v written long ∙ whole) ∙ entries_of-map f g same v.items
 
 -- each source of a member
 abbrev pub sources : List records.Member → List ℕ
@@ -120,10 +120,10 @@ filter-from_retain R test f says (x ∷ xs) ys h =
 abbrev pub excluded_at : ℕ → records.Member → records.Member
 excluded_at src e = cond (e.0 == src) (src, None) e
 
-pub entry_of-without_end : (src : ℕ) (m : Member) → entry_of (without_end src m) ≡ excluded_at src (entry_of m)
+pub entry_of-without_end : (src : ℕ) (m : Member) → member_entry (without_end src m) ≡ excluded_at src (member_entry m)
 entry_of-without_end src m = go (m.source.bits == src) refl
   where
-    go : (b : Bool) → (m.source.bits == src) ≡ b → entry_of (cond b (record m { end = None }) m) ≡ cond b (src, None) (entry_of m)
+    go : (b : Bool) → (m.source.bits == src) ≡ b → member_entry (cond b (record m { end = None }) m) ≡ cond b (src, None) (member_entry m)
     go true same = let numbers : m.source.bits ≡ src = grind (arith, nat_tests) in λ i. (numbers i, None)
     go false differs = refl
 
@@ -134,14 +134,14 @@ excluded_at-source src e = go (e.0 == src) refl
     go true same = grind (arith, nat_tests)
     go false differs = refl
 
-pub is_among-bits_of : (src : ℕ) (addresses : List Addr) → is_among src (bits_of addresses) ≡ is_named src addresses
+pub is_among-bits_of : (src : ℕ) (addresses : List Addr) → is_among src (bits_of addresses) ≡ is_named_source src addresses
 unfolding is_among
 is_among-bits_of src [] = refl
 is_among-bits_of src (a ∷ others) = ap (λ b. (a.bits == src) || b) (is_among-bits_of src others)
 
 pub entry_of-with_end_lowered : (addresses : List Addr) (end : ℕ) (m : Member)
-    → entry_of (with_end_lowered addresses end m) ≡ member_lowered (bits_of addresses) end (entry_of m)
-entry_of-with_end_lowered addresses end m = rw (is_among-bits_of m.source.bits addresses) (elim (is_named m.source.bits addresses) as (λ b. entry_of (cond b (record m { end = lowered end m.end }) m) ≡ cond b (m.source.bits, lowered end m.end) (entry_of m)) [
+    → member_entry (with_end_lowered addresses end m) ≡ member_lowered (bits_of addresses) end (member_entry m)
+entry_of-with_end_lowered addresses end m = rw (is_among-bits_of m.source.bits addresses) (elim (is_named_source m.source.bits addresses) as (λ b. member_entry (cond b (record m { end = lowered end m.end }) m) ≡ cond b (m.source.bits, lowered end m.end) (member_entry m)) [
   | true ↦ refl
   | false ↦ refl
 ])

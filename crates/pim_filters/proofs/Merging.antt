@@ -4,8 +4,8 @@ use Rattle.std.proofs.Common.{◌≡◌, ℕ, suc, ◌<◌, ◌≤◌, Bool, tru
 use Rattle.std.specs.List.{find}
 use Rattle.std.specs.Option.{option_map_or}
 use Rattle.std.proofs.lemmas.Bool.Decides.{nat_tests}
-use Rattle.pim_filters.specs.Cases.{CaseValue, cases_in, cases_with, member_case, new_case, value_of}
-use Rattle.pim_filters.specs.Members.{entries_of, fate_at, fate_of}
+use Rattle.pim_filters.specs.Cases.{CaseValue, cases_in, cases_with, member_case, new_case, case_value}
+use Rattle.pim_filters.specs.Members.{member_entries, fate_at, fate_of}
 use Rattle.pim_filters.specs.declared.case.Case.{Case}
 use Rattle.pim_filters.specs.declared.member.Member.{Member}
 use Rattle.pim_filters.proofs.Members.{fate_at-is, sources}
@@ -17,7 +17,7 @@ abbrev pub keys : List Case → List ℕ
 keys cs = map (λ (c : Case). c.source.bits) cs
 
 abbrev pub sources_in : List Member → List ℕ
-sources_in ms = sources (entries_of ms)
+sources_in ms = sources (member_entries ms)
 
 -- ---- what is among the cases
 
@@ -108,14 +108,14 @@ abbrev pub fate_among : List records.Member → ℕ → records.Fate
 fate_among es src = option_map_or (λ (e : records.Member). option_map_or records.Until e.1 records.Excluded) (find (λ (e : records.Member). e.0 == src) es) records.Gone
 
 fate_head : (m : Member) (ms : List Member) (k : ℕ) → (m.source.bits == k) ≡ true
-    → fate_among (entries_of (m ∷ ms)) k ≡ fate_of (fate_at m.end)
+    → fate_among (member_entries (m ∷ ms)) k ≡ fate_of (fate_at m.end)
 fate_head m ms k here = rw here (fate_at-is m.end)
 
 fate_tail : (m : Member) (ms : List Member) (k : ℕ) → (m.source.bits == k) ≡ false
-    → fate_among (entries_of (m ∷ ms)) k ≡ fate_among (entries_of ms) k
+    → fate_among (member_entries (m ∷ ms)) k ≡ fate_among (member_entries ms) k
 fate_tail m ms k apart = rw apart refl
 
-fate_none : (k : ℕ) (ms : List Member) → Below k (sources_in ms) → fate_among (entries_of ms) k ≡ records.Gone
+fate_none : (k : ℕ) (ms : List Member) → Below k (sources_in ms) → fate_among (member_entries ms) k ≡ records.Gone
 fate_none k [] below = refl
 fate_none k (m ∷ ms) below =
     let apart : (m.source.bits == k) ≡ false = grind (arith, nat_tests, below.0) in
@@ -140,7 +140,7 @@ AtLeast-zero (n ∷ ns) = (omega arith, AtLeast-zero ns)
 
 -- f and g tell, from a number on, what the members and the names do
 pub record Tells (low : ℕ) (f : ℕ → records.Fate) (g : ℕ → Bool) (ms : List Member) (ns : List ℕ) : Type 0 where
-  pub fates : (k : ℕ) → low ≤ k → f k ≡ fate_among (entries_of ms) k
+  pub fates : (k : ℕ) → low ≤ k → f k ≡ fate_among (member_entries ms) k
   pub names : (k : ℕ) → low ≤ k → g k ≡ is_among k ns
 
 module _ (f : ℕ → records.Fate) (g : ℕ → Bool) where
@@ -168,7 +168,7 @@ module _ (f : ℕ → records.Fate) (g : ℕ → Bool) where
   }
 
   values_new : (low : ℕ) (ns : List ℕ) → AtLeast low ns → Rises ns → Tells low f g [] ns
-      → map value_of (map new_case ns) ≡ told ns
+      → map case_value (map new_case ns) ≡ told ns
   values_new low [] least rises tells = refl
   values_new low (n ∷ ns) least rises tells =
       let named : g n ≡ true = tells.names n least.0 ∙ among_head n ns in
@@ -177,10 +177,10 @@ module _ (f : ℕ → records.Fate) (g : ℕ → Bool) where
   values_step : (low : ℕ) (m : Member) (ms : List Member) (n : ℕ) (ns : List ℕ) (b c : Bool)
       → nat_lt n m.source.bits ≡ b → (n == m.source.bits) ≡ c → low ≤ m.source.bits → low ≤ n
       → Below m.source.bits (sources_in ms) → Below n ns → Tells low f g (m ∷ ms) (n ∷ ns)
-      → (n < m.source.bits → map value_of (cases_in (m ∷ ms) ns) ≡ told (keys (cases_in (m ∷ ms) ns)))
-      → (n ≡ m.source.bits → map value_of (cases_in ms ns) ≡ told (keys (cases_in ms ns)))
-      → (m.source.bits < n → map value_of (cases_in ms (n ∷ ns)) ≡ told (keys (cases_in ms (n ∷ ns))))
-      → (let cs = cond b (new_case n ∷ cases_with m (cases_in ms) ns) (cond c (member_case true m ∷ cases_in ms ns) (member_case false m ∷ cases_in ms (n ∷ ns))) in map value_of cs ≡ told (keys cs))
+      → (n < m.source.bits → map case_value (cases_in (m ∷ ms) ns) ≡ told (keys (cases_in (m ∷ ms) ns)))
+      → (n ≡ m.source.bits → map case_value (cases_in ms ns) ≡ told (keys (cases_in ms ns)))
+      → (m.source.bits < n → map case_value (cases_in ms (n ∷ ns)) ≡ told (keys (cases_in ms (n ∷ ns))))
+      → (let cs = cond b (new_case n ∷ cases_with m (cases_in ms) ns) (cond c (member_case true m ∷ cases_in ms ns) (member_case false m ∷ cases_in ms (n ∷ ns))) in map case_value cs ≡ told (keys cs))
   values_step low m ms n ns true c less same first second below_ms below_ns tells earlier both later =
       let before : n < m.source.bits = grind (arith, nat_tests) in
       let gone : f n ≡ records.Gone = tells.fates n second ∙ fate_none n (m ∷ ms) (before, Below-lower n m.source.bits (sources_in ms) before below_ms) in
@@ -201,13 +201,13 @@ module _ (f : ℕ → records.Fate) (g : ℕ → Bool) where
 
   -- the cases tell of each of their sources what f and g do
   pub values_of_cases : (low : ℕ) (ms : List Member) (ns : List ℕ) → AtLeast low (sources_in ms) → AtLeast low ns
-      → Rises (sources_in ms) → Rises ns → Tells low f g ms ns → map value_of (cases_in ms ns) ≡ told (keys (cases_in ms ns))
+      → Rises (sources_in ms) → Rises ns → Tells low f g ms ns → map case_value (cases_in ms ns) ≡ told (keys (cases_in ms ns))
   values_of_cases low [] ns first second rises_ms rises_ns tells = values_new low ns second rises_ns tells ∙ ap told (sym (keys_new ns))
   values_of_cases low (m ∷ ms) [] first second rises_ms rises_ns tells =
       let here : (m.source.bits == m.source.bits) ≡ true = grind (arith, nat_tests) in
       let fate : f m.source.bits ≡ fate_of (fate_at m.end) = tells.fates m.source.bits first.0 ∙ fate_head m ms m.source.bits here in
       let unnamed : g m.source.bits ≡ false = tells.names m.source.bits first.0 ∙ none_below m.source.bits m.source.bits [] (omega arith) tt in
-      let later : map value_of (cases_in ms []) ≡ told (keys (cases_in ms [])) = values_of_cases (suc m.source.bits) ms [] (AtLeast-from_below m.source.bits (sources_in ms) rises_ms.0) tt rises_ms.1 tt (without_member low m ms [] first.0 tells) in
+      let later : map case_value (cases_in ms []) ≡ told (keys (cases_in ms [])) = values_of_cases (suc m.source.bits) ms [] (AtLeast-from_below m.source.bits (sources_in ms) rises_ms.0) tt rises_ms.1 tt (without_member low m ms [] first.0 tells) in
       λ i. (m.source.bits, sym fate i, sym unnamed i) ∷ later i
   values_of_cases low (m ∷ ms) (n ∷ ns) first second rises_ms rises_ns tells =
       values_step low m ms n ns (nat_lt n m.source.bits) (n == m.source.bits) refl refl first.0 second.0 rises_ms.0 rises_ns.0 tells

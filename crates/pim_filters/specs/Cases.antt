@@ -29,5 +29,5 @@ cases_in (m ∷ ms) ns = cases_with m (cases_in ms) ns
 abbrev pub CaseValue : Type 0
 CaseValue = ℕ × records.Fate × Bool
 
-abbrev pub value_of : Case → CaseValue
-value_of c = (c.source.bits, fate_of c.before, c.named)
+abbrev pub case_value : Case → CaseValue
+case_value c = (c.source.bits, fate_of c.before, c.named)

@@ -11,11 +11,11 @@ pub use Rattle.igmp_wire.specs.Written.{bits_of}
 use Rattle.pim_model.specs.Querier.{lowered}
 use Rattle.pim_model.specs.Records as records
 
-abbrev pub entry_of : Member → records.Member
-entry_of m = (m.source.bits, m.end)
+abbrev pub member_entry : Member → records.Member
+member_entry m = (m.source.bits, m.end)
 
-abbrev pub entries_of : List Member → List records.Member
-entries_of ms = map entry_of ms
+abbrev pub member_entries : List Member → List records.Member
+member_entries ms = map member_entry ms
 
 abbrev pub fate_of : Fate → records.Fate
 fate_of Gone = records.Gone
@@ -31,8 +31,8 @@ fate_at (Some end) = Until end
 abbrev pub IsAscending : List records.Member → Type 0
 IsAscending ms = IsStrictlySortedBy nat_cmp (map (λ (m : records.Member). m.0) ms)
 
-abbrev pub is_named : ℕ → List Addr → Bool
-is_named src addresses = list_any (λ (a : Addr). a.bits == src) addresses
+abbrev pub is_named_source : ℕ → List Addr → Bool
+is_named_source src addresses = list_any (λ (a : Addr). a.bits == src) addresses
 
 -- the member, excluded where it is of this source
 abbrev pub without_end : ℕ → Member → Member
@@ -40,4 +40,4 @@ without_end src m = if m.source.bits == src then record m { end = None } else m
 
 -- the member, with its end lowered to a moment where its source is named
 abbrev pub with_end_lowered : List Addr → ℕ → Member → Member
-with_end_lowered sources end m = if is_named m.source.bits sources then record m { end = lowered end m.end } else m
+with_end_lowered sources end m = if is_named_source m.source.bits sources then record m { end = lowered end m.end } else m

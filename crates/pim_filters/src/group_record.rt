@@ -35,17 +35,17 @@ impl Model for GroupRecord {
 
     ghost Value = { Record };
 
-    ghost use Rattle.pim_filters.specs.Members.{entries_of, IsAscending};
+    ghost use Rattle.pim_filters.specs.Members.{member_entries, IsAscending};
 
-    ghost view = { λ a. record { timer = a.timer; members = entries_of a.members.items } };
+    ghost view = { λ a. record { timer = a.timer; members = member_entries a.members.items } };
 
-    ghost invariant = { λ a. IsAscending (entries_of a.members.items) };
+    ghost invariant = { λ a. IsAscending (member_entries a.members.items) };
 }
 
 impl GroupRecord {
     ghost use Rattle.std.specs.Prelude.{◌≡◌, IfOk, OnErr, OnOk, is_some};
     ghost use Rattle.pim_filters.specs.Lowering.{group_lowered, sources_lowered};
-    ghost use Rattle.pim_filters.specs.Members.{IsAscending, entries_of, fate_of};
+    ghost use Rattle.pim_filters.specs.Members.{IsAscending, member_entries, fate_of};
     ghost use Rattle.pim_model.specs.Records.{apply_record, fate_in, group_expired, is_no_record, no_record, source_expired};
 
     /// No record of the group.
@@ -64,8 +64,8 @@ impl GroupRecord {
         timer: Option<u64>,
         members: &[Member],
     ) -> Result<GroupRecord, AllocError>
-        requires { IsAscending (entries_of members.now) }
-        ensures { IfOk result (λ made. made ≡ record { timer = timer; members = entries_of members.now }) }
+        requires { IsAscending (member_entries members.now) }
+        ensures { IfOk result (λ made. made ≡ record { timer = timer; members = member_entries members.now }) }
     {
         let members = SmallVec::from_slice(alloc, members)?;
         Ok(GroupRecord { timer, members })
@@ -94,7 +94,7 @@ impl GroupRecord {
 
     /// The sources, ascending by their addresses.
     pub fn members(&self) -> &[Member]
-        ensures members { entries_of result.now ≡ self.now.members }
+        ensures members { member_entries result.now ≡ self.now.members }
         ensures ascending { IsAscending self.now.members }
     {
         self.members.as_slice()

@@ -1,7 +1,7 @@
 //! A source of a group record, with its timer.
 ghost use Rattle.std.specs.Option.{option_map_or};
 ghost use Rattle.std.specs.Prelude.{◌≡◌, None, false, nat_lt};
-ghost use Rattle.pim_filters.specs.Members.{fate_at, fate_of, is_named, with_end_lowered, without_end};
+ghost use Rattle.pim_filters.specs.Members.{fate_at, fate_of, is_named_source, with_end_lowered, without_end};
 ghost use Rattle.pim_filters.specs.Rules.{kept_or};
 ghost use Rattle.pim_model.specs.Querier.{lowered};
 ghost use Rattle.pim_model.specs.Records.{is_running};
@@ -86,7 +86,7 @@ impl Member {
     pub(crate) fn with_end_lowered(self, sources: &[Addr], moment: u64) -> Member
         ensures { result ≡ with_end_lowered sources.now moment self }
     {
-        if is_named(self.source, sources) {
+        if is_named_source(self.source, sources) {
             let end = lowered_end(self.end, moment);
             return Member { end, ..self };
         }
@@ -109,8 +109,8 @@ pub(crate) fn lowered_end(end: Option<u64>, moment: u64) -> Option<u64>
 }
 
 /// Whether the source is named.
-fn is_named(source: Addr, sources: &[Addr]) -> bool
-    ensures { result ≡ is_named source.bits sources.now }
+fn is_named_source(source: Addr, sources: &[Addr]) -> bool
+    ensures { result ≡ is_named_source source.bits sources.now }
 {
     sources.iter().any(|named| named.bits == source.bits)
 }

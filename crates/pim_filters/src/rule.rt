@@ -4,7 +4,7 @@ ghost use Rattle.std.specs.Prelude.{◌≡◌, IfOk, filter, filter_map, map};
 ghost use Rattle.pim_filters.specs.Asking.{asked_in_order};
 ghost use Rattle.pim_filters.specs.Cases.{cases_in};
 ghost use Rattle.pim_filters.specs.Changes.{asked_after, entry_after, is_case_asked};
-ghost use Rattle.pim_filters.specs.Members.{entries_of, entry_of, fate_of};
+ghost use Rattle.pim_filters.specs.Members.{member_entries, member_entry, fate_of};
 ghost use Rattle.pim_filters.specs.Rules.{asks_group, asks_sources, fate_after, fresh_fate, is_asked, kept_or, timer_after};
 
 use crate::asking::Asking;
@@ -66,7 +66,7 @@ impl Rule {
 
     /// The source as a member afterwards.
     fn member_after(self, case: Case) -> Option<Member>
-        ensures { option_map entry_of result ≡ entry_after self case }
+        ensures { option_map member_entry result ≡ entry_after self case }
     {
         let source = case.source;
         match self.fate_after(case) {
@@ -86,7 +86,7 @@ impl Rule {
         members: &[Member],
         names: &[u32],
     ) -> Result<Members, AllocError>
-        ensures { IfOk result (λ after. entries_of after.items ≡ filter_map (entry_after self) (cases_in members.now names.now)) }
+        ensures { IfOk result (λ after. member_entries after.items ≡ filter_map (entry_after self) (cases_in members.now names.now)) }
     {
         let mut after = SmallVec::new(alloc);
         for case in (Cases { members, names }) {

@@ -11,9 +11,9 @@ use Rattle.pim_model.specs.Tables.{Table, has_row, keys_in, row_at}
 use Rattle.pim_laws.proofs.ListLaws.{any_among_all, each_both, each_more}
 use Rattle.pim_laws.proofs.RowLaws.{has_row_any}
 use Rattle.pim_laws.proofs.TableLaws.{any_of_map, row_is_there}
-use Rattle.pim_source_trie.specs.Entries.{nodes_visited, raised}
+use Rattle.pim_source_trie.specs.Entries.{address_bits, nodes_visited, raised}
 use Rattle.pim_source_trie.proofs.Visited.{raised_at_most, raised_more, visited_at_most}
-use Rattle.pim_membership.specs.Listing.{IsListed, There, in_entry, is_record_key, record_at, source_bits, told_of}
+use Rattle.pim_membership.specs.Listing.{IsListed, There, in_entry, is_record_key, timer_at, told_of}
 use Rattle.pim_membership.specs.Visits.{IsLookedUp}
 use Rattle.pim_membership.specs.declared.listed.Listed.{Listed}
 use Rattle.pim_membership.proofs.Told.{key_again, source_again}
@@ -32,7 +32,7 @@ module _ {X : Type 0} where
 
 -- the key of what is listed of a key's group and source
 abbrev entry_of : Key → Key
-entry_of k = key_of 0 (group_in k) (source_bits k.source) false
+entry_of k = key_of 0 (group_in k) (option_map address_bits k.source) false
 
 module _ {R : Type 0} (runs : R → Bool) (of_sources : Bool) (marks : Table Listed) (rows : Table R)
     (is : IsListed runs of_sources marks rows) where
@@ -46,8 +46,8 @@ module _ {R : Type 0} (runs : R → Bool) (of_sources : Bool) (marks : Table Lis
 
       listed : in_entry There (row_at marks (entry_of k)) (iface_in k) ≡ true
       listed =
-          is.told There (iface_in k) (group_in k) (source_bits k.source)
-          ∙ ap (λ q. told_of There (record_at runs rows q)) (key_again k fit)
+          is.told There (iface_in k) (group_in k) (option_map address_bits k.source)
+          ∙ ap (λ q. told_of There (timer_at runs rows q)) (key_again k fit)
           ∙ told_there (row_at rows k) there
 
       go : (o : Option Listed) → row_at marks (entry_of k) ≡ o → is_some o ≡ true

@@ -1,27 +1,16 @@
 -- When a change of records looks up what is listed.
 use Rattle.std.proofs.Common.{◌≡◌, ℕ, Bool, true, false, not, List, Option, Some, None, is_some, option_map, refl, ap, subst}
 use Rattle.std.specs.Bool.{beq}
+use Rattle.std.specs.Prelude.{Err, Ok, OnOk, Result}
 use Rattle.pim_ip.specs.declared.addr.Addr.{Addr}
 use Rattle.pim_types.specs.declared.fact.Key.{Key}
-use Rattle.pim_model.specs.Tables.{Table, has_row, row_at}
-use Rattle.pim_membership.specs.Listing.{record_key}
-use Rattle.pim_membership.specs.Visits.{IsLookedUp, Visits, changes_listed, is_listed_anew}
-use Rattle.pim_membership.proofs.Told.{source_again, tests_alike}
+use Rattle.pim_model.specs.Tables.{Table, has_row, keys_in, row_at}
+use Rattle.pim_membership.specs.Visits.{IsLookedUp, IsLookedUpWhere, changes_listed, is_listed_anew}
+use Rattle.pim_membership.proofs.Told.{tests_alike}
 
 module _ (keys : List Key) (group : Addr) (source : Option Addr) (old new : ℕ) where
-  pub looked_up_so : (b : Bool) → true ≡ b → IsLookedUp keys group source old new → Visits b keys group source old new
-  looked_up_so b so is = subst (λ (b : Bool). Visits b keys group source old new) so is
-
-  pub not_looked_up_so : (b : Bool) → false ≡ b → new ≡ old → Visits b keys group source old new
-  not_looked_up_so b so is = subst (λ (b : Bool). Visits b keys group source old new) so is
-
--- under the key of a record its group and its source
-pub at_record_key : (keys : List Key) (i : ℕ) (group : Addr) (source : Option Addr) (k : Key) (old new : ℕ) (b : Key → Bool)
-    → k ≡ record_key i group source → Visits (b k) keys k.group k.source old new
-    → Visits (b (record_key i group source)) keys group source old new
-at_record_key keys i group source k old new b is visited =
-    subst (λ (o : Option Addr). Visits (b (record_key i group source)) keys group o old new) (source_again source)
-    (subst (λ (k : Key). Visits (b k) keys k.group k.source old new) is visited)
+  pub looked_up_so : (b : Bool) → true ≡ b → IsLookedUp keys group source old new → IsLookedUpWhere b keys group source old new
+  looked_up_so b so is = subst (λ (b : Bool). IsLookedUpWhere b keys group source old new) so is
 
 module _ {R : Type 0} (runs : R → Bool) where
   -- a row that isn't listed anew is listed as the one that is there
@@ -43,6 +32,13 @@ module _ {R : Type 0} (runs : R → Bool) where
       go None e = cc
       go (Some before) e = refl
 
-  pub changes_nothing : (row : R) (o : Option R) → o ≡ None → false ≡ changes_listed runs row o
-  changes_nothing row None e = refl
-  changes_nothing row (Some before) e = cc
+  -- a row that comes under a key that has none, after it was sought there
+  pub comes_listed : (row : R) (o : Option R) → o ≡ None → (t t' : Table R) → t' ≡ t → (group : Addr) (source : Option Addr)
+      (old between new : ℕ) → IsLookedUpWhere (changes_listed runs row o) (keys_in t) group source old between
+      → {T E : Type 0} (result : Result T E) → OnOk result (IsLookedUp (keys_in t') group source between new)
+      → OnOk result (IsLookedUpWhere (is_listed_anew runs row o) (keys_in t) group source old new)
+  comes_listed row o none t t' same group source old between new sought (Err e) visited = tt
+  comes_listed row (Some before) none t t' same group source old between new sought (Ok x) visited = cc
+  comes_listed row None none t t' same group source old between new sought (Ok x) visited =
+      subst (λ (n : ℕ). IsLookedUp (keys_in t) group source n new) sought
+      (subst (λ (u : Table R). IsLookedUp (keys_in u) group source between new) same visited)

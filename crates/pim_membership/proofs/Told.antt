@@ -4,31 +4,27 @@ use Rattle.std.specs.Bool.{beq}
 use Rattle.std.specs.Cmp.{first_so, second_so}
 use Rattle.std.specs.Cmp.Derive.{both_true}
 use Rattle.std.specs.List.{AllByRecursion, filter, list_all}
+use Rattle.std.specs.List.Sorted.{IsStrictlySortedBy}
 use Rattle.std.specs.Option.{option_map_or}
 use Rattle.std.proofs.lemmas.Bool.Decides.{nat_tests}
 use Rattle.pim_ip.specs.declared.addr.Addr.{Addr}
 use Rattle.pim_types.specs.declared.fact.Key.{Key}
-use Rattle.pim_types.specs.Keys.{iface_in, key_of, same_key}
+use Rattle.pim_types.specs.Keys.{iface_in, key_cmp, key_of, same_key}
 use Rattle.pim_types.proofs.Keys.{equal_keys}
 use Rattle.pim_model.specs.Records.{is_at_group}
-use Rattle.pim_model.specs.Tables.{Table, drop_at, drop_where, has_row, put, row_at}
+use Rattle.pim_model.specs.Tables.{Table, change_row, drop_at, drop_where, has_row, keys_in, put, row_at}
 use Rattle.pim_laws.proofs.ListLaws.{each_filter, each_more, list_of_each}
 use Rattle.pim_laws.proofs.RowLaws.{each_put}
 use Rattle.pim_laws.proofs.TableLaws.{row_of_each}
 use Rattle.pim_tables.proofs.Lookups.{row_at-drop_at, row_at-put}
-use Rattle.pim_membership.specs.Listing.{IsListed, Lists, Side, is_record_key, listed, record_at, record_key, told_of, There, Running}
+use Rattle.pim_tables.proofs.Updates.{put_updated}
+use Rattle.pim_membership.specs.Listing.{IsListed, Lists, Side, is_record_key, listed, timer_at, record_key, told_of, There, Running}
 use Rattle.pim_membership.specs.declared.listed.Listed.{Listed}
 
 -- ---- keys
 
-below_limit : (n : ℕ) → n < 120 → nat_lt n 120 ≡ true
-below_limit n h = grind (arith, nat_tests)
-
 pub limit_below : (n : ℕ) → nat_lt n 120 ≡ true → n < 120
 limit_below n e = grind (arith, nat_tests, e)
-
-pub fits_at : (n : ℕ) (group : Addr) (source : Option Addr) → n < 120 → is_record_key (record_key n group source) ≡ true
-fits_at n group source h = both_true (below_limit n h) refl
 
 pub not_rpt : (b : Bool) → not b ≡ true → b ≡ false
 not_rpt true e = cc
@@ -37,11 +33,6 @@ not_rpt false e = refl
 pub source_again : (o : Option Addr) → option_map (λ n. record { bits = n }) (option_map (λ (a : Addr). a.bits) o) ≡ o
 source_again None = refl
 source_again (Some a) = refl
-
--- a record is of a source where its key has one
-pub source_in_key : (n : ℕ) (group : Addr) (source : Option Addr)
-    → is_some (record_key n group source).source ≡ is_some source
-source_in_key n group source = ap is_some (source_again source)
 
 -- the key of a record, read and written again
 pub key_again : (k : Key) → is_record_key k ≡ true → record_key (iface_in k) k.group k.source ≡ k
@@ -112,14 +103,14 @@ module _ {R : Type 0} (runs : R → Bool) (of_sources : Bool) (t : Table Listed)
     (before : IsListed runs of_sources t rows) (k : Key) where
   told_after : (row : Option R) (t' : Table Listed) (rows' : Table R) → Lists t t' k (option_map runs row)
       → ((q : Key) → row_at rows' q ≡ cond (same_key q k) row (row_at rows q))
-      → (x : Side) (i g : ℕ) (s : Option ℕ) → listed t' x i g s ≡ told_of x (record_at runs rows' (key_of i g s false))
+      → (x : Side) (i g : ℕ) (s : Option ℕ) → listed t' x i g s ≡ told_of x (timer_at runs rows' (key_of i g s false))
   told_after row t' rows' lists found x i g s =
       lists x i g s
       ∙ ap (λ (v : Bool). cond (same_key (key_of i g s false) k) (told_of x (option_map runs row)) v) (before.told x i g s)
       ∙ go (same_key (key_of i g s false) k)
       ∙ ap (λ (o : Option R). told_of x (option_map runs o)) (sym (found (key_of i g s false)))
     where
-      go : (b : Bool) → cond b (told_of x (option_map runs row)) (told_of x (record_at runs rows (key_of i g s false)))
+      go : (b : Bool) → cond b (told_of x (option_map runs row)) (told_of x (timer_at runs rows (key_of i g s false)))
           ≡ told_of x (option_map runs (cond b row (row_at rows (key_of i g s false))))
       go true = refl
       go false = refl
@@ -133,6 +124,16 @@ module _ {R : Type 0} (runs : R → Bool) (of_sources : Bool) (t : Table Listed)
     told = told_after (Some row) t' rows' lists (λ q. ap (λ (u : Table R). row_at u q) is ∙ row_at-put k q rows row);
     fit = subst Fits (sym is) (each_put k row (λ (e : Key × R). is_record_key e.0 ≡ true) fit rows before.fit);
   }
+
+  -- a row that is there becomes another
+  pub listed_updated : (last row : R) (t' : Table Listed) (rows' : Table R) → row_at rows k ≡ Some last
+      → IsStrictlySortedBy key_cmp (keys_in rows) → rows' ≡ change_row (λ _. Some row) k rows
+      → Lists t t' k (Some (runs row)) → IsListed runs of_sources t' rows'
+  unfolding has_row
+  listed_updated last row t' rows' found sorted is lists =
+      listed_put row t' rows' (fits_there k rows before.fit (ap is_some found))
+      (kind_there of_sources k rows before.kind (ap is_some found))
+      (is ∙ sym (put_updated k (λ _. row) rows last row found refl sorted)) lists
 
   pub listed_dropped : (t' : Table Listed) (rows' : Table R) → rows' ≡ drop_at rows k → Lists t t' k None
       → IsListed runs of_sources t' rows'
@@ -151,16 +152,15 @@ module _ {R : Type 0} (runs : R → Bool) (of_sources : Bool) (t : Table Listed)
           → listed t x i g s ≡ cond b (told_of x (Some (runs row))) (listed t x i g s)
       go true same =
           before.told x i g s
-          ∙ ap (λ (q : Key). told_of x (record_at runs rows q)) (equal_keys (key_of i g s false) k same)
+          ∙ ap (λ (q : Key). told_of x (timer_at runs rows q)) (equal_keys (key_of i g s false) k same)
           ∙ ap (told_of x) (ap (option_map runs) found ∙ alike)
       go false other = refl
 
   -- a row that was refused, and is taken out again
-  pub listed_refused : (timer : Option Bool) (t1 t2 : Table Listed) (rows' : Table R) (q : Key) → k ≡ q
-      → rows' ≡ drop_at rows k → Lists t t1 k timer → Lists t1 t2 q None → IsListed runs of_sources t2 rows'
-  listed_refused timer t1 t2 rows' q same is one two =
-      listed_dropped t2 rows' is
-      (lists_again k timer None t t1 t2 one (subst (λ (p : Key). Lists t1 t2 p None) (sym same) two))
+  pub listed_refused : (timer : Option Bool) (t1 t2 : Table Listed) (rows' : Table R) → rows' ≡ drop_at rows k
+      → Lists t t1 k timer → Lists t1 t2 k None → IsListed runs of_sources t2 rows'
+  listed_refused timer t1 t2 rows' is one two =
+      listed_dropped t2 rows' is (lists_again k timer None t t1 t2 one two)
 
 pub none_listed : {R : Type 0} (runs : R → Bool) (of_sources : Bool) (t : Table Listed) (rows : Table R) → t ≡ []
     → rows ≡ [] → IsListed runs of_sources t rows
@@ -168,7 +168,7 @@ unfolding row_at
 none_listed runs of_sources t rows empty none = record {
   kind = subst (AreOfKind of_sources) (sym none) tt;
   told = λ x i g s. ap (λ (u : Table Listed). listed u x i g s) empty ∙ go x
-      ∙ ap (λ (u : Table _). told_of x (record_at runs u (key_of i g s false))) (sym none);
+      ∙ ap (λ (u : Table _). told_of x (timer_at runs u (key_of i g s false))) (sym none);
   fit = subst Fits (sym none) tt;
 }
   where

@@ -1,5 +1,5 @@
 -- What is listed of one group, or of one source, and then of all.
-use Rattle.std.proofs.Common.{◌≡◌, ◌==◌, ◌&&◌, ℕ, Bool, true, false, cond, Option, Some, None, refl, sym, ap, ◌∙◌, arith}
+use Rattle.std.proofs.Common.{◌≡◌, ◌==◌, ◌&&◌, ℕ, Bool, true, false, cond, Option, Some, None, option_map, refl, sym, ap, ◌∙◌, arith}
 use Rattle.std.specs.Ordering.{is_eq, nat_cmp, ordering_then}
 use Rattle.std.specs.Prelude.{Err, Ok, OnErr, OnOk, Result}
 use Rattle.std.specs.declared.cmp.Ordering.{Ordering}
@@ -11,8 +11,8 @@ use Rattle.pim_types.specs.Keys.{key_cmp, key_of, same_key}
 use Rattle.pim_types.proofs.Keys.{equal_keys}
 use Rattle.pim_model.specs.Tables.{Table, drop_at, put, row_at}
 use Rattle.pim_tables.proofs.Lookups.{row_at-drop_at, row_at-put}
-use Rattle.pim_source_trie.specs.Entries.{entry_key}
-use Rattle.pim_membership.specs.Listing.{Lists, Side, ListsAt, in_entry, in_side, listed, record_key, source_bits, told_of, There, Running}
+use Rattle.pim_source_trie.specs.Entries.{address_bits, entry_key}
+use Rattle.pim_membership.specs.Listing.{Lists, Side, ListsAt, in_entry, in_side, listed, record_key, told_of, There, Running}
 use Rattle.pim_membership.specs.declared.listed.Listed.{Listed}
 
 -- ---- entries
@@ -66,7 +66,7 @@ place_is i g s n group source =
     ∙ ap (λ (b : Bool). b && same_key (key_of 0 g s false) (entry_key group source)) (numbers_tie i n)
 
 module _ (t t' : Table Listed) (n : ℕ) (group : Addr) (source : Option Addr) (timer : Option Bool) (old new : Listed)
-    (got : (x : Side) (i : ℕ) → in_side x old i ≡ listed t x i group.bits (source_bits source))
+    (got : (x : Side) (i : ℕ) → in_side x old i ≡ listed t x i group.bits (option_map address_bits source))
     (made : (x : Side) (i : ℕ) → in_side x new i ≡ cond (i == n) (told_of x timer) (in_side x old i)) where
   set_step : (b c told here before : Bool) → (b ≡ true → here ≡ before)
       → cond b (cond c told here) before ≡ cond (c && b) told before

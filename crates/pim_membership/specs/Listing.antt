@@ -7,6 +7,7 @@ use Rattle.pim_ifset.specs.Members.{has}
 use Rattle.pim_types.specs.declared.fact.Key.{Key}
 use Rattle.pim_types.specs.Keys.{iface_in, key_of, same_key}
 use Rattle.pim_model.specs.Tables.{Table, row_at}
+use Rattle.pim_source_trie.specs.Entries.{address_bits}
 use Rattle.pim_membership.specs.declared.listed.Listed.{Listed}
 
 -- the interfaces with a record, and those where its timer runs
@@ -23,12 +24,9 @@ abbrev pub told_of : Side → Option Bool → Bool
 told_of There timer = is_some timer
 told_of Running timer = unwrap_or timer false
 
-abbrev pub source_bits : Option Addr → Option ℕ
-source_bits source = option_map (λ (a : Addr). a.bits) source
-
 -- the key of a record: of a group, where there is no source, or of a source of it
 abbrev pub record_key : ℕ → Addr → Option Addr → Key
-record_key i group source = key_of i group.bits (source_bits source) false
+record_key i group source = key_of i group.bits (option_map address_bits source) false
 
 -- nothing is listed where there is no entry
 abbrev pub in_entry : Side → Option Listed → ℕ → Bool
@@ -56,12 +54,12 @@ is_record_key k = nat_lt (iface_in k) 120 && not k.rpt
 
 module _ {R : Type 0} (runs : R → Bool) where
   -- the record under a key, if there is one: whether its timer runs
-  abbrev pub record_at : Table R → Key → Option Bool
-  record_at rows k = option_map runs (row_at rows k)
+  abbrev pub timer_at : Table R → Key → Option Bool
+  timer_at rows k = option_map runs (row_at rows k)
 
   -- what is listed is what the rows say, and each is under a key of its kind: of groups, or of their sources
   pub record IsListed (of_sources : Bool) (marks : Table Listed) (rows : Table R) : Type 0 where
     pub told : (x : Side) (i g : ℕ) (s : Option ℕ)
-        → listed marks x i g s ≡ told_of x (record_at rows (key_of i g s false))
+        → listed marks x i g s ≡ told_of x (timer_at rows (key_of i g s false))
     pub fit : AllByRecursion (λ (e : Key × R). is_record_key e.0 ≡ true) rows
     pub kind : AllByRecursion (λ (e : Key × R). is_some (e.0).source ≡ of_sources) rows

@@ -16,9 +16,9 @@ pub record IsLookedUp (keys : List Key) (group : Addr) (source : Option Addr) (o
   pub at_most : new ≤ old + 66
 
 -- it was looked up, or nothing was
-abbrev pub Visits : Bool → List Key → Addr → Option Addr → (old new : ℕ) → Type 0
-Visits true keys group source old new = IsLookedUp keys group source old new
-Visits false keys group source old new = new ≡ old
+abbrev pub IsLookedUpWhere : Bool → List Key → Addr → Option Addr → (old new : ℕ) → Type 0
+IsLookedUpWhere true keys group source old new = IsLookedUp keys group source old new
+IsLookedUpWhere false keys group source old new = new ≡ old
 
 module _ {R : Type 0} (runs : R → Bool) where
   -- a row is listed anew where there was none, or one whose timer runs while this one's doesn't, or the other way round

@@ -1,9 +1,9 @@
 //! What is listed of all groups and sources.
-ghost use Rattle.std.specs.Prelude.{◌≡◌, ◌<◌, ◌≤◌, ◌+◌, [], ℕ, None, Some, OnErr, OnOk, filter};
+ghost use Rattle.std.specs.Prelude.{◌≡◌, ◌<◌, ◌≤◌, ◌+◌, [], ℕ, None, Some, OnErr, OnOk, filter, option_map};
 ghost use Rattle.pim_model.specs.Tables.{keys_in, row_at};
-ghost use Rattle.pim_source_trie.specs.Entries.{entry_key, nodes_visited, raised};
+ghost use Rattle.pim_source_trie.specs.Entries.{address_bits, entry_key, nodes_visited, raised};
 ghost use Rattle.pim_types.specs.Keys.{is_of_group};
-ghost use Rattle.pim_membership.specs.Listing.{Lists, ListsAt, Side, in_side, listed, record_key, source_bits};
+ghost use Rattle.pim_membership.specs.Listing.{Lists, ListsAt, Side, in_side, listed, record_key};
 
 use crate::listed::Listed;
 use pim_ip::Addr;
@@ -39,7 +39,7 @@ impl Index {
 
     // What is listed of (*,G), where `source` is `None`, or of a source of the group.
     pub(crate) fn get(&self, group: Addr, source: Option<Addr>, meter: &mut Meter) -> Listed
-        ensures sides { (x : Side) (i : ℕ) → in_side x result i ≡ listed self.now x i group.bits (source_bits source) }
+        ensures sides { (x : Side) (i : ℕ) → in_side x result i ≡ listed self.now x i group.bits (option_map address_bits source) }
         ensures visited { meter.new ≡ raised meter.old (nodes_visited (keys_in self.now) group source) }
     {
         match self.entries.get(group, source, meter) {

@@ -18,7 +18,7 @@ ghost use Rattle.pim_types.specs.declared.fact.GroupRecordRow.{GroupRecordRow as
 ghost use Rattle.pim_types.specs.declared.fact.SourceRecordRow.{SourceRecordRow as SourceRecord};
 ghost use Rattle.pim_membership.specs.MembershipTables.{counted_records, membership_endings, membership_keys, no_membership};
 ghost use Rattle.pim_membership.specs.Sources.{NameNone};
-ghost use Rattle.pim_membership.specs.Visits.{IsLookedUp, Visits, changes_listed, nodes_to_each, nodes_to_sources, sets_listed};
+ghost use Rattle.pim_membership.specs.Visits.{IsLookedUp, IsLookedUpWhere, changes_listed, nodes_to_each, nodes_to_sources, sets_listed};
 
 use crate::records::Records;
 use crate::repeats::Repeats;
@@ -174,7 +174,7 @@ impl Membership {
         ensures set { OnOk result (self.new ≡ record self.old {
           group_records = set_row self.old.group_records (star_key iface.number group.bits) row;
         }) }
-        ensures visited { OnOk result (Visits (sets_listed (λ (r : GroupRecord). is_some r.end) row
+        ensures visited { OnOk result (IsLookedUpWhere (sets_listed (λ (r : GroupRecord). is_some r.end) row
             (row_at self.old.group_records (star_key iface.number group.bits)))
             (keys_in self.old.group_records) group None meter.old meter.new) }
     {
@@ -208,7 +208,7 @@ impl Membership {
             → self.new ≡ record self.old {
               group_records = change_row change (star_key iface.number group.bits) self.old.group_records;
             }) }
-        ensures visited { OnOk result (Visits (changes_listed (λ (r : GroupRecord). is_some r.end) row
+        ensures visited { OnOk result (IsLookedUpWhere (changes_listed (λ (r : GroupRecord). is_some r.end) row
             (row_at self.old.group_records (star_key iface.number group.bits)))
             (keys_in self.old.group_records) group None meter.old meter.new) }
     {
@@ -271,7 +271,7 @@ impl Membership {
         ensures set { OnOk result (self.new ≡ record self.old {
           source_records = set_row self.old.source_records (source_key iface.number group.bits source.bits) row;
         }) }
-        ensures visited { OnOk result (Visits (sets_listed (λ (r : SourceRecord). is_some r.end) row
+        ensures visited { OnOk result (IsLookedUpWhere (sets_listed (λ (r : SourceRecord). is_some r.end) row
             (row_at self.old.source_records (source_key iface.number group.bits source.bits)))
             (keys_in self.old.source_records) group (Some source) meter.old meter.new) }
     {
@@ -314,7 +314,7 @@ impl Membership {
         ensures changed { OnOk result (self.new ≡ record self.old {
           source_records = change_row (λ _. Some row) key self.old.source_records;
         }) }
-        ensures visited { OnOk result (Visits (changes_listed (λ (r : SourceRecord). is_some r.end) row
+        ensures visited { OnOk result (IsLookedUpWhere (changes_listed (λ (r : SourceRecord). is_some r.end) row
             (row_at self.old.source_records key))
             (keys_in self.old.source_records) key.group key.source meter.old meter.new) }
     {

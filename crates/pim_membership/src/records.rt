@@ -1,5 +1,5 @@
 //! The records of one kind, of groups or of their sources, with the interfaces that have them.
-ghost use Rattle.std.specs.Prelude.{◌≡◌, ◌<◌, ◌≤◌, ◌+◌, ◌∷◌, [], length, ℕ, Bool, None, Option, Some, IfSome, IsTrue, OnErr, OnOk, false, true, filter, is_some, nat_lt, option_map};
+ghost use Rattle.std.specs.Prelude.{◌≡◌, ◌<◌, ◌≤◌, ◌+◌, ◌∷◌, [], refl, length, ℕ, Bool, None, Option, Some, IfOk, IfSome, IsTrue, OnErr, OnOk, false, true, filter, is_some, nat_lt, option_map};
 ghost use Rattle.std.specs.List.{AllByRecursion, list_all, list_any};
 ghost use Rattle.std.specs.List.Sorted.{IsStrictlySortedBy};
 ghost use Rattle.std.specs.Option.{option_map_or};
@@ -14,13 +14,13 @@ ghost use Rattle.pim_ifset.specs.Members.{has};
 ghost use Rattle.pim_source_trie.specs.Entries.{nodes_visited, raised};
 ghost use Rattle.pim_membership.specs.Sources.{Gathers};
 ghost use Rattle.pim_membership.specs.Listing.{IsListed, Lists, is_record_key, record_key};
-ghost use Rattle.pim_membership.specs.Visits.{IsLookedUp, Visits, changes_listed, is_listed_anew, nodes_to_each, nodes_to_sources, sets_listed};
+ghost use Rattle.pim_membership.specs.Visits.{IsLookedUp, IsLookedUpWhere, changes_listed, is_listed_anew, nodes_to_each, nodes_to_sources, sets_listed};
 
 use crate::index::Index;
 use crate::listed::Listed;
 use pim_ip::Addr;
 use pim_source_trie::Meter;
-use pim_tables::{Ends, RowsOf, Timed};
+use pim_tables::{Ends, RowsOf, Timed, To};
 use pim_types::fact::{GroupRecordRow, SourceRecordRow};
 use pim_types::{IfaceId, Key, SourceGroup, Timer};
 use std::alloc::{AllocError, Global};
@@ -39,6 +39,9 @@ pub(crate) trait Record: Ends {
     // Whether the row's timer runs.
     fn is_running(self) -> bool
         ensures { result ≡ runs self };
+
+    // A row has no other timer.
+    ghost one_end: { Self.kinds.1 ≡ None };
 }
 
 impl Record for GroupRecordRow {
@@ -49,6 +52,8 @@ impl Record for GroupRecordRow {
     fn is_running(self) -> bool {
         self.end.is_some()
     }
+
+    ghost one_end = { refl };
 }
 
 impl Record for SourceRecordRow {
@@ -59,6 +64,8 @@ impl Record for SourceRecordRow {
     fn is_running(self) -> bool {
         self.end.is_some()
     }
+
+    ghost one_end = { refl };
 }
 
 // The records of one kind.
@@ -221,12 +228,12 @@ impl<R: Record> Records<R> {
         requires below { iface.number < 120 }
         requires kind { is_some source ≡ R.of_sources }
         ensures set { OnOk result (self.new ≡ set_row self.old (record_key iface.number group source) row) }
-        ensures visited { OnOk result (Visits
+        ensures visited { OnOk result (IsLookedUpWhere
             (sets_listed R.runs row (row_at self.old (record_key iface.number group source)))
             (keys_in self.old) group source meter.old meter.new) }
     {
         match row {
-            Some(row) => self.put(iface, group, source, row, meter),
+            Some(row) => self.put(record_key(iface, group, source), row, meter),
             None => {
                 self.remove(iface, group, source, meter);
                 Ok(())
@@ -234,28 +241,57 @@ impl<R: Record> Records<R> {
         }
     }
 
-    // Puts the record there, in place of one that is there. An error is want of memory.
-    fn put(
-        &mut self,
-        iface: IfaceId,
-        group: Addr,
-        source: Option<Addr>,
-        row: R,
-        meter: &mut Meter,
-    ) -> Result<(), AllocError>
-        requires below { iface.number < 120 }
-        requires kind { is_some source ≡ R.of_sources }
-        ensures put { OnOk result (self.new ≡ put self.old (record_key iface.number group source) row) }
-        ensures visited { OnOk result (Visits
-            (is_listed_anew R.runs row (row_at self.old (record_key iface.number group source)))
-            (keys_in self.old) group source meter.old meter.new) }
+    // Puts the record under the key, in place of one that is there. An error is want of memory.
+    fn put(&mut self, key: Key, row: R, meter: &mut Meter) -> Result<(), AllocError>
+        requires fit { IsTrue (is_record_key key) }
+        requires kind { is_some key.source ≡ R.of_sources }
+        ensures put { OnOk result (self.new ≡ put self.old key row) }
+        ensures visited { OnOk result (IsLookedUpWhere (is_listed_anew R.runs row (row_at self.old key))
+            (keys_in self.old) key.group key.source meter.old meter.new) }
     {
-        let key = record_key(iface, group, source);
-        relist(&self.rows, &mut self.index, key, row, meter)?;
-        if let Err(refused) = self.rows.put(key, row) {
-            // The record that was there may be listed otherwise now: it goes.
-            self.rows.remove(key);
-            self.index.unlist(iface, group, source, meter);
+        // What is put under a key that is there stands in its place.
+        self.recall_rising();
+        if self.update(key, row, meter)? {
+            return Ok(());
+        }
+        self.add(key, row, meter)
+    }
+
+    // Changes the record under the key, where there is one, to this one; whether there is one. It is looked up once. An
+    // error is want of memory.
+    fn update(&mut self, key: Key, row: R, meter: &mut Meter) -> Result<bool, AllocError>
+        ensures changed { OnOk result (self.new ≡ change_row (λ _. Some row) key self.old) }
+        ensures there { IfOk result (λ there. there ≡ has_row self.old key) }
+        ensures visited { OnOk result (IsLookedUpWhere (changes_listed R.runs row (row_at self.old key))
+            (keys_in self.old) key.group key.source meter.old meter.new) }
+    {
+        // A key stands once.
+        self.rows.recall_rising();
+        let Some(before) = self.rows.update(None, key, To { row })? else {
+            return Ok(false);
+        };
+        if !is_listed_anew(before, row) {
+            return Ok(true);
+        }
+        if let Err(refused) = list_record(&mut self.index, key, row, meter) {
+            // The record is listed as the one before.
+            drop_listed(&mut self.rows, &mut self.index, key, meter);
+            return Err(refused);
+        }
+        Ok(true)
+    }
+
+    // Puts a record under a key that has none. An error is want of memory.
+    fn add(&mut self, key: Key, row: R, meter: &mut Meter) -> Result<(), AllocError>
+        requires fit { IsTrue (is_record_key key) }
+        requires kind { is_some key.source ≡ R.of_sources }
+        requires absent { row_at self.old key ≡ None }
+        ensures put { OnOk result (self.new ≡ put self.old key row) }
+        ensures visited { OnOk result (IsLookedUp (keys_in self.old) key.group key.source meter.old meter.new) }
+    {
+        list_record(&mut self.index, key, row, meter)?;
+        if let Err(refused) = self.rows.add(key, row) {
+            drop_listed(&mut self.rows, &mut self.index, key, meter);
             return Err(refused);
         }
         Ok(())
@@ -282,14 +318,12 @@ impl<R: Record> Records<R> {
         ensures by { OnOk result ((change : R → Option R)
             → IfSome (row_at self.old key) (λ before. change before ≡ Some row)
             → self.new ≡ change_row change key self.old) }
-        ensures visited { OnOk result (Visits (changes_listed R.runs row (row_at self.old key))
+        ensures visited { OnOk result (IsLookedUpWhere (changes_listed R.runs row (row_at self.old key))
             (keys_in self.old) key.group key.source meter.old meter.new) }
     {
-        // What is put under a key that is there stands in its place.
-        self.rows.recall_rising();
-        if self.rows.contains(key) {
-            self.put(key.iface, key.group, key.source, row, meter)?;
-        }
+        // A key stands once.
+        self.recall_rising();
+        self.update(key, row, meter)?;
         Ok(())
     }
 
@@ -356,34 +390,35 @@ fn record_key(iface: IfaceId, group: Addr, source: Option<Addr>) -> Key
     }
 }
 
-// Whether the row is listed otherwise than the one before, or there was none.
-fn is_listed_anew<R: Record>(before: Option<R>, row: R) -> bool
-    ensures { result ≡ is_listed_anew R.runs row before }
+// Whether the row is listed otherwise than the one before.
+fn is_listed_anew<R: Record>(before: R, row: R) -> bool
+    ensures { result ≡ is_listed_anew R.runs row (Some before) }
 {
-    match before {
-        Some(before) => before.is_running() != row.is_running(),
-        None => true,
-    }
+    before.is_running() != row.is_running()
 }
 
-// Lists the interface as the row under the key has it, unless the one that is there has it so. An error is want of
-// memory, and then nothing has changed.
-fn relist<R: Record>(
-    rows: &Timed<R>,
+// Lists the interface of the key as the row under it has it. An error is want of memory, and then nothing has changed.
+fn list_record<R: Record>(
     index: &mut Index,
     key: Key,
     row: R,
     meter: &mut Meter,
 ) -> Result<(), AllocError>
-    requires near { IsTrue (is_record_key key) }
-    requires listed { IsListed R.runs R.of_sources index.old rows.now }
+    requires { IsTrue (is_record_key key) }
     ensures ok { OnOk result (Lists index.old index.new key (Some (R.runs row))) }
     ensures err { OnErr result (index.new ≡ index.old) }
-    ensures visited { Visits (is_listed_anew R.runs row (row_at rows.now key)) (keys_in rows.now) key.group key.source
-        meter.old meter.new }
+    ensures visited { meter.new ≡ raised meter.old (nodes_visited (keys_in index.old) key.group key.source) }
 {
-    if !is_listed_anew(rows.get(key), row) {
-        return Ok(());
-    }
     index.list(key.iface, key.group, key.source, row.is_running(), meter)
+}
+
+// Takes the record under the key away, and its interface out of what is listed.
+fn drop_listed<R: Record>(rows: &mut Timed<R>, index: &mut Index, key: Key, meter: &mut Meter)
+    requires { IsTrue (is_record_key key) }
+    ensures removed { rows.new ≡ drop_at rows.old key }
+    ensures unlisted { Lists index.old index.new key None }
+    ensures visited { meter.new ≡ raised meter.old (nodes_visited (keys_in index.old) key.group key.source) }
+{
+    rows.remove(key);
+    index.unlist(key.iface, key.group, key.source, meter);
 }

@@ -14,7 +14,7 @@ use Rattle.pim_ip.specs.declared.addr.Prefix.{Prefix}
 use Rattle.pim_ip.specs.Prefixes.{contains, longer, longest_match}
 use Rattle.pim_trie.specs.Entries.{is_canonical, nodes_along, prefix_cmp}
 use Rattle.pim_trie.proofs.Counts.{along_same}
-use Rattle.pim_mrib.specs.Index.{IsIndexOf, entry_of, nodes_visited}
+use Rattle.pim_mrib.specs.Index.{IsIndexOf, prefix_entry, nodes_visited}
 use Rattle.pim_mrib.proofs.Inserted.{any-insert, is_some-lookup}
 use Rattle.pim_mrib.proofs.Longest.{candidates_swap, ties_are_equal, with_candidate}
 
@@ -115,40 +115,40 @@ module _ {T : Type 0} (prefix_of : T → Prefix) where
 
   -- what is canonical as entries
   pub none_uncanonical : (values : List T) → list_all canonical values ≡ true
-      → list_any (λ (e : Prefix × T). not (is_canonical e.0)) (map (entry_of prefix_of) values) ≡ false
+      → list_any (λ (e : Prefix × T). not (is_canonical e.0)) (map (prefix_entry prefix_of) values) ≡ false
   none_uncanonical [] h = refl
   none_uncanonical (value ∷ values) h = go (canonical value) h (none_uncanonical values)
     where
       go : (b : Bool) → (b && list_all canonical values) ≡ true
           → (list_all canonical values ≡ true
-          → list_any (λ (e : Prefix × T). not (is_canonical e.0)) (map (entry_of prefix_of) values) ≡ false)
-          → (not b || list_any (λ (e : Prefix × T). not (is_canonical e.0)) (map (entry_of prefix_of) values)) ≡ false
+          → list_any (λ (e : Prefix × T). not (is_canonical e.0)) (map (prefix_entry prefix_of) values) ≡ false)
+          → (not b || list_any (λ (e : Prefix × T). not (is_canonical e.0)) (map (prefix_entry prefix_of) values)) ≡ false
       go true e rest = rest e
       go false e rest = cc
 
   -- the longest match of the values, as entries
   entry-longer : (value : T) (best : Option T)
-      → longer (λ (e : Prefix × T). e.0) (entry_of prefix_of value) (option_map (entry_of prefix_of) best)
-      ≡ entry_of prefix_of (longer prefix_of value best)
+      → longer (λ (e : Prefix × T). e.0) (prefix_entry prefix_of value) (option_map (prefix_entry prefix_of) best)
+      ≡ prefix_entry prefix_of (longer prefix_of value best)
   unfolding longer
   entry-longer value None = refl
   entry-longer value (Some other) = go (nat_lt (prefix_of other).length (prefix_of value).length)
     where
-      go : (b : Bool) → cond b (entry_of prefix_of value) (entry_of prefix_of other)
-          ≡ entry_of prefix_of (cond b value other)
+      go : (b : Bool) → cond b (prefix_entry prefix_of value) (prefix_entry prefix_of other)
+          ≡ prefix_entry prefix_of (cond b value other)
       go true = refl
       go false = refl
 
   pub match-entry : (value : T) (values : List T) (address : ℕ)
-      → added address (entry_of prefix_of value)
-      (option_map (entry_of prefix_of) (longest_match prefix_of values address))
-      ≡ option_map (entry_of prefix_of) (longest_match prefix_of (value ∷ values) address)
+      → added address (prefix_entry prefix_of value)
+      (option_map (prefix_entry prefix_of) (longest_match prefix_of values address))
+      ≡ option_map (prefix_entry prefix_of) (longest_match prefix_of (value ∷ values) address)
   unfolding longest_match
   match-entry value values address = go (contains (prefix_of value) address)
     where
-      go : (b : Bool) → with_candidate (λ (e : Prefix × T). e.0) (entry_of prefix_of value) b
-          (option_map (entry_of prefix_of) (longest_match prefix_of values address))
-          ≡ option_map (entry_of prefix_of)
+      go : (b : Bool) → with_candidate (λ (e : Prefix × T). e.0) (prefix_entry prefix_of value) b
+          (option_map (prefix_entry prefix_of) (longest_match prefix_of values address))
+          ≡ option_map (prefix_entry prefix_of)
           (cond b (Some (longer prefix_of value (longest_match prefix_of values address)))
           (longest_match prefix_of values address))
       go true = ap (λ (e : Prefix × T). Some e) (entry-longer value (longest_match prefix_of values address))
@@ -162,20 +162,20 @@ module _ {T : Type 0} (prefix_of : T → Prefix) where
   indexed_more value values es here others index absent = record {
     holds =
         λ test. any-insert test (prefix_of value) value es absent
-        ∙ ap (λ (b : Bool). test (entry_of prefix_of value) || b) (index.holds test);
+        ∙ ap (λ (b : Bool). test (prefix_entry prefix_of value) || b) (index.holds test);
     finds = λ address.
         longest-insert address (prefix_of value) value es here
         (index.holds (λ (e : Prefix × T). not (is_canonical e.0)) ∙ none_uncanonical values others) absent
-        ∙ ap (added address (entry_of prefix_of value)) (index.finds address) ∙ match-entry value values address;
+        ∙ ap (added address (prefix_entry prefix_of value)) (index.finds address) ∙ match-entry value values address;
   }
 
   -- a look-up of a value's prefix finds something where another value has the same
   any_same : (p : Prefix) (values : List T)
-      → list_any (λ (e : Prefix × T). is_at (prefix_cmp p) e.0) (map (entry_of prefix_of) values)
+      → list_any (λ (e : Prefix × T). is_at (prefix_cmp p) e.0) (map (prefix_entry prefix_of) values)
       ≡ list_any (same_prefix p) (map prefix_of values)
   any_same p [] = refl
   any_same p (value ∷ values) =
-      ap (λ (b : Bool). b || list_any (λ (e : Prefix × T). is_at (prefix_cmp p) e.0) (map (entry_of prefix_of) values))
+      ap (λ (b : Bool). b || list_any (λ (e : Prefix × T). is_at (prefix_cmp p) e.0) (map (prefix_entry prefix_of) values))
       (sym (same_prefix_order p (prefix_of value)))
       ∙ ap (λ (b : Bool). same_prefix p (prefix_of value) || b) (any_same p values)
 
@@ -284,7 +284,7 @@ module _ {T : Type 0} (prefix_of : T → Prefix) where
       → nodes_along es address 32 ≡ nodes_visited prefix_of values address
   unfolding nodes_visited
   index_nodes values es address index =
-      along_same es (map (entry_of prefix_of) values) (λ test. index.holds (λ (e : Prefix × T). test e.0)) address 32
+      along_same es (map (prefix_entry prefix_of) values) (λ test. index.holds (λ (e : Prefix × T). test e.0)) address 32
 
   -- what it finds is what the list has
 
@@ -294,7 +294,7 @@ module _ {T : Type 0} (prefix_of : T → Prefix) where
   found_none values es address index missing =
       go (longest_match prefix_of values address) (missing ∙ index.finds address)
     where
-      go : (best : Option T) → None ≡ option_map (entry_of prefix_of) best → None ≡ best
+      go : (best : Option T) → None ≡ option_map (prefix_entry prefix_of) best → None ≡ best
       go None e = refl
       go (Some value) e = cc
 
@@ -303,10 +303,10 @@ module _ {T : Type 0} (prefix_of : T → Prefix) where
       → Some e ≡ longest es address → Some e.1 ≡ longest_match prefix_of values address
   found_some values es address e index found = go (longest_match prefix_of values address) (found ∙ index.finds address)
     where
-      go : (best : Option T) → Some e ≡ option_map (entry_of prefix_of) best → Some e.1 ≡ best
+      go : (best : Option T) → Some e ≡ option_map (prefix_entry prefix_of) best → Some e.1 ≡ best
       go None same = cc
       go (Some value) same =
-          let whole : e ≡ entry_of prefix_of value = cc in
+          let whole : e ≡ prefix_entry prefix_of value = cc in
           ap (λ (x : Prefix × T). Some x.1) whole
 
 -- a test of what a look-up found

@@ -7,7 +7,7 @@ use Rattle.std.proofs.lemmas.Grind.{common_steps}
 use Rattle.std.proofs.lemmas.List.Folds.{list_any_more}
 use Rattle.pim_ip.specs.declared.addr.Addr.{Addr}
 use Rattle.pim_types.specs.declared.config.Route.{Route}
-use Rattle.pim_mrib.specs.Hops.{AreHops}
+use Rattle.pim_mrib.specs.Hops.{AreNextHops}
 
 equal_numbers : (m n : ℕ) → is_eq (nat_cmp m n) ≡ (m == n)
 equal_numbers m n = grind (arith, nat_tests, common_steps)
@@ -22,7 +22,7 @@ pub next_hop : (routes : List Route) (hops more : List Addr) (n : ℕ) (d r : Ro
     → r ≡ get_or routes n d
     → ((q : Addr) → list_any (λ a. is_eq (nat_cmp q.bits a.bits)) more
     ≡ cond (is_eq (nat_cmp r.next_hop.bits q.bits)) true (list_any (λ a. is_eq (nat_cmp q.bits a.bits)) hops))
-    → AreHops (take n routes) hops → AreHops (take (n + 1) routes) more
+    → AreNextHops (take n routes) hops → AreNextHops (take (n + 1) routes) more
 next_hop routes hops more n d r inside is has same q =
     let leads : Route → Bool = λ x. x.next_hop.bits == q.bits in
     has q
@@ -33,7 +33,7 @@ next_hop routes hops more n d r inside is has same q =
     ∙ sym (list_any_more leads routes n d inside)
 
 pub replaced_are_hops : (b : Bool) (routes old new : List Route) (hops : List Addr) → new ≡ cond b routes old
-    → b ≡ true → AreHops routes hops → AreHops new hops
+    → b ≡ true → AreNextHops routes hops → AreNextHops new hops
 replaced_are_hops true routes old new hops is taken are = λ q.
     are q ∙ ap (λ (rs : List Route). list_any (λ (r : Route). r.next_hop.bits == q.bits) rs) (sym is)
 replaced_are_hops false routes old new hops is taken are = cc

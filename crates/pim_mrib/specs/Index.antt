@@ -7,14 +7,14 @@ use Rattle.pim_trie.specs.Entries.{nodes_along}
 
 module _ {T : Type 0} (prefix_of : T → Prefix) where
   -- the value under its prefix
-  abbrev pub entry_of : T → Prefix × T
-  entry_of value = (prefix_of value, value)
+  abbrev pub prefix_entry : T → Prefix × T
+  prefix_entry value = (prefix_of value, value)
 
   -- the trie answers as the list does
   pub record IsIndexOf (values : List T) (entries : List (Prefix × T)) : Type 0 where
-    pub holds : (test : Prefix × T → Bool) → list_any test entries ≡ list_any test (map entry_of values)
-    pub finds : (address : ℕ) → longest_match (λ e. e.0) entries address ≡ option_map entry_of (longest_match prefix_of values address)
+    pub holds : (test : Prefix × T → Bool) → list_any test entries ≡ list_any test (map prefix_entry values)
+    pub finds : (address : ℕ) → longest_match (λ e. e.0) entries address ≡ option_map prefix_entry (longest_match prefix_of values address)
 
   -- how many nodes of the trie a look-up of an address visits
   unfoldable pub nodes_visited : List T → ℕ → ℕ
-  nodes_visited values address = nodes_along (map entry_of values) address 32
+  nodes_visited values address = nodes_along (map prefix_entry values) address 32

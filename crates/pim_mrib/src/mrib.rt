@@ -6,7 +6,7 @@ ghost use Rattle.pim_ip.specs.declared.refusal.Refusal.{Refusal};
 ghost use Rattle.pim_trie.specs.Meter.{raised};
 ghost use Rattle.pim_model.specs.Limits.{are_routes, are_rps};
 ghost use Rattle.pim_model.specs.Unicast.{link_path, route_among, route_path, rp_among};
-ghost use Rattle.pim_mrib.specs.Hops.{AreHops};
+ghost use Rattle.pim_mrib.specs.Hops.{AreNextHops};
 ghost use Rattle.pim_mrib.specs.Routes.{route_nodes, rp_nodes};
 ghost use Rattle.pim_model.specs.Tables.{Table};
 ghost use Rattle.pim_types.specs.declared.config.InterfaceConfig.{InterfaceConfig};
@@ -72,14 +72,14 @@ impl Drop for Mrib {
 
 impl Model for Mrib {
     ghost use Rattle.std.specs.Prelude.{◌≡◌, true};
-    ghost use Rattle.pim_mrib.specs.Hops.{AreHops};
+    ghost use Rattle.pim_mrib.specs.Hops.{AreNextHops};
     ghost use Rattle.pim_mrib.specs.Routes.{RouteTable, are_preferred};
 
     ghost Value = { RouteTable };
 
     ghost view = { λ a. record { routes = a.routes; ranges = a.ranges } };
 
-    ghost invariant = { λ a. (are_preferred a.routes ≡ true) × AreHops a.routes a.hops.keys };
+    ghost invariant = { λ a. (are_preferred a.routes ≡ true) × AreNextHops a.routes a.hops.keys };
 }
 
 impl Mrib {
@@ -247,7 +247,7 @@ impl Mrib {
 
 // The next hops of the routes, each once.
 fn next_hops(alloc: Global, routes: &[Route]) -> Result<BTreeSet<Addr>, AllocError>
-    ensures { IfOk result (λ hops. AreHops routes.now hops.keys) }
+    ensures { IfOk result (λ hops. AreNextHops routes.now hops.keys) }
 {
     let mut hops = BTreeSet::new(alloc);
     for route in routes {

@@ -1,7 +1,7 @@
 -- The record of a group whose interface is below 120 where it has sources, and after a timer of it has ended.
 use Rattle.std.proofs.Common.{◌≡◌, ℕ, ◌<◌, ◌≤◌, List, Result, Ok, Err, IfOk, length, ap, subst, sym, ◌∙◌, arith}
 use Rattle.std.proofs.lemmas.List.{length-map}
-use Rattle.pim_filters.specs.Members.{entries_of, entry_of}
+use Rattle.pim_filters.specs.Members.{member_entries, member_entry}
 use Rattle.pim_filters.specs.declared.member.Member.{Member}
 use Rattle.pim_model.specs.Records.{GroupRecord, group_expired, Member as Entry}
 use Rattle.pim_laws.proofs.ListLaws.{filter_shorter}
@@ -14,10 +14,10 @@ module _ (n : ℕ) where
   fewer : (a b : ℕ) → a ≤ b → (0 < b → n < 120) → 0 < a → n < 120
   fewer a b le near some = near (omega (arith, le, some))
 
-  pub members_near : (ms : List Member) (es : List Entry) → entries_of ms ≡ es → IsNear n es → 0 < length ms → n < 120
+  pub members_near : (ms : List Member) (es : List Entry) → member_entries ms ≡ es → IsNear n es → 0 < length ms → n < 120
   members_near ms es are near some =
       let as_many : length ms ≡ length es =
-      sym (length-map ms entry_of) ∙ ap (λ (xs : List Entry). length xs) are in
+      sym (length-map ms member_entry) ∙ ap (λ (xs : List Entry). length xs) are in
       near (omega (arith, as_many, some))
 
   pub made_near : {E : Type 0} (made : Result GroupRecord E) (r : GroupRecord) → IfOk made (λ known. known ≡ r)

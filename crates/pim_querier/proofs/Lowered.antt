@@ -18,7 +18,7 @@ use Rattle.pim_model.specs.Tables.{Table, change_row, changed_entry, is_among, k
 use Rattle.pim_laws.specs.Laws.{is_under_source}
 use Rattle.pim_laws.proofs.ListLaws.{each_map}
 use Rattle.pim_querier.specs.Changes.{each_lowered, one_lowered, source_lowered}
-use Rattle.pim_querier.specs.Queries.{bits_of}
+use Rattle.igmp_wire.specs.Written.{bits_of}
 use Rattle.pim_querier.proofs.OneSource.{AreSources, same_source}
 
 -- ---- a row that is read, and written where it was

@@ -23,7 +23,7 @@ use Rattle.pim_model.specs.Records.{Asked, Fate, Gone, Excluded, Until, GroupRec
 use Rattle.pim_model.specs.State.{State}
 use Rattle.pim_model.specs.Tables.{Table, drop_at, drop_where, is_among, is_empty_list, keys_in, put, row_at}
 use Rattle.pim_filters.specs.Asking.{asked_in_order}
-use Rattle.pim_filters.specs.Members.{IsAscending, entries_of}
+use Rattle.pim_filters.specs.Members.{IsAscending, member_entries}
 use Rattle.pim_filters.specs.Rules.{asks_group, asks_sources, fate_after, is_asked, timer_after}
 use Rattle.pim_filters.specs.declared.member.Member.{Member as CodeMember}
 use Rattle.pim_filters.proofs.Applying.{all_of, applied, asked_are, entries_are, queries_after}
@@ -34,7 +34,7 @@ use Rattle.pim_querier.specs.Changes.{beside}
 use Rattle.pim_querier.specs.Reports.{asks_named, keeps_others, members_named}
 use Rattle.pim_querier.proofs.OneSource.{AreSources}
 use Rattle.pim_tables.proofs.RisingRows.{Up, up_of_sorted}
-use Rattle.pim_querier.specs.Queries.{bits_of}
+use Rattle.igmp_wire.specs.Written.{bits_of}
 use Rattle.pim_querier.proofs.NamedSet.{bits_rise}
 use Rattle.pim_querier.proofs.NamedSources.{known, known_row, made, row_of, same_written}
 use Rattle.pim_querier.proofs.Reported.{numbers_of_rows}
@@ -53,7 +53,7 @@ record_made full timer type es named = record {
 abbrev as_members : List Member → List CodeMember
 as_members es = map (λ (m : Member). let c : CodeMember = record { source = addr m.0; end = m.1 } in c) es
 
-as_entries : (es : List Member) → entries_of (as_members es) ≡ es
+as_entries : (es : List Member) → member_entries (as_members es) ≡ es
 as_entries [] = refl
 as_entries (m ∷ es) = ap (λ (xs : List Member). m ∷ xs) (as_entries es)
 
@@ -63,7 +63,7 @@ module _ (full : ℕ) (timer : Option ℕ) (type : RecordType) (named : List ℕ
       apply_record full (let r : GroupRecord = record { timer = timer; members = es } in r) type named
       ≡ (record_made full timer type es named, queries_after timer type es named)
 
-  told_of_code : (ms : List CodeMember) → IsAscending (entries_of ms) → Told (entries_of ms)
+  told_of_code : (ms : List CodeMember) → IsAscending (member_entries ms) → Told (member_entries ms)
   told_of_code ms ascends =
       applied (record { record_type = type; timer = timer; full = full }) ms named ascends
       ∙ (λ j. (
@@ -510,12 +510,12 @@ gathered_fares s i g ns named few under same are src =
 
 -- those that were gathered of a set rise
 pub gathered_rise : (i g : ℕ) (t : Table SourceRecordRow) (ms : List CodeMember) (left set : List Addr) → left ≡ []
-    → entries_of ms ++ members_named i g t (bits_of left) ≡ members_named i g t (bits_of set)
-    → IsStrictlySortedBy addr_cmp set → IsAscending (entries_of ms)
+    → member_entries ms ++ members_named i g t (bits_of left) ≡ members_named i g t (bits_of set)
+    → IsStrictlySortedBy addr_cmp set → IsAscending (member_entries ms)
 gathered_rise i g t ms left set none so_far rise =
     subst IsAscending
-    (sym (sym (append-nil (entries_of ms))
-    ∙ ap (λ (rest : List Addr). entries_of ms ++ members_named i g t (bits_of rest)) (sym none) ∙ so_far))
+    (sym (sym (append-nil (member_entries ms))
+    ∙ ap (λ (rest : List Addr). member_entries ms ++ members_named i g t (bits_of rest)) (sym none) ∙ so_far))
     (gathered_ascend i g t (bits_of set) (bits_rise set rise))
 
 -- what is said of a record that is made

@@ -16,7 +16,7 @@ use Rattle.pim_model.specs.Querier.{group_end, source_record_due}
 use Rattle.pim_model.specs.State.{State}
 use Rattle.pim_model.specs.Tables.{Table, change_row, changed_entry, drop_at, drop_where, is_empty_list, keys_in, put}
 use Rattle.pim_laws.specs.Laws.{is_under_source}
-use Rattle.pim_querier.specs.Changes.{without_empty, without_source}
+use Rattle.pim_querier.specs.Changes.{without_empty, without_source_record}
 use Rattle.pim_laws.proofs.ListLaws.{each_filter}
 use Rattle.pim_laws.proofs.RecordsKept.{equal_forms}
 
@@ -314,7 +314,7 @@ module _ (i g : ℕ) where
 pub source_dropped : (i g src : ℕ) (s mid after : State) (b : Bool)
     → mid ≡ (let t : State = record s { source_records = drop_at s.source_records (source_key i g src) } in t)
     → b ≡ list_any (λ (e : Entry). is_at_group i g e.0) mid.source_records → after ≡ without_empty (not b) i g mid
-    → after ≡ without_source i g src s
+    → after ≡ without_source_record i g src s
 source_dropped i g src s mid after b gone some is =
     is
     ∙ ap (λ (c : Bool). without_empty (not c) i g mid) some

@@ -9,7 +9,8 @@ use Rattle.igmp_wire.specs.Written.{query_with}
 use Rattle.pim_model.specs.Messages.{Message}
 use Rattle.pim_model.specs.Querier.{queries_of}
 use Rattle.pim_model.specs.Tables.{is_empty_list}
-use Rattle.pim_querier.specs.Queries.{all_queries, asking, bits_of}
+use Rattle.pim_querier.specs.Queries.{all_queries, asking}
+use Rattle.igmp_wire.specs.Written.{bits_of}
 
 module _ (message : List ℕ → Message) where
   -- however many messages there may be, as long as there may be enough

@@ -15,7 +15,7 @@ use Rattle.pim_model.specs.Records.{Asked}
 use Rattle.pim_model.specs.State.{State}
 use Rattle.pim_model.specs.Tables.{is_empty_list, put, set_row}
 use Rattle.pim_querier.specs.Changes.{sending_put, sendings_put}
-use Rattle.pim_querier.specs.Queries.{bits_of}
+use Rattle.igmp_wire.specs.Written.{bits_of}
 use Rattle.pim_querier.proofs.Parts.{is_some, not_empty}
 use Rattle.pim_querier.proofs.Starting.{said_twice}
 

@@ -4,7 +4,7 @@ use Rattle.std.proofs.lemmas.List.{length-map}
 use Rattle.std.specs.List.Sorted.{IsStrictlySortedBy}
 use Rattle.std.specs.Ordering.{nat_cmp}
 use Rattle.igmp_wire.specs.Values.{Record}
-use Rattle.pim_filters.specs.Members.{IsAscending, entries_of}
+use Rattle.pim_filters.specs.Members.{IsAscending, member_entries}
 use Rattle.pim_filters.specs.declared.member.Member.{Member}
 use Rattle.pim_types.specs.declared.fact.Key.{Key}
 use Rattle.pim_types.specs.declared.fact.SourceRecordRow.{SourceRecordRow}
@@ -23,26 +23,26 @@ numbers_of_rows [] = refl
 numbers_of_rows (e ∷ rows) = ap (λ (ns : List ℕ). source_in e.0 ∷ ns) (numbers_of_rows rows)
 
 -- the members rise where the sources of the rows do
-pub members_rise : (rows : Table SourceRecordRow) (ms : List Member) → entries_of ms ≡ members_of rows
-    → IsStrictlySortedBy nat_cmp (map (λ e. source_in e.0) rows) → IsAscending (entries_of ms)
+pub members_rise : (rows : Table SourceRecordRow) (ms : List Member) → member_entries ms ≡ members_of rows
+    → IsStrictlySortedBy nat_cmp (map (λ e. source_in e.0) rows) → IsAscending (member_entries ms)
 unfolding members_of
 members_rise rows ms are rise =
     subst IsAscending (sym are) (subst (IsStrictlySortedBy nat_cmp) (sym (numbers_of_rows rows)) rise)
 
 -- all that were read are those of the rows
 pub all_read : (rows left : Table SourceRecordRow) (ms : List Member) (whole : List Entry) → left ≡ []
-    → entries_of ms ++ members_of left ≡ whole → members_of rows ≡ whole → entries_of ms ≡ members_of rows
+    → member_entries ms ++ members_of left ≡ whole → members_of rows ≡ whole → member_entries ms ≡ members_of rows
 unfolding members_of
 all_read rows left ms whole none so_far are =
-    sym (append-nil (entries_of ms)) ∙ ap (λ (t : Table SourceRecordRow). entries_of ms ++ members_of t) (sym none)
+    sym (append-nil (member_entries ms)) ∙ ap (λ (t : Table SourceRecordRow). member_entries ms ++ members_of t) (sym none)
     ∙ so_far ∙ sym are
 
 -- there are as many of them
-pub rows_near : (n : ℕ) (rows : Table SourceRecordRow) (ms : List Member) → entries_of ms ≡ members_of rows
-    → (0 < length rows → n < 120) → 0 < length (entries_of ms) → n < 120
+pub rows_near : (n : ℕ) (rows : Table SourceRecordRow) (ms : List Member) → member_entries ms ≡ members_of rows
+    → (0 < length rows → n < 120) → 0 < length (member_entries ms) → n < 120
 unfolding members_of
 rows_near n rows ms are near some =
-    let as_many : length (entries_of ms) ≡ length rows =
+    let as_many : length (member_entries ms) ≡ length rows =
     ap (λ (es : List Entry). length es) are
     ∙ length-map rows (λ (e : Key × SourceRecordRow). let m : Entry = (source_in e.0, (e.1).end) in m) in
     near (omega (arith, as_many, some))

@@ -3,7 +3,7 @@ use Rattle.std.proofs.Common.{◌≡◌, ◌<◌, ◌+◌, ℕ, add-one, drop, d
 use Rattle.std.specs.List.{filter, filter_map, list_any}
 use Rattle.std.specs.List.Sorted.{IsStrictlySortedBy}
 use Rattle.std.specs.Prelude.{fold, if◌then◌else◌}
-use Rattle.pim_filters.specs.Members.{entries_of}
+use Rattle.pim_filters.specs.Members.{member_entries}
 use Rattle.pim_filters.specs.declared.member.Member.{Member}
 use Rattle.pim_types.specs.declared.fact.Key.{Key}
 use Rattle.pim_types.specs.declared.fact.SendingRow.{SendingRow}
@@ -15,7 +15,7 @@ use Rattle.pim_world.specs.Turns.{Taking, saying}
 use Rattle.pim_model.specs.Records.{GroupRecord, is_at_group, is_no_record, put_member, with_members, with_repeats_of_rows}
 use Rattle.pim_model.specs.State.{State}
 use Rattle.pim_model.specs.Tables.{Table, change_row, drop_where, has_row, keys_in, put, same_bool}
-use Rattle.pim_querier.specs.Changes.{beside, each_changed, member_put, members_put, one_less, sending_changed, sendings_changed, sources_in, without_empty, without_group_repeat, without_source_repeat}
+use Rattle.pim_querier.specs.Changes.{beside, each_changed, member_put, members_put, one_less, sending_changed, sendings_changed, row_sources, without_empty, without_group_repeat, without_source_repeat}
 use Rattle.pim_querier.proofs.Starting.{said_twice}
 use Rattle.pim_querier.proofs.EachOnce.{each_is_changed_once, left_of}
 
@@ -45,7 +45,7 @@ one_more_less es k e d s after whole row inside is less changed so_far =
     ∙ ap (λ (xs : Table SendingRow). fold (sending_changed one_less) s xs) (sym split) ∙ so_far
 
 pub members_in_table : (i g : ℕ) (ms : List Member) (s : State)
-    → members_put i g s ms ≡ record s { source_records = fold (put_member i g) s.source_records (entries_of ms) }
+    → members_put i g s ms ≡ record s { source_records = fold (put_member i g) s.source_records (member_entries ms) }
 unfolding members_put member_put
 members_in_table i g [] s = refl
 members_in_table i g (m ∷ ms) s = members_in_table i g ms (member_put i g s m)
@@ -78,14 +78,14 @@ module _ (i g : ℕ) where
   -- all that is said of a sending, in two parts
   pub both_said : (s : State) (es : Table SendingRow) (running others : List ℕ) (end : ℕ) (t t1 t2 : Taking)
       → es ≡ filter (is_sending i g) s.sendings → end ≡ query_end s i
-      → running ≡ filter (λ src. same_bool true (exceeds end (source_end s i g src))) (sources_in es)
-      → others ≡ filter (λ src. same_bool false (exceeds end (source_end s i g src))) (sources_in es)
+      → running ≡ filter (λ src. same_bool true (exceeds end (source_end s i g src))) (row_sources es)
+      → others ≡ filter (λ src. same_bool false (exceeds end (source_end s i g src))) (row_sources es)
       → t1 ≡ saying t (specific_queries s i g true running) → t2 ≡ saying t1 (specific_queries s i g false others)
       → t2 ≡ saying t (sources_sent s i g).1
   unfolding sources_sent sources_to_send
   both_said s es running others end t t1 t2 are ends runs rest first second =
       let chosen : Bool → ℕ → Table SendingRow → List ℕ = λ b n xs.
-      filter (λ src. same_bool b (exceeds n (source_end s i g src))) (sources_in xs) in
+      filter (λ src. same_bool b (exceeds n (source_end s i g src))) (row_sources xs) in
       let now : Bool → List ℕ = λ b. chosen b (query_end s i) (filter (is_sending i g) s.sendings) in
       let same : (b : Bool) → chosen b end es ≡ now b = λ b j. chosen b (ends j) (are j) in
       second
@@ -123,7 +123,7 @@ module _ (i g : ℕ) where
   -- ---- the rows of a record
 
   pub members_set : (s s1 s2 s3 s4 : State) (r : GroupRecord) (is_none : Bool) (ms : List Member)
-      → entries_of ms ≡ r.members → is_none ≡ is_no_record r → s1 ≡ without_empty is_none i g s
+      → member_entries ms ≡ r.members → is_none ≡ is_no_record r → s1 ≡ without_empty is_none i g s
       → s2 ≡ record s1 { source_records = drop_where (is_at_group i g) s1.source_records }
       → s3 ≡ members_put i g s2 ms → s4 ≡ with_repeats_of_rows s3 i g → s4 ≡ with_members s i g r
   unfolding with_members
@@ -138,7 +138,7 @@ module _ (i g : ℕ) where
 
   -- those of some sources beside the rows that are there, and the group's with a timer
   pub put_beside : (s s1 s2 s3 s4 : State) (r : GroupRecord) (end : Option ℕ) (ms : List Member) (is_left_none : Bool)
-      → entries_of ms ≡ r.members → end ≡ r.timer
+      → member_entries ms ≡ r.members → end ≡ r.timer
       → s1 ≡ (let t : State = record s { group_records = put s.group_records (star_key i g) (record { end = end }) } in t)
       → s2 ≡ members_put i g s1 ms
       → is_left_none ≡ (is_none end && not (list_any (λ e. is_at_group i g e.0) s2.source_records))

@@ -12,7 +12,8 @@ use Rattle.pim_model.specs.State.{State}
 use Rattle.pim_model.specs.Tables.{Table, change_row, changed_entry, row_at}
 use Rattle.pim_laws.proofs.RowLaws.{row_put}
 use Rattle.pim_world.specs.Turns.{Taking, saying}
-use Rattle.pim_querier.specs.Queries.{all_queries, asking, bits_of, general_header, specific_header}
+use Rattle.pim_querier.specs.Queries.{all_queries, asking, general_header, specific_header}
+use Rattle.igmp_wire.specs.Written.{bits_of}
 
 module _ {R : Type 0} (k : Key) (r : R) where
   replaced_step : (e : Key × R) (t : Table R) (b : Bool) → same_key k e.0 ≡ b

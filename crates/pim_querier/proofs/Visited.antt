@@ -9,13 +9,13 @@ use Rattle.pim_ip.specs.declared.addr.Addr.{Addr}
 use Rattle.pim_types.specs.declared.fact.Key.{Key}
 use Rattle.pim_types.specs.declared.fact.SourceRecordRow.{SourceRecordRow}
 use Rattle.pim_types.specs.Keys.{source_key, star_key}
-use Rattle.pim_filters.specs.Members.{entries_of, entry_of}
+use Rattle.pim_filters.specs.Members.{member_entries, member_entry}
 use Rattle.pim_filters.specs.declared.member.Member.{Member}
 use Rattle.pim_model.specs.Querier.{lowered}
 use Rattle.pim_model.specs.Records.{GroupRecord, Member as Entry, group_expired, is_at_group, is_no_record, put_member, record_of}
 use Rattle.pim_model.specs.State.{State}
 use Rattle.pim_model.specs.Tables.{change_row, drop_at, drop_where, keys_in, put}
-use Rattle.pim_membership.specs.Visits.{Visits, changes_listed}
+use Rattle.pim_membership.specs.Visits.{IsLookedUpWhere, changes_listed}
 use Rattle.pim_world.specs.Visits.{group_record_nodes, raised, source_record_nodes}
 use Rattle.pim_world.proofs.Visits.{next_in_turn, none_visited, two_in_turn}
 use Rattle.pim_querier.specs.Changes.{member_put, members_put, without_empty}
@@ -23,12 +23,12 @@ use Rattle.pim_querier.specs.Visits.{drop_source_nodes, dropped_nodes, empty_nod
 use Rattle.pim_querier.proofs.Sent.{members_in_table}
 
 module _ (s : State) (group : Addr) (old new : ℕ) where
-  pub group_listed : (b : Bool) → Visits b (keys_in s.group_records) group None old new
+  pub group_listed : (b : Bool) → IsLookedUpWhere b (keys_in s.group_records) group None old new
       → raised old (if b then group_record_nodes s group else 0) ≤ new
   group_listed true visits = visits.at_least
   group_listed false same = none_visited old new same
 
-  pub source_listed : (b : Bool) (source : Addr) → Visits b (keys_in s.source_records) group (Some source) old new
+  pub source_listed : (b : Bool) (source : Addr) → IsLookedUpWhere b (keys_in s.source_records) group (Some source) old new
       → raised old (if b then source_record_nodes s group source else 0) ≤ new
   source_listed true source visits = visits.at_least
   source_listed false source same = none_visited old new same
@@ -44,10 +44,10 @@ module _ (b : Bool) (old new first second : ℕ) where
 -- a source's timer that is lowered runs as before, so that nothing is looked up
 pub still_listed : {T E : Type 0} (r : Result T E) (end : ℕ) (keys : List Key) (group : Addr) (old row : SourceRecordRow)
     (o : Option SourceRecordRow) (source : Option Addr) (before after : ℕ) → o ≡ Some old → row.end ≡ lowered end old.end
-    → OnOk r (Visits (changes_listed source_runs row o) keys group source before after) → OnOk r (after ≡ before)
+    → OnOk r (IsLookedUpWhere (changes_listed source_runs row o) keys group source before after) → OnOk r (after ≡ before)
 still_listed (Err e) end keys group old row o source before after found is visited = tt
 still_listed (Ok x) end keys group old row o source before after found is visited =
-    subst (λ (b : Bool). Visits b keys group source before after)
+    subst (λ (b : Bool). IsLookedUpWhere b keys group source before after)
     (ap (λ (o : Option SourceRecordRow). changes_listed source_runs row o) found
     ∙ ap (λ (n : Option ℕ). not (beq (is_some old.end) (is_some n))) is ∙ runs_still old.end) visited
   where
@@ -58,23 +58,23 @@ still_listed (Ok x) end keys group old row o source before after found is visite
 module _ (i g : ℕ) where
   -- one more of the sources that are put
   pub next_member : (before old new whole k : ℕ) (m d : Member) (ms : List Member) (s t : State)
-      → raised before whole ≤ raised old (members_nodes i g s (entries_of (drop k ms))) → k < length ms
-      → m ≡ get_or ms k d → t ≡ member_put i g s m → raised old (member_nodes i g s (entry_of m)) ≤ new
-      → raised before whole ≤ raised new (members_nodes i g t (entries_of (drop (k + 1) ms)))
+      → raised before whole ≤ raised old (members_nodes i g s (member_entries (drop k ms))) → k < length ms
+      → m ≡ get_or ms k d → t ≡ member_put i g s m → raised old (member_nodes i g s (member_entry m)) ≤ new
+      → raised before whole ≤ raised new (members_nodes i g t (member_entries (drop (k + 1) ms)))
   unfolding members_nodes member_put
   next_member before old new whole k m d ms s t least inside is moved one =
-      next_in_turn (with_member i g) (member_nodes i g) before old new whole (entry_of m) (entries_of (drop k ms))
-      (entries_of (drop (k + 1) ms)) s t least
-      (ap (λ (xs : List Member). entries_of xs)
+      next_in_turn (with_member i g) (member_nodes i g) before old new whole (member_entry m) (member_entries (drop k ms))
+      (member_entries (drop (k + 1) ms)) s t least
+      (ap (λ (xs : List Member). member_entries xs)
       (drop_more ms k d inside ∙ ap (λ (x : Member). x ∷ drop (k + 1) ms) (sym is)))
       moved one
 
   pub members_set_visited : (s s1 s2 : State) (r : GroupRecord) (is_none : Bool) (ms : List Member)
-      (old first second new : ℕ) → entries_of ms ≡ r.members → is_none ≡ is_no_record r
+      (old first second new : ℕ) → member_entries ms ≡ r.members → is_none ≡ is_no_record r
       → s1 ≡ without_empty is_none i g s
       → s2 ≡ record s1 { source_records = drop_where (is_at_group i g) s1.source_records }
       → raised old (empty_nodes is_none g s) ≤ first → raised first (dropped_nodes i g s1) ≤ second
-      → raised second (members_nodes i g s2 (entries_of ms)) ≤ new → raised old (set_members_nodes i g s r) ≤ new
+      → raised second (members_nodes i g s2 (member_entries ms)) ≤ new → raised old (set_members_nodes i g s r) ≤ new
   unfolding set_members_nodes
   members_set_visited s s1 s2 r is_none ms old first second new are none emptied dropped one two three =
       let left : State → State = λ t. record t { source_records = drop_where (is_at_group i g) t.source_records } in
@@ -110,10 +110,10 @@ module _ (i g : ℕ) where
       (ended ∙ (λ j. group_expired (now j) (is j))) two))
 
   pub beside_visited : (s s1 s2 : State) (r : GroupRecord) (end : Option ℕ) (ms : List Member) (is_left_none : Bool)
-      (old first second new : ℕ) → entries_of ms ≡ r.members → end ≡ r.timer → s1 ≡ timed s end
+      (old first second new : ℕ) → member_entries ms ≡ r.members → end ≡ r.timer → s1 ≡ timed s end
       → s2 ≡ members_put i g s1 ms
       → is_left_none ≡ (is_none end && not (list_any (λ e. is_at_group i g e.0) s2.source_records))
-      → raised old (group_set_nodes i g s end) ≤ first → raised first (members_nodes i g s1 (entries_of ms)) ≤ second
+      → raised old (group_set_nodes i g s end) ≤ first → raised first (members_nodes i g s1 (member_entries ms)) ≤ second
       → raised second (empty_nodes is_left_none g s2) ≤ new → raised old (write_beside_nodes i g s r) ≤ new
   unfolding write_beside_nodes
   beside_visited s s1 s2 r end ms is_left_none old first second new are ends set put_all none one two three =

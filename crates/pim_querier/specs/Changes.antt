@@ -1,7 +1,7 @@
 -- Rows that are changed key by key, and the members of a group's record.
 use Rattle.std.specs.List.{list_any}
 use Rattle.std.specs.Prelude.{Bool, List, None, Option, Some, fold, if◌then◌else◌, is_none, map, nat_lt, not, ℕ, ◌&&◌, ◌+◌, ◌-◌}
-use Rattle.pim_filters.specs.Members.{entry_of}
+use Rattle.pim_filters.specs.Members.{member_entry}
 use Rattle.pim_filters.specs.declared.member.Member.{Member}
 use Rattle.igmp_wire.specs.Values.{Record}
 use Rattle.pim_ip.specs.declared.addr.Addr.{Addr}
@@ -36,12 +36,12 @@ unfoldable pub sendings_changed : (SendingRow → Option SendingRow) → State �
 sendings_changed change s entries = fold (sending_changed change) s entries
 
 -- the sources of these entries
-abbrev pub sources_in : {R : Type 0} → Table R → List ℕ
-sources_in entries = map (λ e. source_in e.0) entries
+abbrev pub row_sources : {R : Type 0} → Table R → List ℕ
+row_sources entries = map (λ e. source_in e.0) entries
 
 -- the records of these sources of a group put on an interface, one after the other
 unfoldable pub member_put : ℕ → ℕ → State → Member → State
-member_put i g s m = record s { source_records = put_member i g s.source_records (entry_of m) }
+member_put i g s m = record s { source_records = put_member i g s.source_records (member_entry m) }
 
 unfoldable pub members_put : ℕ → ℕ → State → List Member → State
 members_put i g s ms = fold (member_put i g) s ms
@@ -57,8 +57,8 @@ with_excluded i g src s =
     record s { source_records = change_row (λ _. Some (record { end = None })) (source_key i g src) s.source_records }
 
 -- without the record of a source, and without that of the group where no source is left
-abbrev pub without_source : ℕ → ℕ → ℕ → State → State
-without_source i g src s =
+abbrev pub without_source_record : ℕ → ℕ → ℕ → State → State
+without_source_record i g src s =
     let left : Table SourceRecordRow = drop_at s.source_records (source_key i g src) in
     without_empty (not (list_any (λ e. is_at_group i g e.0) left)) i g (record s { source_records = left })
 

@@ -1,7 +1,6 @@
 -- Queries as they are put together, and the sources that they name.
-use Rattle.std.specs.Prelude.{Bool, List, false, length, map, ℕ, ◌/◌}
+use Rattle.std.specs.Prelude.{Bool, List, false, length, ℕ, ◌/◌}
 use Rattle.pim_ip.specs.Addr.{addr}
-use Rattle.pim_ip.specs.declared.addr.Addr.{Addr}
 use Rattle.igmp_wire.specs.Codes.{value_code}
 use Rattle.igmp_wire.specs.declared.write.QueryHeader.{QueryHeader}
 use Rattle.pim_model.specs.Messages.{Message}
@@ -23,9 +22,6 @@ general_header s i = header_of s i s.settings.query_response_interval 0 false
 
 abbrev pub specific_header : State → ℕ → ℕ → Bool → QueryHeader
 specific_header s i g suppress = header_of s i s.settings.last_member_query_interval g suppress
-
-abbrev pub bits_of : List Addr → List ℕ
-bits_of addresses = map (λ (a : Addr). a.bits) addresses
 
 -- the query with these sources
 abbrev pub asking : ℕ → QueryHeader → List ℕ → Message

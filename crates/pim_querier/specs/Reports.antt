@@ -8,6 +8,7 @@ use Rattle.igmp_wire.specs.declared.report.RecordType.{RecordType}
 use Rattle.pim_types.specs.declared.fact.Key.{Key}
 use Rattle.pim_types.specs.declared.fact.SourceRecordRow.{SourceRecordRow}
 use Rattle.pim_types.specs.Keys.{source_key, star_key}
+use Rattle.pim_model.specs.Cause.{is_including}
 use Rattle.pim_model.specs.Querier.{group_end, is_skipped}
 use Rattle.pim_model.specs.Records.{GroupRecord, Member, is_at_group}
 use Rattle.pim_model.specs.State.{State}
@@ -40,13 +41,6 @@ record_named s i g sources =
     record { timer = group_end s i g; members = members_named i g s.source_records (ascending sources) }
 
 -- ---- the sources that a report moves
-
--- the named sources are included afterwards
-abbrev pub is_including : RecordType → Bool
-is_including RecordType.IsInclude = true
-is_including RecordType.Allow = true
-is_including RecordType.ToInclude = true
-is_including _ = false
 
 -- a named source with this row has one afterwards, on the same side
 abbrev pub stays : RecordType → Option SourceRecordRow → Bool

@@ -110,10 +110,10 @@ source_record_due_nodes i g src s =
     if is_some (group_end s i g) then exclude_source_nodes i g src s else drop_source_nodes i g src s
 
 -- a timer of a querier ends: of all others nothing is looked up
-abbrev pub fired_nodes : State → TimerKind → Key → ℕ
-fired_nodes s TimerKind.GroupRecord k = group_record_due_nodes (iface_in k) (group_in k) s
-fired_nodes s TimerKind.SourceRecord k = source_record_due_nodes (iface_in k) (group_in k) (source_in k) s
-fired_nodes s _ k = 0
+abbrev pub membership_end_nodes : State → TimerKind → Key → ℕ
+membership_end_nodes s TimerKind.GroupRecord k = group_record_due_nodes (iface_in k) (group_in k) s
+membership_end_nodes s TimerKind.SourceRecord k = source_record_due_nodes (iface_in k) (group_in k) (source_in k) s
+membership_end_nodes s _ k = 0
 
 -- ---- reports
 

@@ -1,12 +1,12 @@
 //! A record of a report, applied to what is known of its group (RFC 3376, section 6.4).
 ghost use Rattle.std.specs.List.{list_any};
 ghost use Rattle.std.specs.Prelude.{◌≡◌, ◌≤◌, ◌<◌, ◌&&◌, ℕ, IfOk, OnOk, if◌then◌else◌, is_none, not, option_map, true};
-ghost use Rattle.pim_filters.specs.Members.{IsAscending, entries_of, entry_of, is_named};
+ghost use Rattle.pim_filters.specs.Members.{IsAscending, member_entries, member_entry, is_named_source};
 ghost use Rattle.pim_model.specs.Querier.{group_end};
 ghost use Rattle.pim_model.specs.Records.{Gone, apply_record, fate_in, is_at_group, record_of, with_record};
 ghost use Rattle.pim_model.specs.Tables.{is_among};
 ghost use Rattle.pim_querier.specs.Changes.{beside};
-ghost use Rattle.pim_querier.specs.Queries.{bits_of};
+ghost use Rattle.igmp_wire.specs.Written.{bits_of};
 ghost use Rattle.pim_querier.specs.Reports.{asks_named, keeps_others, member_named, members_named, record_named};
 ghost use Rattle.pim_querier.specs.Visits.{apply_nodes, apply_to_all_nodes, apply_to_named_nodes, write_beside_nodes};
 ghost use Rattle.pim_world.specs.Visits.{raised};
@@ -34,7 +34,7 @@ pub struct SeenRecord {
 
 // The sources as a set.
 fn set_of(alloc: Global, sources: &[Addr]) -> Result<BTreeSet<Addr>, AllocError>
-    ensures { IfOk result (λ set. (n : ℕ) → is_named n set.keys ≡ is_named n sources.now) }
+    ensures { IfOk result (λ set. (n : ℕ) → is_named_source n set.keys ≡ is_named_source n sources.now) }
 {
     let mut set = BTreeSet::new(alloc);
     for source in sources {
@@ -45,7 +45,7 @@ fn set_of(alloc: Global, sources: &[Addr]) -> Result<BTreeSet<Addr>, AllocError>
 
 // What the group's record says of the source, where it has it.
 fn member_of(world: &World, place: IfaceGroup, source: Addr) -> Option<Member>
-    ensures { option_map entry_of result
+    ensures { option_map member_entry result
         ≡ member_named place.iface.number place.group.bits world.now.source_records source.bits }
 {
     let row = world
@@ -64,9 +64,9 @@ fn members_among(
     place: IfaceGroup,
     sources: &BTreeSet<Addr>,
 ) -> Result<Vec<Member>, AllocError>
-    ensures members { IfOk result (λ members. entries_of members.items
+    ensures members { IfOk result (λ members. member_entries members.items
         ≡ members_named place.iface.number place.group.bits world.now.source_records (bits_of sources.now.keys)) }
-    ensures ascending { IfOk result (λ members. IsAscending (entries_of members.items)) }
+    ensures ascending { IfOk result (λ members. IsAscending (member_entries members.items)) }
 {
     // It tells that the sources rise.
     let _ = sources.len();

@@ -4,7 +4,7 @@ ghost use Rattle.pim_filters.specs.Asking.{source_queries};
 ghost use Rattle.pim_world.specs.Turns.{saying};
 ghost use Rattle.pim_model.specs.Querier.{each_in_turn, exceeds, query_asked, query_group, query_sources, source_end};
 ghost use Rattle.pim_querier.specs.Changes.{sendings_put};
-ghost use Rattle.pim_querier.specs.Queries.{bits_of};
+ghost use Rattle.igmp_wire.specs.Written.{bits_of};
 
 use crate::intervals::{exceeds, last_member_query_interval, query_end, robustness};
 use crate::lowering::lower_sources;

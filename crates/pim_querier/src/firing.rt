@@ -4,7 +4,7 @@ ghost use Rattle.pim_world.specs.Turns.{saying};
 ghost use Rattle.pim_model.specs.Firing.{fired, startup_left};
 ghost use Rattle.pim_types.specs.declared.timer.TimerKind.{TimerKind};
 ghost use Rattle.pim_querier.specs.Kinds.{is_igmp_kind};
-ghost use Rattle.pim_querier.specs.Visits.{fired_nodes};
+ghost use Rattle.pim_querier.specs.Visits.{membership_end_nodes};
 ghost use Rattle.pim_world.specs.Visits.{raised};
 
 use crate::election::other_querier_gone;
@@ -69,7 +69,7 @@ pub fn fired(
     requires { is_igmp_kind kind ≡ true }
     ensures state { OnOk result (world.new ≡ (fired world.old kind key).0) }
     ensures messages { OnOk result (turn.new ≡ saying turn.old (fired world.old kind key).1) }
-    ensures at_least { OnOk result (raised meter.old (fired_nodes world.old kind key) ≤ meter.new) }
+    ensures at_least { OnOk result (raised meter.old (membership_end_nodes world.old kind key) ≤ meter.new) }
 {
     let place = IfaceGroup {
         iface: key.iface,

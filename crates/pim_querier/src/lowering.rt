@@ -2,7 +2,7 @@
 ghost use Rattle.std.specs.Prelude.{◌≡◌, OnOk};
 ghost use Rattle.pim_model.specs.Querier.{lower_sources};
 ghost use Rattle.pim_querier.specs.Changes.{each_lowered, one_lowered};
-ghost use Rattle.pim_querier.specs.Queries.{bits_of};
+ghost use Rattle.igmp_wire.specs.Written.{bits_of};
 
 use crate::place::IfaceGroup;
 use pim_types::fact::SourceRecordRow;

@@ -2,7 +2,8 @@
 //! its mode. Of the others at most the ends of timers move.
 ghost use Rattle.std.specs.Prelude.{◌≡◌, ◌++◌, [], ◌∷◌, IfOk, OnOk, filter, map};
 ghost use Rattle.pim_model.specs.Records.{is_at_group};
-ghost use Rattle.pim_querier.specs.Reports.{all_keep_modes, is_including, keeps_mode, moved_named, moved_others, moved_sources, stays};
+ghost use Rattle.pim_querier.specs.Reports.{all_keep_modes, keeps_mode, moved_named, moved_others, moved_sources, stays};
+ghost use Rattle.pim_model.specs.Cause.{is_including};
 
 use crate::applying::keeps_others;
 use crate::place::IfaceGroup;

@@ -2,7 +2,7 @@
 ghost use Rattle.std.specs.Prelude.{◌≡◌, IfOk, OnOk};
 ghost use Rattle.pim_model.specs.Querier.{is_lower_querier, lower_queried, querier_elected, query_seen};
 ghost use Rattle.igmp_wire.specs.Codes.{code_value};
-ghost use Rattle.pim_querier.specs.Queries.{bits_of};
+ghost use Rattle.igmp_wire.specs.Written.{bits_of};
 
 use crate::election::querier_elected;
 use crate::intervals::query_end;

@@ -2,7 +2,8 @@
 ghost use Rattle.std.specs.Prelude.{◌≡◌, ◌<◌, ◌++◌, OnOk, false};
 ghost use Rattle.pim_model.specs.Querier.{specific_queries};
 ghost use Rattle.pim_world.specs.Turns.{saying};
-ghost use Rattle.pim_querier.specs.Queries.{all_queries, asking, bits_of, general_header, header_of, specific_header};
+ghost use Rattle.pim_querier.specs.Queries.{all_queries, asking, general_header, header_of, specific_header};
+ghost use Rattle.igmp_wire.specs.Written.{bits_of};
 
 use crate::intervals::{query_interval, robustness};
 use crate::place::IfaceGroup;

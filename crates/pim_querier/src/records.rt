@@ -1,10 +1,10 @@
 //! The record of a group, and what the ends of its timers change (RFC 3376, sections 6.2, 6.3 and 6.5).
 ghost use Rattle.std.specs.List.{list_any};
 ghost use Rattle.std.specs.Prelude.{◌≡◌, ◌≤◌, ◌<◌, IfOk, OnOk, length};
-ghost use Rattle.pim_filters.specs.Members.{IsAscending, entries_of};
+ghost use Rattle.pim_filters.specs.Members.{IsAscending, member_entries};
 ghost use Rattle.pim_model.specs.Querier.{group_record_due, source_record_due};
 ghost use Rattle.pim_model.specs.Records.{is_at_group, record_of, with_members, with_record, with_repeats_of_rows};
-ghost use Rattle.pim_querier.specs.Changes.{members_put, with_excluded, without_empty, without_group_repeat, without_source, without_source_repeat};
+ghost use Rattle.pim_querier.specs.Changes.{members_put, with_excluded, without_empty, without_group_repeat, without_source_record, without_source_repeat};
 ghost use Rattle.pim_querier.specs.Visits.{drop_source_nodes, empty_nodes, exclude_source_nodes, group_record_due_nodes, members_nodes, set_members_nodes, set_record_nodes, source_record_due_nodes};
 ghost use Rattle.pim_world.specs.Visits.{raised};
 
@@ -20,10 +20,10 @@ use std::alloc::{AllocError, Global};
 // The sources of the group's record on the interface, by rising key. Where there is one, the interface is below 120.
 #[tactic(auto, unfolding(pim_model::specs::Records::record_of, pim_model::specs::Records::members_of))]
 fn members_at(world: &World, alloc: Global, place: IfaceGroup) -> Result<Vec<Member>, AllocError>
-    ensures members { IfOk result (λ members. entries_of members.items
+    ensures members { IfOk result (λ members. member_entries members.items
         ≡ (record_of world.now place.iface.number place.group.bits).members) }
-    ensures near { IfOk result (λ members. 0 < length (entries_of members.items) → place.iface.number < 120) }
-    ensures ascending { IfOk result (λ members. IsAscending (entries_of members.items)) }
+    ensures near { IfOk result (λ members. 0 < length (member_entries members.items) → place.iface.number < 120) }
+    ensures ascending { IfOk result (λ members. IsAscending (member_entries members.items)) }
 {
     let mut members = Vec::new(alloc);
     for (key, row) in world
@@ -51,7 +51,7 @@ pub(crate) fn put_members(
     requires { 0 < length members.now → place.iface.number < 120 }
     ensures put { OnOk result (world.new ≡ members_put place.iface.number place.group.bits world.old members.now) }
     ensures at_least { OnOk result (raised meter.old
-        (members_nodes place.iface.number place.group.bits world.old (entries_of members.now)) ≤ meter.new) }
+        (members_nodes place.iface.number place.group.bits world.old (member_entries members.now)) ≤ meter.new) }
 {
     for member in members {
         let row = SourceRecordRow { end: member.end };
@@ -209,7 +209,7 @@ pub(crate) fn has_sources(world: &World, place: IfaceGroup) -> bool
 
 // Takes the source's record away, and that of the group with the last of them.
 fn drop_source(world: &mut World, meter: &mut Meter, place: IfaceGroup, source: Addr)
-    ensures dropped { world.new ≡ without_source place.iface.number place.group.bits source.bits world.old }
+    ensures dropped { world.new ≡ without_source_record place.iface.number place.group.bits source.bits world.old }
     ensures at_least { raised meter.old
         (drop_source_nodes place.iface.number place.group.bits source.bits world.old) ≤ meter.new }
 {

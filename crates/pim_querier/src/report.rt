@@ -4,7 +4,7 @@ ghost use Rattle.pim_world.specs.Turns.{saying};
 ghost use Rattle.pim_model.specs.Querier.{is_skipped, record_seen, report_seen};
 ghost use Rattle.pim_model.specs.Records.{with_record};
 ghost use Rattle.pim_querier.specs.Changes.{applied};
-ghost use Rattle.pim_querier.specs.Queries.{bits_of};
+ghost use Rattle.igmp_wire.specs.Written.{bits_of};
 ghost use Rattle.pim_querier.specs.Visits.{record_seen_nodes, report_seen_nodes};
 ghost use Rattle.pim_world.specs.Visits.{raised};
 

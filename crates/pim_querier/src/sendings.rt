@@ -2,8 +2,8 @@
 ghost use Rattle.std.specs.Prelude.{◌≡◌, IfOk, filter};
 ghost use Rattle.pim_model.specs.Querier.{exceeds, is_sending, query_end, source_end};
 ghost use Rattle.pim_model.specs.Tables.{same_bool};
-ghost use Rattle.pim_querier.specs.Changes.{one_less, sendings_changed, sources_in};
-ghost use Rattle.pim_querier.specs.Queries.{bits_of};
+ghost use Rattle.pim_querier.specs.Changes.{one_less, sendings_changed, row_sources};
+ghost use Rattle.igmp_wire.specs.Written.{bits_of};
 
 use crate::intervals::exceeds;
 use crate::place::IfaceGroup;
@@ -39,7 +39,7 @@ pub fn sources_by_end(
 ) -> Result<Vec<Addr>, AllocError>
     ensures { IfOk result (λ sources. bits_of sources.items
         ≡ filter (λ src. same_bool runs_on
-        (exceeds moment (source_end world.now place.iface.number place.group.bits src))) (sources_in sendings.now)) }
+        (exceeds moment (source_end world.now place.iface.number place.group.bits src))) (row_sources sendings.now)) }
 {
     let mut sources = Vec::new(alloc);
     for (key, _) in sendings {

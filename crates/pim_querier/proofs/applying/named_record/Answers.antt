@@ -1,11 +1,11 @@
 use Rattle.std.proofs.Common.{◌≡◌, ℕ, ap, subst, sym, ◌∙◌}
 use Rattle.std.specs.Prelude.{if◌then◌else◌}
-use Rattle.pim_filters.specs.Members.{IsAscending, entries_of}
+use Rattle.pim_filters.specs.Members.{IsAscending, member_entries}
 use Rattle.pim_model.specs.Querier.{group_end}
 use Rattle.pim_model.specs.Records.{Gone, fate_in, record_of}
 use Rattle.pim_model.specs.Tables.{is_among}
 use Rattle.pim_types.specs.Keys.{addr_cmp}
-use Rattle.pim_querier.specs.Queries.{bits_of}
+use Rattle.igmp_wire.specs.Written.{bits_of}
 use Rattle.pim_querier.specs.Reports.{members_named, record_named}
 use Rattle.pim_querier.proofs.NamedRecords.{gathered_fares, made_so}
 use Rattle.pim_querier.proofs.NamedSet.{set_among, set_ascends}
@@ -19,7 +19,7 @@ returns-clause-timer c =
 pub returns-clause-ascending : goal.returns-clause-ascending
 returns-clause-ascending c =
     made_so (λ known. IsAscending known.members) c.with.result _ c.with.ensures
-    (subst (λ ms. IsAscending (entries_of ms)) (sym c.deref.ensures.value) c.in_ok-members.ensures.ascending)
+    (subst (λ ms. IsAscending (member_entries ms)) (sym c.deref.ensures.value) c.in_ok-members.ensures.ascending)
 
 pub returns-clause-fates : goal.returns-clause-fates
 returns-clause-fates c =
@@ -29,7 +29,7 @@ returns-clause-fates c =
     (gathered_fares c.args.world.now c.args.place.iface.number c.args.place.group.bits (bits_of c.in_ok-named.named.keys)
     (bits_of c.args.sources.now) _ (rw c.membership.ensures at c.recall_keyed_source_records.ensures)
     (set_among c.in_ok-named.named.keys c.args.sources.now c.in_ok-named.ensures)
-    (ap (λ ms. entries_of ms) c.deref.ensures.value ∙ c.in_ok-members.ensures.members))
+    (ap (λ ms. member_entries ms) c.deref.ensures.value ∙ c.in_ok-members.ensures.members))
 
 pub returns-clause-named : goal.returns-clause-named
 unfolding record_named addr_cmp
@@ -40,7 +40,7 @@ returns-clause-named c =
     made_so (λ known. known ≡ record_named s i g (bits_of c.args.sources.now)) c.with.result _ c.with.ensures
     (λ j. record {
       timer = c.group_end.ensures j;
-      members = (ap (λ ms. entries_of ms) c.deref.ensures.value ∙ c.in_ok-members.ensures.members
+      members = (ap (λ ms. member_entries ms) c.deref.ensures.value ∙ c.in_ok-members.ensures.members
           ∙ ap (members_named i g s.source_records)
           (set_ascends c.in_ok-named.named.keys c.args.sources.now c.len.ensures.ordered c.in_ok-named.ensures)) j;
     })

@@ -1,6 +1,6 @@
 use Rattle.std.proofs.Common.{ap, refl, ◌∙◌}
 use Rattle.std.proofs.lemmas.List.{take_all}
-use Rattle.pim_filters.specs.Members.{is_named}
+use Rattle.pim_filters.specs.Members.{is_named_source}
 use Rattle.pim_querier.proofs.NamedSet.{one_more_named}
 use Rattle.pim_querier.proofs.applying.set_of.Goals as goal
 
@@ -12,4 +12,4 @@ loop-source-preserved c = λ n.
 pub returns : goal.returns
 returns c = λ n.
     c.loop-source.invariant n
-    ∙ ap (is_named n) (take_all c.loop-source.source-index c.args.sources.now c.loop-source-test.false)
+    ∙ ap (is_named_source n) (take_all c.loop-source.source-index c.args.sources.now c.loop-source-test.false)

@@ -1,7 +1,7 @@
 use Rattle.std.proofs.Common.{◌+◌, None, ap, drop, fold, get_or, refl, sym, ◌∙◌}
 use Rattle.std.proofs.lemmas.List.{drop_all, drop_more}
 use Rattle.pim_ip.specs.Addr.{addr}
-use Rattle.pim_filters.specs.Members.{entries_of}
+use Rattle.pim_filters.specs.Members.{member_entries}
 use Rattle.pim_filters.specs.declared.member.Member.{Member}
 use Rattle.pim_model.specs.State.{State}
 use Rattle.pim_model.specs.Tables.{set_row}
@@ -39,6 +39,6 @@ pub returns-clause-at_least : goal.returns-clause-at_least
 unfolding members_nodes
 returns-clause-at_least c =
     none_in_turn (with_member c.args.place.iface.number c.args.place.group.bits) (member_nodes c.args.place.iface.number c.args.place.group.bits)
-    _ _ _ (entries_of (drop c.loop-member.member-index c.args.members.now)) c.loop-member.world
+    _ _ _ (member_entries (drop c.loop-member.member-index c.args.members.now)) c.loop-member.world
     c.loop-member.invariant.visited
-    (ap (λ ms. entries_of ms) (drop_all c.loop-member.member-index c.args.members.now c.loop-member-test.false))
+    (ap (λ ms. member_entries ms) (drop_all c.loop-member.member-index c.args.members.now c.loop-member-test.false))

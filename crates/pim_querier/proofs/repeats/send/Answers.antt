@@ -3,8 +3,8 @@ use Rattle.pim_ip.specs.declared.addr.Addr.{Addr}
 use Rattle.pim_types.specs.declared.fact.SendingRow.{SendingRow}
 use Rattle.pim_model.specs.Querier.{exceeds, source_end}
 use Rattle.pim_model.specs.Tables.{Table, same_bool}
-use Rattle.pim_querier.specs.Changes.{sources_in}
-use Rattle.pim_querier.specs.Queries.{bits_of}
+use Rattle.pim_querier.specs.Changes.{row_sources}
+use Rattle.igmp_wire.specs.Written.{bits_of}
 use Rattle.pim_querier.proofs.Sent.{all_sent, both_said, sent_of}
 use Rattle.pim_querier.proofs.repeats.send.Goals as goal
 
@@ -21,7 +21,7 @@ returns-clause-messages c =
     let i = c.args.place.iface.number in
     let g = c.args.place.group.bits in
     let chosen : Bool → Table SendingRow → List ℕ = λ b es.
-    filter (λ src. same_bool b (exceeds c.query_end-end.result (source_end s i g src))) (sources_in es) in
+    filter (λ src. same_bool b (exceeds c.query_end-end.result (source_end s i g src))) (row_sources es) in
     both_said i g s c.in_ok-sendings.sendings.items (bits_of c.deref-3.result.now) (bits_of c.deref-4.result.now)
     c.query_end-end.result c.args.turn.now c.say_sources.new.turn c.say_sources-2.new.turn c.in_ok-sendings.ensures
     c.query_end-end.ensures

@@ -1,5 +1,5 @@
 use Rattle.std.proofs.Common.{◌≡◌, ℕ, true, false, ap, sym, subst, ◌∙◌, cond, filter, is_some, map, not, ◌==◌}
-use Rattle.pim_filters.specs.Members.{IsAscending, entries_of, without_end}
+use Rattle.pim_filters.specs.Members.{IsAscending, member_entries, without_end}
 use Rattle.pim_filters.proofs.Members.{IsAscending-filter, IsAscending-map, entries_of-filter, entries_of-write, entry_of-without_end, excluded_at, excluded_at-source}
 use Rattle.pim_model.specs.Records as records
 use Rattle.pim_filters.proofs.group_record.GroupRecord.source_expired.Goals as goal
@@ -13,7 +13,7 @@ invariant_of-self c =
 pub invariant_of-self-else-is_exclude : goal.invariant_of-self-else-is_exclude
 invariant_of-self-else-is_exclude c =
     let stays = λ (e : records.Member). not (e.0 == c.args.source.bits) in
-    let kept = ap entries_of c.remove.ensures ∙ entries_of-filter stays c.self.inside.members.items in
+    let kept = ap member_entries c.remove.ensures ∙ entries_of-filter stays c.self.inside.members.items in
     subst IsAscending (sym kept) (IsAscending-filter stays _ c.self.invariant)
 
 -- what a source's end leaves in either mode
@@ -39,7 +39,7 @@ pub returns-else-is_exclude : goal.returns-else-is_exclude
 returns-else-is_exclude c =
     let src = c.args.source.bits in
     let stays = λ (e : records.Member). not (e.0 == src) in
-    let kept = ap entries_of c.remove.ensures ∙ entries_of-filter stays c.self.inside.members.items in
+    let kept = ap member_entries c.remove.ensures ∙ entries_of-filter stays c.self.inside.members.items in
     ap (λ es. record { timer = c.self.inside.timer; members = es }) kept
     ∙ ap (λ (r : records.GroupRecord). record r { members = filter stays r.members }) c.self.view_is
     ∙ sym (in_include src c.args.self.now (sym c.is_exclude.ensures ∙ c.if-is_exclude.false))

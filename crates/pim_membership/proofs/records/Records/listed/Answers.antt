@@ -1,23 +1,23 @@
-use Rattle.std.proofs.Common.{◌≤◌, subst, sym, ◌∙◌}
+use Rattle.std.proofs.Common.{◌≤◌, option_map, subst, sym, ◌∙◌}
 use Rattle.pim_model.specs.Tables.{has_row, keys_in, row_at}
-use Rattle.pim_source_trie.specs.Entries.{nodes_visited}
+use Rattle.pim_source_trie.specs.Entries.{address_bits, nodes_visited}
 use Rattle.pim_source_trie.proofs.Visited.{raised_at_most, star_at_most, visited_at_most}
 use Rattle.pim_membership.proofs.Counted.{records_visited}
 use Rattle.pim_membership.proofs.Told.{running_told, there_told}
-use Rattle.pim_membership.specs.Listing.{There, Running, record_key, source_bits}
+use Rattle.pim_membership.specs.Listing.{There, Running, record_key}
 use Rattle.pim_membership.proofs.records.Records.listed.Goals as goal
 
 pub returns-clause-there : goal.returns-clause-there
 unfolding has_row
 returns-clause-there g c = rw (← c.self.view_is) (λ i.
     c.get.ensures.sides There i
-    ∙ c.self.invariant.told There i c.args.group.bits (source_bits c.args.source)
+    ∙ c.self.invariant.told There i c.args.group.bits (option_map address_bits c.args.source)
     ∙ there_told g.R.Record.runs (row_at c.self.inside.rows (record_key i c.args.group c.args.source)))
 
 pub returns-clause-running : goal.returns-clause-running
 returns-clause-running g c = rw (← c.self.view_is) (λ i.
     c.get.ensures.sides Running i
-    ∙ c.self.invariant.told Running i c.args.group.bits (source_bits c.args.source)
+    ∙ c.self.invariant.told Running i c.args.group.bits (option_map address_bits c.args.source)
     ∙ running_told g.R.Record.runs (row_at c.self.inside.rows (record_key i c.args.group c.args.source)))
 
 pub returns-clause-at_least : goal.returns-clause-at_least

@@ -1,38 +1,46 @@
-use Rattle.std.proofs.Common.{Some, ap, is_some, subst, sym, true, ◌≡◌, ◌∙◌}
-use Rattle.pim_types.specs.declared.fact.Key.{Key}
-use Rattle.pim_model.specs.Tables.{drop_at, keys_in, row_at}
-use Rattle.pim_tables.proofs.Lookups.{left_is_dropped}
-use Rattle.pim_membership.proofs.Listings.{at_record_key}
-use Rattle.pim_membership.proofs.Told.{fits_at, source_in_key, listed_put, listed_refused}
-use Rattle.pim_membership.specs.Listing.{is_record_key, record_key}
-use Rattle.pim_membership.specs.Visits.{is_listed_anew}
+use Rattle.std.proofs.Common.{◌≡◌, Some, ap, subst, sym, ◌∙◌}
+use Rattle.std.specs.Prelude.{OnOk}
+use Rattle.pim_model.specs.Tables.{keys_in, put, row_at}
+use Rattle.pim_tables.proofs.Lookups.{absent, put_is_changed}
+use Rattle.pim_tables.proofs.Rows.{absent_is_unchanged, always}
+use Rattle.pim_membership.proofs.Listings.{changes_there, comes_listed}
+use Rattle.pim_membership.specs.Visits.{IsLookedUpWhere}
 use Rattle.pim_membership.proofs.records.Records.put.Goals as goal
 
-pub relist-requires-clause-near : goal.relist-requires-clause-near
-relist-requires-clause-near g c =
-    subst (λ (k : Key). is_record_key k ≡ true) (sym c.record_key-key.ensures)
-    (fits_at c.args.iface.number c.args.group c.args.source c.requires.below)
+pub returns-then-branch-clause-put : goal.returns-then-branch-clause-put
+returns-then-branch-clause-put g c =
+    c.in_ok-update.ensures.changed
+    ∙ sym (put_is_changed c.args.key c.args.row (λ _. Some c.args.row) c.args.self.now c.recall_rising.ensures
+    (sym c.in_ok-update.ensures.there ∙ c.if-branch.true) (always (row_at c.args.self.now c.args.key) c.args.row))
 
-pub invariant_of-self-in-Err : goal.invariant_of-self-in-Err
-invariant_of-self-in-Err g c =
-    listed_refused g.R.Record.runs g.R.Record.of_sources _ c.self.inside.rows c.self.invariant c.record_key-key.result
-    (Some (g.R.Record.runs c.args.row)) _ _ _ (record_key c.args.iface.number c.args.group c.args.source)
-    c.record_key-key.ensures
-    (c.remove.ensures ∙ ap (λ t. drop_at t c.record_key-key.result) c.in-Err.ensures.err
-    ∙ left_is_dropped c.record_key-key.result g.R.Ends.kinds.1 c.self.inside.rows)
-    c.in_ok-relist.ensures.ok c.unlist.ensures.listed
+pub returns-then-branch-clause-visited : goal.returns-then-branch-clause-visited
+returns-then-branch-clause-visited g c =
+    subst (λ b. IsLookedUpWhere b (keys_in c.args.self.now) c.args.key.group c.args.key.source c.args.meter.now c.update.new.meter)
+    (sym (changes_there g.R.Record.runs c.args.row c.args.self.now c.args.key
+    (sym c.in_ok-update.ensures.there ∙ c.if-branch.true)))
+    c.in_ok-update.ensures.visited
 
-pub invariant_of-self-in_default : goal.invariant_of-self-in_default
-invariant_of-self-in_default g c =
-    listed_put g.R.Record.runs g.R.Record.of_sources _ c.self.inside.rows c.self.invariant c.record_key-key.result c.args.row _ _
-    (subst (λ (k : Key). is_record_key k ≡ true) (sym c.record_key-key.ensures)
-    (fits_at c.args.iface.number c.args.group c.args.source c.requires.below))
-    (subst (λ (k : Key). is_some k.source ≡ g.R.Record.of_sources) (sym c.record_key-key.ensures)
-    (source_in_key c.args.iface.number c.args.group c.args.source ∙ c.requires.kind))
-    c.in_default.ensures.ok c.in_ok-relist.ensures.ok
+pub add-requires-clause-absent : goal.add-requires-clause-absent
+unfolding row_at
+add-requires-clause-absent g c =
+    let none = absent c.args.key c.args.self.now (sym c.in_ok-update.ensures.there ∙ c.if-branch.false) in
+    ap (λ t. row_at t c.args.key)
+    (c.in_ok-update.ensures.changed ∙ sym (absent_is_unchanged c.args.key (λ _. Some c.args.row) c.args.self.now none))
+    ∙ none
+
+pub returns-clause-put : goal.returns-clause-put
+returns-clause-put g c =
+    subst (λ t. OnOk c.add.result (c.add.new.self ≡ put t c.args.key c.args.row))
+    (c.in_ok-update.ensures.changed
+    ∙ sym (absent_is_unchanged c.args.key (λ _. Some c.args.row) c.args.self.now
+    (absent c.args.key c.args.self.now (sym c.in_ok-update.ensures.there ∙ c.if-branch.false))))
+    c.add.ensures.put
 
 pub returns-clause-visited : goal.returns-clause-visited
-returns-clause-visited g c = rw (← c.self.view_is)
-    (at_record_key (keys_in c.self.inside.rows) c.args.iface.number c.args.group c.args.source c.record_key-key.result _ _
-    (λ k. is_listed_anew g.R.Record.runs c.args.row (row_at c.self.inside.rows k)) c.record_key-key.ensures
-    c.in_ok-relist.ensures.visited)
+unfolding row_at
+returns-clause-visited g c =
+    let none = absent c.args.key c.args.self.now (sym c.in_ok-update.ensures.there ∙ c.if-branch.false) in
+    comes_listed g.R.Record.runs c.args.row (row_at c.args.self.now c.args.key) none c.args.self.now c.update.new.self
+    (c.in_ok-update.ensures.changed ∙ sym (absent_is_unchanged c.args.key (λ _. Some c.args.row) c.args.self.now none))
+    c.args.key.group c.args.key.source c.args.meter.now c.update.new.meter c.add.new.meter c.in_ok-update.ensures.visited
+    c.add.result c.add.ensures.visited

@@ -1,0 +1,15 @@
+use Rattle.std.proofs.Common.{Bool, Some, subst}
+use Rattle.std.specs.Prelude.{OnOk}
+use Rattle.pim_types.specs.declared.fact.Key.{Key}
+use Rattle.pim_types.specs.Keys.{iface_in}
+use Rattle.pim_membership.proofs.Told.{key_again}
+use Rattle.pim_membership.specs.Listing.{Lists, record_key}
+use Rattle.pim_membership.proofs.records.list_record.Goals as goal
+
+pub returns-clause-ok : goal.returns-clause-ok
+returns-clause-ok g c =
+    subst (λ (k : Key). OnOk c.list.result (Lists c.args.index.now c.list.new.self k (Some (g.R.Record.runs c.args.row))))
+    (key_again c.args.key c.requires)
+    (subst (λ (b : Bool). OnOk c.list.result
+    (Lists c.args.index.now c.list.new.self (record_key (iface_in c.args.key) c.args.key.group c.args.key.source) (Some b)))
+    c.is_running.ensures c.list.ensures.ok)
