@@ -2,6 +2,7 @@
 use Rattle.std.proofs.Common.{◌≡◌, ◌≤◌, ◌<◌, ◌+◌, ◌&&◌, ℕ, zero, suc, Bool, true, false, not, Option, None, Some, is_some, refl, ap, ◌∙◌, sym, subst, arith}
 use Rattle.std.specs.Bool.{then_some}
 use Rattle.std.specs.Prelude.{Err, Ok, OnOk, Result, if◌then◌else◌}
+use Rattle.pim_ip.specs.Addr.{addr}
 use Rattle.pim_ip.specs.declared.addr.Addr.{Addr}
 use Rattle.pim_types.specs.declared.config.IfaceId.{IfaceId}
 use Rattle.pim_types.specs.declared.fact.Key.{Key}
@@ -11,11 +12,11 @@ use Rattle.pim_model.specs.State.{State}
 use Rattle.pim_model.specs.Tables.{has_row, row_at}
 use Rattle.pim_store.specs.PimTables.{PimTables, pim_tables}
 use Rattle.pim_store.specs.Visits.{Visits}
-use Rattle.pim_world.specs.Visits.{mark_nodes, raised}
+use Rattle.pim_world.specs.Visits.{mark_nodes, new_source_nodes, raised}
 use Rattle.pim_world.proofs.Visits.{at_least_itself, at_least_none, new_counted, none_visited, raised_further, rises_by, two_in_turn}
-use Rattle.pim_asserts.specs.Going.{bits_of, clear_once}
+use Rattle.pim_asserts.specs.Going.{clear_once, source_bits}
 use Rattle.pim_asserts.specs.Opened.{part_to_clear}
-use Rattle.pim_asserts.specs.Visits.{new_assert_nodes, new_source_nodes, turn_nodes, turns_nodes}
+use Rattle.pim_asserts.specs.Visits.{new_assert_nodes, turn_nodes, turns_nodes}
 use Rattle.pim_asserts.proofs.Fuel.{turn_is_fewer}
 
 pub new_on_ok : {T E R : Type 0} (r : Result T E) (old new nodes : ℕ) (row : Option R)
@@ -35,17 +36,18 @@ set_counted r s f k q old new lent same visits rises =
     (subst (λ (g : PimTables). OnOk r (row_at g.asserts q ≡ None → Visits g k.group k.source old new)) lent visits)) rises
 
 -- a source that is set, with its SPTbit
-pub bit_set : {T E : Type 0} (r : Result T E) (s t : State) (group source : Addr) (src : ℕ) (old new : ℕ) → t ≡ s
-    → source.bits ≡ src
-    → OnOk r (row_at t.sources (source_key 0 group.bits source.bits) ≡ None
-    → new ≡ raised old (mark_nodes t group (Some source)))
-    → OnOk r (old ≤ new) → OnOk r (raised old (new_source_nodes s group.bits src) ≤ new)
+pub bit_set : {T E : Type 0} (r : Result T E) (s t : State) (here group source : Addr) (src : ℕ) (old new : ℕ) → t ≡ s
+    → here ≡ group → source.bits ≡ src
+    → OnOk r (row_at t.sources (source_key 0 here.bits source.bits) ≡ None
+    → new ≡ raised old (mark_nodes t here (Some source)))
+    → OnOk r (old ≤ new) → OnOk r (raised old (new_source_nodes s group (addr src)) ≤ new)
 unfolding has_row
-bit_set r s t group source src old new same is visits rises =
-    subst (λ (u : State). OnOk r (raised old (new_source_nodes u group.bits src) ≤ new)) same
-    (subst (λ (n : ℕ). OnOk r (raised old (new_source_nodes t group.bits n) ≤ new)) is
-    (new_on_ok r old new (mark_nodes t group (Some source)) (row_at t.sources (source_key 0 group.bits source.bits)) visits
-    rises))
+bit_set r s t here group source src old new same there is visits rises =
+    subst (λ (u : State). OnOk r (raised old (new_source_nodes u group (addr src)) ≤ new)) same
+    (subst (λ (a : Addr). OnOk r (raised old (new_source_nodes t a (addr src)) ≤ new)) there
+    (subst (λ (n : ℕ). OnOk r (raised old (new_source_nodes t here (addr n)) ≤ new)) is
+    (new_on_ok r old new (mark_nodes t here (Some source)) (row_at t.sources (source_key 0 here.bits source.bits)) visits
+    rises)))
 
 -- a row that stays on a condition, and else goes
 pub kept_or_gone : {T E R : Type 0} (r : Result T E) (old new nodes : ℕ) (stays : Bool) (row : R) (left : Option R)
@@ -100,10 +102,10 @@ pub record Turning (was : Option IfaceId) (group : Addr) (source : Option Addr) 
 
 module _ (was : Option IfaceId) (group : Addr) (source : Option Addr) where
   abbrev goes : State → Bool
-  goes s = is_some (part_to_clear was group.bits (bits_of source) s)
+  goes s = is_some (part_to_clear was group.bits (source_bits source) s)
 
   abbrev left_by : State → State
-  left_by s = (clear_once was group.bits (bits_of source) s).0
+  left_by s = (clear_once was group.bits (source_bits source) s).0
 
   abbrev once : State → ℕ
   once s = turn_nodes was group source s
@@ -144,7 +146,7 @@ module _ (was : Option IfaceId) (group : Addr) (source : Option Addr) where
   turns_next s t before whole old new more moved one at =
       turned s t before whole old new at.fuel more moved
       (subst (λ (u : State). clearable_count u < clearable_count s) (sym moved)
-      (turn_is_fewer was group.bits (bits_of source) s more)) one at.enough at.visited
+      (turn_is_fewer was group.bits (source_bits source) s more)) one at.enough at.visited
 
   pub turns_last : (s : State) (before whole old new : ℕ) → goes s ≡ false → raised old (once s) ≤ new
       → Turning was group source s before whole old → raised before whole ≤ new

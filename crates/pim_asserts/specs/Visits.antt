@@ -15,10 +15,10 @@ use Rattle.pim_model.specs.Querier.{each_in_turn}
 use Rattle.pim_model.specs.Sets.{is_kept_alive, is_winner, spt_bit}
 use Rattle.pim_model.specs.State.{State}
 use Rattle.pim_model.specs.Tables.{has_row, row_at}
-use Rattle.pim_world.specs.Visits.{mark_nodes, nodes_in_turn, sight_nodes}
+use Rattle.pim_world.specs.Visits.{mark_nodes, new_source_nodes, nodes_in_turn, sight_nodes}
 use Rattle.pim_opening.specs.declared.opening.GroupOpening.{GroupOpening}
 use Rattle.pim_opening.specs.declared.opening.SourceOpening.{SourceOpening}
-use Rattle.pim_asserts.specs.Going.{bits_of, clear_once}
+use Rattle.pim_asserts.specs.Going.{clear_once, source_bits}
 use Rattle.pim_asserts.specs.Opened.{clear_asserts, clear_bit, clear_bits, clear_source, clear_star, part_to_clear}
 use Rattle.pim_asserts.specs.Receiving.{action_of, goes_on_to_star, source_asserted, stance_at}
 use Rattle.pim_asserts.specs.declared.action.Action.{Action}
@@ -36,10 +36,6 @@ new_assert_nodes s k = if has_row s.asserts k then 0 else mark_nodes s k.group k
 abbrev pub gone_assert_nodes : State → Key → ℕ
 gone_assert_nodes s k = if has_row s.asserts k then mark_nodes s k.group k.source else 0
 
--- an SPTbit that is set: a row that is there stays in its place
-abbrev pub new_source_nodes : State → ℕ → ℕ → ℕ
-new_source_nodes s g src = if has_row s.sources (source_key 0 g src) then 0 else mark_nodes s (addr g) (Some (addr src))
-
 -- an SPTbit that is cleared: its row stays while the keepalive timer runs
 abbrev pub gone_bit_nodes : State → Addr → Addr → ℕ
 gone_bit_nodes s group source = if is_kept_alive s group.bits source.bits then 0 else mark_nodes s group (Some source)
@@ -50,8 +46,8 @@ abbrev pub due_nodes : State → Key → Option AssertRow → ℕ
 due_nodes s k None = 0
 due_nodes s k (Some r) = if is_winner (Some r) then key_nodes s k else mark_nodes s k.group k.source
 
-abbrev pub fired_nodes : State → Key → ℕ
-fired_nodes s k = due_nodes s k (row_at s.asserts k)
+abbrev pub assert_end_nodes : State → Key → ℕ
+assert_end_nodes s k = due_nodes s k (row_at s.asserts k)
 
 -- ---- an Assert, and data
 
@@ -62,26 +58,26 @@ action_nodes s k theirs (Action.Win mine) = key_nodes s k + new_assert_nodes s k
 action_nodes s k theirs (Action.WinAgain r) = key_nodes s k
 action_nodes s k theirs Action.Lose = new_assert_nodes s k
 action_nodes s k theirs Action.LoseAndSwitch =
-    new_assert_nodes s k + new_source_nodes (loses s k theirs) (group_in k) (source_in k)
+    new_assert_nodes s k + new_source_nodes (loses s k theirs) k.group (addr (source_in k))
 action_nodes s k theirs Action.Forget = gone_assert_nodes s k
 
 -- an Assert, as an event of one machine: how the router stands in it, and then its action
-unfoldable pub taken_nodes : State → Key → AssertMetric → ℕ
-taken_nodes s k theirs =
+unfoldable pub machine_nodes : State → Key → AssertMetric → ℕ
+machine_nodes s k theirs =
     key_nodes s k + action_nodes s k theirs (action_of (stance_at s k) (row_at s.asserts k) theirs)
 
 -- of a source, as an event of (S,G)
 abbrev pub source_asserted_nodes : State → ℕ → ℕ → AssertMessage → ℕ
 source_asserted_nodes s i from a =
-    if a.source.bits == 0 then 0 else taken_nodes s (source_key i a.group.bits a.source.bits) (theirs_of a from)
+    if a.source.bits == 0 then 0 else machine_nodes s (source_key i a.group.bits a.source.bits) (theirs_of a from)
 
 -- and of (*,G), where it goes on to that
 abbrev pub star_asserted_nodes : (before after : State) → ℕ → ℕ → AssertMessage → ℕ
 star_asserted_nodes s t i from a =
-    if goes_on_to_star s t i a then taken_nodes t (star_key i a.group.bits) (theirs_of a from) else 0
+    if goes_on_to_star s t i a then machine_nodes t (star_key i a.group.bits) (theirs_of a from) else 0
 
-abbrev pub received_nodes : State → ℕ → ℕ → AssertMessage → ℕ
-received_nodes s i from a =
+abbrev pub asserted_nodes : State → ℕ → ℕ → AssertMessage → ℕ
+asserted_nodes s i from a =
     source_asserted_nodes s i from a + star_asserted_nodes s (source_asserted s i from a).0 i from a
 
 -- data makes a winner, or nothing: the sight is handed in
@@ -94,15 +90,15 @@ data_nodes s k = if could_assert_at s k && not (has_row s.asserts k) then mark_n
 abbrev pub turn_nodes : Option IfaceId → Addr → Option Addr → State → ℕ
 turn_nodes was group source s =
     sight_nodes s group source
-    + (if is_some (part_to_clear was group.bits (bits_of source) s) then mark_nodes s group source else 0)
+    + (if is_some (part_to_clear was group.bits (source_bits source) s) then mark_nodes s group source else 0)
 
 -- and the next turn, in the state that it leaves, where one went: so many after the first at most
 unfoldable pub turns_nodes : Option IfaceId → Addr → Option Addr → ℕ → State → ℕ
 turns_nodes was group source zero s = turn_nodes was group source s
 turns_nodes was group source (suc n) s =
     turn_nodes was group source s
-    + (if is_some (part_to_clear was group.bits (bits_of source) s)
-    then turns_nodes was group source n (clear_once was group.bits (bits_of source) s).0 else 0)
+    + (if is_some (part_to_clear was group.bits (source_bits source) s)
+    then turns_nodes was group source n (clear_once was group.bits (source_bits source) s).0 else 0)
 
 -- the asserts of (*,G), where there is no source, or of (S,G), turn after turn until none must go: each takes one away of
 -- what could go
@@ -154,15 +150,15 @@ clear_nodes opening s =
 
 -- ---- of one source alone, whose sight is handed in: it is gathered anew where something goes
 
-abbrev pub seen_source_nodes : Addr → State → SourceOpening → ℕ
-seen_source_nodes group s x =
+abbrev pub alone_asserts_nodes : Addr → State → SourceOpening → ℕ
+alone_asserts_nodes group s x =
     if is_some (part_to_clear (x.view).iface group.bits (Some (x.source).bits) s)
     then clear_source_nodes group s x + sight_nodes (clear_source group.bits s x).0 group (Some x.source) else 0
 
-abbrev pub seen_bit_nodes : Addr → State → SourceOpening → ℕ
-seen_bit_nodes group s x =
+abbrev pub alone_bit_nodes : Addr → State → SourceOpening → ℕ
+alone_bit_nodes group s x =
     if spt_bit s group.bits (x.source).bits && not (join_desired s group.bits (x.source).bits)
     then clear_bit_nodes group s x + sight_nodes (clear_bit group.bits s x).0 group (Some x.source) else 0
 
 unfoldable pub alone_nodes : Addr → State → SourceOpening → ℕ
-alone_nodes group s x = seen_source_nodes group s x + seen_bit_nodes group (clear_source group.bits s x).0 x
+alone_nodes group s x = alone_asserts_nodes group s x + alone_bit_nodes group (clear_source group.bits s x).0 x

@@ -5,7 +5,7 @@ ghost use Rattle.pim_model.specs.Asserts.{asserted_metric, wins_again};
 ghost use Rattle.pim_model.specs.Firing.{fired};
 ghost use Rattle.pim_world.specs.Visits.{raised};
 ghost use Rattle.pim_world.specs.Turns.{saying};
-ghost use Rattle.pim_asserts.specs.Visits.{fired_nodes, key_nodes};
+ghost use Rattle.pim_asserts.specs.Visits.{assert_end_nodes, key_nodes};
 
 use pim_macros::{SourceSight, StarSight};
 use pim_types::Key;
@@ -65,7 +65,7 @@ pub fn fired(
 ) -> Result<(), AllocError>
     ensures state { OnOk result (world.new ≡ (fired world.old TimerKind.Assert key).0) }
     ensures messages { OnOk result (turn.new ≡ saying turn.old (fired world.old TimerKind.Assert key).1) }
-    ensures at_least { OnOk result (raised meter.old (fired_nodes world.old key) ≤ meter.new) }
+    ensures at_least { OnOk result (raised meter.old (assert_end_nodes world.old key) ≤ meter.new) }
 {
     let Some(row) = world.store().assert_at(key) else {
         return Ok(());

@@ -11,7 +11,7 @@ ghost use Rattle.pim_model.specs.State.{State};
 ghost use Rattle.pim_model.specs.Tables.{row_at};
 ghost use Rattle.pim_types.specs.Keys.{source_key};
 ghost use Rattle.pim_asserts.specs.Opened.{clear_asserts, clear_bit, clear_bits, clear_by, clear_source, clear_star};
-ghost use Rattle.pim_asserts.specs.Visits.{alone_nodes, clear_all_asserts_nodes, clear_all_bits_nodes, clear_asserts_nodes, clear_bit_nodes, clear_bits_nodes, clear_nodes, clear_source_nodes, clear_sources_nodes, clear_star_nodes, gone_bit_nodes, seen_bit_nodes, seen_source_nodes};
+ghost use Rattle.pim_asserts.specs.Visits.{alone_asserts_nodes, alone_bit_nodes, alone_nodes, clear_all_asserts_nodes, clear_all_bits_nodes, clear_asserts_nodes, clear_bit_nodes, clear_bits_nodes, clear_nodes, clear_source_nodes, clear_sources_nodes, clear_star_nodes, gone_bit_nodes};
 
 use crate::going::{first_of_source, first_of_star};
 use crate::part::{Part, clear_part};
@@ -136,9 +136,7 @@ fn forget_spt_bit(
         .keepalive
         .is_some()
         .then_some(SourceRow { spt: false, ..row });
-    world
-        .store_mut()
-        .set_source(name.group, name.source, left, meter)
+    world.store_mut().set_source(name, left, meter)
 }
 
 // An SPTbit that JoinDesired(S,G) doesn't keep, and the asserts that must go without it.
@@ -247,7 +245,7 @@ fn clear_source_by_sight(
     ensures sight { OnOk result (IsSourceSight world.new sight.new) }
     ensures group { OnOk result (sight.new.star.group ≡ sight.old.star.group) }
     ensures source { OnOk result (sight.new.source ≡ sight.old.source) }
-    ensures at_least { OnOk result (raised meter.old (seen_source_nodes sight.old.star.group world.old opened) ≤ meter.new) }
+    ensures at_least { OnOk result (raised meter.old (alone_asserts_nodes sight.old.star.group world.old opened) ≤ meter.new) }
 {
     // It tells that asserts are under keys of their kind, each of which stands once.
     world.recall_keyed();
@@ -255,7 +253,7 @@ fn clear_source_by_sight(
         return Ok(());
     };
     clear_source(world, turn, meter, sight.star.group, opened)?;
-    *sight = sight.anew(world, meter);
+    *sight = sight.gathered_again(world, meter);
     Ok(())
 }
 
@@ -276,13 +274,13 @@ fn clear_bit_by_sight(
     ensures sight { OnOk result (IsSourceSight world.new sight.new) }
     ensures group { OnOk result (sight.new.star.group ≡ sight.old.star.group) }
     ensures source { OnOk result (sight.new.source ≡ sight.old.source) }
-    ensures at_least { OnOk result (raised meter.old (seen_bit_nodes sight.old.star.group world.old opened) ≤ meter.new) }
+    ensures at_least { OnOk result (raised meter.old (alone_bit_nodes sight.old.star.group world.old opened) ≤ meter.new) }
 {
     if !sight.spt || sight.join_desired() {
         return Ok(());
     }
     clear_bit(world, turn, meter, sight.star.group, opened)?;
-    *sight = sight.anew(world, meter);
+    *sight = sight.gathered_again(world, meter);
     Ok(())
 }
 

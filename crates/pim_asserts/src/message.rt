@@ -7,7 +7,7 @@ ghost use Rattle.pim_world.specs.Visits.{raised};
 ghost use Rattle.pim_world.specs.Turns.{saying};
 ghost use Rattle.pim_macros.specs.Sights.{IsSourceSight, IsStarSight};
 ghost use Rattle.pim_asserts.specs.Receiving.{after_action, data_key, goes_on_to_star, source_asserted, stance_at, wins_with};
-ghost use Rattle.pim_asserts.specs.Visits.{action_nodes, data_nodes, key_nodes, new_assert_nodes, received_nodes, source_asserted_nodes, taken_nodes};
+ghost use Rattle.pim_asserts.specs.Visits.{action_nodes, asserted_nodes, data_nodes, key_nodes, machine_nodes, new_assert_nodes, source_asserted_nodes};
 
 use crate::action::{Action, action_of};
 use crate::assert_timer::{WINNER_TIME, asserted_metric, win_again};
@@ -115,7 +115,7 @@ fn carry_out(
         Action::Lose => lose(world, meter, key, theirs),
         Action::LoseAndSwitch => {
             lose(world, meter, key, theirs)?;
-            world.set_spt_bit(key.group, key.address(), meter)
+            world.set_spt_bit(key.name(), meter)
         }
         Action::Forget => {
             world.store_mut().drop_assert(key, meter);
@@ -144,7 +144,7 @@ fn run_machine(
     requires below { key.iface.number < 120 }
     ensures state { OnOk result (world.new ≡ (assert_at world.old key theirs).0) }
     ensures messages { OnOk result (turn.new ≡ saying turn.old (assert_at world.old key theirs).1) }
-    ensures at_least { OnOk result (raised meter.old (taken_nodes world.old key theirs) ≤ meter.new) }
+    ensures at_least { OnOk result (raised meter.old (machine_nodes world.old key theirs) ≤ meter.new) }
 {
     let stance = stance_of(world, meter, key);
     let action = action_of(stance, world.store().assert_at(key), theirs);
@@ -208,7 +208,7 @@ pub fn received(
     ensures messages { OnOk result (turn.new
         ≡ saying turn.old (assert_received world.old iface.number from.bits assert.now).1) }
     ensures at_least { OnOk result (raised meter.old
-        (received_nodes world.old iface.number from.bits assert.now) ≤ meter.new) }
+        (asserted_nodes world.old iface.number from.bits assert.now) ≤ meter.new) }
 {
     let goes_on = run_source_machine(world, turn, meter, iface, from, assert)?;
     if !goes_on {

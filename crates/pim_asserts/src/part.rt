@@ -5,7 +5,8 @@ ghost use Rattle.pim_world.specs.Visits.{mark_nodes, raised, sight_nodes};
 ghost use Rattle.pim_model.specs.Asserts.{assert_cancel, assert_forgotten};
 ghost use Rattle.pim_model.specs.Sets.{is_winner};
 ghost use Rattle.pim_model.specs.Tables.{row_at};
-ghost use Rattle.pim_asserts.specs.Going.{bits_of, clear_once, first_below, goes_at, number_of, part_key};
+ghost use Rattle.pim_macros.specs.Rows.{number_of};
+ghost use Rattle.pim_asserts.specs.Going.{clear_once, first_below, goes_at, part_key, source_bits};
 ghost use Rattle.pim_asserts.specs.Opened.{clear_part, part_to_clear};
 ghost use Rattle.pim_asserts.specs.Visits.{part_nodes, turn_nodes};
 
@@ -29,7 +30,7 @@ pub(crate) struct Part {
 // The first interface on which the assert must go.
 fn first_to_go(world: &World, meter: &mut Meter, part: Part) -> Option<IfaceId>
     ensures first { number_of result
-        ≡ first_below (goes_at part.was part.group.bits (bits_of part.source) world.now) }
+        ≡ first_below (goes_at part.was part.group.bits (source_bits part.source) world.now) }
     ensures at_least { raised meter.old (sight_nodes world.now part.group part.source) ≤ meter.new }
 {
     let star = StarSight::of(world, part.group, meter);
@@ -53,10 +54,10 @@ fn forget(
 ) -> Result<(), AllocError>
     requires { iface.number < 120 }
     ensures state { OnOk result (world.new
-        ≡ assert_forgotten world.old (part_key part.group.bits (bits_of part.source) iface.number)) }
+        ≡ assert_forgotten world.old (part_key part.group.bits (source_bits part.source) iface.number)) }
     ensures messages { OnOk result (turn.new ≡ saying turn.old
-        (if is_winner (row_at world.old.asserts (part_key part.group.bits (bits_of part.source) iface.number))
-        then assert_cancel (part_key part.group.bits (bits_of part.source) iface.number) ∷ [] else [])) }
+        (if is_winner (row_at world.old.asserts (part_key part.group.bits (source_bits part.source) iface.number))
+        then assert_cancel (part_key part.group.bits (source_bits part.source) iface.number) ∷ [] else [])) }
     ensures at_least { OnOk result (raised meter.old (mark_nodes world.old part.group part.source) ≤ meter.new) }
 {
     let row = world.store().assert_at(Key {
@@ -83,11 +84,11 @@ fn clear_next(
     part: Part,
 ) -> Result<bool, AllocError>
     ensures more { IfOk result (λ more. more
-        ≡ is_some (part_to_clear part.was part.group.bits (bits_of part.source) world.old)) }
+        ≡ is_some (part_to_clear part.was part.group.bits (source_bits part.source) world.old)) }
     ensures state { IfOk result (λ more. world.new
-        ≡ (clear_once part.was part.group.bits (bits_of part.source) world.old).0) }
+        ≡ (clear_once part.was part.group.bits (source_bits part.source) world.old).0) }
     ensures messages { IfOk result (λ more. turn.new ≡ saying turn.old
-        (clear_once part.was part.group.bits (bits_of part.source) world.old).1) }
+        (clear_once part.was part.group.bits (source_bits part.source) world.old).1) }
     ensures at_least { OnOk result (raised meter.old (turn_nodes part.was part.group part.source world.old) ≤ meter.new) }
 {
     // It tells that asserts are under keys of their kind, each of which stands once.
@@ -107,9 +108,9 @@ pub(crate) fn clear_part(
     part: Part,
 ) -> Result<(), AllocError>
     ensures state { OnOk result (world.new
-        ≡ (clear_part part.was part.group.bits (bits_of part.source) world.old).0) }
+        ≡ (clear_part part.was part.group.bits (source_bits part.source) world.old).0) }
     ensures messages { OnOk result (turn.new ≡ saying turn.old
-        (clear_part part.was part.group.bits (bits_of part.source) world.old).1) }
+        (clear_part part.was part.group.bits (source_bits part.source) world.old).1) }
     ensures at_least { OnOk result (raised meter.old (part_nodes part.was part.group part.source world.old) ≤ meter.new) }
 {
     while clear_next(world, turn, meter, part)? {}

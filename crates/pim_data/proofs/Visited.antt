@@ -18,7 +18,7 @@ use Rattle.pim_register.proofs.Visited.{source_new}
 use Rattle.pim_world.proofs.Visits.{at_least_itself, four_in_turn, none_asked, none_visited, one_asked, two_in_turn}
 use Rattle.pim_asserts.specs.Visits.{data_nodes}
 use Rattle.pim_register.specs.Visits.{register_mark_nodes}
-use Rattle.pim_data.specs.Visits.{arrived_nodes, chosen_nodes, here_nodes, joined_nodes, kept_nodes, leave_nodes, reached_nodes, registered_nodes, stray_nodes, watched_nodes}
+use Rattle.pim_data.specs.Visits.{arrived_nodes, chosen_nodes, here_nodes, kept_nodes, leave_nodes, reached_nodes, registered_nodes, source_joined_nodes, stray_nodes, watched_nodes}
 
 by_as_many : (old new n m : ℕ) → n ≡ m → raised old n ≤ new → raised old m ≤ new
 by_as_many old new n m same = subst (λ (k : ℕ). raised old k ≤ new) same
@@ -96,12 +96,12 @@ module _ (s a b d : State) (i g g1 g2 g3 src src1 src2 src3 : ℕ) (here : a ≡
   updated_state = updated ∙ λ k. spt_updated (joined_state k) ((at2 ∙ at1) k) ((of2 ∙ of1) k) i
 
   pub all_counted : (old first second third new : ℕ) → raised old (here_nodes s g src i) ≤ first
-      → raised first (joined_nodes a g1 src1 i) ≤ second → raised second (reached_nodes b g2 src2 i) ≤ third
+      → raised first (source_joined_nodes a g1 src1 i) ≤ second → raised second (reached_nodes b g2 src2 i) ≤ third
       → raised third (chosen_nodes d g3 src3 i) ≤ new → raised old (arrived_nodes s g src i) ≤ new
   unfolding arrived_nodes
   all_counted old first second third new e f h k =
       four_in_turn old first second third new _ _ _ _ e
-      (by_as_many first second (joined_nodes a g1 src1 i) _ (λ j. joined_nodes (here j) (at1 j) (of1 j) i) f)
+      (by_as_many first second (source_joined_nodes a g1 src1 i) _ (λ j. source_joined_nodes (here j) (at1 j) (of1 j) i) f)
       (by_as_many second third (reached_nodes b g2 src2 i) _
       (λ j. reached_nodes (joined_state j) ((at2 ∙ at1) j) ((of2 ∙ of1) j) i) h)
       (by_as_many third new (chosen_nodes d g3 src3 i) _

@@ -11,9 +11,9 @@ use Rattle.pim_model.specs.State.{State}
 use Rattle.pim_model.specs.Unicast.{is_connected, is_rpf_interface, is_rpf_interface_rp, rp_of}
 use Rattle.pim_model.specs.Writing.{leaves}
 use Rattle.pim_mrib.specs.Routes.{rp_nodes}
-use Rattle.pim_world.specs.Visits.{path_nodes}
+use Rattle.pim_world.specs.Visits.{new_source_nodes, path_nodes}
 use Rattle.pim_asserts.specs.Visits.{data_nodes}
-use Rattle.pim_register.specs.Visits.{new_source_nodes, register_mark_nodes}
+use Rattle.pim_register.specs.Visits.{register_mark_nodes}
 
 -- ---- what it tells of its source, whose row is new, or stays in its place
 
@@ -26,8 +26,8 @@ here_nodes s g src iif =
     if is_connected s src && is_rpf_interface s src iif
     then kept_nodes s g src + register_mark_nodes (with_keepalive s g src) (addr g) (addr src) else 0
 
-abbrev pub joined_nodes : State → ℕ → ℕ → ℕ → ℕ
-joined_nodes s g src iif =
+abbrev pub source_joined_nodes : State → ℕ → ℕ → ℕ → ℕ
+source_joined_nodes s g src iif =
     if is_rpf_interface s src iif && join_desired s g src && not (is_inherited_empty s g src) then kept_nodes s g src
     else 0
 
@@ -56,7 +56,7 @@ unfoldable pub arrived_nodes : State → ℕ → ℕ → ℕ → ℕ
 arrived_nodes s g src iif =
     let here : State = source_here s g src iif in
     let joined : State = source_joined here g src iif in
-    here_nodes s g src iif + joined_nodes here g src iif + reached_nodes joined g src iif
+    here_nodes s g src iif + source_joined_nodes here g src iif + reached_nodes joined g src iif
     + chosen_nodes (spt_updated joined g src iif) g src iif
 
 -- ---- what leaves

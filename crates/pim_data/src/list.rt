@@ -26,7 +26,7 @@ fn watch(world: &mut World, meter: &mut Meter, sight: &SourceSight) -> Result<()
     if !(sight.has_local_receivers() && sight.is_spt_wanted) {
         return Ok(());
     }
-    world.keep_alive(sight.star.group, sight.source, None, meter)
+    world.keep_alive(sight.name(), None, meter)
 }
 
 /// Whether the interface is on the list of the tree that the source comes by: the shortest path tree once it is reached,

@@ -4,7 +4,7 @@ ghost use Rattle.std.specs.Prelude.{◌≡◌, ◌<◌, ◌≤◌, OnOk};
 ghost use Rattle.pim_macros.specs.Sights.{IsSourceSight};
 ghost use Rattle.pim_model.specs.Forwarding.{source_here, source_joined, spt_updated};
 ghost use Rattle.pim_model.specs.Registers.{with_keepalive};
-ghost use Rattle.pim_data.specs.Visits.{here_nodes, joined_nodes, kept_nodes, reached_nodes};
+ghost use Rattle.pim_data.specs.Visits.{here_nodes, kept_nodes, reached_nodes, source_joined_nodes};
 ghost use Rattle.pim_world.specs.Visits.{raised};
 
 use pim_macros::SourceSight;
@@ -28,7 +28,7 @@ fn keep_alive(
     ensures at_least { OnOk result (raised meter.old
         (kept_nodes world.old sight.old.star.group.bits sight.old.source.bits) ≤ meter.new) }
 {
-    world.keep_alive(sight.star.group, sight.source, None, meter)?;
+    world.keep_alive(sight.name(), None, meter)?;
     *sight = sight.kept_alive();
     Ok(())
 }
@@ -72,7 +72,7 @@ pub(crate) fn source_joined(
     ensures group { OnOk result (sight.new.star.group ≡ sight.old.star.group) }
     ensures source { OnOk result (sight.new.source ≡ sight.old.source) }
     ensures at_least { OnOk result (raised meter.old
-        (joined_nodes world.old sight.old.star.group.bits sight.old.source.bits iface.number) ≤ meter.new) }
+        (source_joined_nodes world.old sight.old.star.group.bits sight.old.source.bits iface.number) ≤ meter.new) }
 {
     let is_forwarded = sight.is_rpf_interface(iface)
         && sight.join_desired()
@@ -104,7 +104,7 @@ pub(crate) fn update_spt_bit(
     if !sight.is_spt_reached(iface) {
         return Ok(());
     }
-    world.set_spt_bit(sight.star.group, sight.source, meter)?;
+    world.set_spt_bit(sight.name(), meter)?;
     *sight = sight.with_spt_bit();
     Ok(())
 }

@@ -29,8 +29,8 @@ abbrev pub joins_nodes : State → Group → ℕ
 joins_nodes s g = sum_by (λ e. counted_nodes s (g.group, e)) g.joins
 
 -- those of all groups of a message
-unfoldable pub named_nodes : State → JoinPrune → ℕ
-named_nodes s m = sum_by (joins_nodes s) m.groups
+unfoldable pub message_named_nodes : State → JoinPrune → ℕ
+message_named_nodes s m = sum_by (joins_nodes s) m.groups
 
 -- ---- the rows that a message changes
 
@@ -64,7 +64,7 @@ abbrev pub prune_pending_due_nodes : State → Key → ℕ
 prune_pending_due_nodes s k =
     if has_row s.downstream k && not k.rpt then echo_nodes s k + mark_nodes s k.group k.source else 0
 
-abbrev pub fired_nodes : State → TimerKind → Key → ℕ
-fired_nodes s TimerKind.PrunePending k = prune_pending_due_nodes s k
-fired_nodes s TimerKind.DownstreamExpiry k = expired_nodes s k
-fired_nodes s _ k = 0
+abbrev pub downstream_end_nodes : State → TimerKind → Key → ℕ
+downstream_end_nodes s TimerKind.PrunePending k = prune_pending_due_nodes s k
+downstream_end_nodes s TimerKind.DownstreamExpiry k = expired_nodes s k
+downstream_end_nodes s _ k = 0

@@ -9,7 +9,7 @@ ghost use Rattle.pim_model.specs.State.{my_address};
 ghost use Rattle.pim_trie.specs.Meter.{raised};
 ghost use Rattle.pim_world.specs.Turns.{saying};
 ghost use Rattle.pim_downstream.specs.Ends.{is_downstream_kind};
-ghost use Rattle.pim_downstream.specs.Visits.{echo_nodes, expired_nodes, fired_nodes, prune_pending_due_nodes};
+ghost use Rattle.pim_downstream.specs.Visits.{echo_nodes, expired_nodes, downstream_end_nodes, prune_pending_due_nodes};
 
 use pim_trie::Meter;
 use pim_types::fact::DownstreamRow;
@@ -115,7 +115,7 @@ pub fn fired(
     requires { is_downstream_kind kind ≡ true }
     ensures state { OnOk result (world.new ≡ (fired world.old kind key).0) }
     ensures messages { OnOk result (turn.new ≡ saying turn.old (fired world.old kind key).1) }
-    ensures at_least { OnOk result (raised meter.old (fired_nodes world.old kind key) ≤ meter.new) }
+    ensures at_least { OnOk result (raised meter.old (downstream_end_nodes world.old kind key) ≤ meter.new) }
 {
     match kind {
         TimerKind::PrunePending => prune_pending_due(world, turn, meter, key),

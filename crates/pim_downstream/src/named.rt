@@ -1,7 +1,7 @@
 //! The keys that a Join/Prune names.
 ghost use Rattle.std.specs.Prelude.{◌≡◌, ◌≤◌, ◌++◌, IfOk, OnOk};
 ghost use Rattle.pim_downstream.specs.Naming.{entry_keys, is_counted};
-ghost use Rattle.pim_downstream.specs.Visits.{joins_nodes, named_nodes};
+ghost use Rattle.pim_downstream.specs.Visits.{joins_nodes, message_named_nodes};
 ghost use Rattle.pim_model.specs.Downstream.{is_used, joined_keys, key_by, pruned_keys};
 ghost use Rattle.pim_trie.specs.Meter.{raised};
 
@@ -77,7 +77,7 @@ impl Named {
     ) -> Result<Named, AllocError>
         ensures joined { IfOk result (λ named. named.joined.items ≡ joined_keys world.now iface.number message.now) }
         ensures pruned { IfOk result (λ named. named.pruned.items ≡ pruned_keys iface.number message.now) }
-        ensures at_least { OnOk result (raised meter.old (named_nodes world.now message.now) ≤ meter.new) }
+        ensures at_least { OnOk result (raised meter.old (message_named_nodes world.now message.now) ≤ meter.new) }
     {
         let mut joined = Vec::new(turn.alloc);
         let mut pruned = Vec::new(turn.alloc);

@@ -8,7 +8,7 @@ use Rattle.pim_model.specs.State.{State}
 use Rattle.pim_model.specs.Tables.{Table, keys_in}
 use Rattle.pim_laws.specs.Rows.{all_changed}
 use Rattle.pim_laws.proofs.ChosenRows.{chosen_changed}
-use Rattle.pim_store.specs.PimTables.{lowered}
+use Rattle.pim_store.specs.PimTables.{lowered_join_timer}
 
 abbrev low : ℕ → JoinTimerRow → JoinTimerRow
 low end r = record { end = min r.end end }
@@ -22,7 +22,7 @@ low_twice : (end : ℕ) (r : JoinTimerRow) → low end (low end r) ≡ low end r
 low_twice end r = ap (λ (n : ℕ). let x : JoinTimerRow = record { end = n } in x) (least_twice r.end end)
 
 pub lowered_where : (test : Key → Bool) (end : ℕ) (t : Table JoinTimerRow)
-    → all_changed (lowered end) t (filter test (keys_in t))
+    → all_changed (lowered_join_timer end) t (filter test (keys_in t))
     ≡ map (λ (e : Key × JoinTimerRow). if test e.0 then (e.0, record { end = min (e.1).end end }) else e) t
 lowered_where test end t = chosen_changed (low end) (low_twice end) test t
 

@@ -15,7 +15,7 @@ use Rattle.pim_model.specs.State.{State}
 use Rattle.pim_model.specs.Tables.{Table, hop_at, keys_in}
 use Rattle.pim_laws.specs.Rows.{all_changed}
 use Rattle.pim_laws.proofs.ChosenRows.{keys_of_passing}
-use Rattle.pim_store.specs.PimTables.{lowered}
+use Rattle.pim_store.specs.PimTables.{lowered_join_timer}
 use Rattle.pim_hello.specs.Towards.{is_towards}
 use Rattle.pim_hello.proofs.Losses.{losses_ended}
 use Rattle.pim_hello.proofs.Lowering.{lowered_where}
@@ -41,7 +41,7 @@ module _ (s : State) (i a w : ℕ) (h : HelloValue) where
 
   -- with these timers lowered
   abbrev low : State → ℕ → List Key → State
-  low t end keys = record t { join_timers = all_changed (lowered end) t.join_timers keys }
+  low t end keys = record t { join_timers = all_changed (lowered_join_timer end) t.join_timers keys }
 
   abbrev lowered_by_t_override : List Key → State → State
   lowered_by_t_override keys t = low t (t.present + t_override t i w) keys

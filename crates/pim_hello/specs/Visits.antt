@@ -13,17 +13,17 @@ use Rattle.pim_mrib.specs.Routes.{rp_nodes}
 use Rattle.pim_world.specs.Visits.{path_nodes, sight_nodes, sources_nodes}
 
 -- the upstream neighbour of a Join timer
-abbrev pub timer_nodes : State → Key × JoinTimerRow → ℕ
-timer_nodes s e = sight_nodes s (e.0).group (e.0).source
+abbrev pub timer_sight_nodes : State → Key × JoinTimerRow → ℕ
+timer_sight_nodes s e = sight_nodes s (e.0).group (e.0).source
 
 -- that of each Join timer
 abbrev pub timers_towards_nodes : State → ℕ
-timers_towards_nodes s = sum_by (timer_nodes s) s.join_timers
+timers_towards_nodes s = sum_by (timer_sight_nodes s) s.join_timers
 
 -- a Hello from an address on an interface: the Join timers are asked for where the neighbour started anew. The asserts that
 -- end aren't counted here.
-abbrev pub received_nodes : State → ℕ → ℕ → HelloValue → ℕ
-received_nodes s i from h = if is_generation_changed s i from h then timers_towards_nodes s else 0
+abbrev pub hello_nodes : State → ℕ → ℕ → HelloValue → ℕ
+hello_nodes s i from h = if is_generation_changed s i from h then timers_towards_nodes s else 0
 
 -- ---- what looks to a neighbour
 

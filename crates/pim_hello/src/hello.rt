@@ -2,7 +2,7 @@
 ghost use Rattle.std.specs.Prelude.{◌≡◌, ◌≤◌, ◌<◌, ◌+◌, OnOk};
 ghost use Rattle.pim_model.specs.Hellos.{hello_received, hello_triggered, neighbour_replaced, neighbour_restarted, triggered_hello_delay};
 ghost use Rattle.pim_model.specs.Tables.{delay_in};
-ghost use Rattle.pim_hello.specs.Visits.{received_nodes, timers_towards_nodes};
+ghost use Rattle.pim_hello.specs.Visits.{hello_nodes, timers_towards_nodes};
 ghost use Rattle.pim_world.specs.Visits.{raised};
 
 use crate::restarted::{asserts_lost_to, lower_timers, timers_towards};
@@ -32,7 +32,7 @@ pub fn received(
 ) -> Result<(), AllocError>
     ensures state { OnOk result (world.new ≡ hello_received world.old iface.number from.bits hello.now turn.old.draw) }
     ensures silent { turn.new ≡ turn.old }
-    ensures at_least { OnOk result (raised meter.old (received_nodes world.old iface.number from.bits hello.now) ≤ meter.new) }
+    ensures at_least { OnOk result (raised meter.old (hello_nodes world.old iface.number from.bits hello.now) ≤ meter.new) }
 {
     if world.neighbours().is_generation_changed(iface, from, hello) {
         return restart(world, turn, meter, iface, from, hello);

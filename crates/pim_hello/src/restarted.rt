@@ -5,7 +5,7 @@ ghost use Rattle.pim_model.specs.Tables.{change_row, keys_in, same_hop};
 ghost use Rattle.pim_hello.specs.Towards.{is_towards};
 ghost use Rattle.pim_hello.specs.Visits.{timers_towards_nodes};
 ghost use Rattle.pim_laws.specs.Rows.{all_changed};
-ghost use Rattle.pim_store.specs.PimTables.{lowered};
+ghost use Rattle.pim_store.specs.PimTables.{lowered_join_timer};
 ghost use Rattle.pim_world.specs.Visits.{raised};
 
 use pim_macros::desires::is_same_hop;
@@ -29,9 +29,9 @@ pub(crate) fn timers_towards(
 {
     let mut keys = Vec::new(alloc);
     for (key, _) in world.store().join_timer_rows() {
-        let upstream = upstream_of(world, *key, meter);
+        let upstream = upstream_of(world, key, meter);
         if is_same_hop(upstream, Some(neighbour)) {
-            keys.push(*key)?;
+            keys.push(key)?;
         }
     }
     Ok(keys)
@@ -60,7 +60,8 @@ pub fn asserts_lost_to(world: &World, turn: &Turn, neighbour: Hop) -> Result<Vec
     Ok(keys)
 }
 
-/// Lowers the Join timers with these keys to an end, in ms. The meter stays.
+/// Lowers the Join timers with these keys to an end, in ms. The meter rises by the nodes that lead to the group, or to the
+/// source, of each.
 pub(crate) fn lower_timers(
     world: &mut World,
     meter: &mut Meter,
@@ -68,8 +69,8 @@ pub(crate) fn lower_timers(
     end: u64,
 ) -> Result<(), AllocError>
     ensures lowered { OnOk result (world.new
-        ≡ record world.old { join_timers = all_changed (lowered end) world.old.join_timers keys.now }) }
-    ensures kept { OnOk result (meter.new ≡ meter.old) }
+        ≡ record world.old { join_timers = all_changed (lowered_join_timer end) world.old.join_timers keys.now }) }
+    ensures rises { OnOk result (meter.old ≤ meter.new) }
 {
     for key in keys {
         world.store_mut().lower_join_timer(*key, end, meter)?;

@@ -25,17 +25,17 @@ pub struct LentEvent<'a> {
 }
 
 impl<'a> Model for LentEvent<'a> {
-    ghost use Rattle.pim_intake.specs.Lent.{kind_of};
+    ghost use Rattle.pim_intake.specs.Lent.{event_kind};
     ghost use Rattle.pim_types.specs.declared.event.Event.{Event};
 
     ghost Value = { Event };
 
-    ghost view = { λ e. record { draw = e.draw; kind = kind_of e.kind } };
+    ghost view = { λ e. record { draw = e.draw; kind = event_kind e.kind } };
 }
 
 impl<'a> LentEvent<'a> {
     /// The event itself.
-    #[tactic(auto, unfolding(crate::specs::Lent::kind_of))]
+    #[tactic(auto, unfolding(crate::specs::Lent::event_kind))]
     pub fn of(event: &'a Event) -> LentEvent<'a>
         ensures { result ≡ event.now }
     {
@@ -64,7 +64,7 @@ impl<'a> LentEvent<'a> {
     }
 
     /// A packet that came on an interface.
-    #[tactic(auto, unfolding(crate::specs::Lent::kind_of))]
+    #[tactic(auto, unfolding(crate::specs::Lent::event_kind))]
     pub fn frame(draw: u32, iface: IfaceId, packet: &'a [u8]) -> LentEvent<'a>
         ensures { result ≡ record { draw = draw; kind = EventValue.Frame iface packet.now } }
     {
@@ -76,7 +76,7 @@ impl<'a> LentEvent<'a> {
     }
 
     /// A packet that came for an address of the router.
-    #[tactic(auto, unfolding(crate::specs::Lent::kind_of))]
+    #[tactic(auto, unfolding(crate::specs::Lent::event_kind))]
     pub fn unicast(draw: u32, packet: &'a [u8]) -> LentEvent<'a>
         ensures { result ≡ record { draw = draw; kind = EventValue.Unicast packet.now } }
     {

@@ -223,8 +223,8 @@ impl SourceSight {
         SourceSight::of(world, star, name.source, meter)
     }
 
-    /// The same source's, gathered anew.
-    pub fn anew(&self, world: &World, meter: &mut Meter) -> SourceSight
+    /// The same source's, of the state as it is now.
+    pub fn gathered_again(&self, world: &World, meter: &mut Meter) -> SourceSight
         ensures sight { IsSourceSight world.now result }
         ensures group { result.star.group ≡ self.now.star.group }
         ensures source { result.source ≡ self.now.source }

@@ -19,8 +19,8 @@ message_of (Message.JoinPrune m) =
 message_of (Message.Assert m) =
     ModelMessage.Assert m.iface.number m.group.bits (option_map_or (λ (a : Addr). a.bits) m.source 0) m.metric
 message_of (Message.Query m) = ModelMessage.Query m.iface.number (query_with m.header m.sources)
-message_of (Message.RegisterStop m) = ModelMessage.RegisterStop m.from.bits m.to.bits m.group.bits m.source.bits
-message_of (Message.NullRegister m) = ModelMessage.NullRegister m.from.bits m.to.bits m.source.bits m.group.bits
+message_of (Message.RegisterStop m) = ModelMessage.RegisterStop m.from.bits m.to.bits m.name.group.bits m.name.source.bits
+message_of (Message.NullRegister m) = ModelMessage.NullRegister m.from.bits m.to.bits m.name.source.bits m.name.group.bits
 
 abbrev pub messages_of : List Message → List ModelMessage
 messages_of messages = map message_of messages

@@ -1,7 +1,7 @@
 //! The messages that machines send, before they are bytes.
 use igmp_wire::QueryHeader;
 use pim_types::fact::AssertMetric;
-use pim_types::{Addr, Hop, IfaceId, Series};
+use pim_types::{Addr, Hop, IfaceId, Series, SourceGroup};
 use pim_wire::Entry;
 
 /// A Join/Prune to a neighbour for one group (RFC 7761, section 4.9.5).
@@ -36,8 +36,7 @@ pub(crate) struct Query {
 pub(crate) struct RegisterMessage {
     pub(crate) from: Addr,
     pub(crate) to: Addr,
-    pub(crate) group: Addr,
-    pub(crate) source: Addr,
+    pub(crate) name: SourceGroup,
 }
 
 /// A message that is to be sent.

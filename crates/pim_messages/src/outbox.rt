@@ -12,7 +12,7 @@ use crate::room::Room;
 use igmp_wire::QueryHeader;
 use pim_ifaces::Interfaces;
 use pim_types::fact::AssertMetric;
-use pim_types::{Addr, Emission, Fault, Hop, IfaceId, Series};
+use pim_types::{Addr, Emission, Fault, Hop, IfaceId, Series, SourceGroup};
 use pim_wire::Entry;
 use std::alloc::{AllocError, Global};
 use std::marker::Model;
@@ -153,19 +153,13 @@ impl Outbox {
         &mut self,
         from: Addr,
         to: Addr,
-        group: Addr,
-        source: Addr,
+        name: SourceGroup,
     ) -> Result<(), AllocError>
         ensures ok { OnOk result (self.new ≡ self.old
-            ++ ModelMessage.RegisterStop from.bits to.bits group.bits source.bits ∷ []) }
+            ++ ModelMessage.RegisterStop from.bits to.bits name.group.bits name.source.bits ∷ []) }
         ensures err { OnErr result (self.new ≡ self.old) }
     {
-        self.push(Message::RegisterStop(RegisterMessage {
-            from,
-            to,
-            group,
-            source,
-        }))
+        self.push(Message::RegisterStop(RegisterMessage { from, to, name }))
     }
 
     /// Puts a Null-Register at the end, from one of the router's addresses to an RP. An `Err` changes
@@ -174,19 +168,13 @@ impl Outbox {
         &mut self,
         from: Addr,
         to: Addr,
-        source: Addr,
-        group: Addr,
+        name: SourceGroup,
     ) -> Result<(), AllocError>
         ensures ok { OnOk result (self.new ≡ self.old
-            ++ ModelMessage.NullRegister from.bits to.bits source.bits group.bits ∷ []) }
+            ++ ModelMessage.NullRegister from.bits to.bits name.source.bits name.group.bits ∷ []) }
         ensures err { OnErr result (self.new ≡ self.old) }
     {
-        self.push(Message::NullRegister(RegisterMessage {
-            from,
-            to,
-            group,
-            source,
-        }))
+        self.push(Message::NullRegister(RegisterMessage { from, to, name }))
     }
 
     /// Puts the packets of all messages, in their order, at the end of the emissions. A Hello that is

@@ -200,10 +200,10 @@ fn query_packet(
 #[tactic(auto, using(crate::proofs::Lengths::text_lengths))]
 fn register_stop_packet(room: &mut Room, message: &RegisterMessage) -> Result<Emission, AllocError>
     ensures { IfOk result (λ e. e ≡ pim_to message.now.from.bits message.now.to.bits
-        (register_stop_text message.now.group.bits message.now.source.bits)) }
+        (register_stop_text message.now.name.group.bits message.now.name.source.bits)) }
 {
     let mut text = room.buffer();
-    write_register_stop(message.group, message.source, &mut text)?;
+    write_register_stop(message.name.group, message.name.source, &mut text)?;
     let packet = pim_to(room, message.from, message.to, &text)?;
     room.give(text);
     Ok(packet)
@@ -212,10 +212,10 @@ fn register_stop_packet(room: &mut Room, message: &RegisterMessage) -> Result<Em
 #[tactic(auto, using(crate::proofs::Lengths::text_lengths))]
 fn null_register_packet(room: &mut Room, message: &RegisterMessage) -> Result<Emission, AllocError>
     ensures { IfOk result (λ e. e ≡ pim_to message.now.from.bits message.now.to.bits
-        (null_register_text message.now.source.bits message.now.group.bits)) }
+        (null_register_text message.now.name.source.bits message.now.name.group.bits)) }
 {
     let mut text = room.buffer();
-    write_null_register(message.source, message.group, &mut text)?;
+    write_null_register(message.name.source, message.name.group, &mut text)?;
     let packet = pim_to(room, message.from, message.to, &text)?;
     room.give(text);
     Ok(packet)

@@ -1,6 +1,6 @@
 //! The rows of the forwarding cache, each under its group and source.
 ghost use Rattle.std.specs.Prelude.{◌≡◌, ◌≤◌, [], IsOk, IsTrue, OnErr, OnOk, Some, option_map};
-ghost use Rattle.pim_mfc.specs.Kept.{ForwardsAs, cache_row, decided, kept_row, with_row, without_row};
+ghost use Rattle.pim_mfc.specs.Kept.{ForwardsAs, cache_row, decided, kept_row, with_source_row, without_source_row};
 ghost use Rattle.pim_model.specs.Tables.{has_row, keys_in};
 ghost use Rattle.pim_source_trie.specs.Entries.{nodes_visited, raised};
 ghost use Rattle.pim_types.specs.Keys.{source_key};
@@ -67,9 +67,9 @@ impl Mfc {
 
     /// Puts what was evaluated of a source in the place of its row, or as its first. It fails only where there was no row
     /// and there is no memory, and then nothing has changed.
-    #[tactic(auto, unfolding(crate::specs::Kept::with_row, pim_trie::specs::Meter::raised))]
+    #[tactic(auto, unfolding(crate::specs::Kept::with_source_row, pim_trie::specs::Meter::raised))]
     pub fn put(&mut self, made: Made) -> Result<(), AllocError>
-        ensures ok { OnOk result (self.new ≡ with_row self.old made) }
+        ensures ok { OnOk result (self.new ≡ with_source_row self.old made) }
         ensures overwrites { IsTrue (has_row self.old.rows (source_key 0 made.group.bits made.source.bits)) → IsOk result }
         ensures err { OnErr result (self.new ≡ self.old) }
     {
@@ -80,9 +80,9 @@ impl Mfc {
     }
 
     /// Takes the row of a source out; that counts, whether there was one or not. It takes no memory.
-    #[tactic(auto, unfolding(crate::specs::Kept::without_row, pim_trie::specs::Meter::raised))]
+    #[tactic(auto, unfolding(crate::specs::Kept::without_source_row, pim_trie::specs::Meter::raised))]
     pub fn remove(&mut self, name: SourceGroup)
-        ensures { self.new ≡ without_row self.old name.group.bits name.source.bits }
+        ensures { self.new ≡ without_source_row self.old name.group.bits name.source.bits }
     {
         self.rows.remove(name.group, Some(name.source));
         self.changes = self.changes.saturating_add(1);

@@ -6,7 +6,7 @@ use Rattle.pim_types.specs.Keys.{is_of_group, names_source, source_in}
 use Rattle.pim_types.specs.declared.fact.Key.{Key}
 use Rattle.pim_model.specs.State.{State}
 use Rattle.pim_model.specs.Upstream.{fact_keys, groups_of, source_view, sources_of, star_view}
-use Rattle.pim_world.specs.Touches.{touched_keys}
+use Rattle.pim_world.specs.Touches.{concerned_keys}
 use Rattle.pim_world.specs.declared.touched.Touched.{Touched}
 use Rattle.pim_opening.specs.declared.opening.GroupOpening.{GroupOpening}
 use Rattle.pim_opening.specs.declared.opening.SourceOpening.{SourceOpening}
@@ -50,4 +50,4 @@ group_opening s touched g = record {
 
 -- those of the touched groups, ascending
 unfoldable pub opening_of : State → Touched → List GroupOpening
-opening_of s touched = map (group_opening s touched) (groups_of (touched_keys s touched))
+opening_of s touched = map (group_opening s touched) (groups_of (concerned_keys s touched))

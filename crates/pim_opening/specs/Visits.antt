@@ -4,7 +4,7 @@ use Rattle.pim_ip.specs.Addr.{addr}
 use Rattle.pim_ip.specs.declared.addr.Addr.{Addr}
 use Rattle.pim_model.specs.State.{State}
 use Rattle.pim_model.specs.Upstream.{groups_of}
-use Rattle.pim_world.specs.Touches.{touched_keys}
+use Rattle.pim_world.specs.Touches.{concerned_keys}
 use Rattle.pim_world.specs.Visits.{fact_nodes, source_nodes, sources_nodes, star_nodes}
 use Rattle.pim_world.specs.declared.touched.Touched.{Touched}
 use Rattle.pim_opening.specs.Openings.{is_whole, touched_sources}
@@ -26,16 +26,16 @@ group_opening_nodes s touched g =
 
 -- the touched groups
 unfoldable pub opening_nodes : State → Touched → ℕ
-opening_nodes s touched = sum_by (group_opening_nodes s touched) (groups_of (touched_keys s touched))
+opening_nodes s touched = sum_by (group_opening_nodes s touched) (groups_of (concerned_keys s touched))
 
 -- ---- what was opened, again after a change
 
-abbrev pub seen_source_nodes : State → Addr → SourceOpening → ℕ
-seen_source_nodes s group opened = source_nodes s group opened.source
+abbrev pub source_after_nodes : State → Addr → SourceOpening → ℕ
+source_after_nodes s group opened = source_nodes s group opened.source
 
-abbrev pub seen_sources_nodes : State → Addr → List SourceOpening → ℕ
-seen_sources_nodes s group sources = sum_by (seen_source_nodes s group) sources
+abbrev pub sources_after_nodes : State → Addr → List SourceOpening → ℕ
+sources_after_nodes s group sources = sum_by (source_after_nodes s group) sources
 
 -- one sight of the group, and one of each of its sources
-abbrev pub seen_nodes : State → GroupOpening → ℕ
-seen_nodes s opened = star_nodes s opened.group + seen_sources_nodes s opened.group opened.sources
+abbrev pub group_after_nodes : State → GroupOpening → ℕ
+group_after_nodes s opened = star_nodes s opened.group + sources_after_nodes s opened.group opened.sources

@@ -2,7 +2,7 @@
 ghost use Rattle.std.specs.Prelude.{◌≡◌, ◌≤◌, IfOk, OnOk, map};
 ghost use Rattle.pim_macros.specs.Sights.{IsStarSight};
 ghost use Rattle.pim_opening.specs.After.{AreAfter, IsAfter, IsSourceAfter, opened_in, opening_in};
-ghost use Rattle.pim_opening.specs.Visits.{seen_nodes, seen_sources_nodes};
+ghost use Rattle.pim_opening.specs.Visits.{group_after_nodes, sources_after_nodes};
 ghost use Rattle.pim_trie.specs.Meter.{raised};
 ghost use Rattle.pim_world.specs.Visits.{source_nodes};
 
@@ -41,7 +41,7 @@ impl GroupAfter {
     ) -> Result<GroupAfter, AllocError>
         ensures opening { IfOk result (λ after. opening_in after ≡ opened.now) }
         ensures after { IfOk result (λ after. IsAfter world.now after) }
-        ensures at_least { OnOk result (raised meter.old (seen_nodes world.now opened.now) ≤ meter.new) }
+        ensures at_least { OnOk result (raised meter.old (group_after_nodes world.now opened.now) ≤ meter.new) }
     {
         let star = StarSight::of(world, opened.group, meter);
         let sources = sources_after(world, alloc, &star, opened.sources.as_slice(), meter)?;
@@ -65,7 +65,7 @@ fn sources_after(
     requires { IsStarSight world.now star.now }
     ensures opened { IfOk result (λ after. map opened_in after.items ≡ sources.now) }
     ensures after { IfOk result (λ after. AreAfter world.now star.now after.items) }
-    ensures at_least { OnOk result (raised meter.old (seen_sources_nodes world.now star.now.group sources.now) ≤ meter.new) }
+    ensures at_least { OnOk result (raised meter.old (sources_after_nodes world.now star.now.group sources.now) ≤ meter.new) }
 {
     let mut after = Vec::new(alloc);
     for opened in sources {

@@ -1,8 +1,9 @@
 //! A row for each fact of a table.
 ghost use Rattle.std.specs.Prelude.{◌≡◌, IfOk, map};
-ghost use Rattle.pim_model.specs.Printed.{active_line, register_name};
+ghost use Rattle.pim_model.specs.Printed.{active_line, register_name, upstream_line};
 
 use crate::line::Printed;
+use pim_store::JoinTimerRows;
 use pim_types::fact::{RegisterRow, RegisterState, SourceRow};
 use pim_types::table::RegisterName;
 use pim_types::{Key, Row};
@@ -17,6 +18,17 @@ pub fn lines<R: Printed>(facts: Iter<'_, Key, R>, alloc: Global) -> Result<Vec<R
     let mut rows = Vec::new(alloc);
     for (key, row) in facts {
         rows.push(row.line(*key))?;
+    }
+    Ok(rows)
+}
+
+/// The rows of the Join timers that are left, in their order. An error is want of memory.
+pub fn timer_lines(timers: JoinTimerRows<'_>, alloc: Global) -> Result<Vec<Row>, AllocError>
+    ensures { IfOk result (λ rows. rows.items ≡ map upstream_line timers.entry) }
+{
+    let mut rows = Vec::new(alloc);
+    for (key, row) in timers {
+        rows.push(row.line(key))?;
     }
     Ok(rows)
 }

@@ -2,7 +2,7 @@
 ghost use Rattle.std.specs.Prelude.{◌≡◌, IfOk};
 ghost use Rattle.pim_model.specs.Printed.{rows};
 
-use crate::facts::{active, lines};
+use crate::facts::{active, lines, timer_lines};
 use crate::trees::trees;
 use pim_types::{Row, Table};
 use pim_world::World;
@@ -19,7 +19,7 @@ pub fn rows(world: &World, alloc: Global, table: Table) -> Result<Vec<Row>, Allo
         Table::Sources => lines(world.membership().source_record_rows(), alloc),
         Table::Downstream => lines(world.store().downstream_rows(), alloc),
         Table::Asserts => lines(world.store().assert_rows(), alloc),
-        Table::Upstream => lines(world.store().join_timer_rows(), alloc),
+        Table::Upstream => timer_lines(world.store().join_timer_rows(), alloc),
         Table::Trees => trees(world, alloc),
         Table::Active => active(world, alloc),
     }

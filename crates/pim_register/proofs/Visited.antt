@@ -5,13 +5,13 @@ use Rattle.std.specs.Prelude.{if◌then◌else◌}
 use Rattle.pim_ip.specs.Addr.{addr}
 use Rattle.pim_ip.specs.declared.addr.Addr.{Addr}
 use Rattle.pim_ip.specs.Ipv4.{Packet}
-use Rattle.pim_world.specs.Visits.{mark_nodes, nodes_in_turn, raised, source_nodes, star_nodes}
+use Rattle.pim_world.specs.Visits.{mark_nodes, new_source_nodes, nodes_in_turn, raised, source_nodes, star_nodes}
 use Rattle.pim_types.specs.declared.fact.Key.{Key}
 use Rattle.pim_types.specs.declared.fact.RegisterRow.{RegisterRow}
 use Rattle.pim_types.specs.declared.fact.RegisterState.{RegisterState}
 use Rattle.pim_types.specs.declared.fact.SourceRow.{SourceRow}
 use Rattle.pim_types.specs.Keys.{source_key}
-use Rattle.pim_model.specs.Registers.{could_register, is_spt_wanted, registered_group, registered_source}
+use Rattle.pim_model.specs.Registers.{could_register, is_spt_wanted}
 use Rattle.pim_model.specs.Sets.{spt_bit}
 use Rattle.pim_model.specs.State.{State}
 use Rattle.pim_model.specs.Tables.{has_row, row_at}
@@ -20,13 +20,14 @@ use Rattle.pim_mrib.specs.Routes.{rp_nodes}
 use Rattle.pim_store.specs.PimTables.{PimTables, pim_tables}
 use Rattle.pim_store.specs.Visits.{Visits}
 use Rattle.pim_opening.specs.declared.opening.SourceOpening.{SourceOpening}
+use Rattle.pim_wire.specs.RegisterParts.{registered_group, registered_source}
 use Rattle.pim_wire.specs.Values.{Register}
 use Rattle.pim_world.proofs.Visits.{at_least_itself, at_least_none, new_counted, none_asked, none_visited, one_asked, two_in_turn, whether_or_not}
-use Rattle.pim_register.specs.Visits.{at_rp_nodes, ended_nodes, fired_nodes, is_prune, new_source_nodes, probe_nodes, register_mark_nodes, register_nodes, settled_source_nodes, source_settled, watched_nodes}
+use Rattle.pim_register.specs.Visits.{at_rp_nodes, ended_nodes, is_register_prune, kept_at_rp_nodes, probe_nodes, register_end_nodes, register_mark_nodes, register_nodes, settled_source_nodes, source_settled}
 
 -- ---- what is known of a value
 
-pub not_prune : (x : RegisterState) → ((end : ℕ) → x ≡ RegisterState.Prune end → ⊥) → is_prune x ≡ false
+pub not_prune : (x : RegisterState) → ((end : ℕ) → x ≡ RegisterState.Prune end → ⊥) → is_register_prune x ≡ false
 not_prune (RegisterState.Prune end) other = absurd (other end refl)
 not_prune RegisterState.Join other = refl
 not_prune (RegisterState.JoinPending end) other = refl
@@ -79,11 +80,11 @@ module _ (s : State) (group source : Addr) (old new : ℕ) where
   source_new visits rises =
       new_counted old new (mark_nodes s group (Some source)) (row_at s.sources register_key) visits rises
 
-  pub one_watched : raised old (new_source_nodes s group source) ≤ new → raised old (watched_nodes s group source) ≤ new
+  pub one_watched : raised old (new_source_nodes s group source) ≤ new → raised old (kept_at_rp_nodes s group source) ≤ new
   one_watched least = whether_or_not old new (new_source_nodes s group source) _ least
 
   pub none_watched : spt_bit s group.bits source.bits ≡ false → is_spt_wanted s ≡ false → new ≡ old
-      → raised old (watched_nodes s group source) ≤ new
+      → raised old (kept_at_rp_nodes s group source) ≤ new
   none_watched spt wanted same = rw (spt, wanted) (none_visited old new same)
 
 -- a source whose row goes
@@ -140,11 +141,11 @@ module _ (s : State) where
   module _ (r : Register) where
     pub at_rp_gathered : (old next new : ℕ) (group source : Addr) → group.bits ≡ registered_group r
         → source.bits ≡ registered_source r → raised old (star_nodes s group + source_nodes s group source) ≤ next
-        → raised next (watched_nodes s group source) ≤ new → raised old (at_rp_nodes s r) ≤ new
+        → raised next (kept_at_rp_nodes s group source) ≤ new → raised old (at_rp_nodes s r) ≤ new
     at_rp_gathered old next new group source g src first second =
         subst (λ (a : Addr). raised old (star_nodes s a + source_nodes s a (addr (registered_source r))
-        + watched_nodes s a (addr (registered_source r))) ≤ new) (ap addr g)
-        (subst (λ (b : Addr). raised old (star_nodes s group + source_nodes s group b + watched_nodes s group b) ≤ new)
+        + kept_at_rp_nodes s a (addr (registered_source r))) ≤ new) (ap addr g)
+        (subst (λ (b : Addr). raised old (star_nodes s group + source_nodes s group b + kept_at_rp_nodes s group b) ≤ new)
         (ap addr src) (two_in_turn old next new _ _ first second))
 
     module _ (p : Packet) (old next new g d : ℕ) (b : Bool) (group : g ≡ registered_group r) (to : d ≡ p.destination)
@@ -167,21 +168,21 @@ module _ (s : State) where
 
   module _ (k : Key) (old new : ℕ) where
     by_row : (o : Option RegisterRow) → row_at s.registers k ≡ o
-        → raised old (if option_map_or (λ (row : RegisterRow). is_prune row.state) o false then probe_nodes s k else 0) ≤ new
-        → raised old (fired_nodes s k) ≤ new
-    unfolding fired_nodes
+        → raised old (if option_map_or (λ (row : RegisterRow). is_register_prune row.state) o false then probe_nodes s k else 0) ≤ new
+        → raised old (register_end_nodes s k) ≤ new
+    unfolding register_end_nodes
     by_row o is least =
         subst (λ (x : Option RegisterRow).
-        raised old (if option_map_or (λ (row : RegisterRow). is_prune row.state) x false then probe_nodes s k else 0) ≤ new)
+        raised old (if option_map_or (λ (row : RegisterRow). is_register_prune row.state) x false then probe_nodes s k else 0) ≤ new)
         (sym is) least
 
-    pub none_fired : row_at s.registers k ≡ None → new ≡ old → raised old (fired_nodes s k) ≤ new
+    pub none_fired : row_at s.registers k ≡ None → new ≡ old → raised old (register_end_nodes s k) ≤ new
     none_fired none same = by_row None none (none_visited old new same)
 
-    pub one_probed : (row : RegisterRow) → row_at s.registers k ≡ Some row → is_prune row.state ≡ true
-        → raised old (probe_nodes s k) ≤ new → raised old (fired_nodes s k) ≤ new
+    pub one_probed : (row : RegisterRow) → row_at s.registers k ≡ Some row → is_register_prune row.state ≡ true
+        → raised old (probe_nodes s k) ≤ new → raised old (register_end_nodes s k) ≤ new
     one_probed row found on least = by_row (Some row) found (one_asked old new _ _ on least)
 
-    pub none_probed : (row : RegisterRow) → row_at s.registers k ≡ Some row → is_prune row.state ≡ false → new ≡ old
-        → raised old (fired_nodes s k) ≤ new
+    pub none_probed : (row : RegisterRow) → row_at s.registers k ≡ Some row → is_register_prune row.state ≡ false → new ≡ old
+        → raised old (register_end_nodes s k) ≤ new
     none_probed row found off same = by_row (Some row) found (none_asked old new _ _ off same)

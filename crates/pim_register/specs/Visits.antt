@@ -11,7 +11,7 @@ use Rattle.pim_types.specs.declared.fact.Key.{Key}
 use Rattle.pim_types.specs.declared.fact.RegisterRow.{RegisterRow}
 use Rattle.pim_types.specs.declared.fact.RegisterState.{RegisterState}
 use Rattle.pim_types.specs.declared.fact.SourceRow.{SourceRow}
-use Rattle.pim_model.specs.Registers.{could_register, is_spt_wanted, registered_group, registered_source, settle_register}
+use Rattle.pim_model.specs.Registers.{could_register, is_spt_wanted, settle_register}
 use Rattle.pim_model.specs.Sets.{spt_bit}
 use Rattle.pim_model.specs.State.{State}
 use Rattle.pim_model.specs.Tables.{has_row, row_at}
@@ -19,16 +19,12 @@ use Rattle.pim_model.specs.Unicast.{is_rp}
 use Rattle.pim_mrib.specs.Routes.{rp_nodes}
 use Rattle.pim_opening.specs.declared.opening.GroupOpening.{GroupOpening}
 use Rattle.pim_opening.specs.declared.opening.SourceOpening.{SourceOpening}
+use Rattle.pim_wire.specs.RegisterParts.{registered_group, registered_source}
 use Rattle.pim_wire.specs.Values.{Register}
-use Rattle.pim_world.specs.Visits.{mark_nodes, nodes_in_turn, path_nodes, source_nodes, star_nodes}
+use Rattle.pim_world.specs.Visits.{mark_nodes, new_source_nodes, nodes_in_turn, path_nodes, source_nodes, star_nodes}
 use Rattle.pim_register.specs.Steps.{source_keys}
 
 -- ---- rows that come and go lead to the facts of their source
-
--- a row of a source; one that is there stays in its place
-abbrev pub new_source_nodes : State → Addr → Addr → ℕ
-new_source_nodes s group source =
-    if has_row s.sources (source_key 0 group.bits source.bits) then 0 else mark_nodes s group (Some source)
 
 -- a register: where the source can't be registered there is to be none, which is looked up whether there was one or not;
 -- where it can, one that is there stays
@@ -65,15 +61,15 @@ settled_nodes s opening = nodes_in_turn group_settled settled_group_nodes s open
 abbrev pub probe_nodes : State → Key → ℕ
 probe_nodes s key = path_nodes s (Some (source_in key)) + rp_nodes s.ranges (group_in key)
 
-abbrev pub is_prune : RegisterState → Bool
-is_prune (RegisterState.Prune end) = true
-is_prune RegisterState.Join = false
-is_prune (RegisterState.JoinPending end) = false
+abbrev pub is_register_prune : RegisterState → Bool
+is_register_prune (RegisterState.Prune end) = true
+is_register_prune RegisterState.Join = false
+is_register_prune (RegisterState.JoinPending end) = false
 
 -- a register in Prune is probed
-unfoldable pub fired_nodes : State → Key → ℕ
-fired_nodes s key =
-    if option_map_or (λ (row : RegisterRow). is_prune row.state) (row_at s.registers key) false then probe_nodes s key
+unfoldable pub register_end_nodes : State → Key → ℕ
+register_end_nodes s key =
+    if option_map_or (λ (row : RegisterRow). is_register_prune row.state) (row_at s.registers key) false then probe_nodes s key
     else 0
 
 -- ---- at the end of a keepalive timer: the row of a source without the SPTbit goes
@@ -86,8 +82,8 @@ ended_nodes s key =
 -- ---- where a Register comes
 
 -- the keepalive timer of a source starts
-abbrev pub watched_nodes : State → Addr → Addr → ℕ
-watched_nodes s group source =
+abbrev pub kept_at_rp_nodes : State → Addr → Addr → ℕ
+kept_at_rp_nodes s group source =
     if spt_bit s group.bits source.bits || is_spt_wanted s then new_source_nodes s group source else 0
 
 -- at the RP: the sight of the group, that of the source, and its row
@@ -95,7 +91,7 @@ abbrev pub at_rp_nodes : State → Register → ℕ
 at_rp_nodes s r =
     star_nodes s (addr (registered_group r))
     + source_nodes s (addr (registered_group r)) (addr (registered_source r))
-    + watched_nodes s (addr (registered_group r)) (addr (registered_source r))
+    + kept_at_rp_nodes s (addr (registered_group r)) (addr (registered_source r))
 
 unfoldable pub register_nodes : State → Packet → Register → ℕ
 register_nodes s p r =
@@ -105,8 +101,8 @@ register_nodes s p r =
 -- ---- where new RP ranges come
 
 -- of a register: the RP of its group by the ranges there are, and by these
-abbrev pub rps_nodes : State → List RpRange → Key × RegisterRow → ℕ
-rps_nodes s ranges e = rp_nodes s.ranges (group_in e.0) + rp_nodes ranges (group_in e.0)
+abbrev pub register_rps_nodes : State → List RpRange → Key × RegisterRow → ℕ
+register_rps_nodes s ranges e = rp_nodes s.ranges (group_in e.0) + rp_nodes ranges (group_in e.0)
 
 abbrev pub replaced_nodes : State → List RpRange → ℕ
-replaced_nodes s ranges = sum_by (rps_nodes s ranges) s.registers
+replaced_nodes s ranges = sum_by (register_rps_nodes s ranges) s.registers

@@ -1,14 +1,15 @@
 //! The limit on facts, where a packet or a Register may make a source's.
 ghost use Rattle.std.specs.Prelude.{◌≡◌, ◌∷◌, [], ◌&&◌};
+ghost use Rattle.pim_wire.specs.RegisterParts.{registered_group, registered_source};
 ghost use Rattle.pim_model.specs.Full.{needed, source_is_full};
-ghost use Rattle.pim_model.specs.Registers.{registered_group, registered_source};
 ghost use Rattle.pim_model.specs.Unicast.{is_rp};
 ghost use Rattle.pim_types.specs.Keys.{source_key};
 ghost use Rattle.pim_mrib.specs.Routes.{rp_nodes};
 ghost use Rattle.pim_world.specs.Visits.{raised};
 
+use crate::rendezvous::registered;
 use pim_ip::Ipv4View;
-use pim_types::{Addr, SourceGroup};
+use pim_types::SourceGroup;
 use pim_wire::RegisterView;
 use pim_world::{Meter, World};
 
@@ -22,10 +23,9 @@ fn missing(world: &World, name: SourceGroup) -> usize
 
 /// Whether the row that a source may get passes the limit on facts.
 #[tactic(auto, unfolding(pim_model::specs::Full::source_is_full))]
-pub fn source_is_full(world: &World, group: Addr, source: Addr) -> bool
-    ensures { result ≡ source_is_full world.now group.bits source.bits }
+pub fn source_is_full(world: &World, name: SourceGroup) -> bool
+    ensures { result ≡ source_is_full world.now name.group.bits name.source.bits }
 {
-    let name = SourceGroup { source, group };
     world.passes_limit(missing(world, name))
 }
 
@@ -41,6 +41,6 @@ pub fn is_full(
         && source_is_full world.now (registered_group register.now) (registered_source register.now)) }
     ensures visited { meter.new ≡ raised meter.old (rp_nodes world.now.ranges (registered_group register.now)) }
 {
-    let (group, source) = (register.group(), register.source());
-    world.is_rp(group, packet.destination(), meter) && source_is_full(world, group, source)
+    let name = registered(register);
+    world.is_rp(name.group, packet.destination(), meter) && source_is_full(world, name)
 }

@@ -3,9 +3,10 @@ ghost use Rattle.std.specs.Prelude.{◌≡◌, ◌≤◌, ◌&&◌, ◌||◌, If
 ghost use Rattle.pim_world.specs.Shown.{Shows};
 ghost use Rattle.pim_macros.specs.Sights.{InSource};
 ghost use Rattle.pim_world.specs.Turns.{saying};
+ghost use Rattle.pim_wire.specs.RegisterParts.{is_null, registered_group, registered_source};
 ghost use Rattle.pim_model.specs.Desires.{is_inherited_empty};
 ghost use Rattle.pim_model.specs.Forwarding.{no_interface, register_at_rp, register_received, register_stop_to};
-ghost use Rattle.pim_model.specs.Registers.{is_null, is_spt_wanted, registered_group, registered_source};
+ghost use Rattle.pim_model.specs.Registers.{is_spt_wanted};
 ghost use Rattle.pim_model.specs.Sets.{inherited_olist_rpt, spt_bit};
 ghost use Rattle.pim_register.specs.Outgoing.{LeavesOn};
 ghost use Rattle.pim_register.specs.Visits.{at_rp_nodes, register_nodes};
@@ -27,16 +28,12 @@ fn stop_registering(
 ) -> Result<(), AllocError>
     ensures { OnOk result (turn.new ≡ saying turn.old (register_stop_to packet.now name.group.bits name.source.bits)) }
 {
-    turn.out.register_stop(
-        packet.destination(),
-        packet.source(),
-        name.group,
-        name.source,
-    )
+    turn.out
+        .register_stop(packet.destination(), packet.source(), name)
 }
 
 // The source whose packet a Register has.
-fn registered(register: &RegisterView<'_>) -> SourceGroup
+pub(crate) fn registered(register: &RegisterView<'_>) -> SourceGroup
     ensures group { result.group.bits ≡ registered_group register.now }
     ensures source { result.source.bits ≡ registered_source register.now }
 {
@@ -89,7 +86,7 @@ fn register_at_rp(
     let is_stopped = is_stopped(&sight);
     let list = list_at_rp(&sight, register.is_null());
     if sight.spt || sight.is_spt_wanted {
-        world.keep_alive(name.group, name.source, None, meter)?;
+        world.keep_alive(name, None, meter)?;
     }
     if is_stopped {
         stop_registering(turn, packet, name)?;

@@ -33,22 +33,19 @@ pub fn settle_register(
     ensures at_least { OnOk result (raised meter.old
         (register_mark_nodes world.old sight.old.star.group sight.old.source) ≤ meter.new) }
 {
-    let (group, source) = (sight.star.group, sight.source);
+    let name = sight.name();
     if !sight.could_register() {
-        world.store_mut().set_register(group, source, None, meter)?;
+        world.store_mut().set_register(name, None, meter)?;
         *sight = sight.with_tunnel(false);
         return Ok(());
     }
-    let key = sight.name().key();
-    if world.store().register(key).is_some() {
+    if world.store().register(name.key()).is_some() {
         return Ok(());
     }
     let row = RegisterRow {
         state: RegisterState::Join,
     };
-    world
-        .store_mut()
-        .set_register(group, source, Some(row), meter)?;
+    world.store_mut().set_register(name, Some(row), meter)?;
     *sight = sight.with_tunnel(true);
     Ok(())
 }

@@ -10,7 +10,7 @@ ghost use Rattle.pim_model.specs.Unicast.{rp_of};
 ghost use Rattle.pim_world.specs.Turns.{saying};
 ghost use Rattle.pim_world.specs.Visits.{path_nodes, raised};
 ghost use Rattle.pim_mrib.specs.Routes.{rp_nodes};
-ghost use Rattle.pim_register.specs.Visits.{ended_nodes, fired_nodes, probe_nodes};
+ghost use Rattle.pim_register.specs.Visits.{ended_nodes, probe_nodes, register_end_nodes};
 
 use pim_types::fact::{RegisterRow, RegisterState, SourceRow};
 use pim_types::{Addr, Key};
@@ -48,10 +48,10 @@ fn probe(world: &World, turn: &mut Turn, meter: &mut Meter, key: Key) -> Result<
         (source_in key) (group_in key) ∷ [])) }
     ensures at_least { OnOk result (raised meter.old (probe_nodes world.now key) ≤ meter.new) }
 {
-    let source = key.address();
-    let from = registering_address(world, meter, source);
+    let name = key.name();
+    let from = registering_address(world, meter, name.source);
     let to = rp_or_none(world, meter, key.group);
-    turn.out.null_register(from, to, source, key.group)
+    turn.out.null_register(from, to, name)
 }
 
 /// What the end of a register timer changes: in Prune the RP is probed by a Null-Register, and without an answer in
@@ -66,7 +66,7 @@ pub fn fired(
 ) -> Result<(), AllocError>
     ensures state { OnOk result (world.new ≡ (fired world.old TimerKind.Register key).0) }
     ensures messages { OnOk result (turn.new ≡ saying turn.old (fired world.old TimerKind.Register key).1) }
-    ensures at_least { OnOk result (raised meter.old (fired_nodes world.old key) ≤ meter.new) }
+    ensures at_least { OnOk result (raised meter.old (register_end_nodes world.old key) ≤ meter.new) }
 {
     let Some(row) = world.store().register(key) else {
         return Ok(());

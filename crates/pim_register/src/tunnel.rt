@@ -5,7 +5,7 @@ ghost use Rattle.pim_model.specs.Registers.{register_stop_seen, state_after_stop
 ghost use Rattle.pim_model.specs.Step.{rps_replaced};
 ghost use Rattle.pim_model.specs.Tables.{change_row, keys_in, same_option};
 ghost use Rattle.pim_register.specs.Tunnel.{is_rp_changed, joining, stopping};
-ghost use Rattle.pim_register.specs.Visits.{replaced_nodes, rps_nodes};
+ghost use Rattle.pim_register.specs.Visits.{register_rps_nodes, replaced_nodes};
 ghost use Rattle.pim_world.specs.Visits.{raised};
 ghost use Rattle.pim_types.specs.Keys.{is_of_group};
 
@@ -86,21 +86,19 @@ pub fn stop_seen(
     world: &mut World,
     turn: &mut Turn,
     meter: &mut Meter,
-    group: Addr,
-    source: Addr,
+    name: SourceGroup,
 ) -> Result<(), AllocError>
-    ensures state { OnOk result (world.new ≡ register_stop_seen world.old turn.old.draw group.bits source.bits) }
+    ensures state { OnOk result (world.new ≡ register_stop_seen world.old turn.old.draw name.group.bits name.source.bits) }
     ensures silent { turn.new ≡ turn.old }
     ensures rises { OnOk result (meter.old ≤ meter.new) }
 {
     // It tells that each register is under the key of its source.
     world.recall_keyed();
     let end = world.present() + delay_in(LEAST_SUPPRESSION, MOST_SUPPRESSION, turn.draw);
-    if is_any(source) {
-        let keys = keys_of(world, turn, group)?;
+    if is_any(name.source) {
+        let keys = keys_of(world, turn, name.group)?;
         return stop_all(world, meter, &keys, end);
     }
-    let name = SourceGroup { source, group };
     stop(world, meter, name.key(), end)
 }
 
@@ -126,7 +124,7 @@ fn keys_with_new_rp(
         ≡ keys_in (filter (λ e. is_rp_changed world.now next.now.ranges e.0) world.now.registers)) }
     ensures silent { turn.new ≡ turn.old }
     ensures at_least { OnOk result (raised meter.old
-        (sum_by (rps_nodes world.now next.now.ranges) world.now.registers) ≤ meter.new) }
+        (sum_by (register_rps_nodes world.now next.now.ranges) world.now.registers) ≤ meter.new) }
 {
     let mut keys = Vec::new(turn.alloc);
     for (key, _) in world.store().register_rows() {

@@ -12,6 +12,7 @@ use Rattle.std.proofs.lemmas.List.Sums.{fold-append}
 use Rattle.pim_ip.specs.declared.addr.Addr.{Addr}
 use Rattle.pim_types.specs.declared.fact.JoinTimerRow.{JoinTimerRow}
 use Rattle.pim_types.specs.declared.fact.Key.{Key}
+use Rattle.pim_types.specs.declared.name.SourceGroup.{SourceGroup}
 use Rattle.pim_types.specs.declared.fact.OverrideTimerRow.{OverrideTimerRow}
 use Rattle.pim_types.specs.declared.path.Hop.{Hop}
 use Rattle.pim_types.specs.Keys.{key_cmp, rpt_key, same_key}
@@ -253,7 +254,7 @@ IsLoweringChange end _ = ⊥
 
 abbrev IsLowering : ℕ → TimerMove → Type 0
 IsLowering end (TimerMove.LowerJoin group source e) = e ≡ end
-IsLowering end (TimerMove.Override group source change) = IsLoweringChange end change
+IsLowering end (TimerMove.Override name change) = IsLoweringChange end change
 IsLowering end _ = ⊥
 
 -- the timer that is moved
@@ -262,7 +263,7 @@ data Moved : Type 0 where
   OverrideAt : Key → Moved
 
 abbrev moved_by : TimerMove → Moved
-moved_by (TimerMove.Override group source change) = OverrideAt (rpt_key 0 group.bits source.bits)
+moved_by (TimerMove.Override name change) = OverrideAt (rpt_key 0 name.group.bits name.source.bits)
 moved_by (TimerMove.LowerJoin group source e) = JoinAt (join_key group source)
 moved_by (TimerMove.RaiseJoin group source e) = JoinAt (join_key group source)
 moved_by (TimerMove.Join group source change) = JoinAt (join_key group source)
@@ -292,19 +293,19 @@ module _ (end : ℕ) where
   join_lowered group source e is s =
       ap (λ n. record s { join_timers = lower n s.join_timers (join_key group source) }) is
 
-  override_lowered : (group source : Addr) (change : Change) → IsLoweringChange end change → (s : State)
-      → after_move s (TimerMove.Override group source change) ≡ lowered s (OverrideAt (rpt_key 0 group.bits source.bits))
+  override_lowered : (name : SourceGroup) (change : Change) → IsLoweringChange end change → (s : State)
+      → after_move s (TimerMove.Override name change) ≡ lowered s (OverrideAt (rpt_key 0 name.group.bits name.source.bits))
   unfolding after_move change_of lower_override_timer
-  override_lowered group source (Change.LowerTo e) is s =
-      overrides s (rpt_key 0 group.bits source.bits) e
-      ∙ ap (λ n. record s { override_timers = override n s.override_timers (rpt_key 0 group.bits source.bits) }) is
-  override_lowered group source Change.Keep is s = absurd is
-  override_lowered group source Change.Cancel is s = absurd is
-  override_lowered group source (Change.SetTo e) is s = absurd is
+  override_lowered name (Change.LowerTo e) is s =
+      overrides s (rpt_key 0 name.group.bits name.source.bits) e
+      ∙ ap (λ n. record s { override_timers = override n s.override_timers (rpt_key 0 name.group.bits name.source.bits) }) is
+  override_lowered name Change.Keep is s = absurd is
+  override_lowered name Change.Cancel is s = absurd is
+  override_lowered name (Change.SetTo e) is s = absurd is
 
   is_lowered : (m : TimerMove) → IsLowering end m → (s : State) → after_move s m ≡ lowered s (moved_by m)
   is_lowered (TimerMove.LowerJoin group source e) is s = join_lowered group source e is s
-  is_lowered (TimerMove.Override group source change) is s = override_lowered group source change is s
+  is_lowered (TimerMove.Override name change) is s = override_lowered name change is s
   is_lowered (TimerMove.RaiseJoin group source e) is s = absurd is
   is_lowered (TimerMove.Join group source change) is s = absurd is
 
@@ -361,7 +362,8 @@ module _ (o : State) (hop : Hop) (end : ℕ) where
       (one_lowers (is_star_towards o hop group.bits) _ refl) (timers_lower group (timers_of o group.bits))
   prune_lowers group (Some source) =
       both_lower (heard_of_source o hop end group source)
-      (heard_if (is_unpruned_towards o hop group.bits source.bits) (TimerMove.Override group source (Change.LowerTo end)))
+      (heard_if (is_unpruned_towards o hop group.bits source.bits)
+      (TimerMove.Override (record { source = source; group = group }) (Change.LowerTo end)))
       (source_lowers group source) (one_lowers (is_unpruned_towards o hop group.bits source.bits) _ refl)
 
   -- ---- keys of which some stand again

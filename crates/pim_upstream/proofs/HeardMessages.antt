@@ -147,11 +147,11 @@ module _ (o : State) (hop : Hop) (i w : ℕ) where
     unfolding heard_of_prune after_move change_of
     source_pruned source s =
         fold-append after_move s (heard_of_source o hop end (addr g) source)
-        (heard_if (is_unpruned_towards o hop g source.bits) (TimerMove.Override (addr g) source (Change.LowerTo end)))
+        (heard_if (is_unpruned_towards o hop g source.bits) (TimerMove.Override (record { source = source; group = addr g }) (Change.LowerTo end)))
         ∙ ap (λ t. fold after_move t
-        (heard_if (is_unpruned_towards o hop g source.bits) (TimerMove.Override (addr g) source (Change.LowerTo end))))
+        (heard_if (is_unpruned_towards o hop g source.bits) (TimerMove.Override (record { source = source; group = addr g }) (Change.LowerTo end))))
         (source_heard g source s)
-        ∙ if_heard (is_unpruned_towards o hop g source.bits) (TimerMove.Override (addr g) source (Change.LowerTo end)) _
+        ∙ if_heard (is_unpruned_towards o hop g source.bits) (TimerMove.Override (record { source = source; group = addr g }) (Change.LowerTo end)) _
         ∙ overrides_if (is_unpruned_towards o hop g source.bits) _ _ _
 
     prune_of_kind : (address : ℕ) (kind : EntryKind) (s : State)

@@ -2,7 +2,7 @@
 use Rattle.std.proofs.Common.{◌≡◌, ◌≤◌, ◌<◌, ◌+◌, ◌++◌, ◌∙◌, ◌∷◌, Bool, List, [], None, Option, Some, ap, append_assoc, drop, false, get_or, length, not, refl, subst, suc, sym, take, true, zero, ℕ}
 use Rattle.std.specs.List.{flat_map, sum_by}
 use Rattle.std.specs.Bool.{beq}
-use Rattle.std.specs.Prelude.{if◌then◌else◌, is_none, is_some, option_map}
+use Rattle.std.specs.Prelude.{Err, Ok, OnOk, Result, if◌then◌else◌, is_none, is_some, option_map}
 use Rattle.std.proofs.lemmas.List.{drop_all, drop_more, flat_map_more, take_more}
 use Rattle.pim_ip.specs.Addr.{addr}
 use Rattle.pim_ip.specs.declared.addr.Addr.{Addr}
@@ -24,8 +24,13 @@ use Rattle.pim_opening.specs.declared.opening.SourceOpening.{SourceOpening}
 use Rattle.pim_world.specs.Visits.{raised, source_nodes, star_nodes}
 use Rattle.pim_world.proofs.Visits.{none_further, none_visited, one_further, then_rises, two_in_turn}
 use Rattle.pim_upstream.specs.Hearing.{heard_in_join, heard_in_joins, heard_of_timer, heard_of_timers}
-use Rattle.pim_upstream.specs.Visits.{group_told_nodes, is_told_nodes, join_again_nodes, join_star_nodes, joined_nodes, looked_at_nodes, pruned_key_nodes, pruned_keys_nodes, seen_nodes, source_told_nodes, star_told_nodes, told_alone_nodes}
+use Rattle.pim_upstream.specs.Visits.{group_told_nodes, is_told_nodes, join_again_nodes, join_star_nodes, joined_keys_nodes, looked_at_nodes, pruned_key_nodes, pruned_keys_nodes, overheard_nodes, source_told_nodes, star_told_nodes, told_alone_nodes}
 use Rattle.pim_upstream.specs.declared.timer.TimerMove.{TimerMove}
+
+-- what holds whatever came of a call
+pub where_ok : {T E P : Type 0} (r : Result T E) → P → OnOk r P
+where_ok (Ok x) p = p
+where_ok (Err e) p = tt
 
 module _ (s : State) (group : Addr) (before whole old : ℕ) where
   pub next_looked_at : (new n : ℕ) (left rest : List ℕ) (room less : ℕ) → left ≡ n ∷ rest → suc less ≡ room
@@ -168,13 +173,13 @@ joined_again s group star hop old next new shows here upstream first second =
 
 pub all_seen : (s : State) (i : ℕ) (m : JoinPrune) (first second prunes : List Key) (old next later last new : ℕ)
     → first ≡ joined_keys s i m → second ≡ joined_keys s i m → prunes ≡ pruned_keys i m
-    → raised old (joined_nodes s true first) ≤ next → raised next (joined_nodes s false second) ≤ later
-    → raised later (pruned_keys_nodes s [] prunes) ≤ last → last ≤ new → raised old (seen_nodes s i m) ≤ new
-unfolding seen_nodes
+    → raised old (joined_keys_nodes s true first) ≤ next → raised next (joined_keys_nodes s false second) ≤ later
+    → raised later (pruned_keys_nodes s [] prunes) ≤ last → last ≤ new → raised old (overheard_nodes s i m) ≤ new
+unfolding overheard_nodes
 all_seen s i m first second prunes old next later last new one two three stars others pruned rises =
     then_rises old last new _
     (two_in_turn old later last _ _
-    (two_in_turn old next later _ _ (subst (λ ks. raised old (joined_nodes s true ks) ≤ next) one stars)
-    (subst (λ ks. raised next (joined_nodes s false ks) ≤ later) two others))
+    (two_in_turn old next later _ _ (subst (λ ks. raised old (joined_keys_nodes s true ks) ≤ next) one stars)
+    (subst (λ ks. raised next (joined_keys_nodes s false ks) ≤ later) two others))
     (subst (λ ks. raised later (pruned_keys_nodes s [] ks) ≤ last) three pruned))
     rises

@@ -33,7 +33,7 @@ module _ (o : State) (hop : Hop) (end : ℕ) where
   unfoldable pub heard_of_join : Addr → Option Addr → Bool → List TimerMove
   heard_of_join group None rpt = heard_if (is_star_towards o hop group.bits) (TimerMove.RaiseJoin group None end)
   heard_of_join group (Some source) true =
-      heard_if (is_unpruned_towards o hop group.bits source.bits) (TimerMove.Override group source Change.Cancel)
+      heard_if (is_unpruned_towards o hop group.bits source.bits) (TimerMove.Override (record { source = source; group = group }) Change.Cancel)
   heard_of_join group (Some source) false =
       heard_if (is_source_towards o hop group.bits source.bits) (TimerMove.RaiseJoin group (Some source) end)
 
@@ -64,7 +64,8 @@ module _ (o : State) (hop : Hop) (end : ℕ) where
       ++ heard_of_timers group (timers_of o group.bits)
   heard_of_prune group (Some source) =
       heard_of_source group source
-      ++ heard_if (is_unpruned_towards o hop group.bits source.bits) (TimerMove.Override group source (Change.LowerTo end))
+      ++ heard_if (is_unpruned_towards o hop group.bits source.bits)
+      (TimerMove.Override (record { source = source; group = group }) (Change.LowerTo end))
 
   unfoldable pub heard_in_prunes : List Key → List TimerMove
   heard_in_prunes keys = flat_map (λ (k : Key). heard_of_prune k.group k.source) keys

@@ -15,8 +15,8 @@ join_key group source = key_of 0 group.bits (option_map (λ (a : Addr). a.bits) 
 
 unfoldable pub after_move : State → TimerMove → State
 after_move s (TimerMove.Join group source change) = with_join_timer s (join_key group source) (change_of change)
-after_move s (TimerMove.Override group source change) =
-    with_override_timer s (rpt_key 0 group.bits source.bits) (change_of change)
+after_move s (TimerMove.Override name change) =
+    with_override_timer s (rpt_key 0 name.group.bits name.source.bits) (change_of change)
 after_move s (TimerMove.RaiseJoin group source end) = raise_join_timer s (join_key group source) end
 after_move s (TimerMove.LowerJoin group source end) = lower_join_timer s (join_key group source) end
 

@@ -109,16 +109,16 @@ join_again_nodes s group (Some source) = star_nodes s group + source_nodes s gro
 abbrev pub joined_key_nodes : State → Bool → Key → ℕ
 joined_key_nodes s star k = if same_bool star (is_star k) then sight_nodes s k.group k.source else 0
 
-unfoldable pub joined_nodes : State → Bool → List Key → ℕ
-joined_nodes s star keys = sum_by (joined_key_nodes s star) keys
+unfoldable pub joined_keys_nodes : State → Bool → List Key → ℕ
+joined_keys_nodes s star keys = sum_by (joined_key_nodes s star) keys
 
 -- the source of a Join timer
-abbrev pub timer_nodes : State → Addr → Key × JoinTimerRow → ℕ
-timer_nodes s group e = option_map_or (source_nodes s group) e.0.source 0
+abbrev pub join_timer_nodes : State → Addr → Key × JoinTimerRow → ℕ
+join_timer_nodes s group e = option_map_or (source_nodes s group) e.0.source 0
 
 -- a group, and each of its sources that has a Join timer
 unfoldable pub timers_nodes : State → Addr → ℕ
-timers_nodes s group = star_nodes s group + sum_by (timer_nodes s group) (timers_of s group.bits)
+timers_nodes s group = star_nodes s group + sum_by (join_timer_nodes s group) (timers_of s group.bits)
 
 -- a key of a Prune
 unfoldable pub pruned_key_nodes : State → Addr → Option Addr → ℕ
@@ -133,7 +133,7 @@ pruned_keys_nodes s before (k ∷ ks) =
     + pruned_keys_nodes s (before ++ k ∷ []) ks
 
 -- the keys that a message names: the Joins of groups, the other Joins, and the Prunes
-unfoldable pub seen_nodes : State → ℕ → JoinPrune → ℕ
-seen_nodes s i m =
+unfoldable pub overheard_nodes : State → ℕ → JoinPrune → ℕ
+overheard_nodes s i m =
     let joins : List Key = joined_keys s i m in
-    joined_nodes s true joins + joined_nodes s false joins + pruned_keys_nodes s [] (pruned_keys i m)
+    joined_keys_nodes s true joins + joined_keys_nodes s false joins + pruned_keys_nodes s [] (pruned_keys i m)

@@ -9,7 +9,7 @@ ghost use Rattle.pim_model.specs.Seen.{is_unpruned_towards, override_end, seen, 
 ghost use Rattle.pim_model.specs.Tables.{same_hop};
 ghost use Rattle.pim_upstream.specs.Hearing.{heard_in_joins, heard_in_prunes, heard_of_join, heard_of_prune, heard_of_source, heard_of_timer, heard_of_timers, is_source_towards, is_star_towards, timers_of};
 ghost use Rattle.pim_upstream.specs.Timers.{after_moves};
-ghost use Rattle.pim_upstream.specs.Visits.{joined_nodes, pruned_key_nodes, pruned_keys_nodes, seen_nodes, timers_nodes};
+ghost use Rattle.pim_upstream.specs.Visits.{joined_keys_nodes, pruned_key_nodes, pruned_keys_nodes, overheard_nodes, timers_nodes};
 ghost use Rattle.pim_world.specs.Visits.{raised, sight_nodes, source_nodes, star_nodes};
 
 use crate::timer::{TimerMove, move_timers, note_if};
@@ -74,13 +74,10 @@ fn hear_join(
             note_if(moves, is_heard, TimerMove::RaiseJoin(group, None, end))
         }
         (Some(source), true) => {
-            let sight = SourceSight::with_star(world, SourceGroup { source, group }, meter);
+            let name = SourceGroup { source, group };
+            let sight = SourceSight::with_star(world, name, meter);
             let is_heard = is_unpruned_towards(world, &sight, hop);
-            note_if(
-                moves,
-                is_heard,
-                TimerMove::Override(group, source, Change::Cancel),
-            )
+            note_if(moves, is_heard, TimerMove::Override(name, Change::Cancel))
         }
         (Some(source), false) => {
             let sight = SourceSight::with_star(world, SourceGroup { source, group }, meter);
@@ -107,7 +104,7 @@ fn hear_joins(
 ) -> Result<(), AllocError>
     ensures heard { OnOk result (moves.new.items
         ≡ moves.old.items ++ heard_in_joins world.now hop end is_star keys.now) }
-    ensures at_least { OnOk result (raised meter.old (joined_nodes world.now is_star keys.now) ≤ meter.new) }
+    ensures at_least { OnOk result (raised meter.old (joined_keys_nodes world.now is_star keys.now) ≤ meter.new) }
 {
     for key in keys {
         if key.source.is_none() == is_star {
@@ -180,8 +177,8 @@ fn hear_timers(
     ensures at_least { OnOk result (raised meter.old (timers_nodes world.now group) ≤ meter.new) }
 {
     let star = StarSight::of(world, group, meter);
-    for (key, _) in world.store().join_timers_of(group) {
-        hear_timer(world, meter, &star, hop, end, *key, moves)?;
+    for (key, _) in world.store().join_timers_of(group, meter) {
+        hear_timer(world, meter, &star, hop, end, key, moves)?;
     }
     Ok(())
 }
@@ -208,7 +205,8 @@ fn hear_prune(
             hear_timers(world, meter, hop, end, group, moves)
         }
         Some(source) => {
-            let sight = SourceSight::with_star(world, SourceGroup { source, group }, meter);
+            let name = SourceGroup { source, group };
+            let sight = SourceSight::with_star(world, name, meter);
             let is_joined = is_source_towards(world, &sight, hop);
             note_if(
                 moves,
@@ -219,7 +217,7 @@ fn hear_prune(
             note_if(
                 moves,
                 is_unpruned,
-                TimerMove::Override(group, source, Change::LowerTo(end)),
+                TimerMove::Override(name, Change::LowerTo(end)),
             )
         }
     }
@@ -283,7 +281,7 @@ pub fn seen(
     requires pruned { named.now.pruned.items ≡ pruned_keys iface.number message.now }
     ensures state { OnOk result (world.new ≡ seen world.old turn.old.draw iface.number message.now) }
     ensures silent { turn.new ≡ turn.old }
-    ensures at_least { OnOk result (raised meter.old (seen_nodes world.old iface.number message.now) ≤ meter.new) }
+    ensures at_least { OnOk result (raised meter.old (overheard_nodes world.old iface.number message.now) ≤ meter.new) }
 {
     let hop = Hop {
         iface,

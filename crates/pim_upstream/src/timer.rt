@@ -20,7 +20,7 @@ use std::alloc::AllocError;
 #[derive(Clone, Copy)]
 pub(crate) enum TimerMove {
     Join(Addr, Option<Addr>, Change),
-    Override(Addr, Addr, Change),
+    Override(SourceGroup, Change),
     /// Where the Join timer runs, it ends at this moment at the earliest.
     RaiseJoin(Addr, Option<Addr>, u64),
     /// Where the Join timer runs, it ends at this moment at the latest.
@@ -58,11 +58,16 @@ fn lowered(row: Option<JoinTimerRow>, end: u64) -> Option<JoinTimerRow>
 }
 
 // The Join timer of (*,G), without a source, or of (S,G).
-fn join_timer(world: &World, group: Addr, source: Option<Addr>) -> Option<JoinTimerRow>
-    ensures { result ≡ row_at world.now.join_timers (join_key group source) }
+fn join_timer(
+    world: &World,
+    meter: &mut Meter,
+    group: Addr,
+    source: Option<Addr>,
+) -> Option<JoinTimerRow>
+    ensures timer { result ≡ row_at world.now.join_timers (join_key group source) }
+    ensures rises { meter.old ≤ meter.new }
 {
-    let star = Key::group(group);
-    world.store().join_timer(Key { source, ..star })
+    world.store().join_timer(group, source, meter)
 }
 
 // What becomes of a Join timer.
@@ -85,7 +90,10 @@ fn move_join_timer(
             .store_mut()
             .set_join_timer(group, source, Some(JoinTimerRow { end }), meter),
         Change::LowerTo(end) => {
-            let end = lowered_end(join_timer(world, group, source).map(|row| row.end), end);
+            let end = lowered_end(
+                join_timer(world, meter, group, source).map(|row| row.end),
+                end,
+            );
             world
                 .store_mut()
                 .set_join_timer(group, source, Some(JoinTimerRow { end }), meter)
@@ -105,23 +113,20 @@ fn move_override_timer(
         ≡ with_override_timer world.old (rpt_key 0 name.group.bits name.source.bits) (change_of change)) }
     ensures rises { OnOk result (meter.old ≤ meter.new) }
 {
-    let SourceGroup { source, group } = name;
     match change {
         Change::Keep => Ok(()),
-        Change::Cancel => world
-            .store_mut()
-            .set_override_timer(group, source, None, meter),
+        Change::Cancel => world.store_mut().set_override_timer(name, None, meter),
         Change::SetTo(end) => {
             world
                 .store_mut()
-                .set_override_timer(group, source, Some(OverrideTimerRow { end }), meter)
+                .set_override_timer(name, Some(OverrideTimerRow { end }), meter)
         }
         Change::LowerTo(end) => {
             let row = world.store().override_timer(name.rpt_key());
             let end = lowered_end(row.map(|row| row.end), end);
             world
                 .store_mut()
-                .set_override_timer(group, source, Some(OverrideTimerRow { end }), meter)
+                .set_override_timer(name, Some(OverrideTimerRow { end }), meter)
         }
     }
 }
@@ -136,15 +141,13 @@ fn move_timer(world: &mut World, meter: &mut Meter, moved: TimerMove) -> Result<
         TimerMove::Join(group, source, change) => {
             move_join_timer(world, meter, group, source, change)
         }
-        TimerMove::Override(group, source, change) => {
-            move_override_timer(world, meter, SourceGroup { source, group }, change)
-        }
+        TimerMove::Override(name, change) => move_override_timer(world, meter, name, change),
         TimerMove::RaiseJoin(group, source, end) => {
-            let row = raised(join_timer(world, group, source), end);
+            let row = raised(join_timer(world, meter, group, source), end);
             world.store_mut().set_join_timer(group, source, row, meter)
         }
         TimerMove::LowerJoin(group, source, end) => {
-            let row = lowered(join_timer(world, group, source), end);
+            let row = lowered(join_timer(world, meter, group, source), end);
             world.store_mut().set_join_timer(group, source, row, meter)
         }
     }
@@ -211,7 +214,7 @@ pub(crate) fn note_override(
     match change {
         Change::Keep => Ok(()),
         _ => {
-            moves.push(TimerMove::Override(name.group, name.source, change))?;
+            moves.push(TimerMove::Override(name, change))?;
             Ok(())
         }
     }

@@ -54,7 +54,8 @@ fn is_told(world: &World, meter: &mut Meter, group: Addr, before: SourceOpening)
     ensures told { result ≡ (before.has_facts || has_facts world.now group.bits before.source.bits) }
     ensures at_least { raised meter.old (is_told_nodes world.now group before) ≤ meter.new }
 {
-    before.has_facts || world.has_facts(group, before.source, meter)
+    let source = before.source;
+    before.has_facts || world.has_facts(SourceGroup { source, group }, meter)
 }
 
 // Sends what is told of a source that has facts, before or after the change; its sight shows it after the change.

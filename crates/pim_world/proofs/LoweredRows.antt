@@ -12,7 +12,7 @@ use Rattle.pim_model.specs.State.{State}
 use Rattle.pim_model.specs.Tables.{Table, change_row, changed_entry, row_at}
 use Rattle.pim_tables.proofs.Rows.{absent_is_unchanged}
 use Rattle.pim_membership.specs.MembershipTables.{MembershipTables}
-use Rattle.pim_membership.specs.Visits.{Visits, changes_listed}
+use Rattle.pim_membership.specs.Visits.{IsLookedUpWhere, changes_listed}
 
 module _ {R : Type 0} (change : R → R) (k : Key) where
   abbrev pub changed : Table R → Table R
@@ -81,11 +81,11 @@ module _ (i g end : ℕ) where
 -- a timer that is lowered runs as before, so that nothing is looked up
 pub still_listed : {T E : Type 0} (r : Result T E) (end : ℕ) (keys : List Key) (group : Addr) (old row : GroupRecordRow)
     (o : Option GroupRecordRow) (source : Option Addr) (before after : ℕ) → o ≡ Some old → row.end ≡ lowered end old.end
-    → OnOk r (Visits (changes_listed (λ (x : GroupRecordRow). is_some x.end) row o) keys group source before after)
+    → OnOk r (IsLookedUpWhere (changes_listed (λ (x : GroupRecordRow). is_some x.end) row o) keys group source before after)
     → OnOk r (after ≡ before)
 still_listed (Err e) end keys group old row o source before after found is visited = tt
 still_listed (Ok x) end keys group old row o source before after found is visited =
-    subst (λ (b : Bool). Visits b keys group source before after)
+    subst (λ (b : Bool). IsLookedUpWhere b keys group source before after)
     (ap (λ (o : Option GroupRecordRow). changes_listed (λ (x : GroupRecordRow). is_some x.end) row o) found
     ∙ ap (λ (n : Option ℕ). not (beq (is_some old.end) (is_some n))) is ∙ runs_still old.end) visited
   where

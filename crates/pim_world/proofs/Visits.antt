@@ -23,6 +23,14 @@ pub rises_by : (old new nodes : ℕ) → raised old nodes ≤ new → old ≤ ne
 unfolding raised
 rises_by old new nodes e = omega (arith, e)
 
+-- the same of one that was raised exactly
+pub rises_exactly : (old new nodes : ℕ) → new ≡ raised old nodes → old ≤ new
+unfolding raised
+rises_exactly old new nodes e = omega (arith, e)
+
+pub risen : (old next new : ℕ) → old ≤ next → next ≤ new → old ≤ new
+risen old next new e f = omega (arith, e, f)
+
 -- where nothing else is known
 pub at_least_none : (old new : ℕ) → old ≤ new → raised old 0 ≤ new
 at_least_none old new rises = omega (arith, raised_by_none old, rises)

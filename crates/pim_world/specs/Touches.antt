@@ -6,6 +6,6 @@ use Rattle.pim_model.specs.Upstream.{fact_keys}
 use Rattle.pim_world.specs.declared.touched.Touched.{Touched}
 
 -- all are those of the facts that there are
-abbrev pub touched_keys : State → Touched → List Key
-touched_keys s Touched.All = fact_keys s
-touched_keys s (Touched.Keys keys) = keys
+abbrev pub concerned_keys : State → Touched → List Key
+concerned_keys s Touched.All = fact_keys s
+concerned_keys s (Touched.Keys keys) = keys

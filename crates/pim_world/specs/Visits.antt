@@ -3,9 +3,9 @@
 use Rattle.std.specs.List.{list_any}
 use Rattle.std.specs.Prelude.{List, None, Option, Some, [], if◌then◌else◌, ℕ, ◌∷◌, ◌+◌}
 use Rattle.pim_ip.specs.declared.addr.Addr.{Addr}
-use Rattle.pim_types.specs.Keys.{names_source}
+use Rattle.pim_types.specs.Keys.{names_source, source_key}
 use Rattle.pim_model.specs.State.{State}
-use Rattle.pim_model.specs.Tables.{keys_in}
+use Rattle.pim_model.specs.Tables.{has_row, keys_in}
 use Rattle.pim_model.specs.Unicast.{rp_of}
 use Rattle.pim_membership.specs.MembershipTables.{membership_keys}
 use Rattle.pim_membership.specs.Visits.{nodes_to_sources}
@@ -23,6 +23,11 @@ path_nodes s (Some address) = route_nodes s.configured s.interfaces s.routes add
 -- the PIM facts of (*,G), where there is no source, or of (S,G)
 abbrev pub mark_nodes : State → Addr → Option Addr → ℕ
 mark_nodes s group source = nodes_visited (stored_keys (pim_tables s)) group source
+
+-- a row of a source; one that is there stays in its place
+abbrev pub new_source_nodes : State → Addr → Addr → ℕ
+new_source_nodes s group source =
+    if has_row s.sources (source_key 0 group.bits source.bits) then 0 else mark_nodes s group (Some source)
 
 -- the group records, and those of the source
 abbrev pub group_record_nodes : State → Addr → ℕ

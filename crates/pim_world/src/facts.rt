@@ -11,8 +11,8 @@ ghost use Rattle.pim_world.specs.Visits.{mark_nodes};
 
 use crate::world::World;
 use pim_trie::Meter;
+use pim_types::SourceGroup;
 use pim_types::fact::SourceRow;
-use pim_types::{Addr, SourceGroup};
 use std::alloc::AllocError;
 
 // Keepalive_Period (RFC 7761, section 4.11), also at the RP, in ms.
@@ -32,20 +32,18 @@ impl World {
     #[tactic(auto, unfolding(pim_model::specs::Registers::with_keepalive, pim_model::specs::Sets::spt_bit))]
     pub fn keep_alive(
         &mut self,
-        group: Addr,
-        source: Addr,
+        name: SourceGroup,
         hint: Option<usize>,
         meter: &mut Meter,
     ) -> Result<(), AllocError>
-        ensures state { OnOk result (self.new ≡ with_keepalive self.old group.bits source.bits) }
-        ensures kept { OnOk result (IsTrue (has_row self.old.sources (source_key 0 group.bits source.bits))
+        ensures state { OnOk result (self.new ≡ with_keepalive self.old name.group.bits name.source.bits) }
+        ensures kept { OnOk result (IsTrue (has_row self.old.sources (source_key 0 name.group.bits name.source.bits))
             → meter.new ≡ meter.old) }
-        ensures new { OnOk result (row_at self.old.sources (source_key 0 group.bits source.bits) ≡ None
-            → meter.new ≡ raised meter.old (mark_nodes self.old group (Some source))) }
+        ensures new { OnOk result (row_at self.old.sources (source_key 0 name.group.bits name.source.bits) ≡ None
+            → meter.new ≡ raised meter.old (mark_nodes self.old name.group (Some name.source))) }
         ensures rises { OnOk result (meter.old ≤ meter.new) }
     {
         let end = self.present() + KEEPALIVE_PERIOD;
-        let name = SourceGroup { source, group };
         self.store.keep_alive(name, end, hint, meter)
     }
 
@@ -60,23 +58,18 @@ impl World {
     /// Sets SPTbit(S,G). The meter stays where the source has a row, and rises by the nodes that lead to its PIM facts where it
     /// gets one.
     #[tactic(auto, unfolding(pim_model::specs::Asserts::with_spt_bit, pim_model::specs::Tables::set_row))]
-    pub fn set_spt_bit(
-        &mut self,
-        group: Addr,
-        source: Addr,
-        meter: &mut Meter,
-    ) -> Result<(), AllocError>
-        ensures state { OnOk result (self.new ≡ with_spt_bit self.old group.bits source.bits) }
-        ensures kept { OnOk result (IsTrue (has_row self.old.sources (source_key 0 group.bits source.bits))
+    pub fn set_spt_bit(&mut self, name: SourceGroup, meter: &mut Meter) -> Result<(), AllocError>
+        ensures state { OnOk result (self.new ≡ with_spt_bit self.old name.group.bits name.source.bits) }
+        ensures kept { OnOk result (IsTrue (has_row self.old.sources (source_key 0 name.group.bits name.source.bits))
             → meter.new ≡ meter.old) }
-        ensures new { OnOk result (row_at self.old.sources (source_key 0 group.bits source.bits) ≡ None
-            → meter.new ≡ raised meter.old (mark_nodes self.old group (Some source))) }
+        ensures new { OnOk result (row_at self.old.sources (source_key 0 name.group.bits name.source.bits) ≡ None
+            → meter.new ≡ raised meter.old (mark_nodes self.old name.group (Some name.source))) }
         ensures rises { OnOk result (meter.old ≤ meter.new) }
     {
         let row = SourceRow {
-            keepalive: self.keepalive_end(SourceGroup { source, group }),
+            keepalive: self.keepalive_end(name),
             spt: true,
         };
-        self.store.set_source(group, source, Some(row), meter)
+        self.store.set_source(name, Some(row), meter)
     }
 }

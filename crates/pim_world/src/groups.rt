@@ -6,7 +6,7 @@ ghost use Rattle.pim_membership.specs.MembershipTables.{membership_keys};
 ghost use Rattle.pim_store.specs.PimTables.{stored_keys};
 ghost use Rattle.pim_types.specs.Keys.{group_in};
 ghost use Rattle.pim_world.specs.Groups.{numbers_of, gathered};
-ghost use Rattle.pim_world.specs.Touches.{touched_keys};
+ghost use Rattle.pim_world.specs.Touches.{concerned_keys};
 
 use crate::touched::Touched;
 use crate::world::World;
@@ -35,7 +35,7 @@ impl World {
         found: &mut BTreeMap<Addr, (), Global>,
     ) -> Result<(), AllocError>
         ensures { OnOk result (numbers_of found.new.entries
-            ≡ gathered (map group_in (touched_keys self.now touched.now)) (numbers_of found.old.entries)) }
+            ≡ gathered (map group_in (concerned_keys self.now touched.now)) (numbers_of found.old.entries)) }
     {
         match touched {
             Touched::All => self.gather_groups(found),

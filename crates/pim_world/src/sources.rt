@@ -13,7 +13,7 @@ ghost use Rattle.pim_trie.specs.Meter.{raised};
 
 use crate::world::World;
 use pim_membership::Membership;
-use pim_store::{Sources, Store};
+use pim_store::{JoinTimerRows, Sources, Store};
 use pim_tables::PlacedRows;
 use pim_trie::Meter;
 use pim_types::{Addr, Key, SourceGroup};
@@ -41,13 +41,11 @@ impl World {
     /// Whether there is a fact of the source of the group. The meter rises by the nodes that are visited, at least those
     /// that lead to its source records and, where membership has no fact of it, to its PIM facts.
     #[tactic(auto, using(crate::proofs::GatheredSources::any_fact), unfolding(pim_membership::specs::MembershipTables::membership_keys, pim_store::specs::PimTables::stored_keys))]
-    pub fn has_facts(&self, group: Addr, source: Addr, meter: &mut Meter) -> bool
-        ensures value { result ≡ list_any (names_source group.bits source.bits) (fact_keys self.now) }
-        ensures at_least { raised meter.old (fact_nodes self.now group source) ≤ meter.new }
+    pub fn has_facts(&self, name: SourceGroup, meter: &mut Meter) -> bool
+        ensures value { result ≡ list_any (names_source name.group.bits name.source.bits) (fact_keys self.now) }
+        ensures at_least { raised meter.old (fact_nodes self.now name.group name.source) ≤ meter.new }
     {
-        self.membership
-            .has_facts(SourceGroup { source, group }, meter)
-            || self.store.has_facts(group, source, meter)
+        self.membership.has_facts(name, meter) || self.store.has_facts(name, meter)
     }
 
     /// Whether a fact names the address as its source, of whichever group. It goes over the keys of all facts.
@@ -78,7 +76,7 @@ fn is_source_of_store(store: &Store, address: Addr) -> bool
 {
     is_source_among(store.downstream_rows(), address)
         || is_source_among(store.assert_rows(), address)
-        || is_source_among(store.join_timer_rows(), address)
+        || is_source_among_timers(store.join_timer_rows(), address)
         || is_source_among(store.override_timer_rows(), address)
         || is_source_among_placed(store.source_rows(), address)
         || is_source_among(store.register_rows(), address)
@@ -92,6 +90,18 @@ fn is_from(key: Key, address: Addr) -> bool
         Some(source) => source == address,
         None => false,
     }
+}
+
+// Whether one of these Join timers does.
+fn is_source_among_timers(timers: JoinTimerRows<'_>, address: Addr) -> bool
+    ensures { result ≡ list_any (is_from address.bits) (keys_in timers.entry) }
+{
+    for (key, _) in timers {
+        if is_from(key, address) {
+            return true;
+        }
+    }
+    false
 }
 
 // Whether one of these facts does.

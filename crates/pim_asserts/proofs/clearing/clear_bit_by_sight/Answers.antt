@@ -25,4 +25,4 @@ returns-then-not-sight-clause-at_least c =
 pub returns-clause-at_least : goal.returns-clause-at_least
 returns-clause-at_least c =
     whether_or_not _ _ _ _ (two_in_turn _ _ _ _ _ c.in_ok-clear_bit.ensures.at_least
-    (rw (c.in_ok-clear_bit.ensures.state, c.requires.source) at c.anew.ensures.at_least))
+    (rw (c.in_ok-clear_bit.ensures.state, c.requires.source) at c.gathered_again.ensures.at_least))

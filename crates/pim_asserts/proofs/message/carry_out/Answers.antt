@@ -27,8 +27,8 @@ returns-in_ok-lose-in-LoseAndSwitch-clause-at_least c =
     let lost = c.in_ok-lose-in-LoseAndSwitch.ensures in
     rw c.in-LoseAndSwitch.is
     (on_ok_weaker c.set_spt_bit.result (two_in_turn _ _ _ _ _ lost.at_least)
-    (bit_set c.set_spt_bit.result _ _ c.args.key.group c.address.result _ _ _ lost.state c.address.ensures
-    c.set_spt_bit.ensures.new c.set_spt_bit.ensures.rises))
+    (bit_set c.set_spt_bit.result _ _ c.name.result.group c.args.key.group c.name.result.source _ _ _ lost.state
+    c.name.ensures.group c.name.ensures.source c.set_spt_bit.ensures.new c.set_spt_bit.ensures.rises))
 
 pub returns-in-Forget-clause-at_least : goal.returns-in-Forget-clause-at_least
 unfolding action_nodes

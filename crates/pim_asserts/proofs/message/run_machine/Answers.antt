@@ -8,7 +8,7 @@ use Rattle.pim_model.specs.State.{State}
 use Rattle.pim_model.specs.Tables.{row_at}
 use Rattle.pim_store.specs.PimTables.{PimTables}
 use Rattle.pim_world.proofs.Visits.{two_in_turn}
-use Rattle.pim_asserts.specs.Visits.{action_nodes, taken_nodes}
+use Rattle.pim_asserts.specs.Visits.{action_nodes, machine_nodes}
 use Rattle.pim_asserts.specs.declared.action.Action.{Action}
 use Rattle.pim_asserts.proofs.Receiving.{acts, acts_so}
 use Rattle.pim_asserts.proofs.message.run_machine.Goals as goal
@@ -30,7 +30,7 @@ returns-clause-messages c =
     c.carry_out.ensures.messages
 
 pub returns-clause-at_least : goal.returns-clause-at_least
-unfolding taken_nodes
+unfolding machine_nodes
 returns-clause-at_least c =
     let s = c.args.world.now in
     let k = c.args.key in

@@ -2,7 +2,7 @@ use Rattle.std.proofs.Common.{[], Option, ap, is_some, refl, sym, ◌∙◌}
 use Rattle.std.specs.Option.{option_map_or}
 use Rattle.pim_model.specs.Clearing.{Cleared, cleared}
 use Rattle.pim_world.specs.Turns.{saying}
-use Rattle.pim_asserts.specs.Going.{bits_of, clear_once}
+use Rattle.pim_asserts.specs.Going.{clear_once, source_bits}
 use Rattle.pim_asserts.proofs.PartToClear.{forgets, nothing_next}
 use Rattle.pim_world.proofs.Said.{said_nothing}
 use Rattle.pim_world.proofs.Visits.{none_asked, two_in_turn, whether_or_not}
@@ -10,7 +10,7 @@ use Rattle.pim_asserts.proofs.part.clear_next.Goals as goal
 
 pub returns-in_default-clause-more : goal.returns-in_default-clause-more
 returns-in_default-clause-more c =
-    sym (ap is_some (nothing_next c.args.part.group.bits (bits_of c.args.part.source) c.args.part.was c.args.world.now
+    sym (ap is_some (nothing_next c.args.part.group.bits (source_bits c.args.part.source) c.args.part.was c.args.world.now
     c.recall_keyed.ensures c.recall_keyed.ensures.asserts_rise (sym c.in_default.ensures.first)))
 
 pub returns-in_default-clause-state : goal.returns-in_default-clause-state
@@ -18,7 +18,7 @@ unfolding clear_once
 returns-in_default-clause-state c =
     let s = c.args.world.now in
     ap (λ (o : Option Cleared). (option_map_or (cleared s) o (s, [])).0)
-    (sym (nothing_next c.args.part.group.bits (bits_of c.args.part.source) c.args.part.was s
+    (sym (nothing_next c.args.part.group.bits (source_bits c.args.part.source) c.args.part.was s
     c.recall_keyed.ensures c.recall_keyed.ensures.asserts_rise (sym c.in_default.ensures.first)))
 
 pub returns-in_default-clause-messages : goal.returns-in_default-clause-messages
@@ -28,38 +28,38 @@ returns-in_default-clause-messages c =
     let t = c.args.turn.now in
     sym (said_nothing t)
     ∙ ap (λ (o : Option Cleared). saying t (option_map_or (cleared s) o (s, [])).1)
-    (sym (nothing_next c.args.part.group.bits (bits_of c.args.part.source) c.args.part.was s
+    (sym (nothing_next c.args.part.group.bits (source_bits c.args.part.source) c.args.part.was s
     c.recall_keyed.ensures c.recall_keyed.ensures.asserts_rise (sym c.in_default.ensures.first)))
 
 pub returns-in_default-clause-at_least : goal.returns-in_default-clause-at_least
 returns-in_default-clause-at_least c =
     two_in_turn _ _ _ _ _ c.first_to_go.ensures.at_least
     (none_asked _ _ _ _
-    (ap is_some (nothing_next c.args.part.group.bits (bits_of c.args.part.source) c.args.part.was c.args.world.now
+    (ap is_some (nothing_next c.args.part.group.bits (source_bits c.args.part.source) c.args.part.was c.args.world.now
     c.recall_keyed.ensures c.recall_keyed.ensures.asserts_rise (sym c.in_default.ensures.first))) refl)
 
 pub forget-requires : goal.forget-requires
 forget-requires c =
-    (forgets c.args.part.group.bits (bits_of c.args.part.source) c.args.part.was c.args.world.now c.recall_keyed.ensures
+    (forgets c.args.part.group.bits (source_bits c.args.part.source) c.args.part.was c.args.world.now c.recall_keyed.ensures
     c.recall_keyed.ensures.asserts_rise c.in-Some.iface.number (sym c.in-Some.ensures.first)).below
 
 pub returns-clause-more : goal.returns-clause-more
 returns-clause-more c =
     sym (forgets c.args.part.group.bits
-    (bits_of c.args.part.source) c.args.part.was c.args.world.now c.recall_keyed.ensures
+    (source_bits c.args.part.source) c.args.part.was c.args.world.now c.recall_keyed.ensures
     c.recall_keyed.ensures.asserts_rise c.in-Some.iface.number (sym c.in-Some.ensures.first)).more
 
 pub returns-clause-state : goal.returns-clause-state
 returns-clause-state c =
     c.in_ok-forget.ensures.state
-    ∙ (forgets c.args.part.group.bits (bits_of c.args.part.source) c.args.part.was c.args.world.now c.recall_keyed.ensures
+    ∙ (forgets c.args.part.group.bits (source_bits c.args.part.source) c.args.part.was c.args.world.now c.recall_keyed.ensures
     c.recall_keyed.ensures.asserts_rise c.in-Some.iface.number (sym c.in-Some.ensures.first)).state
 
 pub returns-clause-messages : goal.returns-clause-messages
 returns-clause-messages c =
     c.in_ok-forget.ensures.messages
     ∙ ap (saying c.args.turn.now)
-    (forgets c.args.part.group.bits (bits_of c.args.part.source) c.args.part.was c.args.world.now c.recall_keyed.ensures
+    (forgets c.args.part.group.bits (source_bits c.args.part.source) c.args.part.was c.args.world.now c.recall_keyed.ensures
     c.recall_keyed.ensures.asserts_rise c.in-Some.iface.number (sym c.in-Some.ensures.first)).messages
 
 pub returns-clause-at_least : goal.returns-clause-at_least

@@ -3,7 +3,7 @@ use Rattle.pim_model.specs.Clearing.{clearable_count}
 use Rattle.pim_model.specs.Messages.{Message}
 use Rattle.pim_model.specs.State.{State}
 use Rattle.pim_world.specs.Turns.{saying}
-use Rattle.pim_asserts.specs.Going.{bits_of, clear_once}
+use Rattle.pim_asserts.specs.Going.{clear_once, source_bits}
 use Rattle.pim_asserts.specs.Opened.{clear_part}
 use Rattle.pim_asserts.proofs.Fuel.{cleared_by_turn, in_turn, no_turn, nothing_once, turn_is_fewer}
 use Rattle.pim_world.proofs.Said.{said_nothing}
@@ -21,7 +21,7 @@ pub loop-smaller : goal.loop-smaller
 loop-smaller c =
     let was = c.args.part.was in
     let g = c.args.part.group.bits in
-    let source = bits_of c.args.part.source in
+    let source = source_bits c.args.part.source in
     subst (λ s. clearable_count s < clearable_count c.loop.world) (sym c.in_ok-clear_next.ensures.state)
     (turn_is_fewer was g source c.loop.world (sym c.in_ok-clear_next.ensures.more ∙ c.if-branch.true))
 
@@ -29,7 +29,7 @@ pub loop-preserved : goal.loop-preserved
 loop-preserved c =
     let was = c.args.part.was in
     let g = c.args.part.group.bits in
-    let source = bits_of c.args.part.source in
+    let source = source_bits c.args.part.source in
     let s = c.loop.world in
     let more = sym c.in_ok-clear_next.ensures.more ∙ c.if-branch.true in
     record {
@@ -47,7 +47,7 @@ pub returns-clause-state : goal.returns-clause-state
 returns-clause-state c =
     let was = c.args.part.was in
     let g = c.args.part.group.bits in
-    let source = bits_of c.args.part.source in
+    let source = source_bits c.args.part.source in
     let s = c.loop.world in
     let none = sym c.in_ok-clear_next.ensures.more ∙ c.if-branch.false in
     c.in_ok-clear_next.ensures.state
@@ -59,7 +59,7 @@ pub returns-clause-messages : goal.returns-clause-messages
 returns-clause-messages c =
     let was = c.args.part.was in
     let g = c.args.part.group.bits in
-    let source = bits_of c.args.part.source in
+    let source = source_bits c.args.part.source in
     let s = c.loop.world in
     let none = sym c.in_ok-clear_next.ensures.more ∙ c.if-branch.false in
     c.in_ok-clear_next.ensures.messages

@@ -1,5 +1,5 @@
 use Rattle.pim_model.specs.Clearing.{clearable_count}
-use Rattle.pim_asserts.specs.Going.{bits_of}
+use Rattle.pim_asserts.specs.Going.{source_bits}
 use Rattle.pim_asserts.specs.Opened.{clear_part}
 use Rattle.pim_asserts.specs.Visits.{part_nodes}
 use Rattle.pim_asserts.proofs.Progress.{Stands}
@@ -8,8 +8,8 @@ use Rattle.pim_asserts.proofs.part.clear_part.Given as goal
 
 abbrev pub invariant-loop : goal.invariant-loop
 invariant-loop l = record {
-  stands : Stands (clear_part l.part.was l.part.group.bits (bits_of l.part.source) l.world)
-      (clear_part l.part.was l.part.group.bits (bits_of l.part.source) l.fn.world) l.turn l.fn.turn;
+  stands : Stands (clear_part l.part.was l.part.group.bits (source_bits l.part.source) l.world)
+      (clear_part l.part.was l.part.group.bits (source_bits l.part.source) l.fn.world) l.turn l.fn.turn;
   turning : Turning l.part.was l.part.group l.part.source l.world l.fn.meter
       (part_nodes l.part.was l.part.group l.part.source l.fn.world) l.meter;
 }

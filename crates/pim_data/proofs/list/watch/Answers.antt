@@ -33,4 +33,4 @@ returns-clause-at_least c =
           not_first _ _ _ (sym (c.has_local_receivers.ensures s h) ∙ w.if-has_local_receivers.false) (w.value-is ∙ c.has_local_receivers.ensures s h)
     ] in
     kept_counted c.keep_alive.result s c.args.sight.now.star.group.bits c.args.sight.now.source.bits _ _ _
-    (sym told ∙ c.if-not-sight.false) c.keep_alive.ensures.new c.keep_alive.ensures.rises
+    (sym told ∙ c.if-not-sight.false) (rw c.name.ensures at c.keep_alive.ensures.new) c.keep_alive.ensures.rises

@@ -5,6 +5,7 @@ use Rattle.pim_model.specs.Sets.{is_loser}
 use Rattle.pim_model.specs.State.{State}
 use Rattle.pim_store.specs.PimTables.{PimTables}
 use Rattle.pim_world.proofs.Lent.{stored}
+use Rattle.pim_world.proofs.Visits.{then_rises}
 use Rattle.pim_world.specs.Turns.{Taking}
 use Rattle.pim_hello.proofs.StartedAnew.{replaced, restarted}
 use Rattle.pim_hello.proofs.hello.restart.Goals as goal
@@ -31,3 +32,8 @@ returns-clause-state c =
     ∙ ap (λ (d : ℕ). neighbour_restarted s c.args.iface.number c.args.from.bits d
     (replaced s c.args.iface.number c.args.from.bits d c.args.hello.now))
     (ap (λ (t : Taking). t.draw) c.turn.view_is)
+
+pub returns-clause-at_least : goal.returns-clause-at_least
+returns-clause-at_least c =
+    then_rises _ _ _ _ (then_rises _ _ _ _ c.in_ok-towards.ensures.at_least c.end_losses.ensures.rises)
+    c.in_ok-lower_timers.ensures.rises

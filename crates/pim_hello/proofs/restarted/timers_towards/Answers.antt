@@ -2,7 +2,7 @@ use Rattle.std.proofs.Common.{Some, ap, ◌∙◌}
 use Rattle.pim_model.specs.Tables.{same_hop}
 use Rattle.pim_world.proofs.Visits.{all_gathered, next_gathered}
 use Rattle.pim_hello.specs.Towards.{is_towards}
-use Rattle.pim_hello.specs.Visits.{timer_nodes}
+use Rattle.pim_hello.specs.Visits.{timer_sight_nodes}
 use Rattle.pim_laws.proofs.FoundRows.{all_found, found, passed}
 use Rattle.pim_hello.proofs.restarted.timers_towards.Goals as goal
 
@@ -11,12 +11,12 @@ loop-key-preserved-in-Continue-1 c =
     let l = c.loop-key in record {
       keys =
           found (λ e. is_towards c.args.world.now c.args.neighbour e.0) _ l.keys.items c.push.new.self.items
-          (c.in-Some.key.now, c.in-Some.field-0-1.now)
+          (c.in-Some.key, c.in-Some.field-0-1)
           l.key-iterator c.next.new.self c.is_same_hop.result c.in-Some.ensures.steps c.in_ok-push.ensures.items
           (c.is_same_hop.ensures ∙ ap (λ h. same_hop h (Some c.args.neighbour)) c.upstream_of-upstream.ensures.upstream)
           c.if-is_same_hop.true l.invariant.keys;
       visited =
-          next_gathered (timer_nodes c.args.world.now) _ _ _ (c.in-Some.key.now, c.in-Some.field-0-1.now)
+          next_gathered (timer_sight_nodes c.args.world.now) _ _ _ (c.in-Some.key, c.in-Some.field-0-1)
           c.args.world.now.join_timers l.key-iterator c.next.new.self l.invariant.visited c.in-Some.ensures.steps
           c.upstream_of-upstream.ensures.at_least;
     }
@@ -26,12 +26,12 @@ loop-key-preserved c =
     let l = c.loop-key in record {
       keys =
           passed (λ e. is_towards c.args.world.now c.args.neighbour e.0) _ l.keys.items
-          (c.in-Some.key.now, c.in-Some.field-0-1.now) l.key-iterator c.next.new.self c.is_same_hop.result
+          (c.in-Some.key, c.in-Some.field-0-1) l.key-iterator c.next.new.self c.is_same_hop.result
           c.in-Some.ensures.steps
           (c.is_same_hop.ensures ∙ ap (λ h. same_hop h (Some c.args.neighbour)) c.upstream_of-upstream.ensures.upstream)
           c.if-is_same_hop.false l.invariant.keys;
       visited =
-          next_gathered (timer_nodes c.args.world.now) _ _ _ (c.in-Some.key.now, c.in-Some.field-0-1.now)
+          next_gathered (timer_sight_nodes c.args.world.now) _ _ _ (c.in-Some.key, c.in-Some.field-0-1)
           c.args.world.now.join_timers l.key-iterator c.next.new.self l.invariant.visited c.in-Some.ensures.steps
           c.upstream_of-upstream.ensures.at_least;
     }
@@ -43,5 +43,5 @@ returns-clause-keys c =
 
 pub returns-clause-at_least : goal.returns-clause-at_least
 returns-clause-at_least c =
-    all_gathered (timer_nodes c.args.world.now) _ _ c.args.world.now.join_timers c.loop-key.key-iterator
+    all_gathered (timer_sight_nodes c.args.world.now) _ _ c.args.world.now.join_timers c.loop-key.key-iterator
     c.loop-key.invariant.visited c.in-None.ensures.steps.0

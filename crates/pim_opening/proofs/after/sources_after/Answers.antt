@@ -1,7 +1,7 @@
 use Rattle.std.proofs.Common.{arith, refl}
 use Rattle.std.proofs.lemmas.Grind.{common_steps}
 use Rattle.pim_world.proofs.Visits.{next_made, raised_by_none}
-use Rattle.pim_opening.specs.Visits.{seen_source_nodes}
+use Rattle.pim_opening.specs.Visits.{source_after_nodes}
 use Rattle.pim_opening.proofs.after.sources_after.Goals as goal
 
 pub loop-opened-init : goal.loop-opened-init
@@ -16,6 +16,6 @@ pub loop-opened-preserved : goal.loop-opened-preserved
 loop-opened-preserved c = record {
   opened = grind (arith, common_steps);
   after = grind (arith, common_steps);
-  visited = next_made (seen_source_nodes c.args.world.now c.args.star.now.group) c.args.sources.now c.loop-opened.opened-index
+  visited = next_made (source_after_nodes c.args.world.now c.args.star.now.group) c.args.sources.now c.loop-opened.opened-index
       _ _ _ _ c.loop-opened-test.true c.loop-opened.invariant.visited c.source_after.ensures.at_least;
 }

@@ -1,7 +1,7 @@
 use Rattle.std.proofs.Common.{subst, sym, ◌≡◌, ◌≤◌, ◌∙◌, ℕ}
 use Rattle.pim_model.specs.Sets.{spt_bit}
-use Rattle.pim_world.specs.Visits.{raised}
-use Rattle.pim_register.specs.Visits.{new_source_nodes, watched_nodes}
+use Rattle.pim_world.specs.Visits.{new_source_nodes, raised}
+use Rattle.pim_register.specs.Visits.{kept_at_rp_nodes}
 use Rattle.pim_register.proofs.Visited.{at_rp_gathered, none_watched, one_watched, source_new}
 use Rattle.pim_register.proofs.rendezvous.register_at_rp.Goals as goal
 use Rattle.pim_register.proofs.rendezvous.register_at_rp.Goals.{then-sight+in_ok-keep_alive, else-sight+else-sight-2}
@@ -17,7 +17,7 @@ returns-clause-at_least c =
     let here : sight.star.group ≡ group = c.with_star-sight.ensures.group in
     let spt : sight.spt ≡ spt_bit s group.bits source.bits =
     h.spt ∙ λ i. spt_bit s (here i).bits (c.with_star-sight.ensures.source i).bits in
-    let watched : raised least (watched_nodes s group source) ≤ c.if-sight.meter =
+    let watched : raised least (kept_at_rp_nodes s group source) ≤ c.if-sight.meter =
     elim c.if-sight.branch [
       | then-sight+in_ok-keep_alive w ↦ one_watched s group source _ _
           (subst (λ (m : ℕ). raised least (new_source_nodes s group source) ≤ m) (sym w.meter-is)

@@ -16,6 +16,7 @@ pub returns-then-not-could_register-clause-state : goal.returns-then-not-could_r
 unfolding settle_register settled_register set_row
 returns-then-not-could_register-clause-state c =
     let could = c.could_register.ensures c.args.world.now c.requires in
+    let name = c.name-name.ensures in
     grind (arith, common_steps)
 
 pub returns-then-not-could_register-clause-sight : goal.returns-then-not-could_register-clause-sight
@@ -27,21 +28,23 @@ returns-then-not-could_register-clause-sight c =
     let k = source_key 0 g src in
     subst (λ (u : State). IsSourceSight u c.with_tunnel.result)
     (sym (stored s _ _ (λ (f : PimTables). record f { registers = drop_at f.registers k }) c.store_mut.ensures.value
-    c.in_ok-set_register.ensures.set))
+    (rw c.name-name.ensures at c.in_ok-set_register.ensures.set)))
     (c.with_tunnel.ensures.sight s (drop_at s.registers k) c.requires (dropped_tunnel s g src))
 
 pub returns-then-is_some-clause-state : goal.returns-then-is_some-clause-state
 unfolding settle_register settled_register has_row
 returns-then-is_some-clause-state c =
     let could = c.could_register.ensures c.args.world.now c.requires in
-    let key = rw c.name.ensures at c.key-key.ensures in
+    let key = rw c.name-name.ensures at c.key.ensures in
+    let name = c.name-name.ensures in
     grind (arith, common_steps)
 
 pub returns-clause-state : goal.returns-clause-state
 unfolding settle_register settled_register has_row set_row
 returns-clause-state c =
     let could = c.could_register.ensures c.args.world.now c.requires in
-    let key = rw c.name.ensures at c.key-key.ensures in
+    let key = rw c.name-name.ensures at c.key.ensures in
+    let name = c.name-name.ensures in
     grind (arith, common_steps)
 
 pub returns-clause-sight : goal.returns-clause-sight
@@ -53,7 +56,7 @@ returns-clause-sight c =
     let k = source_key 0 g src in
     subst (λ (u : State). IsSourceSight u c.with_tunnel-2.result)
     (sym (stored s _ _ (λ (f : PimTables). record f { registers = put f.registers k (record { state = RegisterState.Join }) })
-    c.store_mut-2.ensures.value c.in_ok-set_register-2.ensures.set))
+    c.store_mut-2.ensures.value (rw c.name-name.ensures at c.in_ok-set_register-2.ensures.set)))
     (c.with_tunnel-2.ensures.sight s (put s.registers k (record { state = RegisterState.Join })) c.requires
     (joined_tunnel s g src))
 
@@ -61,20 +64,20 @@ pub returns-then-not-could_register-clause-at_least : goal.returns-then-not-coul
 returns-then-not-could_register-clause-at_least c =
     register_gone c.args.world.now _ _ _ _ _ c.store_mut.ensures.value
     (sym (c.could_register.ensures c.args.world.now c.requires) ∙ c.if-not-could_register.true)
-    (c.in_ok-set_register.ensures.gone refl)
+    (rw c.name-name.ensures at c.in_ok-set_register.ensures.gone refl)
 
 pub returns-then-is_some-clause-at_least : goal.returns-then-is_some-clause-at_least
 returns-then-is_some-clause-at_least c =
     register_there c.args.world.now _ _ _ _ c.register.result
     (sym (c.could_register.ensures c.args.world.now c.requires) ∙ c.if-not-could_register.false)
-    (c.register.ensures ∙ ap (λ (f : PimTables). row_at f.registers c.key-key.result) c.store.ensures
-    ∙ ap (row_at c.args.world.now.registers) (rw c.name.ensures at c.key-key.ensures))
+    (c.register.ensures ∙ ap (λ (f : PimTables). row_at f.registers c.key.result) c.store.ensures
+    ∙ ap (row_at c.args.world.now.registers) (rw c.name-name.ensures at c.key.ensures))
     (sym c.is_some.ensures ∙ c.if-is_some.true) refl
 
 pub returns-clause-at_least : goal.returns-clause-at_least
 returns-clause-at_least c =
     register_new c.args.world.now _ _ _ _ _ c.register.result c.store_mut-2.ensures.value
     (sym (c.could_register.ensures c.args.world.now c.requires) ∙ c.if-not-could_register.false)
-    (c.register.ensures ∙ ap (λ (f : PimTables). row_at f.registers c.key-key.result) c.store.ensures
-    ∙ ap (row_at c.args.world.now.registers) (rw c.name.ensures at c.key-key.ensures))
-    (sym c.is_some.ensures ∙ c.if-is_some.false) c.in_ok-set_register-2.ensures.new
+    (c.register.ensures ∙ ap (λ (f : PimTables). row_at f.registers c.key.result) c.store.ensures
+    ∙ ap (row_at c.args.world.now.registers) (rw c.name-name.ensures at c.key.ensures))
+    (sym c.is_some.ensures ∙ c.if-is_some.false) (rw c.name-name.ensures at c.in_ok-set_register-2.ensures.new)

@@ -9,7 +9,7 @@ use Rattle.pim_register.proofs.source_timers.probe.Goals as goal
 pub returns-clause-at_least : goal.returns-clause-at_least
 returns-clause-at_least c =
     let s = c.args.world.now in
-    let same : c.address-source.result.bits ≡ source_in c.args.key = c.address-source.ensures in
+    let same : c.name-name.result.source.bits ≡ source_in c.args.key = c.name-name.ensures.source in
     let least : raised c.args.meter.now (probe_nodes s c.args.key) ≤ c.rp_or_none-to.new.meter =
     two_in_turn _ _ _ _ _
     (at_least_itself _ _ _ (c.registering_address-from.ensures.visited

@@ -2,7 +2,7 @@ use Rattle.std.proofs.Common.{◌∙◌}
 use Rattle.pim_laws.proofs.FoundRows.{all_found, found, passed}
 use Rattle.pim_world.proofs.Visits.{all_gathered, at_least_itself, next_gathered, two_in_turn}
 use Rattle.pim_register.specs.Tunnel.{is_rp_changed}
-use Rattle.pim_register.specs.Visits.{rps_nodes}
+use Rattle.pim_register.specs.Visits.{register_rps_nodes}
 use Rattle.pim_register.proofs.Tunnelled.{asked_rp}
 use Rattle.pim_register.proofs.tunnel.keys_with_new_rp.Goals as goal
 
@@ -13,7 +13,7 @@ loop-key-preserved-in-Continue-1 c = record {
       c.in-Some.ensures.steps c.in_ok-push.ensures.items
       (c.is_other_rp.ensures ∙ asked_rp _ _ _ _ c.rp-before.ensures.value c.rp-after.ensures.value)
       c.if-is_other_rp.true c.loop-key.invariant.kept;
-  visited = next_gathered (rps_nodes c.args.world.now c.args.next.now.ranges) _ _ _
+  visited = next_gathered (register_rps_nodes c.args.world.now c.args.next.now.ranges) _ _ _
       (c.in-Some.key.now, c.in-Some.field-0-1.now) c.args.world.now.registers c.loop-key.key-iterator c.next.new.self
       c.loop-key.invariant.visited c.in-Some.ensures.steps
       (two_in_turn _ _ _ _ _ (at_least_itself _ _ _ c.rp-before.ensures.visited)
@@ -27,7 +27,7 @@ loop-key-preserved c = record {
       c.in-Some.ensures.steps
       (c.is_other_rp.ensures ∙ asked_rp _ _ _ _ c.rp-before.ensures.value c.rp-after.ensures.value)
       c.if-is_other_rp.false c.loop-key.invariant.kept;
-  visited = next_gathered (rps_nodes c.args.world.now c.args.next.now.ranges) _ _ _
+  visited = next_gathered (register_rps_nodes c.args.world.now c.args.next.now.ranges) _ _ _
       (c.in-Some.key.now, c.in-Some.field-0-1.now) c.args.world.now.registers c.loop-key.key-iterator c.next.new.self
       c.loop-key.invariant.visited c.in-Some.ensures.steps
       (two_in_turn _ _ _ _ _ (at_least_itself _ _ _ c.rp-before.ensures.visited)
@@ -41,5 +41,5 @@ returns-clause-keys c =
 
 pub returns-clause-at_least : goal.returns-clause-at_least
 returns-clause-at_least c =
-    all_gathered (rps_nodes c.args.world.now c.args.next.now.ranges) _ _ c.args.world.now.registers c.loop-key.key-iterator
+    all_gathered (register_rps_nodes c.args.world.now c.args.next.now.ranges) _ _ c.args.world.now.registers c.loop-key.key-iterator
     c.loop-key.invariant.visited c.in-None.ensures.steps.0

@@ -8,7 +8,7 @@ use Rattle.pim_model.specs.Tables.{same_bool}
 use Rattle.pim_world.specs.Visits.{raised, sight_nodes}
 use Rattle.pim_world.proofs.Visits.{next_made, none_asked, one_asked, raised_by_none}
 use Rattle.pim_upstream.specs.Hearing.{heard_in_join, heard_in_joins}
-use Rattle.pim_upstream.specs.Visits.{joined_key_nodes, joined_nodes}
+use Rattle.pim_upstream.specs.Visits.{joined_key_nodes, joined_keys_nodes}
 use Rattle.pim_upstream.proofs.overheard.hear_joins.Goals.{then-is_none-is_star+in_ok-hear_join, else-is_none-is_star}
 use Rattle.pim_upstream.specs.declared.timer.TimerMove.{TimerMove}
 use Rattle.pim_upstream.proofs.Visited.{is_asked, next_in_joins}
@@ -57,7 +57,7 @@ loop-key-preserved c =
     ]
 
 pub returns-clause-at_least : goal.returns-clause-at_least
-unfolding joined_nodes
+unfolding joined_keys_nodes
 returns-clause-at_least c =
     subst (λ ks. raised c.args.meter.now (sum_by (joined_key_nodes c.args.world.now c.args.is_star) ks) ≤ c.loop-key.meter)
     (take_all c.loop-key.key-index c.args.keys.now c.loop-key-test.false) c.loop-key.invariant.visited

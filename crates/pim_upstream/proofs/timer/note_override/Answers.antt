@@ -18,4 +18,4 @@ pub returns-in_ok-push-in_default : goal.returns-in_ok-push-in_default
 unfolding after_move
 returns-in_ok-push-in_default c = λ s.
     ap (after_moves s) c.in_ok-push-in_default.ensures.items
-    ∙ after_one_more c.args.moves.now.items (TimerMove.Override c.args.name.group c.args.name.source c.args.change) s
+    ∙ after_one_more c.args.moves.now.items (TimerMove.Override c.args.name c.args.change) s

@@ -1,7 +1,7 @@
 use Rattle.pim_model.specs.Downstream.{accepted_joins, accepted_prunes, is_used, joined_keys, pruned_keys}
 use Rattle.pim_world.proofs.Visits.{all_gathered, next_gathered}
 use Rattle.pim_downstream.specs.Naming.{is_counted}
-use Rattle.pim_downstream.specs.Visits.{joins_nodes, named_nodes}
+use Rattle.pim_downstream.specs.Visits.{joins_nodes, message_named_nodes}
 use Rattle.pim_downstream.proofs.GroupKeys.{group_added, groups_made}
 use Rattle.pim_downstream.proofs.named.Named.of.Goals as goal
 
@@ -36,7 +36,7 @@ returns-clause-pruned c =
     c.in-None.ensures.steps.0 l.invariant.pruned
 
 pub returns-clause-at_least : goal.returns-clause-at_least
-unfolding named_nodes
+unfolding message_named_nodes
 returns-clause-at_least c =
     all_gathered (joins_nodes c.args.world.now) _ _ c.args.message.now.groups c.loop-group.group-iterator
     c.loop-group.invariant.visited c.in-None.ensures.steps.0
