@@ -21,7 +21,7 @@ use Rattle.pim_reach.specs.Calm.{is_calm}
 use Rattle.pim_cached.specs.Kept.{is_listed}
 use Rattle.pim_cached.proofs.Listed.{listed}
 use Rattle.pim_world.specs.declared.touched.Touched.{Touched}
-use Rattle.pim_world.specs.Touches.{touched_keys}
+use Rattle.pim_world.specs.Touches.{concerned_keys}
 use Rattle.pim_opening.specs.Openings.{touched_sources}
 use Rattle.pim_fanout.specs.Before.{opened_sources}
 use Rattle.pim_fanout.specs.Named.{is_changed, named_among}
@@ -62,7 +62,7 @@ module _ (o a : State) where
       (each_both OfSource (λ k. is_changed o a k ≡ true) (λ k. list_any (same_key k) (named o a) ≡ true)
       passing_is_named (named_among o a touched)
       (each_filter OfSource (is_changed o a) (opened_sources o touched)
-      (each_of_groups (touched_sources o touched) (groups_of (touched_keys o touched))))
+      (each_of_groups (touched_sources o touched) (groups_of (concerned_keys o touched))))
       (each_passes (is_changed o a) (opened_sources o touched)))
 
 pub names_are_few : (o changed : State) (touched : Touched)

@@ -17,7 +17,7 @@ use Rattle.pim_model.specs.Upstream.{groups_of, sources_of}
 use Rattle.pim_laws.proofs.ListLaws.{each_append, either}
 use Rattle.pim_laws.proofs.Numbers.{RisesFrom, rises_ascending}
 use Rattle.pim_world.specs.declared.touched.Touched.{Touched}
-use Rattle.pim_world.specs.Touches.{touched_keys}
+use Rattle.pim_world.specs.Touches.{concerned_keys}
 use Rattle.pim_opening.specs.Openings.{touched_sources}
 use Rattle.pim_fanout.specs.Before.{opened_sources}
 use Rattle.pim_fanout.specs.Named.{is_changed, named_among}
@@ -80,7 +80,7 @@ module _ (sources : ℕ → List ℕ) where
 opened_rise : (o : State) (touched : Touched) → IsStrictlySortedBy key_cmp (opened_sources o touched)
 unfolding opened_sources touched_sources groups_of sources_of
 opened_rise o touched =
-    all_rise (touched_sources o touched) (λ g. rises_ascending _) 0 (groups_of (touched_keys o touched))
+    all_rise (touched_sources o touched) (λ g. rises_ascending _) 0 (groups_of (concerned_keys o touched))
     (rises_ascending _)
 
 pub names_rise : (o a : State) (touched : Touched) → IsStrictlySortedBy key_cmp (named_among o a touched)
@@ -116,9 +116,9 @@ module _ (sources : ℕ → List ℕ) (g src : ℕ) (of : is_among src (sources 
       (list_any (same_key (source_key 0 g src)) (under sources hs)) hs
       (λ same. rw (eqb-true h g same) (any_of_source g src (sources g) of)) (any_of_group hs) e
 
-pub opened : (o : State) (touched : Touched) (g src : ℕ) → is_among g (groups_of (touched_keys o touched)) ≡ true
+pub opened : (o : State) (touched : Touched) (g src : ℕ) → is_among g (groups_of (concerned_keys o touched)) ≡ true
     → is_among src (touched_sources o touched g) ≡ true
     → list_any (same_key (source_key 0 g src)) (opened_sources o touched) ≡ true
 unfolding opened_sources
 opened o touched g src group source =
-    any_of_group (touched_sources o touched) g src source (groups_of (touched_keys o touched)) group
+    any_of_group (touched_sources o touched) g src source (groups_of (concerned_keys o touched)) group

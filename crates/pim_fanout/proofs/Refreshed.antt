@@ -8,12 +8,12 @@ use Rattle.pim_model.specs.State.{State}
 use Rattle.pim_model.specs.Tables.{has_row}
 use Rattle.pim_cached.specs.Kept.{Cache, refreshed}
 use Rattle.pim_macros.specs.Rows.{MadeRow, ShowsAnswers}
-use Rattle.pim_mfc.specs.Kept.{Kept, with_row}
+use Rattle.pim_mfc.specs.Kept.{Kept, with_source_row}
 use Rattle.pim_mfc.specs.Laws.{ShowsRows}
 use Rattle.pim_mfc.proofs.Shown.{put_refreshes}
 
 pub put_named : (s : State) (c : Cache) (names : List Key) (k : Kept) (m : MadeRow) (g src : Addr) → m.group ≡ g
     → m.source ≡ src → has_row s.sources (source_key 0 g.bits src.bits) ≡ true
     → ShowsAnswers m.answers (answers s g.bits src.bits) → ShowsRows k.rows (refreshed names s c)
-    → ShowsRows (with_row k m).rows (refreshed (names ++ source_key 0 g.bits src.bits ∷ []) s c)
+    → ShowsRows (with_source_row k m).rows (refreshed (names ++ source_key 0 g.bits src.bits ∷ []) s c)
 put_named s c names k m g src group source = rw (← group, ← source) (put_refreshes s c names k m)

@@ -10,7 +10,7 @@ use Rattle.pim_model.specs.Sets.{register_state}
 use Rattle.pim_model.specs.State.{State}
 use Rattle.pim_model.specs.Tables.{has_row}
 use Rattle.pim_model.specs.Upstream.{groups_of}
-use Rattle.pim_world.specs.Touches.{touched_keys}
+use Rattle.pim_world.specs.Touches.{concerned_keys}
 use Rattle.pim_world.specs.declared.touched.Touched.{Touched}
 use Rattle.pim_macros.specs.Sights.{ShowsSource}
 use Rattle.pim_macros.specs.declared.sight.SourceSight.{SourceSight}
@@ -22,7 +22,7 @@ use Rattle.pim_types.specs.declared.name.SourceGroup.{SourceGroup}
 -- the touched sources, each under its key, ascending: by group, then by source
 unfoldable pub opened_sources : State → Touched → List Key
 opened_sources o touched =
-    flat_map (λ g. map (source_key 0 g) (touched_sources o touched g)) (groups_of (touched_keys o touched))
+    flat_map (λ g. map (source_key 0 g) (touched_sources o touched g)) (groups_of (concerned_keys o touched))
 
 -- the key of a source fact
 abbrev pub name_key : SourceGroup → Key

@@ -1,4 +1,5 @@
 pub mod Before
+pub mod Alone
 pub mod Contains
 pub mod Disturbed
 pub mod Same

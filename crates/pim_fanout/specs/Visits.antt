@@ -6,6 +6,7 @@ use Rattle.pim_model.specs.State.{State}
 use Rattle.pim_model.specs.Tables.{has_row}
 use Rattle.pim_macros.specs.declared.sight.StarSight.{StarSight}
 use Rattle.pim_world.specs.Visits.{nodes_in_turn, source_nodes, star_nodes}
+use Rattle.pim_opening.specs.Visits.{source_opening_nodes}
 use Rattle.pim_fanout.specs.Before.{name_key}
 use Rattle.pim_fanout.specs.declared.before.KnownSource.{KnownSource}
 use Rattle.pim_fanout.specs.declared.before.SourceBefore.{SourceBefore}
@@ -15,6 +16,10 @@ use Rattle.pim_types.specs.declared.name.SourceGroup.{SourceGroup}
 abbrev pub named_nodes : State → SourceGroup → ℕ
 named_nodes s name =
     if has_row s.sources (name_key name) then star_nodes s name.group + source_nodes s name.group name.source else 0
+
+-- one source that alone is touched: a sight of its group, one of it, and whether there is a fact of it
+abbrev pub alone_nodes : State → SourceGroup → ℕ
+alone_nodes s name = star_nodes s name.group + source_opening_nodes s name.group.bits name.source.bits
 
 -- ---- sources, one after the other
 

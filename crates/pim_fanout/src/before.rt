@@ -1,8 +1,9 @@
 //! What an event touches, as it is before its own change: gathered once, for the machines and for the forwarding cache.
 ghost use Rattle.std.specs.List.{flat_map};
 ghost use Rattle.std.specs.Prelude.{◌≡◌, ◌≤◌, ◌++◌, ◌∷◌, [], true, IfOk, IfSome, OnOk, map, sum_by};
+ghost use Rattle.pim_fanout.specs.Alone.{TouchesAlone, opening_alone};
 ghost use Rattle.pim_fanout.specs.Before.{AreBefore, IsBefore, IsSourceBefore, IsKnown, key_before, name_key, seen_key};
-ghost use Rattle.pim_fanout.specs.Visits.{last_group, last_star_nodes, next_last, seen_nodes};
+ghost use Rattle.pim_fanout.specs.Visits.{alone_nodes, last_group, last_star_nodes, next_last, seen_nodes};
 ghost use Rattle.pim_macros.specs.Sights.{IsSourceSight, IsStarSight};
 ghost use Rattle.pim_model.specs.Sets.{register_state};
 ghost use Rattle.pim_model.specs.Tables.{has_row};
@@ -11,12 +12,13 @@ ghost use Rattle.pim_opening.specs.Visits.{group_opening_nodes, opening_nodes, s
 ghost use Rattle.pim_trie.specs.Meter.{raised};
 ghost use Rattle.pim_types.specs.Keys.{source_key};
 ghost use Rattle.pim_world.specs.Groups.{numbers_of};
-ghost use Rattle.pim_world.specs.Visits.{source_nodes};
+ghost use Rattle.pim_world.specs.Visits.{fact_nodes, source_nodes};
+ghost use Rattle.pim_world.specs.declared.touched.Touched.{Touched as TouchedKeys};
 
 use pim_macros::{SourceSight, StarSight};
 use pim_opening::{GroupOpening, Opening, SourceOpening, is_whole, touched_sources};
 use pim_types::fact::RegisterState;
-use pim_types::{Addr, Series, SourceGroup};
+use pim_types::{Addr, Key, Series, SourceGroup};
 use pim_world::{Meter, Touched, World};
 use std::alloc::{AllocError, Global};
 use std::collections::BTreeMap;
@@ -109,17 +111,100 @@ impl Gathered {
         ensures before { IfOk result (λ gathered. IsBefore world.now touched.now gathered.before) }
         ensures at_least { OnOk result (raised meter.old (opening_nodes world.now touched.now) ≤ meter.new) }
     {
-        let mut groups = BTreeMap::new(alloc);
-        world.gather_touched(touched, &mut groups)?;
-        let mut before = Vec::new(alloc);
-        let groups = open_groups(world, alloc, touched, &groups, meter, &mut before)?;
-        Ok(Gathered {
-            opening: Opening::new(groups),
-            before: Before {
-                sources: Series::from_vec(before),
-            },
-        })
+        match only_source(touched) {
+            Some(name) => {
+                let gathered = gather_source(world, alloc, name, meter)?;
+                Ok(gathered)
+            }
+            None => gather_groups(world, alloc, touched, meter),
+        }
     }
+}
+
+// The key that alone is touched, where it is so.
+fn only_key(touched: &Touched) -> Option<Key>
+    ensures { IfSome result (λ key. touched.now ≡ TouchedKeys.Keys (key ∷ [])) }
+{
+    let Touched::Keys(keys) = touched else {
+        return None;
+    };
+    match keys.as_slice() {
+        [key] => Some(*key),
+        _ => None,
+    }
+}
+
+// The source that alone is touched, where it is so. The key of source 0.0.0.0 touches all of its group.
+fn only_source(touched: &Touched) -> Option<SourceGroup>
+    ensures { IfSome result (TouchesAlone touched.now) }
+{
+    let key = only_key(touched)?;
+    if key.address() == Addr::NONE {
+        None
+    } else {
+        Some(key.name())
+    }
+}
+
+// The list of a value alone, with room for no more.
+fn alone<T: Drop>(alloc: Global, value: T) -> Result<Vec<T>, AllocError>
+    ensures { IfOk result (λ list. list.items ≡ value ∷ []) }
+{
+    let mut list = Vec::with_capacity(alloc, 1)?;
+    list.push(value)?;
+    Ok(list)
+}
+
+// One source alone: nothing is put in order for it.
+fn gather_source(
+    world: &World,
+    alloc: Global,
+    name: SourceGroup,
+    meter: &mut Meter,
+) -> Result<Gathered, AllocError>
+    ensures opening { IfOk result (λ gathered. gathered.opening ≡ opening_alone world.now name ∷ []) }
+    ensures keys { IfOk result (λ gathered. map key_before gathered.before ≡ name_key name ∷ []) }
+    ensures each { IfOk result (λ gathered. AreBefore world.now gathered.before) }
+    ensures at_least { OnOk result (raised meter.old (alone_nodes world.now name) ≤ meter.new) }
+{
+    let star = StarSight::of(world, name.group, meter);
+    let sight = SourceSight::of(world, star, name.source, meter);
+    let group = GroupOpening {
+        group: name.group,
+        is_whole: false,
+        star: star.view(),
+        sources: Series::from_vec(alone(alloc, opened_by_sight(world, &sight, meter))?),
+    };
+    let before = alone(alloc, compared_by_sight(world, &sight))?;
+    Ok(Gathered {
+        opening: Opening::new(alone(alloc, group)?),
+        before: Before {
+            sources: Series::from_vec(before),
+        },
+    })
+}
+
+// What is touched, group after group.
+fn gather_groups(
+    world: &World,
+    alloc: Global,
+    touched: &Touched,
+    meter: &mut Meter,
+) -> Result<Gathered, AllocError>
+    ensures opening { IfOk result (λ gathered. gathered.opening ≡ opening_of world.now touched.now) }
+    ensures before { IfOk result (λ gathered. IsBefore world.now touched.now gathered.before) }
+    ensures at_least { OnOk result (raised meter.old (opening_nodes world.now touched.now) ≤ meter.new) }
+{
+    let mut groups = BTreeMap::new(alloc);
+    world.gather_touched(touched, &mut groups)?;
+    let mut before = Vec::new(alloc);
+    let groups = open_groups(world, alloc, touched, &groups, meter, &mut before)?;
+    Ok(Gathered {
+        opening: Opening::new(groups),
+        before: Before {
+            sources: Series::from_vec(before),
+        },
+    })
 }
 
 // These groups. Their sources, as they are compared, are put behind others.
@@ -220,11 +305,24 @@ fn open_source(
 {
     let sight = SourceSight::of(world, *star, source, meter);
     before.push(compared_by_sight(world, &sight))?;
-    Ok(SourceOpening {
-        source,
-        has_facts: world.has_facts(star.group, source, meter),
+    Ok(opened_by_sight(world, &sight, meter))
+}
+
+// A source as its sight shows it to the machines.
+fn opened_by_sight(world: &World, sight: &SourceSight, meter: &mut Meter) -> SourceOpening
+    requires { IsSourceSight world.now sight.now }
+    ensures opened { result ≡ source_opening world.now sight.now.star.group.bits sight.now.source.bits }
+    ensures at_least { raised meter.old (fact_nodes world.now sight.now.star.group sight.now.source) ≤ meter.new }
+{
+    let name = SourceGroup {
+        source: sight.source,
+        group: sight.star.group,
+    };
+    SourceOpening {
+        source: sight.source,
+        has_facts: world.has_facts(name, meter),
         view: sight.view(),
-    })
+    }
 }
 
 /// A source as its sight shows it.

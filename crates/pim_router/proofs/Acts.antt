@@ -7,7 +7,7 @@ use Rattle.pim_model.specs.Downstream.{joined_keys, pruned_keys}
 use Rattle.pim_model.specs.State.{State}
 use Rattle.pim_downstream.specs.Naming.{changes_after}
 use Rattle.pim_downstream.specs.declared.named.Named.{Named}
-use Rattle.pim_router.specs.Acting.{HasHeard, HasKeys, control_event, event_of}
+use Rattle.pim_router.specs.Acting.{HasHeard, HasKeys, control_event, act_event}
 use Rattle.pim_router.specs.declared.act.Act.{Act}
 use Rattle.pim_router.specs.declared.act.Control.{Control}
 
@@ -25,7 +25,7 @@ control_timeless s (Control.Query i from q) m is = cc is
 control_timeless s (Control.Report i records) m is = cc is
 control_timeless s (Control.RegisterStop from stop) m is = cc is
 
-pub timeless : (s : State) (act : Act) (m : ℕ) → ¬ (event_of s act ≡ Accepted.Advance m)
+pub timeless : (s : State) (act : Act) (m : ℕ) → ¬ (act_event s act ≡ Accepted.Advance m)
 timeless s (Act.Data i p sight) m is = cc is
 timeless s (Act.Register p r) m is = cc is
 timeless s (Act.Control control) m is = control_timeless s control m is

@@ -11,6 +11,7 @@ use Rattle.pim_types.specs.declared.event.EventKind.{EventKind}
 use Rattle.pim_types.specs.declared.outcome.Ignored.{Ignored}
 use Rattle.pim_types.specs.declared.outcome.Stop.{Stop}
 use Rattle.pim_wire.specs.Messages.{pim_reading}
+use Rattle.pim_wire.specs.RegisterParts.{registered_group}
 use Rattle.pim_wire.specs.Values.{JoinPrune}
 use Rattle.pim_wire.specs.declared.view.PimView.{PimView}
 use Rattle.igmp_wire.specs.Messages.{igmp_reading}
@@ -20,7 +21,6 @@ use Rattle.pim_model.specs.Hellos.{hello_holdtime_of}
 use Rattle.pim_model.specs.Judging.{Judged, advance_judged, assert_judged, data_judged, down_judged, frame_judged, hello_judged, igmp_accepted, igmp_judged, igmp_message_judged, ignore_if, join_prune_judged, judged, last_moment, of_read, packet_judged, pim_judged, pim_message_judged, pim_to_me_judged, refuse_if, register_judged, register_stop_judged, routes_judged, rps_judged, unicast_judged, unicast_packet_judged, up_judged, ◌>>◌}
 use Rattle.pim_model.specs.Limits.{are_routes, are_rps}
 use Rattle.pim_model.specs.Neighbours.{is_neighbour}
-use Rattle.pim_model.specs.Registers.{registered_group}
 use Rattle.pim_model.specs.State.{InterfaceTable, State, iface_count, interfaces_of, is_own, is_up, my_address}
 use Rattle.pim_model.specs.Unicast.{is_rp}
 use Rattle.pim_mrib.specs.Routes.{RouteTable}

@@ -8,7 +8,7 @@ use Rattle.pim_world.specs.Turns.{Taking, saying}
 use Rattle.pim_world.proofs.Said.{said_both}
 use Rattle.pim_opening.specs.declared.opening.GroupOpening.{GroupOpening}
 use Rattle.pim_opening.specs.declared.opening.SourceOpening.{SourceOpening}
-use Rattle.pim_register.specs.Settling.{opened_sources, registers_by}
+use Rattle.pim_register.specs.Settling.{opened_source_keys, registers_by}
 use Rattle.pim_asserts.specs.Opened.{clear_by}
 use Rattle.pim_upstream.specs.Told.{upstream_by}
 use Rattle.pim_types.specs.declared.fact.Key.{Key}
@@ -20,7 +20,7 @@ use Rattle.pim_router.specs.Settling.{AreNamed, cleared_by, followed_by}
 
 registers_alone : (s : State) (x : GroupOpening) (o : SourceOpening) → x.sources ≡ o ∷ []
     → registers_by (x ∷ []) s ≡ settle_register s (source_key 0 x.group.bits o.source.bits)
-unfolding registers_by opened_sources settle_register
+unfolding registers_by opened_source_keys settle_register
 registers_alone s x o alone = rw alone refl
 
 -- the register of the one source is settled

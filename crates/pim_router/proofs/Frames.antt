@@ -9,11 +9,11 @@ use Rattle.pim_types.specs.declared.event.EventKind.{EventKind}
 use Rattle.pim_types.specs.declared.outcome.Ignored.{Ignored}
 use Rattle.pim_types.specs.declared.outcome.Stop.{Stop}
 use Rattle.pim_wire.specs.Messages.{pim_reading}
+use Rattle.pim_wire.specs.RegisterParts.{registered_group}
 use Rattle.pim_wire.specs.declared.view.PimView.{PimView}
 use Rattle.pim_model.specs.declared.accepted.Accepted.{Accepted}
 use Rattle.pim_model.specs.Judging.{Judged, advance_judged, down_judged, ignore_if, judged, last_moment, pim_to_me_judged, refuse_if, register_judged, register_stop_judged, routes_judged, rps_judged, unicast_judged, unicast_packet_judged, up_judged, ◌>>◌}
 use Rattle.pim_model.specs.Limits.{are_routes, are_rps}
-use Rattle.pim_model.specs.Registers.{registered_group}
 use Rattle.pim_model.specs.State.{State, iface_count, is_own, is_up}
 use Rattle.pim_model.specs.Unicast.{is_rp}
 use Rattle.pim_intake.specs.Memory.{is_frame}

@@ -1,10 +1,9 @@
 -- Facts before and after a change, by a test of keys.
-use Rattle.std.proofs.Common.{◌≡◌, Bool, true, false, cond, List, [], ◌∷◌, ◌++◌, ◌||◌, ◌&&◌, filter, Option, Some, None, refl, ap, sym, ◌∙◌}
+use Rattle.std.proofs.Common.{◌≡◌, Bool, true, false, cond, List, [], ◌∷◌, ◌++◌, ◌||◌, ◌&&◌, Option, Some, None, refl, ap, sym, ◌∙◌}
 use Rattle.std.proofs.lemmas.Bool.{or_left, or_right}
 use Rattle.std.proofs.lemmas.List.Folds.{list_any-append}
 use Rattle.std.specs.Cmp.{first_so}
 use Rattle.std.specs.List.{list_any}
-use Rattle.std.specs.Prelude.{fold}
 use Rattle.pim_types.specs.declared.fact.AssertRow.{AssertRow}
 use Rattle.pim_types.specs.declared.fact.DownstreamRow.{DownstreamRow}
 use Rattle.pim_types.specs.declared.fact.JoinTimerRow.{JoinTimerRow}
@@ -110,27 +109,3 @@ module _ {R : Type 0} (p : Key → Bool) where
       either (p k) (list_any (λ (e : Key × R). p e.0) t) (or_right (list_any p (keys_in t)) (p k))
       (λ f. or_left (list_any p (keys_in t)) (p k) (any_of_map p (λ (e : Key × R). e.0) t ∙ f))
       (any_of_put k r (λ e. p e.0) t (sym (any_of_map p (λ (e : Key × R). e.0) (put t k r)) ∙ e))
-
-  -- and of rows that are set one after the other
-  pub all_more : (row : Key → Option R) (ks : List Key) (t : Table R)
-      → list_any p (keys_in (fold (λ u k. set_row u k (row k)) t ks)) ≡ true
-      → (list_any p (keys_in t) || list_any p ks) ≡ true
-  all_more row [] t e = or_left (list_any p (keys_in t)) false e
-  all_more row (k ∷ ks) t e =
-      either (list_any p (keys_in (set_row t k (row k)))) (list_any p ks)
-      (λ f. either (list_any p (keys_in t)) (p k) (or_left (list_any p (keys_in t)) (p k || list_any p ks))
-      (λ g. or_right (list_any p (keys_in t)) (p k || list_any p ks) (or_left (p k) (list_any p ks) g))
-      (one_more k (row k) t f))
-      (λ f. or_right (list_any p (keys_in t)) (p k || list_any p ks) (or_right (p k) (list_any p ks) f))
-      (all_more row ks (set_row t k (row k)) e)
-
-pub filtered : (p q : Key → Bool) (ks : List Key) → list_any p (filter q ks) ≡ true → list_any p ks ≡ true
-filtered p q [] e = e
-filtered p q (k ∷ ks) e = step (q k) (filtered p q ks) e
-  where
-    step : (b : Bool) → (list_any p (filter q ks) ≡ true → list_any p ks ≡ true)
-        → list_any p (cond b (k ∷ filter q ks) (filter q ks)) ≡ true → (p k || list_any p ks) ≡ true
-    step true later f =
-        either (p k) (list_any p (filter q ks)) (or_left (p k) (list_any p ks))
-        (λ g. or_right (p k) (list_any p ks) (later g)) f
-    step false later f = or_right (p k) (list_any p ks) (later f)

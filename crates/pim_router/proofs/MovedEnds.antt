@@ -23,7 +23,8 @@ use Rattle.pim_locality.specs.Scopes.{only_mode, only_running, only_side}
 use Rattle.pim_locality.proofs.Rows.{cut_entry, row_at_cut}
 use Rattle.pim_locality.proofs.SourceMacros.{cut_source}
 use Rattle.pim_locality.proofs.StarMacros.{cut_group}
-use Rattle.pim_querier.specs.Reports.{is_including, keeps_others, stays}
+use Rattle.pim_querier.specs.Reports.{keeps_others, stays}
+use Rattle.pim_model.specs.Cause.{is_including}
 use Rattle.pim_querier.proofs.NamedRecords.{all_among, gone_of, is_member, neither, none_written}
 use Rattle.pim_querier.proofs.NamedSources.{anew, anew_elsewhere, anew_row, known, known_row, made, row_of, up_anew}
 use Rattle.pim_querier.proofs.OneSource.{AreSources, rebuilt, member_after, row_after}

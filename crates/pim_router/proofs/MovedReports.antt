@@ -38,7 +38,8 @@ use Rattle.pim_locality.proofs.SameRows.{of_source_records}
 use Rattle.pim_locality.proofs.SameTables.{seen_found_alike}
 use Rattle.pim_locality.proofs.SourceMacros.{cut_source}
 use Rattle.pim_locality.proofs.StarMacros.{cut_group, some_cut}
-use Rattle.pim_querier.specs.Reports.{all_keep_modes, is_including, keeps_mode, keeps_others, moved_by, moved_named, moved_others, moved_sources, stays}
+use Rattle.pim_querier.specs.Reports.{all_keep_modes, keeps_mode, keeps_others, moved_by, moved_named, moved_others, moved_sources, stays}
+use Rattle.pim_model.specs.Cause.{is_including}
 use Rattle.pim_querier.proofs.OneSource.{AreSources}
 use Rattle.pim_tables.proofs.RisingRows.{Above, Up, up_of_sorted}
 use Rattle.pim_router.proofs.Growing.{any_left, any_right, row_among}

@@ -26,7 +26,7 @@ use Rattle.pim_model.specs.Downstream.{joined_keys, pruned_keys}
 use Rattle.pim_macros.specs.declared.sight.SourceSight.{SourceSight}
 use Rattle.pim_router.specs.Ends.{few_or_all}
 use Rattle.pim_router.specs.OtherRoutes.{with_routes}
-use Rattle.pim_router.specs.Acting.{HasRead, event_of, ranges_by, routes_by}
+use Rattle.pim_router.specs.Acting.{HasRead, act_event, ranges_by, routes_by}
 use Rattle.pim_router.specs.Planning.{Fits, IsPlanned, touched_of}
 use Rattle.pim_router.specs.declared.act.Act.{Act}
 use Rattle.pim_router.specs.declared.act.Control.{Control}
@@ -34,7 +34,7 @@ use Rattle.pim_router.specs.declared.plan.Plan.{Plan}
 use Rattle.pim_router.specs.declared.plan.Planning.{Planning}
 use Rattle.pim_router.proofs.Touching.{MakesNone, facts_covered, packet_covered}
 
-module _ (s : State) (a : Accepted) (planning : Planning) (act : Act) (event : event_of s act ≡ a) (read : HasRead s act)
+module _ (s : State) (a : Accepted) (planning : Planning) (act : Act) (event : act_event s act ≡ a) (read : HasRead s act)
     (room : is_full s a ≡ false) where
   -- some keys are touched
   pub keys_fit : (keys : List Key)
@@ -63,15 +63,15 @@ planned_of s a b planning is planned = subst (λ (x : Accepted). IsPlanned s x p
 
 -- those of what looks to a neighbour are touched, or all
 pub adjoins_fit : (s : State) (act : Act) (keys : List Key) (touched : Touched) → HasRead s act → touched ≡ few_or_all keys
-    → few_or_all keys ≡ touched_of s (event_of s act) → is_full s (event_of s act) ≡ false
-    → ((w : ℕ) → Contains (few_or_all keys) s (change s w (event_of s act)).state)
-    → (let p : Plan = record { touched = touched; act = act } in Fits s (event_of s act) p)
+    → few_or_all keys ≡ touched_of s (act_event s act) → is_full s (act_event s act) ≡ false
+    → ((w : ℕ) → Contains (few_or_all keys) s (change s w (act_event s act)).state)
+    → (let p : Plan = record { touched = touched; act = act } in Fits s (act_event s act) p)
 adjoins_fit s act keys touched read those touches room covers = record {
   event = refl;
   read = read;
   room = room;
   touches = those ∙ touches;
-  covers = λ w. subst (λ (t : Touched). Contains t s (change s w (event_of s act)).state) (sym those) (covers w);
+  covers = λ w. subst (λ (t : Touched). Contains t s (change s w (act_event s act)).state) (sym those) (covers w);
 }
 
 -- keys that are touched on a condition
@@ -100,7 +100,7 @@ those_where on keys first second is are = rw is (ap Touched.Keys are)
 
 -- these keys are touched, which take all that is moved
 module _ (s : State) (a : Accepted) (touched : Touched) (act : Act) (keys : List Key) where
-  moved_fits : event_of s act ≡ a → HasRead s act → Touched.Keys keys ≡ touched_of s a → is_full s a ≡ false
+  moved_fits : act_event s act ≡ a → HasRead s act → Touched.Keys keys ≡ touched_of s a → is_full s a ≡ false
       → ((w : ℕ) → MovesAlone keys s (change s w a).state) → touched ≡ Touched.Keys keys
       → (let p : Plan = record { touched = touched; act = act } in Fits s a p)
   moved_fits event read touches room moves those = record {

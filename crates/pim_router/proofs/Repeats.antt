@@ -40,7 +40,7 @@ use Rattle.pim_locality.specs.Locality.{AgreesBut, touching}
 use Rattle.pim_locality.specs.Rest.{IsAtRest}
 use Rattle.pim_opening.specs.Covers.{Concerns}
 use Rattle.pim_opening.specs.Openings.{has_facts}
-use Rattle.pim_router.specs.Repeats.{asserted_key, asserts_anew, is_assert_known, is_direct, is_lost_to, is_watched, moves_end}
+use Rattle.pim_router.specs.Repeats.{asserted_key, asserts_anew, is_assert_known, is_direct, is_lost_to_metric, is_watched, packet_moves_end}
 use Rattle.pim_router.proofs.Asserted.{asserted_named}
 use Rattle.pim_router.proofs.Growing.{any_left, any_right, row_among}
 use Rattle.pim_router.proofs.IgmpFacts.{star_names_none}
@@ -239,8 +239,8 @@ module _ (s : State) (rest : IsAtRest s) (g src : ℕ) where
           kept_so false true e f = e
           kept_so false false e f = cc
 
-    pub packet_concerned : moves_end s g src iif ≡ true → Concerns [] s (forwarded s g src iif).state
-    unfolding moves_end is_direct forwarded
+    pub packet_concerned : packet_moves_end s g src iif ≡ true → Concerns [] s (forwarded s g src iif).state
+    unfolding packet_moves_end is_direct forwarded
     packet_concerned moves = go (is_direct s g src iif) refl moves
       where
         on_of : (r x : Bool) → (r && x) ≡ true → r ≡ true
@@ -320,9 +320,9 @@ module _ (s : State) (rest : IsAtRest s) (k : Key) (theirs : AssertMetric) where
         go false true e = cc
         go false false e = λ q h. refl
 
-  at_agrees : is_lost_to (row_at s.asserts k) theirs ≡ true → is_infinite theirs ≡ false
+  at_agrees : is_lost_to_metric (row_at s.asserts k) theirs ≡ true → is_infinite theirs ≡ false
       → AgreesBut (touching []) s (assert_at s k theirs).0
-  unfolding assert_at is_lost_to
+  unfolding assert_at is_lost_to_metric
   at_agrees known finite = go (row_at s.asserts k) refl known
     where
       go : (row : Option AssertRow) → row_at s.asserts k ≡ row
@@ -340,8 +340,8 @@ module _ (s : State) (rest : IsAtRest s) (k : Key) (theirs : AssertMetric) where
           (loser_agrees r there lost same finite)
 
   -- it has a row
-  lost_has_row : is_lost_to (row_at s.asserts k) theirs ≡ true → has_row s.asserts k ≡ true
-  unfolding is_lost_to has_row
+  lost_has_row : is_lost_to_metric (row_at s.asserts k) theirs ≡ true → has_row s.asserts k ≡ true
+  unfolding is_lost_to_metric has_row
   lost_has_row known = go (row_at s.asserts k) known
     where
       go : (row : Option AssertRow)
@@ -360,12 +360,12 @@ module _ (s : State) (rest : IsAtRest s) (i from : ℕ) (a : AssertMessage) wher
   abbrev star : Key
   star = star_key i a.group.bits
 
-  received_agrees : is_lost_to (row_at s.asserts (asserted_key i a)) metric ≡ true → is_infinite metric ≡ false
+  received_agrees : is_lost_to_metric (row_at s.asserts (asserted_key i a)) metric ≡ true → is_infinite metric ≡ false
       → AgreesBut (touching []) s (assert_received s i from a).0
   unfolding assert_received
   received_agrees known finite = go (a.source.bits == 0) known
     where
-      of_star : (b : Bool) → is_lost_to (row_at s.asserts star) metric ≡ true
+      of_star : (b : Bool) → is_lost_to_metric (row_at s.asserts star) metric ≡ true
           → AgreesBut (touching []) s (cond b (assert_at s star metric) (let n : State × List Message = (s, []) in n)).0
       of_star true e = at_agrees s rest star metric e finite
       of_star false e = λ q h. refl
@@ -377,7 +377,7 @@ module _ (s : State) (rest : IsAtRest s) (i from : ℕ) (a : AssertMessage) wher
       of_source t true true again e agrees = agrees
       of_source t false true again e agrees = agrees
 
-      go : (none : Bool) → is_lost_to (row_at s.asserts (cond none star key)) metric ≡ true
+      go : (none : Bool) → is_lost_to_metric (row_at s.asserts (cond none star key)) metric ≡ true
           → (let first : State × List Message = cond none (s, []) (assert_at s key metric) in
           let goes_on : Bool = a.rpt && (none || (not (has_row s.asserts key) && not (has_row (first.0).asserts key))) in
           let second : State × List Message = cond goes_on (assert_at first.0 star metric) (first.0, []) in
@@ -390,12 +390,12 @@ module _ (s : State) (rest : IsAtRest s) (i from : ℕ) (a : AssertMessage) wher
   pub assert_concerned : is_assert_known s i from a ≡ true → Concerns [] s (assert_received s i from a).0
   unfolding is_assert_known asserted_keys
   assert_concerned known =
-      let lost : is_lost_to (row_at s.asserts (asserted_key i a)) metric ≡ true =
-      first_so (is_lost_to (row_at s.asserts (asserted_key i a)) metric) (not (is_infinite metric)) known in
+      let lost : is_lost_to_metric (row_at s.asserts (asserted_key i a)) metric ≡ true =
+      first_so (is_lost_to_metric (row_at s.asserts (asserted_key i a)) metric) (not (is_infinite metric)) known in
       record {
         agrees = received_agrees lost
             (so_false (is_infinite metric)
-            (second_so (is_lost_to (row_at s.asserts (asserted_key i a)) metric) (not (is_infinite metric)) known));
+            (second_so (is_lost_to_metric (row_at s.asserts (asserted_key i a)) metric) (not (is_infinite metric)) known));
         named = λ g src there.
             or_left (has_facts s g src) false
             (either (has_facts s g src) (list_any (names_source g src) (asserted_keys i a)) (λ h. h)
@@ -407,7 +407,7 @@ module _ (s : State) (rest : IsAtRest s) (i from : ℕ) (a : AssertMessage) wher
       star_none g src false = refl
 
       -- the source that it names has the assert that was lost
-      was_there : (g src : ℕ) (none : Bool) → is_lost_to (row_at s.asserts (cond none star key)) metric ≡ true
+      was_there : (g src : ℕ) (none : Bool) → is_lost_to_metric (row_at s.asserts (cond none star key)) metric ≡ true
           → list_any (names_source g src) ((if none then [] else key ∷ []) ++ (if a.rpt then star ∷ [] else [])) ≡ true
           → has_facts s g src ≡ true
       was_there g src true e named = cc (star_none g src a.rpt, named)

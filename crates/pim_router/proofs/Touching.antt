@@ -9,6 +9,7 @@ use Rattle.std.specs.Prelude.{fold, if◌then◌else◌}
 use Rattle.pim_types.specs.declared.fact.Key.{Key}
 use Rattle.pim_types.specs.declared.fact.NeighbourRow.{NeighbourRow}
 use Rattle.pim_types.specs.Keys.{iface_in, is_of_group, is_star, names_source, neighbour_key, source_in, star_key}
+use Rattle.pim_wire.specs.RegisterParts.{is_null, registered_group, registered_source}
 use Rattle.pim_wire.specs.declared.hello.Hello.{Hello as HelloValue}
 use Rattle.pim_types.specs.declared.config.IfaceId.{IfaceId}
 use Rattle.pim_ip.specs.declared.addr.Addr.{Addr}
@@ -62,12 +63,12 @@ use Rattle.pim_querier.specs.Reports.{all_keep_modes, moved_sources}
 use Rattle.pim_router.proofs.IgmpFacts.{query_leaves_facts, report_names_facts, star_names_none}
 use Rattle.pim_router.proofs.MovedReports.{report_touches_moved, reported_known}
 use Rattle.pim_router.proofs.Tunnelled.{routes_leave_facts, rps_leave_facts, stop_leaves_facts}
-use Rattle.pim_model.specs.Registers.{is_null, register_stop_seen, registered_group, registered_source}
+use Rattle.pim_model.specs.Registers.{register_stop_seen}
 use Rattle.pim_ip.specs.Ipv4.{Packet}
 use Rattle.pim_router.proofs.Packets.{packet_named, register_named}
 use Rattle.pim_wire.specs.declared.register.RegisterStop.{RegisterStop as RegisterStopValue}
 use Rattle.pim_types.specs.Keys.{source_key}
-use Rattle.pim_router.specs.Repeats.{is_assert_known, keys_of_packet, moves_end}
+use Rattle.pim_router.specs.Repeats.{is_assert_known, keys_of_packet, packet_moves_end}
 use Rattle.pim_locality.specs.Rest.{IsAtRest}
 use Rattle.pim_model.specs.Sets.{is_kept_alive}
 use Rattle.pim_router.proofs.Repeats.{assert_concerned, packet_concerned, register_concerned, so_false}
@@ -325,9 +326,9 @@ module _ (s : State) where
   unfolding change
   packet_covered rest i packet keys those w =
       subst (λ ks. Concerns ks s (change s w (Accepted.Data i packet)).state) (sym those)
-      (go (moves_end s packet.destination packet.source i.number) refl)
+      (go (packet_moves_end s packet.destination packet.source i.number) refl)
     where
-      go : (b : Bool) → moves_end s packet.destination packet.source i.number ≡ b
+      go : (b : Bool) → packet_moves_end s packet.destination packet.source i.number ≡ b
           → Concerns (if b then [] else packet_keys s packet.destination packet.source i.number) s
           (change s w (Accepted.Data i packet)).state
       go true moves = packet_concerned s rest packet.destination packet.source i.number moves

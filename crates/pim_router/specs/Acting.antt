@@ -38,10 +38,10 @@ control_event s (Control.Query i from q) = Accepted.Query i from q
 control_event s (Control.Report i records) = Accepted.Report i records
 control_event s (Control.RegisterStop from stop) = Accepted.RegisterStop from stop
 
-abbrev pub event_of : State → Act → Accepted
-event_of s (Act.Data i p sight) = Accepted.Data i p
-event_of s (Act.Register p r) = Accepted.Register p r
-event_of s (Act.Control control) = control_event s control
+abbrev pub act_event : State → Act → Accepted
+act_event s (Act.Data i p sight) = Accepted.Data i p
+act_event s (Act.Register p r) = Accepted.Register p r
+act_event s (Act.Control control) = control_event s control
 
 -- ---- what was read for it
 

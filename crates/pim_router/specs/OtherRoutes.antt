@@ -13,5 +13,5 @@ with_routes s routes = record s { routes = routes }
 abbrev pub has_other_route : State → State → ℕ → Bool
 has_other_route o c address = not (same_both same_path (route o address) (route c address))
 
-abbrev pub has_other_rp : State → State → ℕ → Bool
-has_other_rp o c g = not (same_option (rp_of o g) (rp_of c g))
+abbrev pub group_has_other_rp : State → State → ℕ → Bool
+group_has_other_rp o c g = not (same_option (rp_of o g) (rp_of c g))

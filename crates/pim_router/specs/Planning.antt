@@ -1,10 +1,10 @@
 -- What is planned of an event before its change.
 use Rattle.std.specs.Prelude.{[], false, filter, if◌then◌else◌, not, true, ℕ, ◌++◌, ◌∷◌, ◌≡◌}
 use Rattle.pim_types.specs.Keys.{is_star, source_key}
+use Rattle.pim_wire.specs.RegisterParts.{registered_group, registered_source}
 use Rattle.pim_model.specs.declared.accepted.Accepted.{Accepted}
 use Rattle.pim_model.specs.Downstream.{pruned_keys}
 use Rattle.pim_model.specs.Full.{asserted_keys, is_full, reported_groups, reported_sources}
-use Rattle.pim_model.specs.Registers.{registered_group, registered_source}
 use Rattle.pim_model.specs.State.{State}
 use Rattle.pim_model.specs.Step.{change, rps_replaced}
 use Rattle.pim_locality.specs.JoinPrunes.{moved_keys}
@@ -18,7 +18,7 @@ use Rattle.pim_model.specs.Sets.{is_kept_alive}
 use Rattle.pim_router.specs.Ends.{few_or_all}
 use Rattle.pim_router.specs.Repeats.{is_assert_known, keys_of_packet}
 use Rattle.pim_router.specs.OtherRoutes.{with_routes}
-use Rattle.pim_router.specs.Acting.{HasRead, event_of}
+use Rattle.pim_router.specs.Acting.{HasRead, act_event}
 use Rattle.pim_router.specs.declared.plan.Plan.{Plan}
 use Rattle.pim_router.specs.declared.plan.Planning.{Planning}
 
@@ -49,7 +49,7 @@ touched_of s _ = Touched.All
 -- The plan is of the event, with what was read for it; there is room for what the event names; what it touches is told, no
 -- more and no less, and covers its change.
 pub record Fits (s : State) (a : Accepted) (plan : Plan) : Type 0 where
-  pub event : event_of s plan.act ≡ a
+  pub event : act_event s plan.act ≡ a
   pub read : HasRead s plan.act
   pub room : is_full s a ≡ false
   pub touches : plan.touched ≡ touched_of s a

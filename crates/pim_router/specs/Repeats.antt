@@ -25,14 +25,14 @@ abbrev pub asserted_key : ℕ → AssertMessage → Key
 asserted_key i a = if a.source.bits == 0 then star_key i a.group.bits else source_key i a.group.bits a.source.bits
 
 -- the router lost to this metric
-unfoldable pub is_lost_to : Option AssertRow → AssertMetric → Bool
-is_lost_to row theirs =
+unfoldable pub is_lost_to_metric : Option AssertRow → AssertMetric → Bool
+is_lost_to_metric row theirs =
     is_loser row && option_map_or (λ (r : AssertRow). same_metric r.winner theirs) row false
 
 -- the winner says again what it said, and doesn't cancel
 unfoldable pub is_assert_known : State → ℕ → ℕ → AssertMessage → Bool
 is_assert_known s i from a =
-    is_lost_to (row_at s.asserts (asserted_key i a)) (theirs_of a from) && not (is_infinite (theirs_of a from))
+    is_lost_to_metric (row_at s.asserts (asserted_key i a)) (theirs_of a from) && not (is_infinite (theirs_of a from))
 
 -- ---- a packet of data
 
@@ -51,12 +51,12 @@ asserts_anew s g src iif =
     && not (has_row s.asserts (if spt_bit s g src then source_key iif g src else star_key iif g))
 
 -- at most the end of its source's keepalive timer moves
-unfoldable pub moves_end : State → ℕ → ℕ → ℕ → Bool
-moves_end s g src iif =
+unfoldable pub packet_moves_end : State → ℕ → ℕ → ℕ → Bool
+packet_moves_end s g src iif =
     if is_direct s g src iif then is_kept_alive s g src && spt_bit s g src
     else (if is_rpf_interface_rp s g iif && not (spt_bit s g src)
     then is_kept_alive s g src || not (is_watched s g src) else not (asserts_anew s g src iif))
 
 -- then nothing is touched
 abbrev pub keys_of_packet : State → ℕ → ℕ → ℕ → List Key
-keys_of_packet s g src iif = if moves_end s g src iif then [] else packet_keys s g src iif
+keys_of_packet s g src iif = if packet_moves_end s g src iif then [] else packet_keys s g src iif

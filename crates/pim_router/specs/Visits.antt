@@ -15,20 +15,20 @@ use Rattle.pim_model.specs.State.{State}
 use Rattle.pim_model.specs.Unicast.{rp_of}
 use Rattle.pim_model.specs.Upstream.{fact_keys, groups_of, sources_of}
 use Rattle.pim_reach.specs.Named.{has_same_rp}
-use Rattle.pim_asserts.specs.Visits.{alone_nodes, clear_nodes, fired_nodes as assert_end_nodes, received_nodes as asserted_nodes}
+use Rattle.pim_asserts.specs.Visits.{alone_nodes, assert_end_nodes, asserted_nodes, clear_nodes}
 use Rattle.pim_data.specs.Visits.{arrived_nodes}
-use Rattle.pim_downstream.specs.Visits.{fired_nodes as downstream_end_nodes, to_me_nodes}
+use Rattle.pim_downstream.specs.Visits.{downstream_end_nodes, to_me_nodes}
 use Rattle.pim_fanout.specs.Visits.{naming_nodes}
 use Rattle.pim_fanout.specs.declared.before.SourceBefore.{SourceBefore}
-use Rattle.pim_hello.specs.Visits.{received_nodes as hello_nodes}
+use Rattle.pim_hello.specs.Visits.{hello_nodes}
 use Rattle.pim_opening.specs.Visits.{opening_nodes}
 use Rattle.pim_opening.specs.declared.opening.GroupOpening.{GroupOpening}
 use Rattle.pim_opening.specs.declared.opening.SourceOpening.{SourceOpening}
-use Rattle.pim_querier.specs.Visits.{fired_nodes as membership_end_nodes, report_seen_nodes}
+use Rattle.pim_querier.specs.Visits.{membership_end_nodes, report_seen_nodes}
 use Rattle.pim_register.specs.Settling.{registers_by}
-use Rattle.pim_register.specs.Visits.{ended_nodes, fired_nodes as register_end_nodes, register_mark_nodes, register_nodes, replaced_nodes, settled_nodes}
+use Rattle.pim_register.specs.Visits.{ended_nodes, register_end_nodes, register_mark_nodes, register_nodes, replaced_nodes, settled_nodes}
 use Rattle.pim_rpt.specs.Visits.{override_nodes}
-use Rattle.pim_upstream.specs.Visits.{join_again_nodes, seen_nodes, told_alone_nodes, told_nodes}
+use Rattle.pim_upstream.specs.Visits.{join_again_nodes, overheard_nodes, told_alone_nodes, told_nodes}
 use Rattle.pim_world.specs.Visits.{source_nodes, sources_nodes, star_nodes}
 use Rattle.pim_world.specs.declared.touched.Touched.{Touched}
 use Rattle.pim_router.specs.Ends.{touched_by_end}
@@ -68,8 +68,8 @@ routes_nodes s routes = sum_by (moved_nodes s routes) (groups_of (fact_keys s))
 abbrev pub both_rps_nodes : State → List RpRange → ℕ → ℕ
 both_rps_nodes s ranges g = rp_nodes s.ranges g + rp_nodes ranges g
 
-unfoldable pub rps_nodes : State → List RpRange → ℕ
-rps_nodes s ranges = sum_by (both_rps_nodes s ranges) (groups_of (fact_keys s))
+unfoldable pub new_rps_nodes : State → List RpRange → ℕ
+new_rps_nodes s ranges = sum_by (both_rps_nodes s ranges) (groups_of (fact_keys s))
 
 -- ---- what is planned of a packet: the sight of its source, where there is room for it
 
@@ -90,7 +90,7 @@ control_nodes s (Control.Ranges table) = ranges_nodes s table
 control_nodes s (Control.Hello i from hello) = hello_nodes s i.number from.bits hello
 control_nodes s (Control.JoinPruneToMe i m named changes) =
     to_me_nodes s i.number m.holdtime (joined_keys s i.number m) (pruned_keys i.number m)
-control_nodes s (Control.JoinPruneSeen i m named) = seen_nodes s i.number m
+control_nodes s (Control.JoinPruneSeen i m named) = overheard_nodes s i.number m
 control_nodes s (Control.Assert i from a) = asserted_nodes s i.number from.bits a
 control_nodes s (Control.Report i records) = report_seen_nodes s i.number records
 control_nodes s _ = 0
@@ -133,8 +133,8 @@ followed_alone_nodes group opened s =
 
 -- ---- an event, and a timer's end: what it touches is opened; then comes its own change. What follows isn't counted here.
 
-unfoldable pub taken_nodes : State → Touched → Act → ℕ
-taken_nodes s touched act = opening_nodes s touched + change_nodes s act
+unfoldable pub act_nodes : State → Touched → Act → ℕ
+act_nodes s touched act = opening_nodes s touched + change_nodes s act
 
 unfoldable pub firing_nodes : State → ℕ × Timer → ℕ
 firing_nodes s due =

@@ -5,7 +5,7 @@ ghost use Rattle.pim_model.specs.Rows.{same_metric};
 ghost use Rattle.pim_model.specs.Sets.{is_kept_alive, spt_bit};
 ghost use Rattle.pim_model.specs.Tables.{has_row};
 ghost use Rattle.pim_types.specs.Keys.{source_key, star_key};
-ghost use Rattle.pim_router.specs.Repeats.{asserted_key, asserts_anew, is_assert_known, is_direct, is_lost_to, is_watched, moves_end};
+ghost use Rattle.pim_router.specs.Repeats.{asserted_key, asserts_anew, is_assert_known, is_direct, is_lost_to_metric, is_watched, packet_moves_end};
 
 use pim_data::is_on_list;
 use pim_macros::SourceSight;
@@ -39,9 +39,9 @@ fn is_same_metric(first: AssertMetric, second: AssertMetric) -> bool
 }
 
 // The router lost to this metric.
-#[tactic(auto, unfolding(crate::specs::Repeats::is_lost_to))]
-fn is_lost_to(row: Option<AssertRow>, theirs: AssertMetric) -> bool
-    ensures { result ≡ is_lost_to row theirs }
+#[tactic(auto, unfolding(crate::specs::Repeats::is_lost_to_metric))]
+fn is_lost_to_metric(row: Option<AssertRow>, theirs: AssertMetric) -> bool
+    ensures { result ≡ is_lost_to_metric row theirs }
 {
     match row {
         Some(row) => matches!(row.role, AssertRole::Loser) && is_same_metric(row.winner, theirs),
@@ -61,7 +61,7 @@ pub(crate) fn is_assert_known(world: &World, iface: IfaceId, from: Addr, assert:
         address: from,
     };
     let row = world.store().assert_at(asserted_key(iface, assert));
-    is_lost_to(row, theirs) && !is_infinite(theirs)
+    is_lost_to_metric(row, theirs) && !is_infinite(theirs)
 }
 
 // ---- a packet of data, or a Register
@@ -127,11 +127,11 @@ fn asserts_anew(world: &World, sight: &SourceSight, iface: IfaceId) -> bool
 }
 
 /// Whether a packet that came on the interface moves at most the end of the keepalive timer of its source.
-#[tactic(auto, unfolding(crate::specs::Repeats::moves_end))]
-pub(crate) fn moves_end(world: &World, sight: &SourceSight, iface: IfaceId) -> bool
+#[tactic(auto, unfolding(crate::specs::Repeats::packet_moves_end))]
+pub(crate) fn packet_moves_end(world: &World, sight: &SourceSight, iface: IfaceId) -> bool
     requires sight { IsSourceSight world.now sight.now }
     requires below { iface.number < 120 }
-    ensures { result ≡ moves_end world.now sight.now.star.group.bits sight.now.source.bits iface.number }
+    ensures { result ≡ packet_moves_end world.now sight.now.star.group.bits sight.now.source.bits iface.number }
 {
     if is_direct(world, sight, iface) {
         return sight.is_kept_alive && sight.spt;

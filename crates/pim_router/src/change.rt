@@ -5,11 +5,11 @@ ghost use Rattle.pim_register.specs.Visits.{register_nodes};
 ghost use Rattle.pim_router.specs.Visits.{change_nodes, control_nodes, ranges_nodes};
 ghost use Rattle.pim_trie.specs.Meter.{raised};
 ghost use Rattle.pim_world.specs.Turns.{saying};
+ghost use Rattle.pim_wire.specs.RegisterParts.{is_null, registered_group, registered_source};
 ghost use Rattle.pim_model.specs.Forwarding.{forwarded, register_received};
-ghost use Rattle.pim_model.specs.Registers.{is_null, registered_group, registered_source};
 ghost use Rattle.pim_model.specs.State.{iface_count};
 ghost use Rattle.pim_model.specs.Step.{Change, change, decapsulated, iface_up, packet_forwarded, rps_replaced};
-ghost use Rattle.pim_router.specs.Acting.{HasHeard, HasRead, IsSightOf, control_event, event_of, ranges_by, routes_by};
+ghost use Rattle.pim_router.specs.Acting.{HasHeard, HasRead, IsSightOf, control_event, act_event, ranges_by, routes_by};
 ghost use Rattle.pim_router.specs.Naming.{IsConfigured};
 ghost use Rattle.pim_router.specs.Sending.{Sends};
 
@@ -21,8 +21,8 @@ use pim_ip::Ipv4View;
 use pim_macros::SourceSight;
 use pim_mrib::Mrib;
 use pim_register::register_seen;
-use pim_types::IfaceId;
 use pim_types::fact::InterfaceRow;
+use pim_types::{IfaceId, SourceGroup};
 use pim_wire::RegisterView;
 use pim_world::{Meter, Turn, World};
 use std::alloc::AllocError;
@@ -117,10 +117,10 @@ pub(crate) fn apply(
     meter: &mut Meter,
     act: Act<'_>,
 ) -> Result<Leaving, AllocError>
-    requires configured { IsConfigured world.old (event_of world.old act) }
+    requires configured { IsConfigured world.old (act_event world.old act) }
     requires read { HasRead world.old act }
     ensures sends { IfOk result (λ leaving. Sends leaving world.new turn.old turn.new
-        (change world.old turn.old.draw (event_of world.old act.entry))) }
+        (change world.old turn.old.draw (act_event world.old act.entry))) }
     ensures at_least { OnOk result (raised meter.old (change_nodes world.old act.entry) ≤ meter.new) }
 {
     match act {
@@ -203,7 +203,11 @@ fn apply_control(
             pim_querier::report_seen(world, turn, meter, iface, &report)
         }
         Control::RegisterStop { stop, .. } => {
-            pim_register::stop_seen(world, turn, meter, stop.group, stop.source)
+            let name = SourceGroup {
+                source: stop.source,
+                group: stop.group,
+            };
+            pim_register::stop_seen(world, turn, meter, name)
         }
     }
 }

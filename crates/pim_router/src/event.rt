@@ -16,7 +16,7 @@ ghost use Rattle.pim_reach.specs.Named.{named_of};
 ghost use Rattle.pim_mfc.specs.Kept.{ForwardsAs, decided};
 ghost use Rattle.pim_model.specs.Plain.{IsPlainEvent, fact_key};
 ghost use Rattle.pim_model.specs.Tables.{has_row};
-ghost use Rattle.pim_router.specs.Acting.{control_event, event_of};
+ghost use Rattle.pim_router.specs.Acting.{control_event, act_event};
 ghost use Rattle.pim_router.specs.Costs.{IsWithinPath};
 ghost use Rattle.pim_intake.specs.Memory.{is_frame};
 ghost use Rattle.pim_ip.specs.Ipv4.{Packet};
@@ -28,7 +28,7 @@ ghost use Rattle.pim_router.specs.Planning.{Fits};
 ghost use Rattle.pim_router.specs.Settling.{AreNames};
 ghost use Rattle.pim_offload.specs.Staying.{is_rerouting};
 ghost use Rattle.pim_router.specs.Stops.{stop_outcome};
-ghost use Rattle.pim_router.specs.Visits.{taken_nodes};
+ghost use Rattle.pim_router.specs.Visits.{act_nodes};
 ghost use Rattle.pim_trie.specs.Meter.{raised};
 ghost use Rattle.pim_world.specs.declared.touched.Touched.{Touched as TouchedValue};
 
@@ -83,15 +83,15 @@ fn change_world(
 ) -> Result<Changed, Fault>
     requires rest { IsAtRest world.old }
     requires begun { turn.old.messages ≡ [] }
-    requires configured { IsConfigured world.old (event_of world.old act) }
-    requires plan { Fits world.old (event_of world.old act) (record { touched = touched.now; act = act }) }
+    requires configured { IsConfigured world.old (act_event world.old act) }
+    requires plan { Fits world.old (act_event world.old act) (record { touched = touched.now; act = act }) }
     ensures outcome { IfOk result (λ changed. changed.outcome
-        ≡ outcome_of (taken world.old turn.old.draw (event_of world.old act.entry))) }
-    ensures state { OnOk result (world.new ≡ (taken world.old turn.old.draw (event_of world.old act.entry)).state) }
-    ensures names { IfOk result (λ changed. AreNames world.old (change world.old turn.old.draw (event_of world.old act.entry)).state
+        ≡ outcome_of (taken world.old turn.old.draw (act_event world.old act.entry))) }
+    ensures state { OnOk result (world.new ≡ (taken world.old turn.old.draw (act_event world.old act.entry)).state) }
+    ensures names { IfOk result (λ changed. AreNames world.old (change world.old turn.old.draw (act_event world.old act.entry)).state
         touched.now (keys_of changed.names)) }
     ensures fault { IsOkUnless result Fault.Memory }
-    ensures at_least { OnOk result (raised meter.old (taken_nodes world.old touched.now act.entry) ≤ meter.new) }
+    ensures at_least { OnOk result (raised meter.old (act_nodes world.old touched.now act.entry) ≤ meter.new) }
 {
     let gathered = Gathered::of(world, turn.alloc, touched, meter)?;
     let Leaving {
@@ -134,7 +134,7 @@ fn control_reroutes(control: &Control<'_>) -> bool
 
 // The same of what any event does.
 fn is_rerouting(act: &Act<'_>) -> bool
-    ensures { (s : State) → result ≡ is_rerouting (event_of s act.now) }
+    ensures { (s : State) → result ≡ is_rerouting (act_event s act.now) }
 {
     match act {
         Act::Data { .. } => false,
@@ -161,17 +161,17 @@ fn take_change(
     requires rest { IsAtRest world.old }
     requires shown { ShowsRows cache.old.mfc.rows (cached world.old) }
     requires begun { turn.old.messages ≡ [] }
-    requires configured { IsConfigured world.old (event_of world.old plan.act) }
-    requires plan { Fits world.old (event_of world.old plan.act) plan }
+    requires configured { IsConfigured world.old (act_event world.old plan.act) }
+    requires plan { Fits world.old (act_event world.old plan.act) plan }
     ensures outcome { IfOk result (λ outcome. outcome
-        ≡ outcome_of (taken world.old turn.old.draw (event_of world.old plan.entry.act))) }
-    ensures state { OnOk result (world.new ≡ (taken world.old turn.old.draw (event_of world.old plan.entry.act)).state) }
+        ≡ outcome_of (taken world.old turn.old.draw (act_event world.old plan.entry.act))) }
+    ensures state { OnOk result (world.new ≡ (taken world.old turn.old.draw (act_event world.old plan.entry.act)).state) }
     ensures cache { OnOk result (CacheFollows world.old world.new
-        (named_of world.old turn.old.draw (event_of world.old plan.entry.act)) cache.old cache.new) }
+        (named_of world.old turn.old.draw (act_event world.old plan.entry.act)) cache.old cache.new) }
     ensures touched { OnOk result (touches cache.new ≡ raised (touches cache.old) (touches_in world.new
-        (names_of world.old (change world.old turn.old.draw (event_of world.old plan.entry.act)).state plan.entry.touched))) }
+        (names_of world.old (change world.old turn.old.draw (act_event world.old plan.entry.act)).state plan.entry.touched))) }
     ensures fault { IsOkUnless result Fault.Memory }
-    ensures at_least { OnOk result (raised meter.old (taken_nodes world.old plan.entry.touched plan.entry.act) ≤ meter.new) }
+    ensures at_least { OnOk result (raised meter.old (act_nodes world.old plan.entry.touched plan.entry.act) ≤ meter.new) }
 {
     // It tells that there are at most 120 interfaces.
     world.interfaces().recall_few();

@@ -12,7 +12,7 @@ use pim_data::copies;
 use pim_ip::Ipv4View;
 use pim_messages::Room;
 use pim_mfc::Forward;
-use pim_types::{Fault, Outcome, Series, Verdict};
+use pim_types::{Fault, Outcome, Series, SourceGroup, Verdict};
 use pim_world::{Meter, World};
 
 /// Takes a packet as its row says: KAT(S,G) is set or not, and copies leave on links. Nothing is opened, settled or told, where
@@ -35,7 +35,11 @@ pub(crate) fn take_plain(
     let olist = forward.olist.without_tunnel();
     let copies = copies(world, room, packet, olist)?;
     if forward.sets_keepalive {
-        world.keep_alive(packet.destination(), packet.source(), forward.place, meter)?;
+        let name = SourceGroup {
+            source: packet.source(),
+            group: packet.destination(),
+        };
+        world.keep_alive(name, forward.place, meter)?;
     }
     let count = copies.len() as u32;
     Ok(Outcome {

@@ -2,18 +2,18 @@
 //! touches, and what it is to do. Each kind of event says all three in one place.
 ghost use Rattle.std.specs.Prelude.{◌≡◌, ◌<◌, ◌≤◌, ◌∷◌, [], IfOk, OnOk, filter, not};
 ghost use Rattle.pim_types.specs.Keys.{is_star};
-ghost use Rattle.pim_model.specs.Registers.{registered_group, registered_source};
+ghost use Rattle.pim_wire.specs.RegisterParts.{registered_group, registered_source};
 ghost use Rattle.pim_model.specs.State.{iface_count};
 ghost use Rattle.pim_model.specs.declared.accepted.Accepted.{Accepted as AcceptedValue};
 ghost use Rattle.pim_locality.specs.Rest.{IsAtRest};
 ghost use Rattle.pim_locality.specs.Touches.{packet_keys};
 ghost use Rattle.pim_macros.specs.Sights.{IsSourceSight};
-ghost use Rattle.pim_downstream.specs.Visits.{named_nodes};
+ghost use Rattle.pim_downstream.specs.Visits.{message_named_nodes};
 ghost use Rattle.pim_mrib.specs.Routes.{rp_nodes};
 ghost use Rattle.pim_router.specs.Repeats.{keys_of_packet};
 ghost use Rattle.pim_router.specs.Naming.{Brings, IsConfigured};
 ghost use Rattle.pim_router.specs.Planning.{IsPlanned};
-ghost use Rattle.pim_router.specs.Visits.{data_plan_nodes, routes_nodes, rps_nodes};
+ghost use Rattle.pim_router.specs.Visits.{data_plan_nodes, routes_nodes, new_rps_nodes};
 ghost use Rattle.pim_router.specs.declared.act.Act.{Act as ActValue};
 ghost use Rattle.pim_router.specs.declared.act.Control.{Control as ControlValue};
 ghost use Rattle.pim_router.specs.declared.plan.Planning.{Planning as PlanningValue};
@@ -21,7 +21,7 @@ ghost use Rattle.pim_world.specs.declared.touched.Touched.{Touched as TouchedVal
 ghost use Rattle.pim_trie.specs.Meter.{raised};
 
 use crate::act::{Act, Control};
-use crate::again::{is_assert_known, is_kept_alive, moves_end};
+use crate::again::{is_assert_known, is_kept_alive, packet_moves_end};
 use crate::few::few_or_all;
 use crate::rerouted::{touched_by_routes, touched_by_rps};
 use igmp_wire::{QueryView, ReportView};
@@ -144,7 +144,7 @@ fn plan_join_prune<'a>(
 ) -> Result<Planning<'a>, AllocError>
     requires { IsAtRest world.now }
     ensures plan { IfOk result (λ planning. IsPlanned world.now (AcceptedValue.JoinPruneToMe iface message.entry) planning) }
-    ensures at_least { OnOk result (raised meter.old (named_nodes world.now message.entry) ≤ meter.new) }
+    ensures at_least { OnOk result (raised meter.old (message_named_nodes world.now message.entry) ≤ meter.new) }
 {
     let named = Named::of(world, turn, meter, iface, &message)?;
     let holdtime = message.holdtime();
@@ -171,7 +171,7 @@ fn plan_seen<'a>(
     message: JoinPruneView<'a>,
 ) -> Result<Planning<'a>, AllocError>
     ensures plan { IfOk result (λ planning. IsPlanned world.now (AcceptedValue.JoinPruneSeen iface message.entry) planning) }
-    ensures at_least { OnOk result (raised meter.old (named_nodes world.now message.entry) ≤ meter.new) }
+    ensures at_least { OnOk result (raised meter.old (message_named_nodes world.now message.entry) ≤ meter.new) }
 {
     let named = Named::of(world, turn, meter, iface, &message)?;
     let keys = of_sources(turn.alloc, &named.pruned)?;
@@ -289,7 +289,7 @@ fn keys_of_packet(
     ensures { IfOk result (λ keys. keys
         ≡ keys_of_packet world.now sight.now.star.group.bits sight.now.source.bits iface.number) }
 {
-    if moves_end(world, sight, iface) {
+    if packet_moves_end(world, sight, iface) {
         return Ok(Series::new(alloc));
     }
     packet_keys(world, alloc, iface, sight)
@@ -309,7 +309,7 @@ fn plan_data<'a>(
     ensures at_least { OnOk result (raised meter.old (data_plan_nodes world.now packet.entry) ≤ meter.new) }
 {
     let (group, source) = (packet.destination(), packet.source());
-    if source_is_full(world, group, source) {
+    if source_is_full(world, SourceGroup { source, group }) {
         return Ok(Planning::Full);
     }
     // It tells that the interface is below 120.
@@ -412,7 +412,7 @@ fn plan_rps<'a>(
     ensures plan { IfOk result (λ planning. IsPlanned world.now (AcceptedValue.Rps ranges.now) planning) }
     ensures same { world.now.ranges ≡ ranges.now → meter.new ≡ meter.old }
     ensures visited { OnOk result (¬ (world.now.ranges ≡ ranges.now)
-        → meter.new ≡ raised meter.old (rps_nodes world.now ranges.now)) }
+        → meter.new ≡ raised meter.old (new_rps_nodes world.now ranges.now)) }
     ensures rises { OnOk result (meter.old ≤ meter.new) }
 {
     if world.has_ranges(ranges) {

@@ -37,7 +37,7 @@ pub(crate) fn offer(world: &World, cache: &Cache, name: SourceGroup) -> Option<O
     if let Some(answers) = cache.mfc().kept(name) {
         return Some(Offered::known(&answers));
     }
-    if source_is_full(world, name.group, name.source) {
+    if source_is_full(world, name) {
         return None;
     }
     // No event evaluates this.

@@ -11,8 +11,8 @@ ghost use Rattle.pim_reach.specs.Named.{has_same_rp};
 ghost use Rattle.pim_trie.specs.Meter.{raised};
 ghost use Rattle.pim_world.specs.Groups.{numbers_of};
 ghost use Rattle.pim_world.specs.declared.touched.Touched.{Touched as TouchedValue};
-ghost use Rattle.pim_router.specs.OtherRoutes.{has_other_route, has_other_rp, with_routes};
-ghost use Rattle.pim_router.specs.Visits.{both_routes_nodes, both_rps_nodes, moved_group_nodes, moved_nodes, routes_nodes, rps_nodes};
+ghost use Rattle.pim_router.specs.OtherRoutes.{has_other_route, group_has_other_rp, with_routes};
+ghost use Rattle.pim_router.specs.Visits.{both_routes_nodes, both_rps_nodes, moved_group_nodes, moved_nodes, routes_nodes, new_rps_nodes};
 
 use pim_fanout::{is_same_address, is_same_path};
 use pim_mrib::Mrib;
@@ -45,8 +45,8 @@ fn is_group_moved(world: &World, meter: &mut Meter, next: &Mrib, group: Addr) ->
 
 // Whether the group has another RP by the new ranges.
 #[tactic(auto, unfolding(pim_model::specs::Unicast::rp_of, pim_model::specs::Step::rps_replaced))]
-fn has_other_rp(world: &World, meter: &mut Meter, next: &Mrib, group: Addr) -> bool
-    ensures moved { result ≡ has_other_rp world.now (rps_replaced world.now next.now.ranges) group.bits }
+fn group_has_other_rp(world: &World, meter: &mut Meter, next: &Mrib, group: Addr) -> bool
+    ensures moved { result ≡ group_has_other_rp world.now (rps_replaced world.now next.now.ranges) group.bits }
     ensures visited { meter.new ≡ raised meter.old (both_rps_nodes world.now next.now.ranges group.bits) }
 {
     let before = world.rp(group, meter);
@@ -131,13 +131,13 @@ fn keys_with_other_rp(
     groups: &BTreeMap<Addr, (), Global>,
 ) -> Result<Series<Key>, AllocError>
     ensures keys { IfOk result (λ keys. keys ≡ map (star_key 0)
-        (filter (has_other_rp world.now (rps_replaced world.now next.now.ranges)) (numbers_of groups.now.entries))) }
+        (filter (group_has_other_rp world.now (rps_replaced world.now next.now.ranges)) (numbers_of groups.now.entries))) }
     ensures visited { OnOk result (meter.new ≡ raised meter.old
         (sum_by (both_rps_nodes world.now next.now.ranges) (numbers_of groups.now.entries))) }
 {
     let mut keys = Vec::new(alloc);
     for (group, ()) in groups.iter() {
-        if has_other_rp(world, meter, next, *group) {
+        if group_has_other_rp(world, meter, next, *group) {
             keys.push(Key::group(*group))?;
         }
     }
@@ -171,7 +171,7 @@ pub(crate) fn touched_by_rps(
 ) -> Result<Touched, AllocError>
     ensures touched { IfOk result (λ touched. touched
         ≡ TouchedValue.Keys (keys_by_rps world.now (rps_replaced world.now next.now.ranges))) }
-    ensures visited { OnOk result (meter.new ≡ raised meter.old (rps_nodes world.now next.now.ranges)) }
+    ensures visited { OnOk result (meter.new ≡ raised meter.old (new_rps_nodes world.now next.now.ranges)) }
 {
     let groups = world.groups(alloc)?;
     Ok(Touched::Keys(keys_with_other_rp(world, alloc, meter, next, &groups)?))

@@ -3,7 +3,7 @@ ghost use Rattle.std.specs.Prelude.{◌≡◌, ◌≤◌, ◌++◌, ◌∷◌, [
 ghost use Rattle.pim_fanout.specs.Named.{keys_of};
 ghost use Rattle.pim_ip.specs.declared.fault.Fault.{Fault};
 ghost use Rattle.pim_opening.specs.After.{IsAfter, opening_in};
-ghost use Rattle.pim_opening.specs.Visits.{seen_nodes};
+ghost use Rattle.pim_opening.specs.Visits.{group_after_nodes};
 ghost use Rattle.pim_router.specs.Settling.{AreNamed, cleared_by, followed_by, settled_by};
 ghost use Rattle.pim_router.specs.Visits.{cleared_nodes, followed_alone_nodes, followed_nodes};
 ghost use Rattle.pim_trie.specs.Meter.{raised};
@@ -117,7 +117,7 @@ fn clear_group(
     ensures messages { OnOk result (turn.new ≡ saying turn.old (cleared_by opened.now world.old).1) }
     ensures opening { IfOk result (λ seen. opening_in seen ≡ group.now) }
     ensures seen { IfOk result (λ seen. IsAfter world.new seen) }
-    ensures at_least { OnOk result (raised meter.old (seen_nodes world.new group.now) ≤ meter.new) }
+    ensures at_least { OnOk result (raised meter.old (group_after_nodes world.new group.now) ≤ meter.new) }
 {
     let seen = GroupAfter::of(world, turn.alloc, group, meter)?;
     if stays(world, &seen) {
@@ -141,7 +141,7 @@ fn follow_group(
     ensures state { OnOk result (world.new ≡ (followed_by opening.now world.old turn.old.draw).0) }
     ensures messages { OnOk result (turn.new ≡ saying turn.old (followed_by opening.now world.old turn.old.draw).1) }
     ensures named { IfOk result (λ names. AreNamed before.now (cleared_by opening.now world.old).0 (keys_of names)) }
-    ensures at_least { OnOk result (raised meter.old (seen_nodes (cleared_by opening.now world.old).0 group.now) ≤ meter.new) }
+    ensures at_least { OnOk result (raised meter.old (group_after_nodes (cleared_by opening.now world.old).0 group.now) ≤ meter.new) }
 {
     let seen = clear_group(world, turn, meter, opening, group)?;
     let sources = seen.sources.as_slice();

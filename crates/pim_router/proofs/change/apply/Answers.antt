@@ -1,5 +1,5 @@
 use Rattle.std.proofs.Common.{subst}
-use Rattle.pim_router.specs.Acting.{HasRead, event_of}
+use Rattle.pim_router.specs.Acting.{HasRead, act_event}
 use Rattle.pim_router.specs.Naming.{IsConfigured}
 use Rattle.pim_router.specs.declared.act.Act.{Act}
 use Rattle.pim_router.proofs.Sending.{data_sends, nothing_sends, register_sends}
@@ -28,7 +28,7 @@ forward-requires-clause-sight c = subst (λ (x : Act). HasRead c.args.world.now 
 
 pub apply_control-requires-clause-configured : goal.apply_control-requires-clause-configured
 apply_control-requires-clause-configured c =
-    subst (λ (x : Act). IsConfigured c.args.world.now (event_of c.args.world.now x)) c.in-Control.is c.requires.configured
+    subst (λ (x : Act). IsConfigured c.args.world.now (act_event c.args.world.now x)) c.in-Control.is c.requires.configured
 
 pub apply_control-requires-clause-heard : goal.apply_control-requires-clause-heard
 apply_control-requires-clause-heard c = subst (λ (x : Act). HasRead c.args.world.now x) c.in-Control.is c.requires.read

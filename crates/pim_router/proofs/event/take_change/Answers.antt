@@ -4,7 +4,7 @@ use Rattle.pim_world.specs.declared.touched.Touched.{Touched}
 use Rattle.pim_fanout.specs.Disturbed.{joined}
 use Rattle.pim_fanout.specs.Refreshing.{touches}
 use Rattle.pim_model.specs.Step.{change}
-use Rattle.pim_router.specs.Acting.{event_of}
+use Rattle.pim_router.specs.Acting.{act_event}
 use Rattle.pim_router.proofs.Acts.{timeless}
 use Rattle.pim_router.proofs.Listing.{listed_after}
 use Rattle.pim_router.proofs.Staying.{stays_after}
@@ -14,19 +14,19 @@ use Rattle.pim_router.proofs.event.take_change.Goals as goal
 
 pub returns-clause-cache : goal.returns-clause-cache
 returns-clause-cache c = record {
-  shown = rows_after c.args.world.now c.args.turn.now.draw (event_of c.args.world.now c.args.plan.act) (timeless c.args.world.now c.args.plan.act)
+  shown = rows_after c.args.world.now c.args.turn.now.draw (act_event c.args.world.now c.args.plan.act) (timeless c.args.world.now c.args.plan.act)
       c.args.plan.touched c.in_ok-outcome.field-0.names c.in_ok-outcome.ensures.names c.change_world.new.world c.args.cache.now.mfc.rows
       c.refresh.new.self.mfc.rows c.interfaces.result.now c.requires.rest.quiet
       c.interfaces.ensures c.recall_few.ensures c.in_ok-outcome.ensures.state
       c.in_ok-refresh.ensures.shown c.requires.shown;
-  few = cost_after c.args.world.now c.args.turn.now.draw (event_of c.args.world.now c.args.plan.act) (timeless c.args.world.now c.args.plan.act)
+  few = cost_after c.args.world.now c.args.turn.now.draw (act_event c.args.world.now c.args.plan.act) (timeless c.args.world.now c.args.plan.act)
       c.args.plan.touched c.in_ok-outcome.field-0.names c.in_ok-outcome.ensures.names c.change_world.new.world (touches c.args.cache.now)
       (touches c.refresh.new.self) c.in_ok-refresh.ensures.few;
-  listed = listed_after c.args.world.now c.args.turn.now.draw (event_of c.args.world.now c.args.plan.act) (timeless c.args.world.now c.args.plan.act) c.args.plan.touched
+  listed = listed_after c.args.world.now c.args.turn.now.draw (act_event c.args.world.now c.args.plan.act) (timeless c.args.world.now c.args.plan.act) c.args.plan.touched
       c.in_ok-outcome.field-0.names c.in_ok-outcome.ensures.names c.requires.rest.quiet c.args.cache.now.changed
       c.refresh.new.self.changed c.in_ok-refresh.ensures.listed;
   stays = λ o stays.
-      stays_after o c.args.world.now c.change_world.new.world c.args.turn.now.draw (event_of c.args.world.now c.args.plan.act) (timeless c.args.world.now c.args.plan.act)
+      stays_after o c.args.world.now c.change_world.new.world c.args.turn.now.draw (act_event c.args.world.now c.args.plan.act) (timeless c.args.world.now c.args.plan.act)
       c.args.plan.touched c.in_ok-outcome.ensures.names.covers c.requires.rest.quiet c.interfaces.result.now
       c.interfaces.ensures c.recall_few.ensures c.in_ok-outcome.ensures.state c.args.cache.now.disturbed
       c.refresh.new.self.disturbed (c.in_ok-refresh.ensures.disturbed
@@ -41,7 +41,7 @@ returns-clause-at_least c =
 
 pub returns-clause-touched : goal.returns-clause-touched
 returns-clause-touched c =
-    touches_named c.args.world.now (change c.args.world.now c.args.turn.now.draw (event_of c.args.world.now c.args.plan.act)).state
+    touches_named c.args.world.now (change c.args.world.now c.args.turn.now.draw (act_event c.args.world.now c.args.plan.act)).state
     c.change_world.new.world c.args.plan.touched c.in_ok-outcome.field-0.names
     (touches c.args.cache.now) (touches c.refresh.new.self) c.in_ok-outcome.ensures.names
     c.in_ok-refresh.ensures.few

@@ -7,7 +7,7 @@ use Rattle.pim_router.proofs.Rows.{named_in_time, named_with_room}
 use Rattle.pim_model.specs.Full.{is_full}
 use Rattle.pim_model.specs.Step.{Answered, outcome_of, taken, taken_unless_full}
 use Rattle.pim_world.proofs.Visits.{rises_by}
-use Rattle.pim_router.specs.Acting.{event_of}
+use Rattle.pim_router.specs.Acting.{act_event}
 use Rattle.pim_router.specs.Caching.{CacheFollows}
 use Rattle.pim_router.proofs.Listing.{named_without_room, nothing_more}
 use Rattle.pim_router.specs.Naming.{IsConfigured}
@@ -56,7 +56,7 @@ pub returns-in-Change : goal.returns-in-Change
 returns-in-Change c =
     let fits : Fits c.args.world.now c.args.accepted c.in-Change.plan =
     subst (λ (p : Planning). IsPlanned c.args.world.now c.args.accepted p) c.in-Change.is c.in_ok-planning.ensures.plan in
-    let same : taken c.args.world.now c.args.turn.now.draw (event_of c.args.world.now c.in-Change.plan.act)
+    let same : taken c.args.world.now c.args.turn.now.draw (act_event c.args.world.now c.in-Change.plan.act)
     ≡ taken_unless_full c.args.world.now c.args.turn.now.draw c.args.accepted =
     ap (λ (a : Accepted). taken c.args.world.now c.args.turn.now.draw a) fits.event
     ∙ sym (with_room c.args.world.now c.args.turn.now.draw c.args.accepted fits.room) in

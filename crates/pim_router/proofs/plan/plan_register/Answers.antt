@@ -1,9 +1,9 @@
 use Rattle.std.proofs.Common.{◌∷◌, [], ap, refl, sym, ◌≡◌, ◌∙◌}
 use Rattle.pim_types.specs.Keys.{source_key}
 use Rattle.pim_types.specs.declared.fact.Key.{Key}
+use Rattle.pim_wire.specs.RegisterParts.{registered_group, registered_source}
 use Rattle.pim_model.specs.declared.accepted.Accepted.{Accepted}
 use Rattle.pim_model.specs.Full.{is_full}
-use Rattle.pim_model.specs.Registers.{registered_group, registered_source}
 use Rattle.pim_model.specs.Sets.{is_kept_alive}
 use Rattle.pim_router.specs.Planning.{touched_of}
 use Rattle.pim_router.specs.declared.act.Act.{Act}

@@ -7,7 +7,7 @@ use Rattle.pim_reach.specs.Moved.{keys_by_rps}
 use Rattle.pim_trie.specs.Meter.{raised}
 use Rattle.pim_world.proofs.Visits.{at_least_itself, rises_by}
 use Rattle.pim_router.specs.Planning.{IsPlanned}
-use Rattle.pim_router.specs.Visits.{rps_nodes}
+use Rattle.pim_router.specs.Visits.{new_rps_nodes}
 use Rattle.pim_router.specs.declared.plan.Planning.{Planning}
 use Rattle.pim_router.proofs.OtherRoutes.{none_by_same_rps}
 use Rattle.pim_router.proofs.Plans.{rps_fit}
@@ -31,7 +31,7 @@ returns-clause-plan c =
 
 pub returns-clause-visited : goal.returns-clause-visited
 returns-clause-visited c = λ other.
-    subst (λ (rs : List RpRange). c.touched_by_rps.new.meter ≡ raised c.args.meter.now (rps_nodes c.args.world.now rs))
+    subst (λ (rs : List RpRange). c.touched_by_rps.new.meter ≡ raised c.args.meter.now (new_rps_nodes c.args.world.now rs))
     c.requires c.in_ok-touched.ensures.visited
 
 pub returns-clause-rises : goal.returns-clause-rises

@@ -10,7 +10,7 @@ loop-group-preserved-in-Continue-1 c = record {
   keys = grind (arith, common_steps);
   visited = next_visited (both_rps_nodes c.args.world.now c.args.next.now.ranges) _ _ _ c.in-Some.group.now.bits (numbers_of c.args.groups.now.entries)
       (numbers_of c.loop-group.group-iterator) (numbers_of c.next.new.self) c.loop-group.invariant.visited
-      (ap (λ es. numbers_of es) c.in-Some.ensures.steps) c.has_other_rp.ensures.visited;
+      (ap (λ es. numbers_of es) c.in-Some.ensures.steps) c.group_has_other_rp.ensures.visited;
 }
 
 pub loop-group-preserved : goal.loop-group-preserved
@@ -18,7 +18,7 @@ loop-group-preserved c = record {
   keys = grind (arith, common_steps);
   visited = next_visited (both_rps_nodes c.args.world.now c.args.next.now.ranges) _ _ _ c.in-Some.group.now.bits (numbers_of c.args.groups.now.entries)
       (numbers_of c.loop-group.group-iterator) (numbers_of c.next.new.self) c.loop-group.invariant.visited
-      (ap (λ es. numbers_of es) c.in-Some.ensures.steps) c.has_other_rp.ensures.visited;
+      (ap (λ es. numbers_of es) c.in-Some.ensures.steps) c.group_has_other_rp.ensures.visited;
 }
 
 pub returns-clause-visited : goal.returns-clause-visited

@@ -4,9 +4,9 @@ use Rattle.pim_types.specs.Keys.{star_key}
 use Rattle.pim_world.specs.declared.touched.Touched.{Touched}
 use Rattle.pim_model.specs.Step.{rps_replaced}
 use Rattle.pim_reach.specs.Moved.{keys_by_rps}
-use Rattle.pim_router.specs.OtherRoutes.{has_other_rp}
+use Rattle.pim_router.specs.OtherRoutes.{group_has_other_rp}
 use Rattle.pim_trie.specs.Meter.{raised}
-use Rattle.pim_router.specs.Visits.{both_rps_nodes, rps_nodes}
+use Rattle.pim_router.specs.Visits.{both_rps_nodes, new_rps_nodes}
 use Rattle.pim_router.proofs.rerouted.touched_by_rps.Goals as goal
 
 pub returns-clause-touched : goal.returns-clause-touched
@@ -14,11 +14,11 @@ unfolding keys_by_rps
 returns-clause-touched c =
     let s = c.args.world.now in
     ap Touched.Keys (c.in_ok-keys_with_other_rp.ensures.keys
-    ∙ ap (λ (gs : List ℕ). map (star_key 0) (filter (has_other_rp s (rps_replaced s c.args.next.now.ranges)) gs))
+    ∙ ap (λ (gs : List ℕ). map (star_key 0) (filter (group_has_other_rp s (rps_replaced s c.args.next.now.ranges)) gs))
     c.in_ok-groups.ensures)
 
 pub returns-clause-visited : goal.returns-clause-visited
-unfolding rps_nodes
+unfolding new_rps_nodes
 returns-clause-visited c =
     c.in_ok-keys_with_other_rp.ensures.visited
     ∙ ap (λ (gs : List ℕ). raised c.args.meter.now (sum_by (both_rps_nodes c.args.world.now c.args.next.now.ranges) gs))

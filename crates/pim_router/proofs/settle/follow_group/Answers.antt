@@ -3,7 +3,7 @@ use Rattle.pim_fanout.specs.Named.{keys_of}
 use Rattle.pim_model.specs.State.{State}
 use Rattle.pim_opening.specs.declared.opening.GroupOpening.{GroupOpening}
 use Rattle.pim_opening.specs.After.{opening_in}
-use Rattle.pim_opening.specs.Visits.{seen_nodes}
+use Rattle.pim_opening.specs.Visits.{group_after_nodes}
 use Rattle.pim_trie.specs.Meter.{raised}
 use Rattle.pim_world.proofs.Visits.{rises_by, then_rises}
 use Rattle.pim_router.proofs.Following.{seen_messages, seen_named, seen_state}
@@ -33,7 +33,7 @@ pub returns-clause-at_least : goal.returns-clause-at_least
 returns-clause-at_least c =
     then_rises _ _ _ _
     (then_rises _ _ _ _
-    (subst (λ (s : State). raised c.args.meter.now (seen_nodes s c.args.group.now) ≤ c.clear_group.new.meter)
+    (subst (λ (s : State). raised c.args.meter.now (group_after_nodes s c.args.group.now) ≤ c.clear_group.new.meter)
     c.in_ok-seen.ensures.state c.in_ok-seen.ensures.at_least)
     c.in_ok-names.ensures.rises)
     (rises_by _ _ _ c.in_ok-changed_group.ensures.at_least)

@@ -1,47 +1,19 @@
-use Rattle.std.proofs.Common.{◌≤◌, ◌++◌, List, ap, map, subst, ℕ, ◌∙◌}
-use Rattle.std.specs.List.{flat_map, sum_by}
-use Rattle.pim_trie.specs.Meter.{raised}
-use Rattle.pim_types.specs.Keys.{group_in, source_key}
-use Rattle.pim_model.specs.Tables.{ascending}
-use Rattle.pim_model.specs.Upstream.{groups_of}
-use Rattle.pim_world.specs.Groups.{gathered, numbers_of}
-use Rattle.pim_world.specs.Touches.{touched_keys}
-use Rattle.pim_opening.specs.Openings.{group_opening, opening_of, touched_sources}
-use Rattle.pim_opening.specs.Visits.{group_opening_nodes, opening_nodes}
-use Rattle.pim_fanout.specs.Before.{key_before, opened_sources}
-use Rattle.pim_fanout.specs.declared.before.SourceBefore.{SourceBefore}
+use Rattle.std.proofs.Common.{sym, ◌∙◌}
+use Rattle.pim_fanout.proofs.Alone.{nodes_alone, opened_alone, sources_alone}
 use Rattle.pim_fanout.proofs.before.Gathered.of.Goals as goal
 
-pub returns-clause-opening : goal.returns-clause-opening
-unfolding opening_of gathered groups_of ascending
-returns-clause-opening c =
-    let s = c.args.world.now in
-    let touched = c.args.touched.now in
-    c.new.ensures ∙ c.in_ok-groups.ensures.opened
-    ∙ ap (map (group_opening s touched)) (c.in_ok-gather_touched.ensures
-    ∙ ap (λ es. gathered (map group_in (touched_keys s touched)) (numbers_of es)) c.new-groups.ensures.empty)
+pub returns-in_ok-gathered-in-Some-clause-opening : goal.returns-in_ok-gathered-in-Some-clause-opening
+returns-in_ok-gathered-in-Some-clause-opening c =
+    c.in_ok-gathered-in-Some.ensures.opening
+    ∙ sym (opened_alone c.args.world.now c.args.touched.now c.in-Some.name c.in-Some.ensures)
 
-pub returns-clause-before : goal.returns-clause-before
-unfolding opened_sources gathered groups_of ascending
-returns-clause-before c =
-    let s = c.args.world.now in
-    let touched = c.args.touched.now in
-    let all = flat_map (λ g. map (source_key 0 g) (touched_sources s touched g)) in
-    rw c.from_vec.ensures (record {
-      keys = c.in_ok-groups.ensures.keys
-          ∙ ap (λ (xs : List SourceBefore). map key_before xs ++ all (numbers_of c.gather_touched.new.found.entries))
-          c.new-before.ensures.items
-          ∙ ap all (c.in_ok-gather_touched.ensures
-          ∙ ap (λ es. gathered (map group_in (touched_keys s touched)) (numbers_of es)) c.new-groups.ensures.empty);
-      each = c.in_ok-groups.ensures.each;
-    })
+pub returns-in_ok-gathered-in-Some-clause-before : goal.returns-in_ok-gathered-in-Some-clause-before
+returns-in_ok-gathered-in-Some-clause-before c = record {
+  keys = c.in_ok-gathered-in-Some.ensures.keys
+      ∙ sym (sources_alone c.args.world.now c.args.touched.now c.in-Some.name c.in-Some.ensures);
+  each = c.in_ok-gathered-in-Some.ensures.each;
+}
 
-pub returns-clause-at_least : goal.returns-clause-at_least
-unfolding opening_nodes gathered groups_of ascending
-returns-clause-at_least c =
-    let s = c.args.world.now in
-    subst (λ (ns : List ℕ).
-    raised c.args.meter.now (sum_by (group_opening_nodes s c.args.touched.now) ns) ≤ c.open_groups.new.meter)
-    (c.in_ok-gather_touched.ensures
-    ∙ ap (λ es. gathered (map group_in (touched_keys s c.args.touched.now)) (numbers_of es)) c.new-groups.ensures.empty)
-    c.in_ok-groups.ensures.at_least
+pub returns-in_ok-gathered-in-Some-clause-at_least : goal.returns-in_ok-gathered-in-Some-clause-at_least
+returns-in_ok-gathered-in-Some-clause-at_least c =
+    nodes_alone c.args.world.now c.args.touched.now c.in-Some.name c.in-Some.ensures _ _ c.in_ok-gathered-in-Some.ensures.at_least

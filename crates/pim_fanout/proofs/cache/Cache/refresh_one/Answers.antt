@@ -1,5 +1,5 @@
 use Rattle.std.proofs.Common.{◌≤◌, arith, refl, sym, ◌∙◌}
-use Rattle.pim_mfc.specs.Kept.{with_row, without_row}
+use Rattle.pim_mfc.specs.Kept.{with_source_row, without_source_row}
 use Rattle.pim_mfc.proofs.Shown.{removal_refreshes}
 use Rattle.pim_trie.specs.Meter.{raised}
 use Rattle.pim_fanout.specs.Refreshing.{touches}
@@ -15,7 +15,7 @@ returns-then-not-has_fact-clause-shown c =
     (sym c.has_fact.ensures ∙ c.if-not-has_fact.true) shows)
 
 pub returns-then-not-has_fact-clause-few : goal.returns-then-not-has_fact-clause-few
-unfolding touches without_row
+unfolding touches without_source_row
 returns-then-not-has_fact-clause-few c =
     rw (← c.self.view_is, c.remove.ensures) (one_taken_out (c.self.inside.mfc).changes c.self.inside.evaluated _
     (sym c.has_fact.ensures ∙ c.if-not-has_fact.true))
@@ -28,7 +28,7 @@ returns-clause-shown c =
     c.row-made.ensures.answers shows)
 
 pub returns-clause-few : goal.returns-clause-few
-unfolding touches with_row
+unfolding touches with_source_row
 returns-clause-few c =
     rw (← c.self.view_is, c.in_ok-put.ensures.ok, c.row-made.ensures.counted)
     (one_put (c.self.inside.mfc).changes c.self.inside.evaluated _
@@ -47,7 +47,7 @@ returns-in_err-put-clause-at_least c =
     one_asked _ _ _ _ (sym c.has_fact.ensures ∙ c.if-not-has_fact.false) c.row-made.ensures.at_least
 
 pub invariant_of-self : goal.invariant_of-self
-unfolding without_row
+unfolding without_source_row
 invariant_of-self c = λ none.
     let some : 1 ≤ raised c.remove.new.self.changes c.self.inside.evaluated =
     rw (c.remove.ensures) (one_counts (c.self.inside.mfc).changes c.self.inside.evaluated) in

@@ -1,0 +1,24 @@
+-- One source that alone is touched, as it is in a state.
+use Rattle.std.specs.Prelude.{[], false, ◌≡◌, ◌∷◌}
+use Rattle.pim_types.specs.declared.name.SourceGroup.{SourceGroup}
+use Rattle.pim_model.specs.State.{State}
+use Rattle.pim_model.specs.Upstream.{groups_of, star_view}
+use Rattle.pim_world.specs.Touches.{concerned_keys}
+use Rattle.pim_world.specs.declared.touched.Touched.{Touched}
+use Rattle.pim_opening.specs.Openings.{is_whole, source_opening, touched_sources}
+use Rattle.pim_opening.specs.declared.opening.GroupOpening.{GroupOpening}
+
+-- its group alone is touched, of that not all, and of its sources this one alone
+pub record TouchesAlone (touched : Touched) (name : SourceGroup) : Type 0 where
+  pub groups : (s : State) → groups_of (concerned_keys s touched) ≡ name.group.bits ∷ []
+  pub part : is_whole touched name.group.bits ≡ false
+  pub sources : (s : State) → touched_sources s touched name.group.bits ≡ name.source.bits ∷ []
+
+-- its group, as it is opened
+abbrev pub opening_alone : State → SourceGroup → GroupOpening
+opening_alone s name = record {
+  group = name.group;
+  is_whole = false;
+  star = star_view s name.group.bits;
+  sources = source_opening s name.group.bits name.source.bits ∷ [];
+}
