@@ -27,6 +27,7 @@ mod Packets
 mod Offering
 mod Plans
 mod Repeats
+mod Direct
 mod Touching
 mod Tunnelled
 mod Visited

@@ -171,6 +171,15 @@ packet_named s g src iif g' src' there =
     forwarded_grows p (list_any p (packet_keys s g src iif)) g src (λ i e. or_left (p (source_key 0 g src)) _ e)
     (λ i e. cc (e, star_names_none g' src' i g)) iif s there
 
+-- whichever its keys, where its source is among them
+pub source_named : (s : State) (g src iif : ℕ)
+    → NewAreNamed (source_key 0 g src ∷ []) s (forwarded s g src iif).state
+unfolding names_source
+source_named s g src iif g' src' there =
+    let p : Key → Bool = names_source g' src' in
+    forwarded_grows p (list_any p (source_key 0 g src ∷ [])) g src (λ i e. or_left (p (source_key 0 g src)) false e)
+    (λ i e. cc (e, star_names_none g' src' i g)) iif s there
+
 pub register_named : (s : State) (packet : Packet) (g src : ℕ) (is_null : Bool)
     → NewAreNamed (source_key 0 g src ∷ []) s (register_received s packet g src is_null).state
 unfolding names_source

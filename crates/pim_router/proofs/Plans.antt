@@ -1,13 +1,13 @@
 -- Plans of events: each kind's fits where its parts do.
 use Rattle.std.specs.Prelude.{if◌then◌else◌}
-use Rattle.std.proofs.Common.{◌≡◌, ℕ, Bool, true, false, List, Option, ap, inl, inr, refl, subst, sym, ◌∙◌}
+use Rattle.std.proofs.Common.{◌≡◌, ◌<◌, ℕ, Bool, true, false, List, Option, ap, inl, inr, refl, subst, sym, ◌∙◌}
 use Rattle.pim_types.specs.declared.fact.Key.{Key}
 use Rattle.pim_model.specs.declared.accepted.Accepted.{Accepted}
 use Rattle.pim_model.specs.Full.{is_full, join_prune_is_full, keys_are_full, source_is_full}
 use Rattle.pim_locality.specs.Rest.{IsAtRest}
 use Rattle.pim_router.specs.Repeats.{keys_of_packet}
 use Rattle.pim_macros.specs.Sights.{IsSourceSight}
-use Rattle.pim_model.specs.State.{State}
+use Rattle.pim_model.specs.State.{State, iface_count}
 use Rattle.pim_model.specs.Step.{advanced, change, rps_replaced, stopped, taken, taken_unless_full}
 use Rattle.pim_ip.specs.declared.refusal.Refusal.{Refusal}
 use Rattle.pim_types.specs.declared.outcome.Stop.{Stop}
@@ -149,20 +149,20 @@ module _ (s : State) (i : IfaceId) (p : Packet) where
       ap (λ (n : ℕ). source_is_full s n p.source) (sym group) ∙ ap (λ (n : ℕ). source_is_full s g n) (sym source)
       ∙ sym is ∙ e
 
-  pub data_fits : IsAtRest s → (sight : SourceSight) (keys : List Key) (planning : Planning)
+  pub data_fits : IsAtRest s → i.number < iface_count s → (sight : SourceSight) (keys : List Key) (planning : Planning)
       → (let q : Plan = record { touched = Touched.Keys keys; act = Act.Data i p sight } in planning ≡ Planning.Change q)
       → sight.star.group.bits ≡ p.destination → sight.source.bits ≡ p.source → IsSourceSight s sight
       → is_full s (Accepted.Data i p) ≡ false
       → keys ≡ keys_of_packet s sight.star.group.bits sight.source.bits i.number
       → IsPlanned s (Accepted.Data i p) planning
   unfolding touched_of
-  data_fits rest sight keys planning is group source shown room those =
+  data_fits rest below sight keys planning is group source shown room those =
       let are : keys ≡ keys_of_packet s p.destination p.source i.number =
       those ∙ ap (λ (n : ℕ). keys_of_packet s n sight.source.bits i.number) group
       ∙ ap (λ (n : ℕ). keys_of_packet s p.destination n i.number) source in
       keys_fit s (Accepted.Data i p) planning (Act.Data i p sight) refl
       (record { shown = shown; group = group; source = source }) room keys is (ap Touched.Keys are)
-      (packet_covered s rest i p keys are)
+      (packet_covered s rest i p keys below are)
 
 -- what is taken, where there is room and where there is none
 module _ (s : State) (w : ℕ) (a : Accepted) where

@@ -1,5 +1,5 @@
 -- Which machines a change concerns, and of which groups and sources it makes facts.
-use Rattle.std.proofs.Common.{◌≡◌, ℕ, Bool, true, false, List, [], ◌∷◌, ◌&&◌, ◌||◌, ◌++◌, ◌==◌, filter, map, not, Option, Some, None, inl, inr, refl, ap, eqb-true, subst, sym, ◌∙◌}
+use Rattle.std.proofs.Common.{◌≡◌, ◌<◌, ℕ, Bool, true, false, List, [], ◌∷◌, ◌&&◌, ◌||◌, ◌++◌, ◌==◌, filter, map, not, Option, Some, None, inl, inr, refl, ap, eqb-true, subst, sym, ◌∙◌}
 use Rattle.std.specs.Cmp.{first_so, second_so}
 use Rattle.std.proofs.lemmas.Bool.{or_left}
 use Rattle.std.proofs.lemmas.List.Folds.{list_any-append}
@@ -24,7 +24,7 @@ use Rattle.pim_model.specs.Hellos.{hello_holdtime_of, hello_received, is_generat
 use Rattle.pim_model.specs.Querier.{is_skipped, querier_up, querying}
 use Rattle.pim_model.specs.Seen.{seen}
 use Rattle.pim_model.specs.Sets.{is_loser}
-use Rattle.pim_model.specs.State.{State}
+use Rattle.pim_model.specs.State.{State, iface_count}
 use Rattle.pim_model.specs.Step.{change, decapsulated, iface_up}
 use Rattle.pim_model.specs.Tables.{keys_in, row_at, same_option, set_row}
 use Rattle.pim_model.specs.Timers.{Ending}
@@ -65,10 +65,11 @@ use Rattle.pim_router.proofs.MovedReports.{report_touches_moved, reported_known}
 use Rattle.pim_router.proofs.Tunnelled.{routes_leave_facts, rps_leave_facts, stop_leaves_facts}
 use Rattle.pim_model.specs.Registers.{register_stop_seen}
 use Rattle.pim_ip.specs.Ipv4.{Packet}
-use Rattle.pim_router.proofs.Packets.{packet_named, register_named}
+use Rattle.pim_router.proofs.Direct.{direct_touches}
+use Rattle.pim_router.proofs.Packets.{packet_named, register_named, source_named}
 use Rattle.pim_wire.specs.declared.register.RegisterStop.{RegisterStop as RegisterStopValue}
 use Rattle.pim_types.specs.Keys.{source_key}
-use Rattle.pim_router.specs.Repeats.{is_assert_known, keys_of_packet, packet_moves_end}
+use Rattle.pim_router.specs.Repeats.{is_assert_known, is_direct, keys_of_packet, packet_moves_end}
 use Rattle.pim_locality.specs.Rest.{IsAtRest}
 use Rattle.pim_model.specs.Sets.{is_kept_alive}
 use Rattle.pim_router.proofs.Repeats.{assert_concerned, packet_concerned, register_concerned, so_false}
@@ -320,19 +321,37 @@ module _ (s : State) where
         named = packet_named s packet.destination packet.source i.number;
       }
 
-  pub packet_covered : IsAtRest s → (i : IfaceId) (packet : Packet) (keys : List Key)
+  direct_covered : (i : IfaceId) (packet : Packet) → i.number < iface_count s
+      → is_direct s packet.destination packet.source i.number ≡ true → (w : ℕ)
+      → Concerns (source_key 0 packet.destination packet.source ∷ []) s (change s w (Accepted.Data i packet)).state
+  unfolding change
+  direct_covered i packet below direct w =
+      record {
+        agrees = direct_touches packet.destination packet.source i.number s below direct;
+        named = source_named s packet.destination packet.source i.number;
+      }
+
+  pub packet_covered : IsAtRest s → (i : IfaceId) (packet : Packet) (keys : List Key) → i.number < iface_count s
       → keys ≡ keys_of_packet s packet.destination packet.source i.number
       → (w : ℕ) → Concerns keys s (change s w (Accepted.Data i packet)).state
   unfolding change
-  packet_covered rest i packet keys those w =
+  packet_covered rest i packet keys below those w =
       subst (λ ks. Concerns ks s (change s w (Accepted.Data i packet)).state) (sym those)
       (go (packet_moves_end s packet.destination packet.source i.number) refl)
     where
       go : (b : Bool) → packet_moves_end s packet.destination packet.source i.number ≡ b
-          → Concerns (if b then [] else packet_keys s packet.destination packet.source i.number) s
-          (change s w (Accepted.Data i packet)).state
+          → Concerns (if b then []
+          else (if is_direct s packet.destination packet.source i.number
+          then source_key 0 packet.destination packet.source ∷ []
+          else packet_keys s packet.destination packet.source i.number)) s (change s w (Accepted.Data i packet)).state
       go true moves = packet_concerned s rest packet.destination packet.source i.number moves
-      go false moves = packet_keys_cover i packet w
+      go false moves = by_tree (is_direct s packet.destination packet.source i.number) refl
+        where
+          by_tree : (b : Bool) → is_direct s packet.destination packet.source i.number ≡ b
+              → Concerns (if b then source_key 0 packet.destination packet.source ∷ []
+              else packet_keys s packet.destination packet.source i.number) s (change s w (Accepted.Data i packet)).state
+          by_tree true direct = direct_covered i packet below direct w
+          by_tree false apart = packet_keys_cover i packet w
 
   pub register_covered : (packet : Packet) (r : Register) (keys : List Key)
       → keys ≡ source_key 0 (registered_group r) (registered_source r) ∷ []

@@ -1,6 +1,6 @@
 -- What is heard again: events that change no more than the end of a timer that runs.
 use Rattle.std.specs.Option.{option_map_or}
-use Rattle.std.specs.Prelude.{Bool, List, Option, [], false, if◌then◌else◌, not, ℕ, ◌&&◌, ◌==◌, ◌||◌}
+use Rattle.std.specs.Prelude.{Bool, List, Option, [], false, if◌then◌else◌, not, ℕ, ◌&&◌, ◌==◌, ◌||◌, ◌∷◌}
 use Rattle.pim_types.specs.declared.fact.AssertMetric.{AssertMetric}
 use Rattle.pim_types.specs.declared.fact.AssertRow.{AssertRow}
 use Rattle.pim_types.specs.declared.fact.Key.{Key}
@@ -57,6 +57,8 @@ packet_moves_end s g src iif =
     else (if is_rpf_interface_rp s g iif && not (spt_bit s g src)
     then is_kept_alive s g src || not (is_watched s g src) else not (asserts_anew s g src iif))
 
--- then nothing is touched
+-- Then nothing is touched. One that comes by the tree of its source makes no assert of (*,G), and touches its source alone.
 abbrev pub keys_of_packet : State → ℕ → ℕ → ℕ → List Key
-keys_of_packet s g src iif = if packet_moves_end s g src iif then [] else packet_keys s g src iif
+keys_of_packet s g src iif =
+    if packet_moves_end s g src iif then []
+    else (if is_direct s g src iif then source_key 0 g src ∷ [] else packet_keys s g src iif)

@@ -77,9 +77,9 @@ pub(crate) fn is_kept_alive(world: &World, name: SourceGroup) -> bool
     }
 }
 
-// Whether the packet comes by the shortest path tree, which is joined, or from a link of the router.
+/// Whether the packet comes by the shortest path tree, which is joined, or from a link of the router.
 #[tactic(auto, unfolding(crate::specs::Repeats::is_direct))]
-fn is_direct(world: &World, sight: &SourceSight, iface: IfaceId) -> bool
+pub(crate) fn is_direct(world: &World, sight: &SourceSight, iface: IfaceId) -> bool
     requires { IsSourceSight world.now sight.now }
     ensures { result ≡ is_direct world.now sight.now.star.group.bits sight.now.source.bits iface.number }
 {

@@ -21,7 +21,7 @@ ghost use Rattle.pim_world.specs.declared.touched.Touched.{Touched as TouchedVal
 ghost use Rattle.pim_trie.specs.Meter.{raised};
 
 use crate::act::{Act, Control};
-use crate::again::{is_assert_known, is_kept_alive, packet_moves_end};
+use crate::again::{is_assert_known, is_direct, is_kept_alive, packet_moves_end};
 use crate::few::few_or_all;
 use crate::rerouted::{touched_by_routes, touched_by_rps};
 use igmp_wire::{QueryView, ReportView};
@@ -253,6 +253,17 @@ fn plan_report<'a>(
     Ok(Planning::of_keys(keys, Act::Control(Control::Report { iface, report })))
 }
 
+// The source that a sight is of.
+fn name_of(sight: &SourceSight) -> SourceGroup
+    ensures group { result.group ≡ sight.now.star.group }
+    ensures source { result.source ≡ sight.now.source }
+{
+    SourceGroup {
+        source: sight.source,
+        group: sight.star.group,
+    }
+}
+
 // The keys that a packet of data may touch: its source, and its group where it may make an assert of (*,G).
 #[tactic(auto, unfolding(pim_locality::specs::Touches::packet_keys))]
 fn packet_keys(
@@ -266,18 +277,15 @@ fn packet_keys(
         ≡ packet_keys world.now sight.now.star.group.bits sight.now.source.bits iface.number) }
 {
     let mut keys = Vec::new(alloc);
-    let name = SourceGroup {
-        source: sight.source,
-        group: sight.star.group,
-    };
-    keys.push(name.key())?;
+    keys.push(name_of(sight).key())?;
     if !(sight.star.is_rpf_interface(iface) || sight.spt) {
         keys.push(Key::group(sight.star.group))?;
     }
     Ok(Series::from_vec(keys))
 }
 
-// The keys that a packet of data touches: none where it moves at most the end of its source's keepalive timer.
+// The keys that a packet of data touches: none where it moves at most the end of its source's keepalive timer, and its
+// source alone where it comes by the tree of that.
 fn keys_of_packet(
     world: &World,
     alloc: Global,
@@ -291,6 +299,9 @@ fn keys_of_packet(
 {
     if packet_moves_end(world, sight, iface) {
         return Ok(Series::new(alloc));
+    }
+    if is_direct(world, sight, iface) {
+        return only(alloc, name_of(sight).key());
     }
     packet_keys(world, alloc, iface, sight)
 }

@@ -12,7 +12,7 @@ returns-then-source_is_full-clause-plan c =
 
 pub returns-clause-plan : goal.returns-clause-plan
 returns-clause-plan c =
-    data_fits c.args.world.now c.args.iface c.args.packet c.requires.rest c.of-sight.result c.in_ok-keys.keys _ c.of_keys.ensures
+    data_fits c.args.world.now c.args.iface c.args.packet c.requires.rest c.requires.configured c.of-sight.result c.in_ok-keys.keys _ c.of_keys.ensures
     (ap (λ (t : StarSight). t.group.bits) c.of-sight.ensures.star
     ∙ ap (λ (a : Addr). a.bits) c.of-star.ensures.group ∙ c.destination-group.ensures)
     (ap (λ (a : Addr). a.bits) c.of-sight.ensures.source ∙ c.source-source.ensures.value)
