@@ -122,8 +122,7 @@ module _ (g src : ℕ) (s t : State) (sees : SeesSource g src s t) where
   tunnel_same = sees.to_rp
 
   pub local_include_same : local_receiver_include s g src ≡ local_receiver_include t g src
-  unfolding is_exclude local_receiver_include local_receiver_include_among
-  local_include_same = λ j i. same.including j i && sees.listed i j
+  local_include_same = sees.included
 
   local_exclude_same : local_receiver_exclude s g src ≡ local_receiver_exclude t g src
   unfolding is_exclude local_receiver_exclude local_receiver_exclude_among

@@ -6,7 +6,7 @@ use Rattle.pim_types.specs.declared.fact.SourceRow.{SourceRow}
 use Rattle.pim_types.specs.Keys.{source_key, star_key}
 use Rattle.pim_model.specs.Desires.{winner_hop}
 use Rattle.pim_model.specs.Neighbours.{is_dr, nbr}
-use Rattle.pim_model.specs.Receivers.{is_exclude}
+use Rattle.pim_model.specs.Receivers.{is_exclude, local_receiver_include, local_receiver_include_among}
 use Rattle.pim_model.specs.Sets.{is_loser, is_winner, joins, joins_star, prunes, spt_bit, tunnel}
 use Rattle.pim_model.specs.State.{State}
 use Rattle.pim_model.specs.Tables.{Table, row_at}
@@ -32,14 +32,13 @@ module _ (s : State) (m : ℕ) (asserts : Table AssertRow) (sources : Table Sour
     winners = λ i. ap is_winner (stars i);
     won_by = λ i j. winner_hop (Some i) (λ n. stars n j);
     excluding = refl;
-    including = refl;
     rp_nbr = refl;
   }
 
   module _ (src : ℕ) (rows : (i : ℕ) → row_at s.asserts (source_key i g src) ≡ row_at asserts (source_key i g src))
       (bit : spt_bit s g src ≡ spt_bit changed g src) where
     pub source_beside : SeesSource g src s changed
-    unfolding route joins prunes nbr tunnel
+    unfolding route joins prunes nbr tunnel is_exclude local_receiver_include local_receiver_include_among
     source_beside = record {
       star = star_beside;
       path = refl;
@@ -50,7 +49,7 @@ module _ (s : State) (m : ℕ) (asserts : Table AssertRow) (sources : Table Sour
       winners = λ i. ap is_winner (rows i);
       won_by = λ i j. winner_hop (Some i) (λ n. rows n j);
       metrics = λ i. ap (option_map (λ (r : AssertRow). r.winner)) (rows i);
-      listed = λ i. refl;
+      included = refl;
       excluded = λ i. refl;
       spt = bit;
       to_rp = refl;

@@ -1,12 +1,12 @@
 -- What the macros of a source of a group read: two states in which they read the same.
 use Rattle.std.specs.Option.{option_map_or}
-use Rattle.std.specs.Prelude.{Bool, Option, Some, false, is_none, is_some, option_map, ℕ, ◌≡◌}
+use Rattle.std.specs.Prelude.{Bool, Option, Some, false, is_none, option_map, ℕ, ◌≡◌}
 use Rattle.pim_types.specs.declared.fact.AssertRow.{AssertRow}
 use Rattle.pim_types.specs.declared.fact.SourceRecordRow.{SourceRecordRow}
 use Rattle.pim_model.specs.AssertMacros.{is_tracking_desired, is_tracking_desired_star, my_metric}
 use Rattle.pim_model.specs.Desires.{join_desired, rpf_rpt, tree_state, winner_hop}
 use Rattle.pim_model.specs.Neighbours.{is_dr, is_neighbour, nbr}
-use Rattle.pim_model.specs.Receivers.{is_exclude, is_include, source_record}
+use Rattle.pim_model.specs.Receivers.{is_exclude, local_receiver_include, source_record}
 use Rattle.pim_model.specs.Sets.{assert_source, assert_star, is_kept_alive, is_loser, is_winner, joins, joins_star, prunes, spt_bit, tunnel}
 use Rattle.pim_model.specs.Registers.{could_register}
 use Rattle.pim_model.specs.State.{State}
@@ -29,7 +29,6 @@ pub record SeesStar (g : ℕ) (s t : State) : Type 0 where
   pub winners : (i : ℕ) → is_winner (assert_star s g i) ≡ is_winner (assert_star t g i)
   pub won_by : (i : ℕ) → winner_hop (Some i) (assert_star s g) ≡ winner_hop (Some i) (assert_star t g)
   pub excluding : is_exclude s g ≡ is_exclude t g
-  pub including : is_include s g ≡ is_include t g
   pub rp_nbr : nbr s (rp_route s g) ≡ nbr t (rp_route t g)
 
 -- of (S,G) and (S,G,rpt)
@@ -44,7 +43,7 @@ pub record SeesSource (g src : ℕ) (s t : State) : Type 0 where
   pub won_by : (i : ℕ) → winner_hop (Some i) (assert_source s g src) ≡ winner_hop (Some i) (assert_source t g src)
   pub metrics : (i : ℕ) → option_map (λ (r : AssertRow). r.winner) (assert_source s g src i) ≡ option_map
       (λ (r : AssertRow). r.winner) (assert_source t g src i)
-  pub listed : (i : ℕ) → is_some (source_record s g src i) ≡ is_some (source_record t g src i)
+  pub included : local_receiver_include s g src ≡ local_receiver_include t g src
   pub excluded : (i : ℕ) → is_excluded_row (source_record s g src i) ≡ is_excluded_row (source_record t g src i)
   pub spt : spt_bit s g src ≡ spt_bit t g src
   pub to_rp : tunnel s g src ≡ tunnel t g src

@@ -284,8 +284,6 @@ module _ (o c : State) (around : Around o c) where
         winners = λ i. ap is_winner (assert_row i);
         won_by = λ i j. winner_hop (Some i) (λ m. assert_row m j);
         excluding = λ j i. option_map_or (λ (r : GroupRecordRow). is_some r.end) (group_row i j) false;
-        including = λ j i. is_some (group_row i j) && not
-            (option_map_or (λ (r : GroupRecordRow). is_some r.end) (group_row i j) false);
         rp_nbr = nbr_around o t around_now (rp_route o g) (rp_route t g) same_rp_route;
       }
 

@@ -11,7 +11,7 @@ use Rattle.pim_types.specs.declared.path.Path.{Path}
 use Rattle.pim_types.specs.Keys.{names_source, neighbour_key, rpt_key, source_key, star_key}
 use Rattle.pim_model.specs.Neighbours.{is_dr, is_dr_among, is_neighbour, nbr, nbr_among}
 use Rattle.pim_model.specs.Reach.{alike_where, is_same_for, keeps_neighbours, names_star}
-use Rattle.pim_model.specs.Receivers.{is_exclude, is_exclude_among, source_record}
+use Rattle.pim_model.specs.Receivers.{is_exclude, is_exclude_among, local_receiver_include, local_receiver_include_among, source_record}
 use Rattle.pim_model.specs.Rows.{same_assert, same_both, same_downstream, same_end, same_group_record, same_interface, same_neighbour, same_path, same_register, same_register_state, same_rows, same_source, same_source_record}
 use Rattle.pim_model.specs.Sets.{assert_source, assert_star, is_kept_alive, joins, joins_star, prunes, register_state, spt_bit, tunnel}
 use Rattle.pim_model.specs.State.{State, address_among, value_among}
@@ -189,7 +189,7 @@ module _ (g src : ℕ) where
         states_alike (row_at s.registers (source_key 0 g src)) (row_at t.registers (source_key 0 g src)) same.register
 
     pub alike_sees : SeesSource g src s t
-    unfolding joins_star joins prunes has_row spt_bit tunnel is_exclude is_exclude_among
+    unfolding joins_star joins prunes has_row spt_bit tunnel is_exclude is_exclude_among local_receiver_include local_receiver_include_among
     alike_sees = record {
       star = record {
         settings = around.settings;
@@ -204,8 +204,6 @@ module _ (g src : ℕ) where
         winners = λ i. winner_same i (assert_star s g i) (assert_star t g i) (same.star_assert i);
         won_by = λ i. hop_same i (assert_star s g i) (assert_star t g i) (same.star_assert i);
         excluding = λ j i. excludes i j;
-        including = λ j i. there_alike same_group_record (row_at s.group_records (star_key i g))
-            (row_at t.group_records (star_key i g)) (same.group_at i) j && not (excludes i j);
         rp_nbr = nbr_around s t around (rp_route s g) (rp_route t g) same.rp_path;
       };
       path = same.path;
@@ -218,8 +216,9 @@ module _ (g src : ℕ) where
       winners = λ i. winner_same i (assert_source s g src i) (assert_source t g src i) (same.source_assert i);
       won_by = λ i. hop_same i (assert_source s g src i) (assert_source t g src i) (same.source_assert i);
       metrics = λ i. metric_same i (assert_source s g src i) (assert_source t g src i) (same.source_assert i);
-      listed = λ i. there_alike same_source_record (source_record s g src i) (source_record t g src i)
-          (same.record_at i);
+      included = λ j i. there_alike same_group_record (row_at s.group_records (star_key i g))
+          (row_at t.group_records (star_key i g)) (same.group_at i) j && not (excludes i j)
+          && there_alike same_source_record (source_record s g src i) (source_record t g src i) (same.record_at i) j;
       excluded = λ i. flag_alike same_source_record (λ (r : SourceRecordRow). is_none r.end)
           (λ a b e. ends_none a.end b.end e) (source_record s g src i) (source_record t g src i) (same.record_at i);
       spt = flag_alike same_source (λ (r : SourceRow). r.spt) spt_alike (row_at s.sources (source_key 0 g src))
