@@ -20,9 +20,9 @@ use Rattle.pim_model.specs.Writing.{write_all}
 use Rattle.pim_laws.proofs.RowLaws.{has_row_any}
 use Rattle.pim_laws.proofs.TableLaws.{any_in_filter, any_of_map}
 use Rattle.pim_ready.specs.Ready.{IsOrdered}
-use Rattle.pim_locality.specs.Differing.{IsShared, differing, differing_in, is_same_at, is_same_but_ends, same_at}
-use Rattle.pim_locality.specs.Locality.{AgreesBut, AgreesOn, IsQuiet, of_touched, own_settled, own_upstream, touched_assert, touched_clear, touched_registers, touched_spt, touched_to_clear, touching}
-use Rattle.pim_locality.specs.Scopes.{only_kept, only_kind, only_mode, only_registered, only_side, only_winner, reads, scope}
+use Rattle.pim_locality.specs.Differing.{AgreesWhollyOn, IsShared, differing, differing_in, is_same_at, is_same_but_ends, same_at}
+use Rattle.pim_locality.specs.Locality.{AgreesBut, IsQuiet, of_touched, own_settled, own_upstream, touched_assert, touched_clear, touched_registers, touched_spt, touched_to_clear, touching}
+use Rattle.pim_locality.specs.Scopes.{modes_read, only_kept, only_kind, only_mode, only_registered, only_side, only_winner, reads, scope, whole_scope}
 use Rattle.pim_locality.proofs.SameRows.{of_asserts, of_downstream, of_group_records, of_registers, of_source_records, of_sources}
 use Rattle.pim_locality.proofs.SameTables.{same_where_alike, seen_alike, seen_found_alike}
 use Rattle.pim_locality.proofs.Settling.{settling_is_own}
@@ -51,7 +51,7 @@ scopes_same sees s t shared same = λ j. record {
   interfaces = shared.interfaces j;
   neighbours = shared.neighbours j;
   queriers = [];
-  group_records = same.groups j;
+  group_records = modes_read (same.groups j) (same.records j);
   source_records = same.records j;
   group_repeats = [];
   source_repeats = [];
@@ -255,8 +255,8 @@ differing_keys_cover s t before after shared =
 
 -- ---- no others
 
-pub agreed_rows_are_same : (k q : Key) (s t : State) → AgreesOn k s t → reads k q ≡ true → is_same_at s t q ≡ true
-unfolding scope is_same_at
+pub agreed_rows_are_same : (k q : Key) (s t : State) → AgreesWhollyOn k s t → reads k q ≡ true → is_same_at s t q ≡ true
+unfolding scope whole_scope is_same_at
 agreed_rows_are_same k q s t agree r =
     all_six _ _ _ _ _ _ (record {
       first = same_where_alike same_group_record cut_group of_group_records (reads k) q r s.group_records t.group_records
@@ -284,7 +284,7 @@ passes_not p q apart (x ∷ xs) = go (p x) (q x) (apart x) (passes_not p q apart
     go true false f ih = ih
     go false c f ih = ih
 
-module _ (s t : State) (k : Key) (agree : AgreesOn k s t) where
+module _ (s t : State) (k : Key) (agree : AgreesWhollyOn k s t) where
   same_six : (q : Key) → reads k q ≡ true → SameAt s t q
   same_six q r = parts_at s t q (agreed_rows_are_same k q s t agree r)
 
@@ -308,7 +308,7 @@ module _ (s t : State) (k : Key) (agree : AgreesOn k s t) where
         none_read same_register s.registers t.registers (λ q r. (same_six q r).registers),
       ) refl
 
-pub differing_is_least : (s t : State) (k : Key) → AgreesOn k s t → touching (differing s t) k ≡ false
+pub differing_is_least : (s t : State) (k : Key) → AgreesWhollyOn k s t → touching (differing s t) k ≡ false
 differing_is_least s t k agree = is_least s t k agree
 
 -- ---- where none differs

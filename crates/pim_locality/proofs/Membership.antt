@@ -20,7 +20,7 @@ use Rattle.pim_model.specs.Full.{reported_groups}
 use Rattle.pim_model.specs.Downstream.{is_named}
 use Rattle.pim_laws.proofs.TurnLaws.{kept_in_turn}
 use Rattle.pim_locality.specs.Locality.{AgreesBut, touching}
-use Rattle.pim_locality.specs.Scopes.{only_running, reads, scope}
+use Rattle.pim_locality.specs.Scopes.{modes_read, only_mode, only_running, only_side, reads, scope}
 use Rattle.pim_laws.proofs.RowChanges.{changed_elsewhere, dropped_elsewhere, filtered_elsewhere, put_elsewhere}
 use Rattle.pim_locality.proofs.Asserts.{stars_read}
 use Rattle.pim_locality.proofs.Events.{agrees_if}
@@ -85,21 +85,25 @@ pub lower_group_alike : (touches : Key → Bool) (s : State) (i g end : ℕ) →
 unfolding lower_group scope
 lower_group_alike touches s i g end h e =
     sym (λ j. record (scope (reads h) s) {
-      group_records = placed_alike cut_group (reads h) (same_key (star_key i g))
+      group_records = modes_read (placed_alike cut_group (reads h) (same_key (star_key i g))
           (λ x. record { end = lowered end (x.1).end })
           (λ x. ap (λ (o : Option ℕ). let r : GroupRecordRow = record { end = o } in r) (lowered_runs end (x.1).end))
-          s.group_records j;
+          s.group_records j) (map only_side (rows_where (reads h) s.source_records));
     })
 
 pub lower_sources_alike : (touches : Key → Bool) (s : State) (i g : ℕ) (sources : List ℕ) (end : ℕ)
     → AgreesBut touches s (lower_sources s i g sources end)
 unfolding lower_sources scope
 lower_sources_alike touches s i g sources end h e =
+    let alike : map only_side (rows_where (reads h) (lower_sources s i g sources end).source_records)
+    ≡ map only_side (rows_where (reads h) s.source_records) =
+    placed_alike cut_source (reads h) (λ k. is_at_group i g k && is_among (source_in k) sources)
+    (λ x. record { end = lowered end (x.1).end })
+    (λ x. ap (λ (o : Option ℕ). let r : SourceRecordRow = record { end = o } in r) (lowered_runs end (x.1).end))
+    s.source_records in
     sym (λ j. record (scope (reads h) s) {
-      source_records = placed_alike cut_source (reads h) (λ k. is_at_group i g k && is_among (source_in k) sources)
-          (λ x. record { end = lowered end (x.1).end })
-          (λ x. ap (λ (o : Option ℕ). let r : SourceRecordRow = record { end = o } in r) (lowered_runs end (x.1).end))
-          s.source_records j;
+      group_records = modes_read (map only_mode (rows_where (reads h) s.group_records)) (alike j);
+      source_records = alike j;
     })
 
 -- ---- one group on one interface

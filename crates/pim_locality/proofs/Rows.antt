@@ -1,5 +1,7 @@
 -- Look-ups in the rows of some keys, and in tables whose rows were cut down.
-use Rattle.std.proofs.Common.{◌≡◌, ℕ, Bool, true, false, cond, [], ◌∷◌, map, Option, Some, None, option_map, is_some, refl, ap}
+use Rattle.std.proofs.Common.{◌≡◌, ℕ, Bool, true, false, cond, [], ◌∷◌, map, Option, Some, None, option_map, is_some, refl, ap, subst, ◌||◌}
+use Rattle.std.proofs.lemmas.Bool.{or_left, or_right}
+use Rattle.std.specs.List.{list_any}
 use Rattle.std.specs.Map.{lookup}
 use Rattle.std.specs.BTreeMap.{is_at}
 use Rattle.std.specs.Option.{option_map_or}
@@ -29,6 +31,35 @@ module _ {R : Type 0} (sees : Key → Bool) (k : Key) (seen : sees k ≡ true) w
   pub has_row_in_scope : (t : Table R) → has_row (rows_where sees t) k ≡ has_row t k
   unfolding has_row
   has_row_in_scope t = ap (λ (o : Option R). is_some o) (row_in_scope t)
+
+module _ {R : Type 0} (sees : Key → Bool) (k : Key) (unseen : sees k ≡ false) where
+  out_step : (x : Key × R) (xs : Table R) (b : Bool) → sees x.0 ≡ b
+      → lookup (is_at (key_cmp k)) (rows_where sees xs) ≡ None
+      → lookup (is_at (key_cmp k)) (cond b (x ∷ rows_where sees xs) (rows_where sees xs)) ≡ None
+  out_step x xs true e ih = go (same_key k x.0) refl
+    where
+      go : (c : Bool) → same_key k x.0 ≡ c → cond c (Some x.1) (lookup (is_at (key_cmp k)) (rows_where sees xs)) ≡ None
+      go true f = cc (ap sees (equal_keys k x.0 f), unseen, e)
+      go false f = ih
+  out_step x xs false e ih = ih
+
+  pub row_out_of_scope : (t : Table R) → row_at (rows_where sees t) k ≡ None
+  unfolding row_at rows_where
+  row_out_of_scope [] = refl
+  row_out_of_scope (x ∷ xs) = out_step x xs (sees x.0) refl (row_out_of_scope xs)
+
+-- where there is a row whose key passes, one passes
+module _ {R : Type 0} (p : Key → Bool) (k : Key) (here : p k ≡ true) where
+  pub row_shows : (t : Table R) → is_some (row_at t k) ≡ true → list_any (λ e. p e.0) t ≡ true
+  unfolding row_at
+  row_shows [] e = cc
+  row_shows (x ∷ xs) e = go (same_key k x.0) refl e (row_shows xs)
+    where
+      go : (c : Bool) → same_key k x.0 ≡ c → is_some (cond c (Some x.1) (row_at xs k)) ≡ true
+          → (is_some (row_at xs k) ≡ true → list_any (λ e. p e.0) xs ≡ true)
+          → (p x.0 || list_any (λ e. p e.0) xs) ≡ true
+      go true f h ih = or_left (p x.0) _ (subst (λ (q : Key). p q ≡ true) (equal_keys k x.0 f) here)
+      go false f h ih = or_right (p x.0) _ (ih h)
 
 -- ---- tables whose rows were cut down
 

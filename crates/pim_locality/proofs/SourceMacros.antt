@@ -1,7 +1,9 @@
 -- Each macro of a source, in a scope with the rows that it reads, is what it is in the state. Each line is the
 -- macro's own body, with the laws of its parts in the place of the parts.
-use Rattle.std.proofs.Common.{◌≡◌, ℕ, Bool, true, false, not, ◌||◌, ◌&&◌, cond, Option, Some, None, is_none, is_some, map, option_map, refl, ap, ◌∙◌}
+use Rattle.std.proofs.Common.{◌≡◌, ℕ, Bool, true, false, not, ◌||◌, ◌&&◌, cond, Option, Some, None, is_none, is_some, map, option_map, refl, ap, sym, eq-eqb, ◌∙◌}
+use Rattle.std.specs.List.{list_any}
 use Rattle.std.specs.Option.{option_map_or, option_or}
+use Rattle.pim_model.specs.Records.{is_at_group}
 use Rattle.pim_types.specs.declared.fact.AssertMetric.{AssertMetric}
 use Rattle.pim_types.specs.declared.fact.AssertRow.{AssertRow}
 use Rattle.pim_types.specs.declared.fact.DownstreamRow.{DownstreamRow}
@@ -19,11 +21,11 @@ use Rattle.pim_model.specs.State.{State, is_own, my_address}
 use Rattle.pim_types.specs.Keys.{rpt_key, source_key, star_key}
 use Rattle.pim_model.specs.Tables.{has_row, row_at, rows_where, same_hop}
 use Rattle.pim_model.specs.Unicast.{route, rpf_interface, rpf_interface_rp}
-use Rattle.pim_locality.specs.Scopes.{only_kind, only_running, only_side, scope, state_without_end}
+use Rattle.pim_locality.specs.Scopes.{is_mode_read, only_kind, only_running, only_side, scope, state_without_end}
 use Rattle.pim_laws.proofs.RowLaws.{has_row_map}
 use Rattle.pim_locality.proofs.SharedMacros.{is_dr_local, nbr_local, route_local, rpf_interface_local, rpf_interface_rp_local}
-use Rattle.pim_locality.proofs.Rows.{read_of_cut, row_at_cut, row_in_scope, has_row_in_scope}
-use Rattle.pim_locality.proofs.StarMacros.{is_exclude_local, is_include_local, join_desired_star_local, joins_star_local, lost_assert_star_local, pim_include_star_local, rpf_at, rpf_rp_at, rpf_star_local, serves_star_local, cut_assert, hop_cut, loser_cut, some_cut, winner_cut}
+use Rattle.pim_locality.proofs.Rows.{read_of_cut, row_at_cut, row_in_scope, row_shows, has_row_in_scope}
+use Rattle.pim_locality.proofs.StarMacros.{has_record_local, is_exclude_local, seen_groups, seen_sources, join_desired_star_local, joins_star_local, lost_assert_star_local, pim_include_star_local, rpf_at, rpf_rp_at, rpf_star_local, serves_star_local, cut_assert, hop_cut, loser_cut, some_cut, winner_cut}
 
 none_cut : (o : Option ℕ) → is_none (only_running o) ≡ is_none o
 none_cut None = refl
@@ -158,9 +160,52 @@ module _ (sees : Key → Bool) (s : State) (g src : ℕ) (rows : ReadsSource see
       ∙ ap (λ (o : Option SourceRecordRow). option_map_or has_no_end o false)
       (row_in_scope sees (source_key i g src) (rows.sources i) s.source_records)
 
+  -- a source that has no record has none in the scope, whether its group's is read or not
+  unlisted : (i : ℕ) → is_mode_read (seen_groups sees s g rows.stars) (seen_sources sees s g rows.stars) (star_key i g) ≡ false
+      → is_some (source_record (scope sees s) g src i) ≡ false
+  unfolding is_mode_read scope
+  unlisted i e = go (is_some (row_at (seen_sources sees s g rows.stars) (source_key i g src))) refl
+    where
+      second_none : (a b : Bool) → (a || b) ≡ false → b ≡ false
+      second_none false b f = f
+      second_none true b f = cc
+
+      go : (b : Bool) → is_some (row_at (seen_sources sees s g rows.stars) (source_key i g src)) ≡ b → b ≡ false
+      go false f = refl
+      go true f =
+          let some : list_any (λ x. is_at_group i g x.0) (seen_sources sees s g rows.stars) ≡ true =
+          row_shows (is_at_group i g) (source_key i g src) (rw (eq-eqb i i refl, eq-eqb g g refl) refl)
+          (seen_sources sees s g rows.stars) f in
+          let none : list_any (λ x. is_at_group i g x.0) (seen_sources sees s g rows.stars) ≡ false =
+          second_none _ (list_any (λ x. is_at_group i g x.0) (seen_sources sees s g rows.stars)) e in
+          cc (some, none)
+
   pub local_include_local : local_receiver_include (scope sees s) g src ≡ local_receiver_include s g src
   unfolding is_exclude local_receiver_include local_receiver_include_among
-  local_include_local = λ j i. is_include_local sees s g rows.stars j i && is_listed_local i j
+  local_include_local = λ j i. at i j
+    where
+      none_then : (a b : Bool) → b ≡ false → (a && b) ≡ false
+      none_then true b e = e
+      none_then false b e = refl
+
+      go : (i : ℕ) (b : Bool)
+          → is_mode_read (seen_groups sees s g rows.stars) (seen_sources sees s g rows.stars) (star_key i g) ≡ b
+          → ((has_row (scope sees s).group_records (star_key i g) && not (is_exclude (scope sees s) g i))
+          && is_some (source_record (scope sees s) g src i))
+          ≡ ((has_row s.group_records (star_key i g) && not (is_exclude s g i)) && is_some (source_record s g src i))
+      go i true e =
+          λ j. (has_record_local sees s g rows.stars i e j && not (is_exclude_local sees s g rows.stars j i))
+          && is_listed_local i j
+      go i false e =
+          none_then (has_row (scope sees s).group_records (star_key i g) && not (is_exclude (scope sees s) g i)) _
+          (unlisted i e)
+          ∙ sym (none_then (has_row s.group_records (star_key i g) && not (is_exclude s g i)) _
+          (sym (is_listed_local i) ∙ unlisted i e))
+
+      at : (i : ℕ) → ((has_row (scope sees s).group_records (star_key i g) && not (is_exclude (scope sees s) g i))
+          && is_some (source_record (scope sees s) g src i))
+          ≡ ((has_row s.group_records (star_key i g) && not (is_exclude s g i)) && is_some (source_record s g src i))
+      at i = go i _ refl
 
   local_exclude_local : local_receiver_exclude (scope sees s) g src ≡ local_receiver_exclude s g src
   unfolding is_exclude local_receiver_exclude local_receiver_exclude_among

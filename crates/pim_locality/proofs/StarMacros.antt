@@ -1,23 +1,24 @@
 -- Each macro of (*,G), in a scope with the rows of (*,G), is what it is in the state. Each line is the macro's own
 -- body,
 -- with the laws of its parts in the place of the parts.
-use Rattle.std.proofs.Common.{◌≡◌, ℕ, Bool, true, false, not, ◌||◌, ◌&&◌, Option, Some, None, is_some, option_map, refl, ap, ◌∙◌}
+use Rattle.std.proofs.Common.{◌≡◌, ℕ, Bool, true, false, not, ◌||◌, ◌&&◌, Option, Some, None, is_some, map, option_map, refl, ap, sym, ◌∙◌}
 use Rattle.std.specs.Option.{option_map_or, option_or}
 use Rattle.pim_types.specs.declared.fact.AssertRow.{AssertRow}
 use Rattle.pim_types.specs.declared.fact.GroupRecordRow.{GroupRecordRow}
 use Rattle.pim_types.specs.declared.fact.Key.{Key}
+use Rattle.pim_types.specs.declared.fact.SourceRecordRow.{SourceRecordRow}
 use Rattle.pim_model.specs.Desires.{join_desired_star, rpf_star, winner_hop}
 use Rattle.pim_model.specs.Neighbours.{nbr}
-use Rattle.pim_model.specs.Receivers.{is_exclude, is_exclude_among, is_include}
+use Rattle.pim_model.specs.Receivers.{is_exclude, is_exclude_among}
 use Rattle.pim_model.specs.Sets.{assert_star, immediate_olist_star, is_empty, is_loser, is_winner, joins_star, lost_assert_star, pim_include_star, serves_star, ◌∖◌, ◌∪◌}
 use Rattle.pim_model.specs.State.{State}
-use Rattle.pim_model.specs.Tables.{row_at, rows_where, same_option}
+use Rattle.pim_model.specs.Tables.{Table, has_row, row_at, rows_where, same_option}
 use Rattle.pim_types.specs.Keys.{star_key}
 use Rattle.pim_model.specs.Unicast.{is_rpf_interface, is_rpf_interface_rp, rp_route, rpf_interface_rp}
-use Rattle.pim_locality.specs.Scopes.{only_kind, only_mode, only_running, scope}
+use Rattle.pim_locality.specs.Scopes.{is_mode_read, modes_read, only_kind, only_mode, only_running, only_side, scope}
 use Rattle.pim_laws.proofs.RowLaws.{has_row_map}
 use Rattle.pim_locality.proofs.SharedMacros.{is_dr_local, nbr_local, rp_route_local, rpf_interface_local, rpf_interface_rp_local}
-use Rattle.pim_locality.proofs.Rows.{read_of_cut, row_at_cut, row_in_scope, has_row_in_scope}
+use Rattle.pim_locality.proofs.Rows.{read_of_cut, row_at_cut, row_in_scope, row_out_of_scope, has_row_in_scope}
 
 module _ (sees : Key → Bool) (s : State) where
   pub rpf_at : (address : ℕ) (i : ℕ) → is_rpf_interface (scope sees s) address i ≡ is_rpf_interface s address i
@@ -37,6 +38,31 @@ cut_group r = record { end = only_running r.end }
 
 abbrev has_end : GroupRecordRow → Bool
 has_end r = is_some r.end
+
+first_none : (a b : Bool) → (a || b) ≡ false → a ≡ false
+first_none false b e = refl
+first_none true b e = e
+
+excluded_is_read : (groups : Table GroupRecordRow) (sources : Table SourceRecordRow) (k : Key)
+    → is_mode_read groups sources k ≡ false → option_map_or has_end (row_at groups k) false ≡ false
+unfolding is_mode_read
+excluded_is_read groups sources k e = first_none (option_map_or has_end (row_at groups k) false) _ e
+
+-- whether a group is in EXCLUDE is read
+mode_is_read : (groups : Table GroupRecordRow) (sources : Table SourceRecordRow) (k : Key)
+    → option_map_or has_end (row_at (modes_read groups sources) k) false ≡ option_map_or has_end (row_at groups k) false
+mode_is_read groups sources k = go (is_mode_read groups sources k) refl
+  where
+    go : (b : Bool) → is_mode_read groups sources k ≡ b
+        → option_map_or has_end (row_at (modes_read groups sources) k) false
+        ≡ option_map_or has_end (row_at groups k) false
+    go true e =
+        ap (λ (o : Option GroupRecordRow). option_map_or has_end o false)
+        (row_in_scope (is_mode_read groups sources) k e groups)
+    go false e =
+        ap (λ (o : Option GroupRecordRow). option_map_or has_end o false)
+        (row_out_of_scope (is_mode_read groups sources) k e groups)
+        ∙ sym (excluded_is_read groups sources k e)
 
 -- an assert without its end: what is read of it is its role and its winner
 abbrev pub cut_assert : AssertRow → AssertRow
@@ -83,20 +109,31 @@ module _ (sees : Key → Bool) (s : State) (g : ℕ) (stars : (i : ℕ) → sees
   star_hop_local : (i : Option ℕ) → winner_hop i (assert_star (scope sees s) g) ≡ winner_hop i (assert_star s g)
   star_hop_local i = (λ j. winner_hop i (assert_star_cut j)) ∙ hop_cut i (assert_star s g)
 
+  -- the records of groups and of sources that are seen
+  abbrev pub seen_groups : Table GroupRecordRow
+  seen_groups = map only_mode (rows_where sees s.group_records)
+
+  abbrev pub seen_sources : Table SourceRecordRow
+  seen_sources = map only_side (rows_where sees s.source_records)
+
   pub is_exclude_local : is_exclude (scope sees s) g ≡ is_exclude s g
   unfolding is_exclude is_exclude_among scope
   is_exclude_local =
-      λ j i. (ap (λ (o : Option GroupRecordRow). option_map_or has_end o false)
+      λ j i. (mode_is_read seen_groups seen_sources (star_key i g)
+      ∙ ap (λ (o : Option GroupRecordRow). option_map_or has_end o false)
       (row_at_cut cut_group (star_key i g) (rows_where sees s.group_records))
       ∙ read_of_cut cut_group has_end (λ r. some_cut r.end) (row_at (rows_where sees s.group_records) (star_key i g))
       ∙ ap (λ (o : Option GroupRecordRow). option_map_or has_end o false)
       (row_in_scope sees (star_key i g) (stars i) s.group_records)) j
 
-  pub is_include_local : is_include (scope sees s) g ≡ is_include s g
-  unfolding is_exclude scope
-  is_include_local =
-      λ j i. (has_row_map (star_key i g) only_mode (λ e. refl) (rows_where sees s.group_records)
-      ∙ has_row_in_scope sees (star_key i g) (stars i) s.group_records) j && not (is_exclude_local j i)
+  -- whether there is one, where it is read
+  pub has_record_local : (i : ℕ) → is_mode_read seen_groups seen_sources (star_key i g) ≡ true
+      → has_row (scope sees s).group_records (star_key i g) ≡ has_row s.group_records (star_key i g)
+  unfolding scope
+  has_record_local i read =
+      has_row_in_scope (is_mode_read seen_groups seen_sources) (star_key i g) read seen_groups
+      ∙ has_row_map (star_key i g) only_mode (λ e. refl) (rows_where sees s.group_records)
+      ∙ has_row_in_scope sees (star_key i g) (stars i) s.group_records
 
   -- ---- (*,G)
 

@@ -21,7 +21,7 @@ use Rattle.pim_model.specs.State.{State}
 use Rattle.pim_model.specs.Tables.{Table, keys_in, rows_where, set_row}
 use Rattle.pim_laws.proofs.ListLaws.{any_more}
 use Rattle.pim_locality.specs.Locality.{AgreesBut, IsClosed, touching}
-use Rattle.pim_locality.specs.Scopes.{only_kept, only_kind, only_mode, only_registered, only_side, only_winner, reads, scope}
+use Rattle.pim_locality.specs.Scopes.{modes_read, only_kept, only_kind, only_mode, only_registered, only_side, only_winner, reads, scope}
 use Rattle.pim_locality.proofs.Asserts.{reads_itself, reads_through, stars_read}
 use Rattle.pim_laws.proofs.RowChanges.{filtered_elsewhere, set_elsewhere}
 use Rattle.pim_locality.proofs.TouchedClearing.{unread}
@@ -63,12 +63,17 @@ module _ (touches : Key → Bool) (s : State) where
   pub group_records_agree : (rows : Table GroupRecordRow) → RowsBut touches rows s.group_records
       → AgreesBut touches s (record s { group_records = rows })
   unfolding scope
-  group_records_agree rows but h e = sym (λ j. record (scope (reads h) s) { group_records = map only_mode (but h e j) })
+  group_records_agree rows but h e = sym (λ j. record (scope (reads h) s) {
+    group_records = modes_read (map only_mode (but h e j)) (map only_side (rows_where (reads h) s.source_records));
+  })
 
   pub source_records_agree : (rows : Table SourceRecordRow) → RowsBut touches rows s.source_records
       → AgreesBut touches s (record s { source_records = rows })
   unfolding scope
-  source_records_agree rows but h e = sym (λ j. record (scope (reads h) s) { source_records = map only_side (but h e j) })
+  source_records_agree rows but h e = sym (λ j. record (scope (reads h) s) {
+    group_records = modes_read (map only_mode (rows_where (reads h) s.group_records)) (map only_side (but h e j));
+    source_records = map only_side (but h e j);
+  })
 
 -- ---- the keys that are touched
 

@@ -10,8 +10,8 @@ use Rattle.pim_model.specs.State.{State}
 use Rattle.pim_model.specs.Tables.{Table, keys_in, row_at}
 use Rattle.pim_model.specs.Writing.{write_all}
 use Rattle.pim_ready.specs.Ready.{IsOrdered}
-use Rattle.pim_locality.specs.Locality.{AgreesBut, AgreesOn, IsQuiet, own_settled, touching}
-use Rattle.pim_locality.specs.Scopes.{only_priority, only_up, reads}
+use Rattle.pim_locality.specs.Locality.{AgreesBut, IsQuiet, own_settled, touching}
+use Rattle.pim_locality.specs.Scopes.{only_priority, only_up, reads, whole_scope}
 
 -- what all groups share is the same, as the macros see it
 pub record IsShared (s t : State) : Type 0 where
@@ -67,12 +67,16 @@ abbrev pub DifferingKeysCover : Type 0
 DifferingKeysCover =
     (s t : State) → IsOrdered s → IsOrdered t → IsShared s t → AgreesBut (touching (differing s t)) s t
 
--- no others are touched: where the states agree on a key, no row that it reads differs
+-- the same is seen of a key in both, with the records of groups in INCLUDE
+abbrev pub AgreesWhollyOn : Key → State → State → Type 0
+AgreesWhollyOn k s t = whole_scope (reads k) s ≡ whole_scope (reads k) t
+
+-- no others are touched: where the states agree so on a key, no row that it reads differs
 abbrev pub AgreedRowsAreSame : Type 0
-AgreedRowsAreSame = (k q : Key) (s t : State) → AgreesOn k s t → reads k q ≡ true → is_same_at s t q ≡ true
+AgreedRowsAreSame = (k q : Key) (s t : State) → AgreesWhollyOn k s t → reads k q ≡ true → is_same_at s t q ≡ true
 
 abbrev pub DifferingIsLeast : Type 0
-DifferingIsLeast = (s t : State) (k : Key) → AgreesOn k s t → touching (differing s t) k ≡ false
+DifferingIsLeast = (s t : State) (k : Key) → AgreesWhollyOn k s t → touching (differing s t) k ≡ false
 
 -- from a quiet state all that follows of a change follows of them
 abbrev pub DifferingSettles : Type 0

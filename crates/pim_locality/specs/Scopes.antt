@@ -1,5 +1,7 @@
 -- What the machines of a key see of a state: the rows that they read, and what all groups share.
-use Rattle.std.specs.Prelude.{Bool, None, Option, Some, [], map, false, ℕ, ◌&&◌, ◌==◌, ◌||◌}
+use Rattle.std.specs.List.{list_any}
+use Rattle.std.specs.Option.{option_map_or}
+use Rattle.std.specs.Prelude.{Bool, None, Option, Some, [], is_some, map, false, ℕ, ◌&&◌, ◌==◌, ◌||◌}
 use Rattle.pim_types.specs.declared.fact.AssertRow.{AssertRow}
 use Rattle.pim_types.specs.declared.fact.DownstreamRow.{DownstreamRow}
 use Rattle.pim_types.specs.declared.fact.GroupRecordRow.{GroupRecordRow}
@@ -11,8 +13,9 @@ use Rattle.pim_types.specs.declared.fact.RegisterState.{RegisterState}
 use Rattle.pim_types.specs.declared.fact.SourceRecordRow.{SourceRecordRow}
 use Rattle.pim_types.specs.declared.fact.SourceRow.{SourceRow}
 use Rattle.pim_model.specs.State.{State}
-use Rattle.pim_model.specs.Tables.{Table, rows_where}
-use Rattle.pim_types.specs.Keys.{group_in, is_of_group, source_in}
+use Rattle.pim_model.specs.Records.{is_at_group}
+use Rattle.pim_model.specs.Tables.{Table, row_at, rows_where}
+use Rattle.pim_types.specs.Keys.{group_in, iface_in, is_of_group, source_in}
 
 -- The machines of a key are that of (*,G), or those of (S,G) and (S,G,rpt). They read the rows of (*,G), and those of
 -- their own source: the rows of its group that have no source, or the same.
@@ -62,6 +65,16 @@ state_without_end (RegisterState.Prune end) = RegisterState.Prune 0
 abbrev pub only_registered : Key × RegisterRow → Key × RegisterRow
 only_registered e = (e.0, record { state = state_without_end (e.1).state })
 
+-- Of a group in INCLUDE a source's macros ask whether there is a record only where the source has one of its own. So of
+-- the groups' records those are read that are in EXCLUDE, and those beside a source that is read.
+unfoldable pub is_mode_read : Table GroupRecordRow → Table SourceRecordRow → Key → Bool
+is_mode_read groups sources k =
+    option_map_or (λ (r : GroupRecordRow). is_some r.end) (row_at groups k) false
+    || list_any (λ e. is_at_group (iface_in k) (group_in k) e.0) sources
+
+abbrev pub modes_read : Table GroupRecordRow → Table SourceRecordRow → Table GroupRecordRow
+modes_read groups sources = rows_where (is_mode_read groups sources) groups
+
 -- the state as macros see it that read these keys alone; they read no present, no timer of an upstream state, and
 -- nothing of queriers
 unfoldable pub scope : (Key → Bool) → State → State
@@ -74,7 +87,8 @@ scope sees s = record {
   interfaces = map only_up s.interfaces;
   neighbours = map only_priority s.neighbours;
   queriers = [];
-  group_records = map only_mode (rows_where sees s.group_records);
+  group_records = modes_read (map only_mode (rows_where sees s.group_records))
+      (map only_side (rows_where sees s.source_records));
   source_records = map only_side (rows_where sees s.source_records);
   group_repeats = [];
   source_repeats = [];
@@ -86,3 +100,7 @@ scope sees s = record {
   sources = map only_kept (rows_where sees s.sources);
   registers = map only_registered (rows_where sees s.registers);
 }
+
+-- the same with all records of groups
+unfoldable pub whole_scope : (Key → Bool) → State → State
+whole_scope sees s = record (scope sees s) { group_records = map only_mode (rows_where sees s.group_records) }
