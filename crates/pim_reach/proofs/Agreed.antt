@@ -10,8 +10,9 @@ use Rattle.pim_types.specs.declared.fact.Key.{Key}
 use Rattle.pim_types.specs.declared.fact.RegisterRow.{RegisterRow}
 use Rattle.pim_types.specs.declared.fact.RegisterState.{RegisterState}
 use Rattle.pim_types.specs.declared.fact.SourceRow.{SourceRow}
-use Rattle.pim_types.specs.Keys.{group_in, names_source, same_key, source_in, source_key}
+use Rattle.pim_types.specs.Keys.{group_in, names_source, rpt_key, same_key, source_in, source_key, star_key}
 use Rattle.pim_types.proofs.Keys.{same_key_same}
+use Rattle.pim_model.specs.Receivers.{is_exclude, local_receiver_include}
 use Rattle.pim_model.specs.Reach.{alike_where, is_same_for, names_star}
 use Rattle.pim_model.specs.Rows.{same_assert, same_downstream, same_group_record, same_metric, same_register, same_register_state, same_rows, same_source, same_source_record}
 use Rattle.pim_model.specs.Sets.{is_winner}
@@ -22,14 +23,15 @@ use Rattle.pim_laws.proofs.ListLaws.{filter_within}
 use Rattle.pim_locality.specs.Locality.{AgreesOn}
 use Rattle.pim_locality.specs.Scopes.{reads, scope}
 use Rattle.pim_locality.proofs.SharedMacros.{route_local, rp_of_local, rp_route_local}
-use Rattle.pim_locality.proofs.SameRows.{IsOfCut, of_asserts, of_downstream, of_group_records, of_registers, of_source_records, of_sources}
-use Rattle.pim_locality.proofs.SourceMacros.{cut_kept, cut_kind, cut_register, cut_source}
-use Rattle.pim_locality.proofs.StarMacros.{cut_assert, cut_group}
+use Rattle.pim_locality.proofs.SameRows.{IsOfCut, of_asserts, of_downstream, of_registers, of_source_records, of_sources}
+use Rattle.pim_locality.proofs.SourceMacros.{ReadsSource, cut_kept, cut_kind, cut_register, cut_source, local_include_local}
+use Rattle.pim_locality.proofs.StarMacros.{cut_assert, is_exclude_local}
 use Rattle.pim_locality.proofs.UntoldKeys.{same_by_scope}
 use Rattle.pim_reach.specs.Named.{is_source_named}
-use Rattle.pim_reach.proofs.Reached.{same_is_unnamed}
+use Rattle.pim_reach.proofs.Reached.{alike_is_unnamed}
+use Rattle.pim_reach.proofs.SameRows.{alike_at}
 use Rattle.pim_reach.proofs.Sights.{bool_itself, options_same, paths_same}
-use Rattle.pim_reach.proofs.Unreached.{Around}
+use Rattle.pim_reach.proofs.Unreached.{Alike, Around, at_source, at_star, at_tree}
 
 -- ---- rows like themselves
 
@@ -138,7 +140,6 @@ pub record SameSourceRows (g src : ℕ) (s t : State) : Type 0 where
 
 -- the same, but for ends
 record AlikeRows (g src : ℕ) (s t : State) : Type 0 where
-  group_records : alike_where same_group_record (names_star g) s.group_records t.group_records ≡ true
   source_records : alike_where same_source_record (names_source g src) s.source_records t.source_records ≡ true
   star_downstream : alike_where same_downstream (names_star g) s.downstream t.downstream ≡ true
   star_asserts : alike_where same_assert (names_star g) s.asserts t.asserts ≡ true
@@ -149,16 +150,17 @@ record AlikeRows (g src : ℕ) (s t : State) : Type 0 where
 
 -- then nothing differs, with the same routes
 alike_with_rows : (g src : ℕ) (s t : State) → AlikeRows g src s t
+    → alike_where same_group_record (names_star g) s.group_records t.group_records ≡ true
     → route s src ≡ route t src → rp_of s g ≡ rp_of t g → rp_route s g ≡ rp_route t g → is_same_for g src s t ≡ true
 unfolding is_same_for
-alike_with_rows g src s t rows path rp rp_path =
+alike_with_rows g src s t rows groups path rp rp_path =
     both_true (both_true (both_true (both_true (both_true (both_true (both_true (both_true (both_true (both_true
     rows.source_records
     rows.downstream)
     rows.asserts)
     rows.sources)
     rows.registers)
-    rows.group_records)
+    groups)
     rows.star_downstream)
     rows.star_asserts)
     (paths_same _ _ path))
@@ -170,7 +172,6 @@ pub same_with_rows : (g src : ℕ) (s t : State) → SameStarRows g s t → Same
 same_with_rows g src s t star rows path rp rp_path =
     alike_with_rows g src s t
     (record {
-      group_records = rows_equal same_group_record (λ r. bool_itself (is_some r.end)) _ _ star.group_records;
       source_records = rows_equal same_source_record (λ r. bool_itself (is_some r.end)) _ _ rows.source_records;
       star_downstream = rows_equal same_downstream downstream_itself _ _ star.downstream;
       star_asserts = rows_equal same_assert assert_itself _ _ star.asserts;
@@ -179,7 +180,7 @@ same_with_rows g src s t star rows path rp rp_path =
       sources = rows_equal same_source source_itself _ _ rows.sources;
       registers = rows_equal same_register register_itself _ _ rows.registers;
     })
-    path rp rp_path
+    (rows_equal same_group_record (λ r. bool_itself (is_some r.end)) _ _ star.group_records) path rp rp_path
 
 -- ---- where they agree on the key of the source
 
@@ -211,8 +212,6 @@ module _ (g src : ℕ) (s t : State) (agree : AgreesOn (source_key 0 g src) s t)
   agreed_rows =
       let k : Key = source_key 0 g src in
       record {
-        group_records = rows_alike cut_group same_group_record of_group_records (names_star g) (reads k) (star_read g src)
-            s.group_records t.group_records (ap (λ (u : State). u.group_records) agree);
         source_records = rows_alike cut_source same_source_record of_source_records (names_source g src) (reads k) (source_read g src)
             s.source_records t.source_records (ap (λ (u : State). u.source_records) agree);
         star_downstream = rows_alike cut_kind same_downstream of_downstream (names_star g) (reads k) (star_read g src)
@@ -237,11 +236,41 @@ module _ (g src : ℕ) (s t : State) (agree : AgreesOn (source_key 0 g src) s t)
     priorities = ap (λ (u : State). u.neighbours) agree;
   }
 
-  pub agreed_is_unnamed : is_source_named g src s t ≡ false
-  agreed_is_unnamed =
+  own_rows : ReadsSource (reads (source_key 0 g src)) g src
+  own_rows = record {
+    stars = λ i. star_read g src (star_key i g) (at_star g src i);
+    sources = λ i. source_read g src (source_key i g src) (at_source g src i);
+    trees = λ i. source_read g src (rpt_key i g src) (at_tree g src i);
+  }
+
+  agreed_alike : Alike g src s t
+  agreed_alike =
       let k : Key = source_key 0 g src in
-      same_is_unnamed g src s t agreed_around
-      (alike_with_rows g src s t agreed_rows
-      (same_by_scope k (λ u. route u src) (λ u. route_local (reads k) u src) s t agree)
-      (same_by_scope k (λ u. rp_of u g) (λ u. rp_of_local (reads k) u g) s t agree)
-      (same_by_scope k (λ u. rp_route u g) (λ u. rp_route_local (reads k) u g) s t agree))
+      let rows : AlikeRows g src s t = agreed_rows in
+      record {
+        record_at = λ i. alike_at same_source_record (source_key i g src) (names_source g src) (at_source g src i)
+            s.source_records t.source_records rows.source_records;
+        source_down = λ i. alike_at same_downstream (source_key i g src) (names_source g src) (at_source g src i)
+            s.downstream t.downstream rows.downstream;
+        tree_down = λ i. alike_at same_downstream (rpt_key i g src) (names_source g src) (at_tree g src i) s.downstream
+            t.downstream rows.downstream;
+        source_assert = λ i. alike_at same_assert (source_key i g src) (names_source g src) (at_source g src i)
+            s.asserts t.asserts rows.asserts;
+        fact = alike_at same_source (source_key 0 g src) (names_source g src) (at_source g src 0) s.sources t.sources
+            rows.sources;
+        register = alike_at same_register (source_key 0 g src) (names_source g src) (at_source g src 0) s.registers
+            t.registers rows.registers;
+        star_down = λ i. alike_at same_downstream (star_key i g) (names_star g) (at_star g src i) s.downstream
+            t.downstream rows.star_downstream;
+        star_assert = λ i. alike_at same_assert (star_key i g) (names_star g) (at_star g src i) s.asserts t.asserts
+            rows.star_asserts;
+        excluding = same_by_scope k (λ u. is_exclude u g) (λ u. is_exclude_local (reads k) u g own_rows.stars) s t agree;
+        included = same_by_scope k (λ u. local_receiver_include u g src)
+            (λ u. local_include_local (reads k) u g src own_rows) s t agree;
+        path = same_by_scope k (λ u. route u src) (λ u. route_local (reads k) u src) s t agree;
+        rp = same_by_scope k (λ u. rp_of u g) (λ u. rp_of_local (reads k) u g) s t agree;
+        rp_path = same_by_scope k (λ u. rp_route u g) (λ u. rp_route_local (reads k) u g) s t agree;
+      }
+
+  pub agreed_is_unnamed : is_source_named g src s t ≡ false
+  agreed_is_unnamed = alike_is_unnamed g src s t agreed_around agreed_alike

@@ -133,16 +133,18 @@ none_differs g src o changed none =
     (all_of_none (is_same_for g src o) (changed ∷ later o changed)
     (neither _ (differs_among g src (changed ∷ later o changed)) none)))
 
-pub same_is_unnamed : (g src : ℕ) (o a : State) → Around o a → is_same_for g src o a ≡ true
-    → is_source_named g src o a ≡ false
+pub alike_is_unnamed : (g src : ℕ) (o a : State) → Around o a → Alike g src o a → is_source_named g src o a ≡ false
 unfolding is_source_named
-same_is_unnamed g src o a around same =
-    let parts : Alike g src o a = alike g src o a same in
+alike_is_unnamed g src o a around parts =
     ap not (both_true (both_true
     (flags_same _ _ (fact_same g src o a around parts))
     (source_sight g src o a (alike_sees g src o a around parts)))
     (source_beside g src o a (alike_sees g src o a around parts) (kept_alive_same g src o a around parts)
     (register_same g src o a around parts)))
+
+pub same_is_unnamed : (g src : ℕ) (o a : State) → Around o a → is_same_for g src o a ≡ true
+    → is_source_named g src o a ≡ false
+same_is_unnamed g src o a around same = alike_is_unnamed g src o a around (alike g src o a same)
 
 -- of a source of which nothing differs the macros read the same, and its facts are the same but for their ends
 pub unreached_is_same : (g src : ℕ) (o a : State) → Around o a → is_same_for g src o a ≡ true → IsUnreached g src o a

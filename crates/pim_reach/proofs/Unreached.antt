@@ -74,14 +74,14 @@ around_kept s t settings configured kept = record {
 -- ---- the rows of a source
 
 module _ (g src : ℕ) where
-  at_star : (i : ℕ) → names_star g (star_key i g) ≡ true
+  pub at_star : (i : ℕ) → names_star g (star_key i g) ≡ true
   at_star i = rw (eq-eqb g g refl) refl
 
-  at_source : (i : ℕ) → names_source g src (source_key i g src) ≡ true
+  pub at_source : (i : ℕ) → names_source g src (source_key i g src) ≡ true
   unfolding names_source
   at_source i = rw (eq-eqb g g refl, eq-eqb src src refl) refl
 
-  at_tree : (i : ℕ) → names_source g src (rpt_key i g src) ≡ true
+  pub at_tree : (i : ℕ) → names_source g src (rpt_key i g src) ≡ true
   unfolding names_source
   at_tree i = rw (eq-eqb g g refl, eq-eqb src src refl) refl
 
@@ -102,12 +102,31 @@ module _ (g src : ℕ) where
         ≡ true
     pub star_assert : (i : ℕ) → same_both same_assert (assert_star s g i) (assert_star t g i) ≡ true
     pub source_assert : (i : ℕ) → same_both same_assert (assert_source s g src i) (assert_source t g src i) ≡ true
-    pub group_at : (i : ℕ)
-        → same_both same_group_record (row_at s.group_records (star_key i g)) (row_at t.group_records (star_key i g))
-        ≡ true
+    pub excluding : is_exclude s g ≡ is_exclude t g
+    pub included : local_receiver_include s g src ≡ local_receiver_include t g src
     pub path : route s src ≡ route t src
     pub rp : rp_of s g ≡ rp_of t g
     pub rp_path : rp_route s g ≡ rp_route t g
+
+  -- of groups' records that are alike
+  module _ (s t : State)
+      (groups : (i : ℕ)
+          → same_both same_group_record (row_at s.group_records (star_key i g)) (row_at t.group_records (star_key i g))
+          ≡ true) where
+    excludes_at : (i : ℕ) → is_exclude s g i ≡ is_exclude t g i
+    unfolding is_exclude is_exclude_among
+    excludes_at i =
+        flag_alike same_group_record (λ (r : GroupRecordRow). is_some r.end)
+        (λ a b e. flags (is_some a.end) (is_some b.end) e) (row_at s.group_records (star_key i g))
+        (row_at t.group_records (star_key i g)) (groups i)
+
+    includes_at : ((i : ℕ) → same_both same_source_record (source_record s g src i) (source_record t g src i) ≡ true)
+        → (i : ℕ) → local_receiver_include s g src i ≡ local_receiver_include t g src i
+    unfolding has_row is_exclude is_exclude_among local_receiver_include local_receiver_include_among
+    includes_at records i = λ j.
+        (there_alike same_group_record (row_at s.group_records (star_key i g)) (row_at t.group_records (star_key i g))
+        (groups i) j && not (excludes_at i j))
+        && there_alike same_source_record (source_record s g src i) (source_record t g src i) (records i) j
 
   pub alike : (s t : State) → is_same_for g src s t ≡ true → Alike s t
   unfolding is_same_for
@@ -125,9 +144,14 @@ module _ (g src : ℕ) where
       first_so _ (alike_where same_downstream (names_source g src) s.downstream t.downstream) e2 in
       let downs : alike_where same_downstream (names_source g src) s.downstream t.downstream ≡ true =
       second_so (alike_where same_source_record (names_source g src) s.source_records t.source_records) _ e2 in
+      let record_at : _ =
+      λ (i : ℕ). alike_at same_source_record (source_key i g src) (names_source g src) (at_source i)
+      s.source_records t.source_records records in
+      let group_at : _ =
+      λ (i : ℕ). alike_at same_group_record (star_key i g) (names_star g) (at_star i) s.group_records
+      t.group_records (second_so _ (alike_where same_group_record (names_star g) s.group_records t.group_records) e6) in
       record {
-        record_at = λ i. alike_at same_source_record (source_key i g src) (names_source g src) (at_source i)
-            s.source_records t.source_records records;
+        record_at = record_at;
         source_down = λ i. alike_at same_downstream (source_key i g src) (names_source g src) (at_source i) s.downstream
             t.downstream downs;
         tree_down = λ i. alike_at same_downstream (rpt_key i g src) (names_source g src) (at_tree i) s.downstream
@@ -138,9 +162,8 @@ module _ (g src : ℕ) where
             (second_so _ (alike_where same_source (names_source g src) s.sources t.sources) e4);
         register = alike_at same_register (source_key 0 g src) (names_source g src) (at_source 0) s.registers
             t.registers (second_so _ (alike_where same_register (names_source g src) s.registers t.registers) e5);
-        group_at = λ i. alike_at same_group_record (star_key i g) (names_star g) (at_star i) s.group_records
-            t.group_records
-            (second_so _ (alike_where same_group_record (names_star g) s.group_records t.group_records) e6);
+        excluding = λ j i. excludes_at s t group_at i j;
+        included = λ j i. includes_at s t group_at record_at i j;
         star_down = λ i. alike_at same_downstream (star_key i g) (names_star g) (at_star i) s.downstream t.downstream
             (second_so _ (alike_where same_downstream (names_star g) s.downstream t.downstream) e7);
         star_assert = λ i. alike_at same_assert (star_key i g) (names_star g) (at_star i) s.asserts t.asserts
@@ -154,13 +177,6 @@ module _ (g src : ℕ) where
   -- ---- what is read
 
   module _ (s t : State) (around : Around s t) (same : Alike s t) where
-    excludes : (i : ℕ) → is_exclude s g i ≡ is_exclude t g i
-    unfolding is_exclude is_exclude_among
-    excludes i =
-        flag_alike same_group_record (λ (r : GroupRecordRow). is_some r.end)
-        (λ a b e. flags (is_some a.end) (is_some b.end) e) (row_at s.group_records (star_key i g))
-        (row_at t.group_records (star_key i g)) (same.group_at i)
-
     pending_none : (a b : DownstreamRow) → same_downstream a b ≡ true → is_none a.pending ≡ is_none b.pending
     pending_none a b e =
         ends_none a.pending b.pending (second_so (same_end a.expiry b.expiry) (same_end a.pending b.pending) e)
@@ -203,7 +219,7 @@ module _ (g src : ℕ) where
         losers = λ i. loser_same i (assert_star s g i) (assert_star t g i) (same.star_assert i);
         winners = λ i. winner_same i (assert_star s g i) (assert_star t g i) (same.star_assert i);
         won_by = λ i. hop_same i (assert_star s g i) (assert_star t g i) (same.star_assert i);
-        excluding = λ j i. excludes i j;
+        excluding = same.excluding;
         rp_nbr = nbr_around s t around (rp_route s g) (rp_route t g) same.rp_path;
       };
       path = same.path;
@@ -216,9 +232,7 @@ module _ (g src : ℕ) where
       winners = λ i. winner_same i (assert_source s g src i) (assert_source t g src i) (same.source_assert i);
       won_by = λ i. hop_same i (assert_source s g src i) (assert_source t g src i) (same.source_assert i);
       metrics = λ i. metric_same i (assert_source s g src i) (assert_source t g src i) (same.source_assert i);
-      included = λ j i. there_alike same_group_record (row_at s.group_records (star_key i g))
-          (row_at t.group_records (star_key i g)) (same.group_at i) j && not (excludes i j)
-          && there_alike same_source_record (source_record s g src i) (source_record t g src i) (same.record_at i) j;
+      included = same.included;
       excluded = λ i. flag_alike same_source_record (λ (r : SourceRecordRow). is_none r.end)
           (λ a b e. ends_none a.end b.end e) (source_record s g src i) (source_record t g src i) (same.record_at i);
       spt = flag_alike same_source (λ (r : SourceRow). r.spt) spt_alike (row_at s.sources (source_key 0 g src))
