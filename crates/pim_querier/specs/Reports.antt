@@ -46,13 +46,13 @@ record_named s i g sources =
 abbrev pub stays : RecordType → Option SourceRecordRow → Bool
 stays type o = option_map_or (λ (r : SourceRecordRow). not (is_including type) || is_some r.end) o false
 
--- The group has a record, which stays in its mode: in EXCLUDE it does, and in INCLUDE where the sources stay that are there
--- and there is one.
+-- The group stays in its mode: in EXCLUDE it does, and in INCLUDE where the sources stay that aren't named, and there is one
+-- of them where the group has a record, and none where it has none.
 unfoldable pub keeps_mode : State → ℕ → Record → Bool
 keeps_mode s i r =
-    has_row s.group_records (star_key i r.group)
-    && (is_some (group_end s i r.group)
-    || (keeps_others r.type && list_any (λ e. is_at_group i r.group e.0) s.source_records))
+    let listed : Bool = list_any (λ e. is_at_group i r.group e.0) s.source_records in
+    is_some (group_end s i r.group)
+    || (keeps_others r.type && (if has_row s.group_records (star_key i r.group) then listed else not listed))
 
 -- so do those of a report but those that are skipped
 unfoldable pub all_keep_modes : State → ℕ → List Record → Bool

@@ -35,7 +35,7 @@ fn stays(record_type: RecordType, row: Option<SourceRecordRow>) -> bool
     }
 }
 
-// Whether the record's group has a record, which stays in its mode.
+// Whether the record's group stays in its mode, be it INCLUDE without a record.
 #[tactic(auto, unfolding(crate::specs::Reports::keeps_mode))]
 fn keeps_mode(world: &World, iface: IfaceId, group_record: &RecordView<'_>) -> bool
     ensures { result ≡ keeps_mode world.now iface.number group_record.now }
@@ -44,13 +44,14 @@ fn keeps_mode(world: &World, iface: IfaceId, group_record: &RecordView<'_>) -> b
         iface,
         group: group_record.group(),
     };
-    world.has_group_record(place.iface, place.group)
-        && (world.group_end(place.iface, place.group).is_some()
-            || (keeps_others(group_record.record_type()) && has_sources(world, place)))
+    if world.group_end(place.iface, place.group).is_some() {
+        return true;
+    }
+    keeps_others(group_record.record_type())
+        && world.has_group_record(place.iface, place.group) == has_sources(world, place)
 }
 
-/// Whether the groups of all records of the report have records, which stay in their modes, but for the records that
-/// are skipped.
+/// Whether the groups of all records of the report stay in their modes, but for the records that are skipped.
 #[tactic(auto, unfolding(crate::specs::Reports::all_keep_modes))]
 pub fn all_keep_modes(world: &World, iface: IfaceId, report: &ReportView<'_>) -> bool
     ensures { result ≡ all_keep_modes world.now iface.number report.now }

@@ -37,7 +37,7 @@ module _ {R : Type 0} (cut : R → R) where
   above_cut k [] above = tt
   above_cut k (e ∷ t) above = (above.0, above_cut k t above.1)
 
-  up_cut : (t : Table R) → Up t → Up (map (cut_entry cut) t)
+  pub up_cut : (t : Table R) → Up t → Up (map (cut_entry cut) t)
   up_cut [] up = tt
   up_cut (e ∷ t) up = (above_cut e.0 t up.0, up_cut t up.1)
 

@@ -1,5 +1,7 @@
 -- A report whose groups keep their modes: no machine sees it but those of the sources that it moves.
-use Rattle.std.proofs.Common.{◌≡◌, ℕ, ◌==◌, ◌&&◌, ◌||◌, ◌++◌, Bool, true, false, not, cond, List, [], ◌∷◌, fold, map, filter, Option, Some, None, is_none, is_some, option_and_then, option_map, refl, ap, sym, subst, ◌∙◌, ◌+◌, eqb-true}
+use Rattle.std.specs.Option.{option_map_or}
+use Rattle.std.specs.Prelude.{◌⊎◌}
+use Rattle.std.proofs.Common.{inl, inr, ◌≡◌, ℕ, ◌==◌, ◌&&◌, ◌||◌, ◌++◌, Bool, true, false, not, cond, List, [], ◌∷◌, fold, map, filter, Option, Some, None, is_none, is_some, option_and_then, option_map, refl, ap, sym, subst, ◌∙◌, ◌+◌, eqb-true}
 use Rattle.std.proofs.lemmas.Bool.{or_left, or_right}
 use Rattle.std.proofs.lemmas.List.Folds.{list_any-append}
 use Rattle.std.specs.Cmp.{first_so, second_so}
@@ -14,7 +16,7 @@ use Rattle.pim_types.specs.declared.fact.Key.{Key}
 use Rattle.pim_types.specs.declared.fact.SendingRow.{SendingRow}
 use Rattle.pim_types.specs.declared.fact.SourceRecordRow.{SourceRecordRow}
 use Rattle.pim_types.specs.declared.fact.SourceRepeatRow.{SourceRepeatRow}
-use Rattle.pim_types.specs.Keys.{group_in, is_of_group, is_on, key_cmp, same_key, source_in, source_key, star_key}
+use Rattle.pim_types.specs.Keys.{group_in, iface_in, is_of_group, is_on, key_cmp, same_key, source_in, source_key, star_key}
 use Rattle.pim_types.proofs.Keys.{equal_keys, same_key_same}
 use Rattle.pim_model.specs.Downstream.{is_named}
 use Rattle.pim_model.specs.Full.{reported_sources}
@@ -26,14 +28,14 @@ use Rattle.pim_model.specs.State.{State}
 use Rattle.pim_model.specs.Tables.{Table, drop_at, drop_where, has_row, is_among, is_empty_list, keys_in, put, row_at, rows_where}
 use Rattle.pim_model.specs.Upstream.{fact_keys}
 use Rattle.pim_laws.proofs.ListLaws.{any_more, by_cond, each_filter, either}
-use Rattle.pim_laws.proofs.RowLaws.{each_put}
+use Rattle.pim_laws.proofs.RowLaws.{each_put, has_row_without, row_drop_away, row_put, row_put_away}
 use Rattle.pim_laws.proofs.TableLaws.{any_in_filter, any_of_map}
 use Rattle.pim_laws.proofs.TurnLaws.{kept_by_fold, kept_in_turn}
 use Rattle.pim_laws.specs.Laws.{is_under_source}
 use Rattle.pim_locality.specs.Locality.{AgreesBut, touching}
-use Rattle.pim_locality.specs.Scopes.{only_mode, only_running, only_side, reads, scope}
+use Rattle.pim_locality.specs.Scopes.{is_mode_read, modes_read, only_mode, only_running, only_side, reads, scope}
 use Rattle.pim_locality.proofs.Differing.{passing_named, row_named}
-use Rattle.pim_locality.proofs.Rows.{cut_entry, rows_where_cut}
+use Rattle.pim_locality.proofs.Rows.{cut_entry, row_at_cut, row_in_scope, row_out_of_scope, rows_where_cut}
 use Rattle.pim_locality.proofs.SameRows.{of_source_records}
 use Rattle.pim_locality.proofs.SameTables.{seen_found_alike}
 use Rattle.pim_locality.proofs.SourceMacros.{cut_source}
@@ -41,9 +43,9 @@ use Rattle.pim_locality.proofs.StarMacros.{cut_group, some_cut}
 use Rattle.pim_querier.specs.Reports.{all_keep_modes, keeps_mode, keeps_others, moved_by, moved_named, moved_others, moved_sources, stays}
 use Rattle.pim_model.specs.Cause.{is_including}
 use Rattle.pim_querier.proofs.OneSource.{AreSources}
-use Rattle.pim_tables.proofs.RisingRows.{Above, Up, up_of_sorted}
+use Rattle.pim_tables.proofs.RisingRows.{Above, Up, same_rows, sorted_of_up, up_filtered, up_of_sorted, up_put}
 use Rattle.pim_router.proofs.Growing.{any_left, any_right, row_among}
-use Rattle.pim_router.proofs.MovedEnds.{Fares, IsMoved, any_kept, applied_moved, is_left, keys_alike, own_here, put_alike, row_alike, side, written}
+use Rattle.pim_router.proofs.MovedEnds.{Fares, IsMoved, any_kept, applied_moved, is_left, keys_alike, own_here, row_alike, side, up_cut, written}
 
 -- ---- tables that are alike, of the rows of some keys and changed in their places
 
@@ -218,11 +220,137 @@ same_side None (Some y) e = cc
 same_side (Some x) None e = cc
 same_side (Some x) (Some y) e = let inner : cut_source x ≡ cut_source y = cc in of_source_records.back x y inner
 
+-- ---- records of groups, of which those in INCLUDE with no source aren't read
+
+-- its timer runs
+abbrev ends : Table GroupRecordRow → Key → Bool
+ends u k = is_some (option_and_then (λ (x : GroupRecordRow). x.end) (row_at u k))
+
+-- a source of its group has a record on its interface
+abbrev is_listed : Table SourceRecordRow → Key → Bool
+is_listed t k = list_any (λ (e : Key × SourceRecordRow). is_at_group (iface_in k) (group_in k) e.0) t
+
+-- the record is the same but for its end, or none reads it
+abbrev IsMode : Table SourceRecordRow → Table GroupRecordRow → Table GroupRecordRow → Key → Type 0
+IsMode t u v k =
+    (option_map cut_group (row_at u k) ≡ option_map cut_group (row_at v k))
+    ⊎ ((ends u k ≡ false) × (ends v k ≡ false) × (is_listed t k ≡ false))
+
+ends_alike : (u v : Table GroupRecordRow) (k : Key) → option_map cut_group (row_at u k) ≡ option_map cut_group (row_at v k)
+    → ends u k ≡ ends v k
+ends_alike u v k e =
+    sym (runs_cut (row_at u k))
+    ∙ ap (λ (o : Option GroupRecordRow). is_some (option_and_then (λ (x : GroupRecordRow). x.end) o)) e
+    ∙ runs_cut (row_at v k)
+
+no_row : (u : Table GroupRecordRow) (k : Key) → option_map cut_group (row_at u k) ≡ None → has_row u k ≡ false
+unfolding has_row
+no_row u k e =
+    sym (some_cut_row cut_group (row_at u k)) ∙ ap (λ (o : Option GroupRecordRow). is_some o) e
+
+-- where the rows behind are alike
+mode_then : (t : Table SourceRecordRow) (u v w : Table GroupRecordRow) (k : Key) → IsMode t u v k
+    → option_map cut_group (row_at v k) ≡ option_map cut_group (row_at w k) → IsMode t u w k
+mode_then t u v w k (inl e) same = inl (e ∙ same)
+mode_then t u v w k (inr (a, b, c)) same = inr (a, sym (ends_alike v w k same) ∙ b, c)
+
+none_beneath : (p : Key → Bool) (test : Key → Bool) (t : Table SourceRecordRow)
+    → list_any (λ (e : Key × SourceRecordRow). p e.0) t ≡ false
+    → list_any (λ (e : Key × SourceRecordRow). p e.0) (map only_side (rows_where test t)) ≡ false
+unfolding rows_where
+none_beneath p test [] none = refl
+none_beneath p test (x ∷ xs) none = go (p x.0) (test x.0) none (none_beneath p test xs) refl
+  where
+    go : (a b : Bool) → (a || list_any (λ (e : Key × SourceRecordRow). p e.0) xs) ≡ false
+        → (list_any (λ (e : Key × SourceRecordRow). p e.0) xs ≡ false
+        → list_any (λ (e : Key × SourceRecordRow). p e.0) (map only_side (rows_where test xs)) ≡ false)
+        → p x.0 ≡ a
+        → list_any (λ (e : Key × SourceRecordRow). p e.0) (map only_side (cond b (x ∷ rows_where test xs) (rows_where test xs))) ≡ false
+    go true b e ih is = cc
+    go false true e ih is = rw is (ih e)
+    go false false e ih is = ih e
+
+-- what is read of two tables of groups' records is the same
+module _ (sees : Key → Bool) (t : Table SourceRecordRow) (u v : Table GroupRecordRow)
+    (rise : IsStrictlySortedBy key_cmp (keys_in u)) (rise' : IsStrictlySortedBy key_cmp (keys_in v))
+    (modes : (k : Key) → IsMode t u v k) where
+  abbrev seen_of : Table GroupRecordRow → Table GroupRecordRow
+  seen_of w = map only_mode (rows_where sees w)
+
+  abbrev beside : Table SourceRecordRow
+  beside = map only_side (rows_where sees t)
+
+  read_up : (w : Table GroupRecordRow) → IsStrictlySortedBy key_cmp (keys_in w) → Up (modes_read (seen_of w) beside)
+  unfolding rows_where
+  read_up w up =
+      up_filtered (λ e. is_mode_read (seen_of w) beside e.0) (seen_of w)
+      (up_cut cut_group (rows_where sees w) (up_filtered (λ e. sees e.0) w (up_of_sorted w up)))
+
+  -- by whether it is read, and seen
+  row_read : (w : Table GroupRecordRow) (k : Key) (b : Bool) → is_mode_read (seen_of w) beside k ≡ b
+      → row_at (modes_read (seen_of w) beside) k ≡ cond b (row_at (seen_of w) k) None
+  row_read w k true e = row_in_scope (is_mode_read (seen_of w) beside) k e (seen_of w)
+  row_read w k false e = row_out_of_scope (is_mode_read (seen_of w) beside) k e (seen_of w)
+
+  row_seen : (w : Table GroupRecordRow) (k : Key) (b : Bool) → sees k ≡ b
+      → row_at (seen_of w) k ≡ cond b (option_map cut_group (row_at w k)) None
+  row_seen w k true e = row_at_cut cut_group k (rows_where sees w) ∙ ap (option_map cut_group) (row_in_scope sees k e w)
+  row_seen w k false e =
+      row_at_cut cut_group k (rows_where sees w) ∙ ap (option_map cut_group) (row_out_of_scope sees k e w)
+
+  cut_ends : (w : Table GroupRecordRow) (k : Key)
+      → option_map_or (λ (r : GroupRecordRow). is_some r.end) (option_map cut_group (row_at w k)) false ≡ ends w k
+  cut_ends w k = go (row_at w k)
+    where
+      go : (o : Option GroupRecordRow)
+          → option_map_or (λ (r : GroupRecordRow). is_some r.end) (option_map cut_group o) false
+          ≡ is_some (option_and_then (λ (x : GroupRecordRow). x.end) o)
+      go None = refl
+      go (Some x) = some_cut x.end
+
+  -- with the row that is seen, the same is read
+  same_read : (k : Key) → row_at (seen_of u) k ≡ row_at (seen_of v) k
+      → row_at (modes_read (seen_of u) beside) k ≡ row_at (modes_read (seen_of v) beside) k
+  unfolding is_mode_read
+  same_read k e =
+      let same : is_mode_read (seen_of u) beside k ≡ is_mode_read (seen_of v) beside k =
+      ap (λ (o : Option GroupRecordRow). option_map_or (λ (r : GroupRecordRow). is_some r.end) o false
+      || list_any (λ (x : Key × SourceRecordRow). is_at_group (iface_in k) (group_in k) x.0) beside) e in
+      row_read u k _ refl ∙ (λ j. cond (same j) (e j) None) ∙ sym (row_read v k _ refl)
+
+  -- what is in INCLUDE with no source is not read
+  unread_mode : (w : Table GroupRecordRow) (k : Key) → sees k ≡ true → ends w k ≡ false → is_listed t k ≡ false
+      → row_at (modes_read (seen_of w) beside) k ≡ None
+  unfolding is_mode_read
+  unread_mode w k see ended none =
+      let off : is_mode_read (seen_of w) beside k ≡ false =
+      (λ j. option_map_or (λ (r : GroupRecordRow). is_some r.end) (row_seen w k true see j) false
+      || none_beneath (is_at_group (iface_in k) (group_in k)) sees t none j)
+      ∙ or_none _ (cut_ends w k ∙ ended) in
+      row_read w k false off
+    where
+      or_none : (b : Bool) → b ≡ false → (b || false) ≡ false
+      or_none true e = cc
+      or_none false e = refl
+
+  found : (k : Key) → row_at (modes_read (seen_of u) beside) k ≡ row_at (modes_read (seen_of v) beside) k
+  found k = go (sees k) refl (modes k)
+    where
+      go : (b : Bool) → sees k ≡ b → IsMode t u v k
+          → row_at (modes_read (seen_of u) beside) k ≡ row_at (modes_read (seen_of v) beside) k
+      go false out mode = same_read k (row_seen u k false out ∙ sym (row_seen v k false out))
+      go true see (inl e) = same_read k (row_seen u k true see ∙ e ∙ sym (row_seen v k true see))
+      go true see (inr (a, b, c)) = unread_mode u k see a c ∙ sym (unread_mode v k see b c)
+
+  modes_alike : modes_read (seen_of u) beside ≡ modes_read (seen_of v) beside
+  modes_alike = same_rows (modes_read (seen_of u) beside) (modes_read (seen_of v) beside) (read_up u rise) (read_up v rise') found
+
 -- ---- states in which the sources that aren't moved are on the same side
 
 module _ (s : State) (ordered : IsOrdered s) (i : ℕ) (moved : Key → Bool) where
   pub record Moves (t : State) : Type 0 where
-    pub groups : map only_mode s.group_records ≡ map only_mode t.group_records
+    pub groups : (k : Key) → IsMode s.source_records s.group_records t.group_records k
+    pub groups_rise : IsStrictlySortedBy key_cmp (keys_in t.group_records)
     pub sources : (k : Key) → moved k ≡ false → side (row_at s.source_records k) ≡ side (row_at t.source_records k)
     -- of a group in INCLUDE none went
     pub stay : (g : ℕ) → is_some (group_end s i g) ≡ false → (k : Key) → is_at_group i g k ≡ true
@@ -233,7 +361,8 @@ module _ (s : State) (ordered : IsOrdered s) (i : ℕ) (moved : Key → Bool) wh
 
   moves_none : Moves s
   moves_none = record {
-    groups = refl;
+    groups = λ k. inl refl;
+    groups_rise = ordered.groups;
     sources = λ k off. refl;
     stay = λ g include k here there. there;
     rise = ordered.sources;
@@ -244,7 +373,9 @@ module _ (s : State) (ordered : IsOrdered s) (i : ℕ) (moved : Key → Bool) wh
   moves_fade : (t u : State) → Moves t → Fades t u → Moves u
   unfolding has_row
   moves_fade t u f g = record {
-    groups = f.groups ∙ g.groups;
+    groups = λ k. mode_then s.source_records s.group_records t.group_records u.group_records k (f.groups k)
+        (row_alike cut_group k t.group_records u.group_records g.groups);
+    groups_rise = subst (IsStrictlySortedBy key_cmp) (keys_alike cut_group t.group_records u.group_records g.groups) f.groups_rise;
     sources = λ k off. f.sources k off ∙ row_alike cut_source k t.source_records u.source_records g.sources;
     stay = λ h include k here there.
         sym (some_cut_row cut_source (row_at u.source_records k))
@@ -262,23 +393,13 @@ module _ (s : State) (ordered : IsOrdered s) (i : ℕ) (moved : Key → Bool) wh
     abbrev star : Key
     star = star_key i g
 
-    has_alike : has_row s.group_records star ≡ has_row t.group_records star
-    unfolding has_row
-    has_alike =
-        sym (some_cut_row cut_group (row_at s.group_records star))
-        ∙ ap (λ (o : Option GroupRecordRow). is_some o) (row_alike cut_group star s.group_records t.group_records f.groups)
-        ∙ some_cut_row cut_group (row_at t.group_records star)
-
     runs_alike : is_some (group_end s i g) ≡ is_some (group_end t i g)
-    runs_alike =
-        sym (runs_cut (row_at s.group_records star))
-        ∙ ap (λ (o : Option GroupRecordRow). is_some (option_and_then (λ (x : GroupRecordRow). x.end) o))
-        (row_alike cut_group star s.group_records t.group_records f.groups)
-        ∙ runs_cut (row_at t.group_records star)
-
-    groups_rise : IsStrictlySortedBy key_cmp (keys_in t.group_records)
-    groups_rise =
-        subst (IsStrictlySortedBy key_cmp) (keys_alike cut_group s.group_records t.group_records f.groups) ordered.groups
+    runs_alike = go (f.groups star)
+      where
+        go : IsMode s.source_records s.group_records t.group_records star
+            → is_some (group_end s i g) ≡ is_some (group_end t i g)
+        go (inl e) = ends_alike s.group_records t.group_records star e
+        go (inr (a, b, c)) = a ∙ sym b
 
     fares_now : (type : RecordType) (names : List ℕ) → Fares i g s.source_records moved type names
         → Fares i g t.source_records moved type names
@@ -305,29 +426,58 @@ module _ (s : State) (ordered : IsOrdered s) (i : ℕ) (moved : Key → Bool) wh
         sym (eqb-true (group_in k) h (second_so (is_on i k) (is_of_group h k) first))
         ∙ eqb-true (group_in k) g (second_so (is_on i k) (is_of_group g k) second)
 
-    record_written : (a : GroupRecord) (old : GroupRecordRow) → row_at t.group_records star ≡ Some old
-        → IsMoved i g t.source_records f.rise f.under moved old.end a → is_no_record a ≡ false
+    abbrev timed : GroupRecord → Table GroupRecordRow
+    timed a = put t.group_records star (record { end = a.timer })
+
+    abbrev kept_groups : GroupRecord → Bool → Table GroupRecordRow
+    kept_groups a b = cond b (drop_at (timed a) star) (timed a)
+
+    -- another group's record is as it was
+    elsewhere : (a : GroupRecord) (b : Bool) (k : Key) → same_key star k ≡ false
+        → row_at (kept_groups a b) k ≡ row_at t.group_records k
+    elsewhere a true k is =
+        row_drop_away star k other (timed a) ∙ row_put_away star k other (record { end = a.timer }) t.group_records
+      where
+        other : star ≡ k → ⊥
+        other same = let yes : same_key star k ≡ true = subst (λ (x : Key). same_key star x ≡ true) same (same_key_same star) in cc
+    elsewhere a false k is = row_put_away star k other (record { end = a.timer }) t.group_records
+      where
+        other : star ≡ k → ⊥
+        other same = let yes : same_key star k ≡ true = subst (λ (x : Key). same_key star x ≡ true) same (same_key_same star) in cc
+
+    groups_up : (a : GroupRecord) (b : Bool) → Up (kept_groups a b)
+    unfolding drop_at drop_where
+    groups_up a true =
+        up_filtered (λ e. not (same_key star e.0)) (timed a)
+        (up_put star (record { end = a.timer }) t.group_records (up_of_sorted t.group_records f.groups_rise))
+    groups_up a false = up_put star (record { end = a.timer }) t.group_records (up_of_sorted t.group_records f.groups_rise)
+
+    record_written : (a : GroupRecord)
+        → IsMoved i g t.source_records f.rise f.under moved (group_end t i g) a
+        → IsMode s.source_records s.group_records (kept_groups a (is_no_record a)) star
         → Moves (with_record t i g a)
     unfolding with_record with_members with_repeats_of_rows
-    record_written a old there is left =
-        let timed : Table GroupRecordRow = put t.group_records star (record { end = a.timer }) in
+    record_written a is at =
         record {
-          groups =
-              f.groups
-              ∙ sym (ap (λ (b : Bool). map only_mode (cond b (drop_at timed star) timed)) left
-              ∙ put_alike cut_group star (record { end = a.timer }) old t.group_records
-              (up_of_sorted t.group_records groups_rise)
-              (ap (λ (o : Option ℕ). let r : GroupRecordRow = record { end = o } in r) is.runs) there);
+          groups = λ k. each k (same_key star k) refl;
+          groups_rise = sorted_of_up (kept_groups a (is_no_record a)) (groups_up a (is_no_record a));
           sources = λ k off. f.sources k off ∙ sym (is.rows k off);
           stay = λ h include k here had.
               is.keeps k
-              (λ own. sym (ap (λ (o : Option GroupRecordRow). is_some (option_and_then (λ (x : GroupRecordRow). x.end) o)) there)
-              ∙ sym runs_alike ∙ ap (λ (n : ℕ). is_some (group_end s i n)) (sym (two_groups h k here own)) ∙ include)
+              (λ own. sym runs_alike ∙ ap (λ (n : ℕ). is_some (group_end s i n)) (sym (two_groups h k here own)) ∙ include)
               (f.stay h include k here had);
           rise = sorted _ is.rising;
           under = written_under i g a.members t.source_records f.under;
           rest = f.rest;
         }
+      where
+        each : (k : Key) (b : Bool) → same_key star k ≡ b
+            → IsMode s.source_records s.group_records (kept_groups a (is_no_record a)) k
+        each k true e =
+            subst (IsMode s.source_records s.group_records (kept_groups a (is_no_record a))) (equal_keys star k e) at
+        each k false e =
+            mode_then s.source_records s.group_records t.group_records (kept_groups a (is_no_record a)) k (f.groups k)
+            (ap (option_map cut_group) (sym (elsewhere a (is_no_record a) k e)))
 
   module _ (t : State) (f : Moves t) (r : Record) (keeps : keeps_mode s i r ≡ true)
       (fare : Fares i r.group s.source_records moved r.type r.sources) where
@@ -343,60 +493,117 @@ module _ (s : State) (ordered : IsOrdered s) (i : ℕ) (moved : Key → Bool) wh
     abbrev any : Table SourceRecordRow → Bool
     any u = list_any (λ (e : Key × SourceRecordRow). is_at_group i g e.0) u
 
-    three : (has_row s.group_records (star_key i g)
-        && (is_some (group_end s i g) || (keeps_others r.type && any s.source_records))) ≡ true
+    abbrev star_here : Key
+    star_here = star_key i g
+
+    mode : (is_some (group_end s i g) || (keeps_others r.type
+        && cond (has_row s.group_records star_here) (any s.source_records) (not (any s.source_records)))) ≡ true
     unfolding keeps_mode
-    three = keeps
-
-    has : has_row s.group_records (star_key i g) ≡ true
-    has = first_so (has_row s.group_records (star_key i g)) _ three
-
-    mode : (is_some (group_end s i g) || (keeps_others r.type && any s.source_records)) ≡ true
-    mode = second_so (has_row s.group_records (star_key i g)) _ three
+    mode = keeps
 
     or_first : (a b c : Bool) → (a || (b && c)) ≡ true → (a || b) ≡ true
     or_first true b c e = refl
     or_first false true c e = refl
     or_first false false c e = cc
 
-    or_second : (a b c : Bool) → (a || (b && c)) ≡ true → (a || c) ≡ true
-    or_second true b c e = refl
-    or_second false true true e = refl
-    or_second false true false e = cc
-    or_second false false c e = cc
+    is : IsMoved i g t.source_records f.rise f.under moved (group_end t i g) made.0
+    unfolding record_of
+    is =
+        applied_moved i g t.source_records f.rise f.under full r.sources moved (group_end t i g) r.type
+        (ap (λ (b : Bool). b || keeps_others r.type) (sym (runs_alike t f g)) ∙ or_first (is_some (group_end s i g)) (keeps_others r.type) _ mode)
+        (fares_now t f g r.type r.sources fare)
 
-    written_by : (o : Option GroupRecordRow) → row_at t.group_records (star_key i g) ≡ o
-        → Moves (with_record t i g made.0)
-    unfolding record_of has_row
-    written_by None there =
-        let no : false ≡ true =
-        sym (ap (λ (o : Option GroupRecordRow). is_some o) there) ∙ sym (has_alike t f g) ∙ has in cc
-    written_by (Some old) there =
-        let runs : is_some (group_end s i g) ≡ is_some old.end =
-        runs_alike t f g
-        ∙ ap (λ (o : Option GroupRecordRow). is_some (option_and_then (λ (x : GroupRecordRow). x.end) o)) there in
-        let of_old : (let x : GroupRecord = record { timer = old.end; members = (record_of t i g).members } in x) ≡ record_of t i g =
-        sym (ap (λ (o : Option GroupRecordRow). let x : GroupRecord = record {
-          timer = option_and_then (λ (y : GroupRecordRow). y.end) o;
-          members = (record_of t i g).members;
-        } in x) there) in
-        let is : IsMoved i g t.source_records f.rise f.under moved old.end made.0 =
-        subst (λ (x : GroupRecord). IsMoved i g t.source_records f.rise f.under moved old.end
-        (apply_record full x r.type r.sources).0) of_old
-        (applied_moved i g t.source_records f.rise f.under full r.sources moved old.end r.type
-        (ap (λ (b : Bool). b || keeps_others r.type) (sym runs) ∙ or_first (is_some (group_end s i g)) (keeps_others r.type) (any s.source_records) mode)
-        (fares_now t f g r.type r.sources fare)) in
-        record_written t f g made.0 old there is
-        (is_left i g t.source_records f.rise f.under moved old.end made.0 is
-        (ap (λ (b : Bool). b || any t.source_records) (sym runs)
-        ∙ any_still t f g (is_some (group_end s i g)) refl
-        (or_second (is_some (group_end s i g)) (keeps_others r.type) (any s.source_records) mode)))
+    timer_runs : is_some (made.0).timer ≡ is_some (group_end t i g)
+    timer_runs =
+        sym (some_cut (made.0).timer) ∙ ap (λ (o : Option ℕ). is_some o) is.runs ∙ some_cut (group_end t i g)
+
+    -- a group in EXCLUDE, or with sources, has the record that it had
+    had : (is_some (group_end s i g) || any s.source_records) ≡ true
+        → IsMode s.source_records s.group_records (kept_groups t f g made.0 (is_no_record made.0)) star_here
+    had some =
+        let left : is_no_record made.0 ≡ false =
+        is_left i g t.source_records f.rise f.under moved (group_end t i g) made.0 is
+        (ap (λ (b : Bool). b || any t.source_records) (sym (runs_alike t f g))
+        ∙ any_still t f g (is_some (group_end s i g)) refl some) in
+        subst (λ (b : Bool). IsMode s.source_records s.group_records (kept_groups t f g made.0 b) star_here) (sym left)
+        (by_mode (f.groups star_here))
+      where
+        both_none : (a b : Bool) → (a || b) ≡ true → a ≡ false → b ≡ false → ⊥
+        both_none true b e h k = cc
+        both_none false b e h k = cc
+
+        -- with sources there is a record
+        has_none : (a b c h : Bool) → (a || (b && cond h c (not c))) ≡ true → (a || c) ≡ true → a ≡ false → h ≡ false → ⊥
+        has_none true b c h e k off out = cc
+        has_none false true true true e k off out = cc
+        has_none false true true false e k off out = cc
+        has_none false true false h e k off out = cc
+        has_none false false c h e k off out = cc
+
+        by_row : (o : Option GroupRecordRow) → row_at t.group_records star_here ≡ o
+            → option_map cut_group (row_at s.group_records star_here) ≡ option_map cut_group (row_at t.group_records star_here)
+            → option_map cut_group (row_at s.group_records star_here)
+            ≡ Some (cut_group (record { end = (made.0).timer }))
+        by_row None there e =
+            absurd (has_none (is_some (group_end s i g)) (keeps_others r.type) (any s.source_records)
+            (has_row s.group_records star_here) mode some
+            (runs_alike t f g ∙ ap (λ (o : Option GroupRecordRow). is_some (option_and_then (λ (x : GroupRecordRow). x.end) o)) there)
+            (no_row s.group_records star_here (e ∙ ap (option_map cut_group) there)))
+        by_row (Some old) there e =
+            e ∙ ap (option_map cut_group) there
+            ∙ ap (λ (n : Option ℕ). Some (let x : GroupRecordRow = record { end = n } in x))
+            (ap (λ (o : Option GroupRecordRow). only_running (option_and_then (λ (x : GroupRecordRow). x.end) o)) (sym there)
+            ∙ sym is.runs)
+
+        by_mode : IsMode s.source_records s.group_records t.group_records star_here
+            → IsMode s.source_records s.group_records (kept_groups t f g made.0 false) star_here
+        by_mode (inl e) =
+            inl (by_row (row_at t.group_records star_here) refl e
+            ∙ sym (ap (option_map cut_group) (row_put star_here (record { end = (made.0).timer }) t.group_records)))
+        by_mode (inr (a, b, c)) = absurd (both_none (is_some (group_end s i g)) (any s.source_records) some a c)
+
+    no_end : (b : Bool) → is_some (made.0).timer ≡ false → ends (kept_groups t f g made.0 b) star_here ≡ false
+    unfolding has_row
+    no_end true ended = dropped (row_at (drop_at (timed t f g made.0) star_here) star_here) (gone (timed t f g made.0))
+      where
+        gone : (u : Table GroupRecordRow) → has_row (drop_at u star_here) star_here ≡ false
+        gone u =
+            has_row_without star_here star_here u
+            ∙ ap (λ (b : Bool). not b && has_row u star_here) (same_key_same star_here)
+
+        dropped : (o : Option GroupRecordRow) → is_some o ≡ false
+            → is_some (option_and_then (λ (x : GroupRecordRow). x.end) o) ≡ false
+        dropped None e = refl
+        dropped (Some x) e = cc
+    no_end false ended =
+        ap (λ (o : Option GroupRecordRow). is_some (option_and_then (λ (x : GroupRecordRow). x.end) o))
+        (row_put star_here (record { end = (made.0).timer }) t.group_records) ∙ ended
+
+    -- one in INCLUDE with no sources may come, or go again: none reads it
+    hadnt : (is_some (group_end s i g) || any s.source_records) ≡ false
+        → IsMode s.source_records s.group_records (kept_groups t f g made.0 (is_no_record made.0)) star_here
+    hadnt none =
+        let off : is_some (group_end s i g) ≡ false = (two_none (is_some (group_end s i g)) (any s.source_records) none).0 in
+        inr (off, no_end (is_no_record made.0) (timer_runs ∙ sym (runs_alike t f g) ∙ off),
+        (two_none (is_some (group_end s i g)) (any s.source_records) none).1)
+      where
+        two_none : (a b : Bool) → (a || b) ≡ false → (a ≡ false) × (b ≡ false)
+        two_none true b e = cc
+        two_none false b e = (refl, e)
+
+    written_now : Moves (with_record t i g made.0)
+    written_now = record_written t f g made.0 is (go (is_some (group_end s i g) || any s.source_records) refl)
+      where
+        go : (b : Bool) → (is_some (group_end s i g) || any s.source_records) ≡ b
+            → IsMode s.source_records s.group_records (kept_groups t f g made.0 (is_no_record made.0)) star_here
+        go true e = had e
+        go false e = hadnt e
 
     record_moves : Moves (record_seen i t r).0
     unfolding record_seen
     record_moves =
         let after : State = with_record t i g made.0 in
-        let now : Moves after = written_by (row_at t.group_records (star_key i g)) refl in
+        let now : Moves after = written_now in
         by_cond (λ (p : State × List Message). Moves p.0) (is_querier t i)
         (each_in_turn (query_asked i g) after made.1) (after, [])
         (moves_fade after (each_in_turn (query_asked i g) after made.1).0 now (all_asked i g after made.1)) now
@@ -519,12 +726,16 @@ module _ (s : State) (ordered : IsOrdered s) (i : ℕ) (keys : List Key) (t : St
 
   moves_agree : AgreesBut (touching keys) s t
   unfolding scope
-  moves_agree q out = λ j. record (scope (reads q) (f.rest j)) {
-    group_records = where_alike cut_group (reads q) s.group_records t.group_records f.groups j;
-    source_records = seen_found_alike same_source_record cut_source of_source_records (reads q) s.source_records
-        t.source_records ordered.sources f.rise
-        (λ k is. same_side (row_at s.source_records k) (row_at t.source_records k) (f.sources k (unnamed q k out is))) j;
-  }
+  moves_agree q out =
+      let seen : map only_side (rows_where (reads q) s.source_records) ≡ map only_side (rows_where (reads q) t.source_records) =
+      seen_found_alike same_source_record cut_source of_source_records (reads q) s.source_records
+      t.source_records ordered.sources f.rise
+      (λ k is. same_side (row_at s.source_records k) (row_at t.source_records k) (f.sources k (unnamed q k out is))) in
+      let groups : modes_read (map only_mode (rows_where (reads q) s.group_records)) (map only_side (rows_where (reads q) s.source_records))
+      ≡ modes_read (map only_mode (rows_where (reads q) t.group_records)) (map only_side (rows_where (reads q) t.source_records)) =
+      modes_alike (reads q) s.source_records s.group_records t.group_records ordered.groups f.groups_rise f.groups
+      ∙ ap (modes_read (map only_mode (rows_where (reads q) t.group_records))) seen in
+      λ j. record (scope (reads q) (f.rest j)) { group_records = groups j; source_records = seen j; }
 
 pub report_touches_moved : (s : State) (i : ℕ) (records : List Record) → IsOrdered s
     → all_keep_modes s i records ≡ true → AgreesBut (touching (moved_sources s i records)) s (report_seen s i records).0
