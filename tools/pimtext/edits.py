@@ -6,16 +6,22 @@ from itertools import zip_longest
 
 from pimtext.functions import clauses, functions, module_of, notes_beside
 
+# What the front end is to say of an edit that no type allows.
+ERROR = re.compile(r"error\[[\w-]+\]")
 # What the kit says of an edit in must-fail/, of one that it can name no crate for, and how it begins where it is refused.
 SAID = re.compile(r"rt: must-fail ([\w-]+)/(\S+)\.edit: (.*)")
 BAD = re.compile(r"rt: (\S+): BAD EDIT: (.*)")
 NAME = re.compile(r"[A-Za-z0-9_-][A-Za-z0-9_.-]*\.edit")
 REFUSED = "refused, as it must be"
+UNNAMED = "it names no reason in a line `refused: FUNCTION CLAUSE`"
 BY_A_NAME, BY_A_LIMIT = "only because a proof file names", "only by a limit of the prover"
 # The kit passes on so many letters of the prover's line, and no more of it anywhere.
 KEPT = 160
+# Here the edits are of the network of which the runs are, and a run's premise refuses them.
+OF_NETWORKS = ("pim_served_runs",)
 # Where a goal isn't met: in a proof by hand, whose path ends with the function's name, or in the code.
-IN_PROOF = re.compile(r"\./proofs/(\S*)/(?:Answers|Invariants|Proof)\.antt:\d+:\d+: error: `([^`]*)(`?)")
+IN_PROOF = re.compile(r"\./proofs/(\S*)/(?:Answers|Invariants|Proof)\.antt:\d+:\d+: error: "
+                      r"(?:\d+ declarations? that depends? on )?`([^`]*)(`?)")
 IN_CODE = re.compile(r"(?:note: )?(src/\S+?):(\d+):\d+: (?:error: )?(.*)")
 GOAL = re.compile(r"\(`([^`]*)(`?)")
 
@@ -45,6 +51,8 @@ def clause_of(goal):
     """The clause that a goal of the prover's is about: its name, or its kind where it has none."""
     if re.search(r"(^|-)requires\b", goal):
         return "requires"
+    if kind := re.match(r"invariant|loop", goal):
+        return kind[0]
     if named := re.search(r"-clause-(\w+?)(?:-\d+)?$", goal):
         return named[1]
     return "ensures" if goal.startswith("returns") else re.split(r"[-_]", goal)[0]
@@ -106,7 +114,7 @@ class Edit:
     def misnames(self):
         """What is wrong with the lines `refused:`; None where each is of one function."""
         if not self.wanted:
-            return "it names no reason in a line `refused: FUNCTION CLAUSE`"
+            return UNNAMED
         for words in self.wanted:
             found = self.crate.named(words[0]) if len(words) == 2 else []
             if len(words) != 2 or not found:
@@ -119,6 +127,8 @@ class Edit:
         """What the edit changes but code: a definition, a contract, a proof. None where it changes none."""
         for file in sorted(self.files()):
             if file not in self.crate.files:
+                if self.crate.name in OF_NETWORKS and file.startswith("specs/"):
+                    continue
                 return f"it changes {file}, which isn't code"
             after, before = self.edited(file), self.crate.found[file]
             now = [(one.function, one.contract) for one in functions(file, after)]
@@ -153,8 +163,14 @@ class Edit:
         goal, closed = goals[-1]
         return Reason(one, "invariant" if "`invariant`" in found[3] else goal, bool(closed) or "`invariant`" in found[3])
 
+    def error(self):
+        """The error of the front end that is to refuse the edit; None where the prover is to."""
+        return self.wanted[0][0] if len(self.wanted) == 1 and len(self.wanted[0]) == 1 and ERROR.fullmatch(self.wanted[0][0]) else None
+
     def wrong(self, said):
         """What is wrong with the edit by the kit's words on it; None where it is refused as it says."""
+        if self.error() and said is not None:
+            return None if self.error() in ERROR.findall(said) else f"{said}; and not {self.error()}"
         if said is not None and not said.startswith(REFUSED):
             return said
         if wrong := self.misnames() or self.changes_a_contract():
