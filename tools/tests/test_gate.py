@@ -160,6 +160,15 @@ class Gate(unittest.TestCase):
         listed = "# wrong bodies\nlow/keeps_the_whole  halves nothing\nlow/sends_nothing  nothing is sent\n"
         self.assert_red(ended(GOOD, lines(GOOD, 4, 0), listed=listed), "low/sends_nothing.edit: it isn't there, and is to be: nothing is sent")
 
+    def test_a_wrong_body_that_no_type_allows(self):
+        more = {"crates/low/edits/halves_the_world.edit": "refused: error[unknown-name]\n" + TOO_FAR}
+        tools = '#!/bin/sh\necho "low/halves_the_world: $1: so"\necho "1 refused"\n'
+        listed = "low/halves_the_world  halves what isn't there\n"
+        for answers, wanted in (("refused", (0, "5 passed, 0 failed")), ("STILL PROVED", (1, "4 passed, 1 failed"))):
+            with mock.patch.object(gate.subprocess, "run", return_value=mock.Mock(stdout=tools.replace("$1", answers).split('"')[1] + "\n")):
+                status, printed = ended(GOOD, lines(GOOD, 4, 0), more=more, listed=listed)
+            self.assertEqual(wanted, (status, printed[-1]))
+
     def test_of_crates_that_are_named(self):
         more = {"crates.txt": "# Words\n# numbers\nlow:\nother:\n", "crates/other/must-fail/one.edit": KEEPS, "crates/other/src/lib.rt": SOURCE}
         printed = lines(GOOD, 4, 0)

@@ -111,6 +111,13 @@ class Tried(unittest.TestCase):
         self.assertEqual((1, COUNTS.format(0, 0, 0, 0, 1)), (status, lines[-1]))
         self.assertEqual(1, self.of_low(TOLD, edit)[0])
 
+    def test_those_alone_that_no_type_allows(self):
+        edit = EDIT.replace("number same", "error[unknown-name]")
+        told = REFUSES.replace(TOLD, "BAD EDIT: it did not reach the prover; the first lines of what it said:\nsrc/lib.rt:2:1: error[unknown-name]: no")
+        status, lines, asked, _ = tried(told, "--types", files={**FILES, "crates/low/edits/typed.edit": edit, "crates/low/edits/other.edit": edit})
+        self.assertEqual((0, COUNTS.format(2, 0, 0, 0, 0)), (status, lines[-1]))
+        self.assertEqual(["must-fail low", "must-fail low"], [each.partition(" in ")[0] for each in asked])
+
     def test_a_clause_that_is_written_in(self):
         with repository({**FILES, "crates/low/edits/weak.edit": EDIT.partition("\n")[2]}) as room:
             crate = try_edits.Crate(room / "crates" / "low")
