@@ -15,8 +15,8 @@ NAME = re.compile(r"[A-Za-z0-9_-][A-Za-z0-9_.-]*\.edit")
 REFUSED = "refused, as it must be"
 UNNAMED = "it names no reason in a line `refused: FUNCTION CLAUSE`"
 BY_A_NAME, BY_A_LIMIT = "only because a proof file names", "only by a limit of the prover"
-# The kit passes on so many letters of the prover's line, and no more of it anywhere.
-KEPT = 160
+# What is said where the kit's line ends before the name of the clause: it passes on 160 letters of the prover's line.
+CUT = "a clause whose name the kit's line cuts"
 # Here the edits are of the network of which the runs are, and a run's premise refuses them.
 OF_NETWORKS = ("pim_served_runs",)
 # Where a goal isn't met: in a proof by hand, whose path ends with the function's name, or in the code.
@@ -35,7 +35,7 @@ class Reason:
     is_whole: bool
 
     def __str__(self):
-        clause = clause_of(self.goal) if self.is_whole else f"a clause whose name the kit's line cuts (`{self.goal}`)"
+        clause = clause_of(self.goal) if self.is_whole else f"{CUT} (`{self.goal}`)"
         return f"{self.found.function} {clause}"
 
     def is_of(self, clause):
@@ -158,10 +158,16 @@ class Edit:
         if not found or found[1] not in self.crate.files:
             return None
         one, goals = self.function_at(found[1], int(found[2])), GOAL.findall(found[3])
-        if one is None or not goals:
-            return Reason(one, "invariant", True) if one and "`invariant`" in found[3] else None
-        goal, closed = goals[-1]
-        return Reason(one, "invariant" if "`invariant`" in found[3] else goal, bool(closed) or "`invariant`" in found[3])
+        if one and "`invariant`" in found[3]:
+            return Reason(one, "invariant", True)
+        # A line that is cut may end before its goal begins.
+        goal, closed = goals[-1] if goals else ("", "")
+        return Reason(one, goal, bool(closed)) if one else None
+
+    def meets(self, told):
+        """Whether the prover's line tells one of the reasons that the edit names."""
+        reason = self.reason(told)
+        return reason is not None and any(reason.found.function.is_named(words[0]) and reason.is_of(words[1]) for words in self.wanted)
 
     def error(self):
         """The error of the front end that is to refuse the edit; None where the prover is to."""
@@ -181,9 +187,9 @@ class Edit:
             return "it is refused only because a proof names what it takes away"
         if BY_A_LIMIT in said:
             return "the prover stopped at a limit and gave no verdict"
-        reason = self.reason(said.removeprefix(REFUSED).removeprefix(": "))
+        told = said.removeprefix(REFUSED).removeprefix(": ")
+        reason = self.reason(told)
         if reason is None:
             return f"the kit tells no goal that isn't met: {said}"
-        wanted = [clause for words, clause in self.wanted if reason.found.function.is_named(words) and reason.is_of(clause)]
         named = " or ".join(" ".join(words) for words in self.wanted)
-        return None if wanted else f"it is refused by {reason}, and not by {named}"
+        return None if self.meets(told) else f"it is refused by {reason}, and not by {named}"

@@ -162,12 +162,19 @@ class Gate(unittest.TestCase):
 
     def test_a_wrong_body_that_no_type_allows(self):
         more = {"crates/low/edits/halves_the_world.edit": "refused: error[unknown-name]\n" + TOO_FAR}
-        tools = '#!/bin/sh\necho "low/halves_the_world: $1: so"\necho "1 refused"\n'
         listed = "low/halves_the_world  halves what isn't there\n"
-        for answers, wanted in (("refused", (0, "5 passed, 0 failed")), ("STILL PROVED", (1, "4 passed, 1 failed"))):
-            with mock.patch.object(gate.subprocess, "run", return_value=mock.Mock(stdout=tools.replace("$1", answers).split('"')[1] + "\n")):
+        for came, wanted in (("refused", (0, "5 passed, 0 failed")), ("STILL PROVED", (1, "4 passed, 1 failed"))):
+            with mock.patch.object(gate, "tried_again", return_value={"low/halves_the_world": f"{came}: so"}):
                 status, printed = ended(GOOD, lines(GOOD, 4, 0), more=more, listed=listed)
             self.assertEqual(wanted, (status, printed[-1]))
+
+    def test_a_clause_that_the_kit_cuts_is_read_whole(self):
+        told = {**TOLD, "raises_a_number": TOLD["raises_a_number"].partition("-clause")[0]}
+        for came, wanted in (("refused", (0, "4 passed, 0 failed")), ("NOT AS IT SAYS", (1, "3 passed, 1 failed"))):
+            with mock.patch.object(gate, "tried_again", return_value={"low/raises_a_number": f"{came}: so"}) as again:
+                status, printed = ended(GOOD, lines(GOOD, 4, 0, told))
+            self.assertEqual(wanted, (status, printed[-1]))
+            self.assertEqual(("--whole", "low/raises_a_number"), again.call_args.args[1:])
 
     def test_of_crates_that_are_named(self):
         more = {"crates.txt": "# Words\n# numbers\nlow:\nother:\n", "crates/other/must-fail/one.edit": KEEPS, "crates/other/src/lib.rt": SOURCE}

@@ -118,6 +118,15 @@ class Tried(unittest.TestCase):
         self.assertEqual((0, COUNTS.format(2, 0, 0, 0, 0)), (status, lines[-1]))
         self.assertEqual(["must-fail low", "must-fail low"], [each.partition(" in ")[0] for each in asked])
 
+    def test_a_line_that_the_judge_cuts_is_read_whole(self):
+        judge = REFUSES.replace(TOLD, TOLD[:TOLD.index("-clause-same")]).replace("for edit", '[ "$1" = must-fail ] && for edit')
+        check = """[ "$1" = check ] && grep -q 'n / 2' src/lib.rt && echo '{}; `search` gave up'"""
+        status, lines, asked, _ = tried(judge + check.format(GOAL), "low")
+        self.assertEqual((0, f"low/weak: refused: {GOAL}; `search` gave up"), (status, lines[0]), lines)
+        self.assertIn("check --jobs 1 --only number in low", asked)
+        status, lines, _, _ = tried(judge + check.format(GOAL.replace("-same", "-other")), "--whole", "low/weak")
+        self.assertEqual((1, COUNTS.format(0, 0, 1, 0, 0)), (status, lines[-1]))
+
     def test_a_clause_that_is_written_in(self):
         with repository({**FILES, "crates/low/edits/weak.edit": EDIT.partition("\n")[2]}) as room:
             crate = try_edits.Crate(room / "crates" / "low")
