@@ -3,9 +3,11 @@ import re
 from dataclasses import dataclass, field
 
 WORD = re.compile(r"[A-Za-z_][\w-]*(?:\.[A-Za-z_][\w-]*)*")
-# A definition's signature, or a record's first line: what it is made of stands in the lines below, indented further or under
-# its name.
-HEAD = re.compile(r"^( *)(?:private )?(?:(?:unfoldable |abbrev )?(?:pub )?([A-Za-z_][\w-]*) : |(?:pub )?(?:record|data|class) ([A-Za-z_][\w-]*))")
+# A definition's signature, or a record's first line: what it is made of stands in the lines below, indented further or
+# under its name.
+HEAD = re.compile(
+    r"^( *)(?:private )?(?:(?:unfoldable |abbrev )?(?:pub )?([A-Za-z_][\w-]*) : |(?:pub )?(?:record|data|class) "
+    r"([A-Za-z_][\w-]*))")
 USE = re.compile(r"(?m)^\s*(pub )?(?:ghost )?use Rattle\.")
 
 
@@ -58,8 +60,8 @@ def leaves(path, text):
 
 
 def imported(text):
-    """The imports of a text from the repository's crates and the kit's: what each name here is elsewhere, and which names are
-    passed on."""
+    """The imports of a text from the repository's crates and the kit's: what each name here is elsewhere, and which
+    names are passed on."""
     found, passes = {}, {}
     for use in USE.finditer(text):
         line = text[use.end():].partition("\n")[0]

@@ -8,7 +8,8 @@ from pimtext.functions import clauses, functions, module_of, notes_beside
 
 # What the front end is to say of an edit that no type allows.
 ERROR = re.compile(r"error\[[\w-]+\]")
-# What the kit says of an edit in must-fail/, of one that it can name no crate for, and how it begins where it is refused.
+# What the kit says of an edit in must-fail/, of one that it can name no crate for, and how it begins where it is
+# refused.
 SAID = re.compile(r"rt: must-fail ([\w-]+)/(\S+)\.edit: (.*)")
 BAD = re.compile(r"rt: (\S+): BAD EDIT: (.*)")
 NAME = re.compile(r"[A-Za-z0-9_-][A-Za-z0-9_.-]*\.edit")
@@ -39,7 +40,8 @@ class Reason:
         return f"{self.found.function} {clause}"
 
     def is_of(self, clause):
-        """Whether the clause is this. Where the kit's line cuts its name, what is left of it has to be of no other clause."""
+        """Whether the clause is this. Where the kit's line cuts its name, what is left of it has to be of no other
+        clause."""
         if self.is_whole:
             return clause_of(self.goal) == clause
         _, named, begun = self.goal.rpartition("-clause-")
@@ -75,13 +77,15 @@ class Crate:
         return [one for one in self.all() if one.function.is_named(words)]
 
     def proved_in(self, path):
-        """The functions whose proof stands in a folder below proofs/: its modules, its type with its trait, its name."""
+        """The functions whose proof stands in a folder below proofs/: its modules, its type with its trait, its
+        name."""
         *parts, name = path.split("/")
         return [one for one in self.all() if one.function.name == name and stands_in(one.function, parts)]
 
 
 def stands_in(function, parts):
-    """Whether a function has a folder of these modules and, at the end, this type with its trait and what tells it apart."""
+    """Whether a function has a folder of these modules and, at the end, this type with its trait and what tells it
+    apart."""
     module = list(function.module)
     if not function.owner:
         return parts == module
@@ -141,12 +145,13 @@ class Edit:
         return None
 
     def function_at(self, file, number):
-        """The function that a line of the edited file stands in: the kit tells of a whole function by its first line, which
-        may be an attribute above it."""
+        """The function that a line of the edited file stands in: the kit tells of a whole function by its first line,
+        which may be an attribute above it."""
         text = self.edited(file)
         is_above = text.splitlines()[number - 1].lstrip().startswith("#[")
         found = functions(file, text)
-        near = [one for one in found if one.line > number][:1] if is_above else [one for one in found if one.line <= number][-1:]
+        below, above = ([one for one in found if (one.line > number) == after] for after in (True, False))
+        near = below[:1] if is_above else above[-1:]
         return near[0] if near else None
 
     def reason(self, told):
@@ -167,11 +172,13 @@ class Edit:
     def meets(self, told):
         """Whether the prover's line tells one of the reasons that the edit names."""
         reason = self.reason(told)
-        return reason is not None and any(reason.found.function.is_named(words[0]) and reason.is_of(words[1]) for words in self.wanted)
+        named = [words for words in self.wanted if reason and reason.found.function.is_named(words[0])]
+        return any(reason.is_of(clause) for _, clause in named)
 
     def error(self):
         """The error of the front end that is to refuse the edit; None where the prover is to."""
-        return self.wanted[0][0] if len(self.wanted) == 1 and len(self.wanted[0]) == 1 and ERROR.fullmatch(self.wanted[0][0]) else None
+        words = [word for words in self.wanted for word in words]
+        return words[0] if len(words) == 1 and ERROR.fullmatch(words[0]) else None
 
     def wrong(self, said):
         """What is wrong with the edit by the kit's words on it; None where it is refused as it says."""

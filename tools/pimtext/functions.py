@@ -11,8 +11,8 @@ NOTES = re.compile(r"\s*(?:#!?\[tactic|ghost\b)")
 
 @dataclass(frozen=True)
 class Function:
-    """A function of a crate: where it stands, and what it is called. `owner` is its type, or its trait where it declares one;
-    `trait` the trait whose impl it stands in."""
+    """A function of a crate: where it stands, and what it is called. `owner` is its type, or its trait where it
+    declares one; `trait` the trait whose impl it stands in."""
 
     module: tuple
     owner: str
@@ -25,7 +25,8 @@ class Function:
     def is_named(self, words):
         """Whether a name that may leave out the modules, and then the type, is its own."""
         wanted = words.split("::")
-        paths = [[*self.module, *([owner] if owner else []), self.name] for owner in (self.owner, self.owner + self.trait)]
+        paths = [[*self.module, *([owner] if owner else []), self.name]
+            for owner in (self.owner, self.owner + self.trait)]
         return any(path[-len(wanted):] == wanted for path in paths)
 
 
@@ -90,7 +91,8 @@ def functions(path, text):
 
 
 def notes_beside(text):
-    """What a file says to the prover beside the contracts of its functions: of its types, and what their parts stand for."""
+    """What a file says to the prover beside the contracts of its functions: of its types, and what their parts stand
+    for."""
     lines = text.splitlines()
     return [braced(lines, at) for at, line in enumerate(lines) if NOTES.match(line) and "[tactic" not in line]
 

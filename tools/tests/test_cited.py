@@ -47,7 +47,8 @@ impl Bits {
     }
 }
 """,
-    "crates/low/src/inner.rt": "/// Hidden.\npub fn hidden(n: u32) -> u32\n    requires { n < 9 }\n    ensures { result ≡ n }\n{\n    n\n}\n",
+    "crates/low/src/inner.rt": "/// Hidden.\npub fn hidden(n: u32) -> u32\n    requires { n < 9 }\n    ensures "
+                               "{ result ≡ n }\n{\n    n\n}\n",
     "crates/low/specs/Sums.antt": """-- sums
 use Rattle.low.specs.{Views.{Shown, size as width}, Deep as deep}
 use Rattle.std.specs.Prelude.{ℕ, ◌+◌}
@@ -65,13 +66,19 @@ module _ {A : Type 0} where
 unfoldable pub idle : ℕ
 idle = 0
 """,
-    "crates/low/specs/Views.antt": "-- views\nuse Rattle.low.specs.Other.{unit}\npub record Shown : Type 0 where\n  pub bits : ℕ\n\n"
-                                  "unfoldable pub size : Shown → ℕ\nsize s = s.bits + unit\n\npub use Rattle.low.specs.Other.{passed}\n",
-    "crates/low/specs/Deep.antt": "use Rattle.low.specs.Views.{passed}\n-- deep\nabbrev pub holds : ℕ → Type 0\nholds n = passed n\n",
-    "crates/low/specs/Other.antt": "unfoldable pub unit : ℕ\nunit = 1\n\n-- unit alone\nunfoldable pub passed : ℕ → ℕ\npassed n = n\n\nunfoldable pub far : ℕ\nfar = 2\n",
-    "crates/low/specs/Laws.antt": "use Rattle.low.specs.Other.{far}\nabbrev pub NeverFar : Type 0\nNeverFar = far\n\nabbrev pub Lemma : Type 0\nLemma = far\n",
+    "crates/low/specs/Views.antt": "-- views\nuse Rattle.low.specs.Other.{unit}\npub record Shown : Type 0 where\n  "
+                                   "pub bits : ℕ\n\n"
+                                  "unfoldable pub size : Shown → ℕ\nsize s = s.bits + unit\n\npub use "
+                                  "Rattle.low.specs.Other.{passed}\n",
+    "crates/low/specs/Deep.antt": "use Rattle.low.specs.Views.{passed}\n-- deep\nabbrev pub holds : ℕ → Type "
+                                  "0\nholds n = passed n\n",
+    "crates/low/specs/Other.antt": "unfoldable pub unit : ℕ\nunit = 1\n\n-- unit alone\nunfoldable pub passed : ℕ → "
+                                   "ℕ\npassed n = n\n\nunfoldable pub far : ℕ\nfar = 2\n",
+    "crates/low/specs/Laws.antt": "use Rattle.low.specs.Other.{far}\nabbrev pub NeverFar : Type 0\nNeverFar = "
+                                  "far\n\nabbrev pub Lemma : Type 0\nLemma = far\n",
     "crates/pim_router/src/lib.rt": "//! The router.\npub mod router;\nmod own;\n\npub use router::Router;\n",
-    "crates/pim_router/src/own.rt": "ghost use Rattle.pim_router.specs.Own.{own};\npub fn step(n: u32) -> u32\n    ensures { result ≡ own n }\n{\n    n\n}\n",
+    "crates/pim_router/src/own.rt": "ghost use Rattle.pim_router.specs.Own.{own};\npub fn step(n: u32) -> u32\n    "
+                                    "ensures { result ≡ own n }\n{\n    n\n}\n",
     "crates/pim_router/src/router.rt": """ghost use Rattle.pim_router.specs.Standing.{standing};
 use low::Bits;
 
@@ -92,7 +99,8 @@ impl Router {
     "crates/pim_router/specs/Standing.antt": "unfoldable pub standing : ℕ\nstanding = 1\n",
     "crates/pim_router/specs/Own.antt": "unfoldable pub own : ℕ\nown = 1\n",
     "README.md": "# Low\n\n## Trusted\n\n<!-- trusted definitions -->\nx\n<!-- end -->\n",
-    "docs/PROVED.md": "# Proved\n\n## What it means for a network\n\n| `NeverFar` | never |\n\n## Other\n\n| `Lemma` | so |\n\n<!-- what calls ask -->\nx\n<!-- end -->\n",
+    "docs/PROVED.md": "# Proved\n\n## What it means for a network\n\n| `NeverFar` | never |\n\n## Other\n\n| `Lemma` "
+                      "| so |\n\n<!-- what calls ask -->\nx\n<!-- end -->\n",
     "docs/USING.md": "# Using\n",
 }
 
@@ -100,7 +108,8 @@ impl Router {
 def ran(room, *words):
     """The status and what is printed."""
     out = io.StringIO()
-    with mock.patch.object(cited, "TOP", room), mock.patch("sys.argv", ["cited", *words]), contextlib.redirect_stdout(out):
+    with mock.patch.object(cited, "TOP", room), mock.patch("sys.argv",
+        ["cited", *words]), contextlib.redirect_stdout(out):
         try:
             cited.main()
         except SystemExit as end:
@@ -116,12 +125,15 @@ class Walk(unittest.TestCase):
                               ("pim_router/specs/Standing", "standing")}, cited.trusted(room))
 
     def test_of_a_definition_s_own_imports(self):
-        with repository({**FILES, "crates/low/src/bits.rt": FILES["crates/low/src/bits.rt"].replace("IsBelow result", "IsBelow (sum result)")}) as room:
-            self.assertLessEqual({("low/specs/Sums", "sum"), ("low/specs/Views", "size"), ("low/specs/Other", "unit")}, cited.trusted(room))
+        with repository({**FILES, "crates/low/src/bits.rt": FILES["crates/low/src/bits.rt"].replace("IsBelow result",
+            "IsBelow (sum result)")}) as room:
+            self.assertLessEqual({("low/specs/Sums", "sum"), ("low/specs/Views", "size"), ("low/specs/Other", "unit")},
+                cited.trusted(room))
 
     def test_what_calls_ask(self):
         with repository(FILES) as room:
-            self.assertEqual(["1 public calls below the router have a `requires` (`tools/cited --requires`)", "of `low` `Bits::most`"],
+            self.assertEqual(["1 public calls below the router have a `requires` (`tools/cited --requires`)",
+                "of `low` `Bits::most`"],
                              list(cited.asking_items(room)))
 
 
@@ -143,12 +155,14 @@ class Check(unittest.TestCase):
     def test_a_clause_that_cites_more(self):
         status, printed = self.spoilt("crates/pim_router/src/router.rt", "{ standing self.now }", "{ standing own }")
         self.assertEqual((0, ""), (status, printed))
-        status, printed = self.spoilt("crates/pim_router/src/router.rt", "specs.Standing.{standing};", "specs.Own.{own as standing};")
+        status, printed = self.spoilt("crates/pim_router/src/router.rt", "specs.Standing.{standing};",
+            "specs.Own.{own as standing};")
         self.assertEqual(1, status)
         self.assertIn("README.md: this is missing: of `pim_router` in `Own`", printed)
 
     def test_a_definition_that_cites_more(self):
-        status, printed = self.spoilt("crates/low/specs/Deep.antt", "holds n = passed n", "holds n = passed n + far\nuse Rattle.low.specs.Other.{far}")
+        status, printed = self.spoilt("crates/low/specs/Deep.antt", "holds n = passed n",
+            "holds n = passed n + far\nuse Rattle.low.specs.Other.{far}")
         self.assertEqual((0, ""), (status, printed))
         status, printed = self.spoilt("crates/low/specs/Other.antt", "passed n = n", "passed n = unit")
         self.assertEqual((1, 2), (status, len(printed.splitlines())))

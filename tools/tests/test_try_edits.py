@@ -16,7 +16,8 @@ FILES = {
     "crates/middle/src/lib.rt": CODE, "crates/middle/edits/one.edit": EDIT, "crates/middle/must-fail/two.edit": EDIT,
     "crates/high/src/lib.rt": "high", "crates/other/src/lib.rt": "other",
 }
-GOAL = "note: src/lib.rt:2:1: it is not proved that what the function ensures holds when it returns (`returns-clause-same`)"
+GOAL = ("note: src/lib.rt:2:1: it is not proved that what the function ensures holds when it returns "
+        "(`returns-clause-same`)")
 # It refuses each edit that it finds in the folder of the crate.
 REFUSES = """\
 echo "$* in $(basename $(pwd))" >> {log}
@@ -66,7 +67,8 @@ class Tried(unittest.TestCase):
     def test_all_edits_are_put_to_the_judge(self):
         status, lines, asked, left = tried(REFUSES)
         self.assertEqual(status, 0)
-        self.assertEqual(sorted(lines[:-1]), [f"{name}: refused: {GOAL}" for name in ("low/weak", "middle/one", "middle/two")])
+        self.assertEqual(sorted(lines[:-1]),
+            [f"{name}: refused: {GOAL}" for name in ("low/weak", "middle/one", "middle/two")])
         self.assertEqual(lines[-1], COUNTS.format(3, 0, 0, 0, 0))
         self.assertEqual([each.partition(" in ")[0] for each in asked], ["lib", "must-fail low", "must-fail middle"])
         self.assertEqual(left, {name for name in FILES if name.endswith(".edit")})
@@ -86,7 +88,8 @@ class Tried(unittest.TestCase):
         self.assertEqual((status, lines[0]), (1, "low/weak: does not apply: no such line"))
 
     def of_low(self, told, edit=EDIT, *words):
-        return tried(REFUSES.replace(TOLD, told), *words, "low", files={**FILES, "crates/low/edits/weak.edit": edit})[:2]
+        return tried(REFUSES.replace(TOLD, told), *words, "low",
+            files={**FILES, "crates/low/edits/weak.edit": edit})[:2]
 
     def test_an_edit_that_another_clause_refuses(self):
         status, lines = self.of_low(TOLD.replace("clause-same", "clause-other"))
@@ -95,7 +98,8 @@ class Tried(unittest.TestCase):
 
     def test_a_name_and_a_limit_are_no_refusal(self):
         for told in ("refused, as it must be (only because a proof file names what the edit took away): ./proofs/x",
-                     "refused, as it must be (only by a limit of the prover, which gave no verdict): src/lib.rt:2:1: error"):
+                     "refused, as it must be (only by a limit of the prover, which gave no verdict): src/lib.rt:2:1: "
+                     "error"):
             status, lines = self.of_low(told)
             self.assertEqual((1, COUNTS.format(0, 0, 1, 0, 0)), (status, lines[-1]))
 
@@ -105,7 +109,8 @@ class Tried(unittest.TestCase):
 
     def test_an_edit_that_no_type_allows(self):
         edit = EDIT.replace("number same", "error[unknown-name]")
-        told = "BAD EDIT: it did not reach the prover; the first lines of what it said:\nsrc/lib.rt:2:1: error[unknown-name]: cannot find"
+        told = ("BAD EDIT: it did not reach the prover; the first lines of what it said:\nsrc/lib.rt:2:1: "
+                "error[unknown-name]: cannot find")
         self.assertEqual(0, self.of_low(told, edit)[0])
         status, lines = self.of_low(told.replace("unknown-name", "mismatched-types"), edit)
         self.assertEqual((1, COUNTS.format(0, 0, 0, 0, 1)), (status, lines[-1]))
@@ -113,13 +118,17 @@ class Tried(unittest.TestCase):
 
     def test_those_alone_that_no_type_allows(self):
         edit = EDIT.replace("number same", "error[unknown-name]")
-        told = REFUSES.replace(TOLD, "BAD EDIT: it did not reach the prover; the first lines of what it said:\nsrc/lib.rt:2:1: error[unknown-name]: no")
-        status, lines, asked, _ = tried(told, "--types", files={**FILES, "crates/low/edits/typed.edit": edit, "crates/low/edits/other.edit": edit})
+        told = REFUSES.replace(TOLD,
+            "BAD EDIT: it did not reach the prover; the first lines of what it said:\nsrc/lib.rt:2:1: "
+            "error[unknown-name]: no")
+        status, lines, asked, _ = tried(told, "--types",
+            files={**FILES, "crates/low/edits/typed.edit": edit, "crates/low/edits/other.edit": edit})
         self.assertEqual((0, COUNTS.format(2, 0, 0, 0, 0)), (status, lines[-1]))
         self.assertEqual(["must-fail low", "must-fail low"], [each.partition(" in ")[0] for each in asked])
 
     def test_a_line_that_the_judge_cuts_is_read_whole(self):
-        judge = REFUSES.replace(TOLD, TOLD[:TOLD.index("-clause-same")]).replace("for edit", '[ "$1" = must-fail ] && for edit')
+        judge = REFUSES.replace(TOLD, TOLD[:TOLD.index("-clause-same")]).replace("for edit",
+            '[ "$1" = must-fail ] && for edit')
         check = """[ "$1" = check ] && grep -q 'n / 2' src/lib.rt && echo '{}; `search` gave up'"""
         status, lines, asked, _ = tried(judge + check.format(GOAL), "low")
         self.assertEqual((0, f"low/weak: refused: {GOAL}; `search` gave up"), (status, lines[0]), lines)
@@ -136,7 +145,8 @@ class Tried(unittest.TestCase):
             self.assertEqual(EDIT, (room / "crates/low/edits/weak.edit").read_text())
 
     def test_edits_that_are_not_judged_yet(self):
-        status, lines, asked, _ = tried(REFUSES, "--unnamed", "low", files={**FILES, "crates/low/edits/weak.edit": "file: src/lib.rt\n"})
+        status, lines, asked, _ = tried(REFUSES, "--unnamed", "low",
+            files={**FILES, "crates/low/edits/weak.edit": "file: src/lib.rt\n"})
         self.assertEqual((1, ["low/weak", "1 edits name no clause"], []), (status, lines, asked))
 
     def test_a_judge_that_stops_before_all_are_tried(self):
