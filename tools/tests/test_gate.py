@@ -1,6 +1,7 @@
 """`tools/gate` on a small crate, with lines that the kit printed of it."""
 import contextlib
 import io
+import re
 import sys
 import unittest
 from pathlib import Path
@@ -54,6 +55,8 @@ TOO_FAR = f"{LOWERS}if all {{ value }} else {{ value | 2 }}\n"
 KEEPS = "refused: Half::of here\nfile: src/lib.rt\nold: Half { value: value / 2 }\nnew: Half { value: value / 1 }\n"
 RAISES = "old: Some(value) => lower(value, all),\nnew: Some(value) => lower(value, all).max(3),\n"
 LONG = "lower_of_some_number_that_may_be_there"
+# What is told of crates while the kit runs.
+OF_CRATES = re.compile(r"\d+ (?:of \d+ )?crates")
 # What the kit printed of each edit of the crate.
 ENSURES = ("refused, as it must be: note: src/lib.rt:{}: it is not proved that what the function ensures holds when "
            "it returns (`{}`)")
@@ -108,7 +111,8 @@ def ended(names, printed, status=0, more=(), listed="", words=(), source=SOURCE)
             try:
                 gate.main()
             except SystemExit as end:
-                return end.code, [line for line in out.getvalue().splitlines() if line not in printed[:-1]]
+                told = [line for line in out.getvalue().splitlines() if not OF_CRATES.match(line)]
+                return end.code, [line for line in told if line not in printed[:-1]]
 
 
 class Gate(unittest.TestCase):
@@ -125,6 +129,20 @@ class Gate(unittest.TestCase):
 
     def test_green_where_each_edit_is_refused_as_it_says(self):
         self.assertEqual((0, ["4 passed, 0 failed"]), ended(GOOD, lines(GOOD, 4, 0)))
+
+    def test_what_the_kit_prints_goes_to_a_file(self):
+        with repository({"crates.txt": "low:\n", "tools/wrong_bodies.txt": "", "crates/low/src/lib.rt": SOURCE}) as room:
+            printed = ["== low", "fn low::lower: proved", "rt: low proved", "rt: ok", "1 passed, 0 failed"]
+            script = "; ".join(f"echo '{line}'" for line in printed) + "; echo 'rt: a warning' >&2"
+            out = io.StringIO()
+            with mock.patch.object(gate, "TOP", room), kit(room, script), mock.patch.object(sys, "argv", ["gate"]):
+                with contextlib.redirect_stdout(out), self.assertRaises(SystemExit):
+                    gate.main()
+            self.assertEqual([*printed, "rt: a warning"], (room / "out" / "gate.log").read_text().splitlines())
+        told = out.getvalue().splitlines()
+        self.assertEqual("1 crates; what the kit prints goes to out/gate.log", told[0])
+        self.assertRegex(told[1], r"1 of 1 crates: low proved, 0 functions; 0 min 0\d s so far; left: edits and programs")
+        self.assertEqual(["rt: ok", "rt: a warning", "1 passed, 0 failed"], told[2:])
 
     def test_three_bad_edits_of_which_the_kit_counts_none(self):
         names = [*GOOD, "does_not_compile", "is_not_there", "stands_often"]
