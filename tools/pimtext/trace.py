@@ -50,6 +50,13 @@ class Copy:
     def is_register(self):
         return self.sent.is_unicast()
 
+    def words(self):
+        """Who sent it, and of which link it had taken it."""
+        before = self.by.before
+        if self.by.iface is None:
+            return f"by {self.by.router}, out of a Register"
+        return f"by {self.by.router}, " + (f"from {before.sent.where}" if before else "from its source")
+
 
 @dataclass(eq=False)
 class Packet:
