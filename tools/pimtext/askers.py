@@ -5,7 +5,7 @@ from ipaddress import ip_address
 from pimtext import packets, printed, trees, wishes, words
 from pimtext.cause import Cause
 from pimtext.printed import ANY
-from pimtext.run import some, times
+from pimtext.run import is_local, some, times
 
 OLD_QUERY = 8
 
@@ -100,14 +100,21 @@ class Askers:
     def forgotten(self):
         """A host answers queries for as long as it wants something."""
         for (host, group), told in self.hosts.told.items():
-            link, (last, wish) = self.hosts.links[host], told[-1]
+            link, (_, wish) = self.hosts.links[host], told[-1]
             dr = self.dr_of(link)
-            taken = [each for each in self.hosts.heard if each.host == host and each.at >= last and each.step.router == dr]
+            taken = [each for each in self.hosts.heard if each.host == host and each.step.router == dr and group in dict(each.wishes)]
             if dr is None or wish == wishes.NOTHING or not taken or taken[-1].step.verdict != "done":
                 continue
-            if trees.is_source_specific(group) and wish.is_exclude or self.is_known(dr, link, group):
-                continue
-            yield self.gone(host, group, link, dr, taken[-1])
+            is_never_kept = is_local(group) or (trees.is_source_specific(group) and wish.is_exclude)
+            if not is_never_kept and not self.is_known(dr, link, group) and self.is_over(dr, taken[-1]):
+                yield from self.gone(host, group, link, dr, taken[-1])
+
+    def is_over(self, dr, report):
+        """Whether a router keeps a wish no longer than since a report (RFC 3376, 8.4), and heard no later one of the host."""
+        table, later = self.known[dr].router.table, [each for each in self.hosts.heard if each.at > report.at]
+        kept = 1000 * table.get("rv", 2) * table.get("qi", 125) + 100 * table.get("qri", 100)
+        is_last = all((each.host, each.step.router) != (report.host, dr) for each in later)
+        return is_last and self.known[dr].moment - report.step.moment >= kept
 
     def is_known(self, dr, link, group):
         """Whether a router knows of hosts on a link that want a group."""
@@ -116,10 +123,19 @@ class Askers:
         return bool(numbers & (trees.hosts(state, group, ANY) | {row.iface for row in state.rows if is_wanted(row, group)}))
 
     def gone(self, host, group, link, dr, report):
-        queries = [step for step in self.run.steps[report.at:] for sent in step.sent if is_query(sent, dr, link)]
-        told = f"{host} asked for {group} at {words.seconds(report.step.moment)} for the last time, and answered none of the"
-        told = f"{told} {times(len(queries), 'query').replace('querys', 'queries')} that {dr} sent on {link} since: {dr} has forgotten its wish"
-        return Cause(*self.run.at_move(report.step, told), self.of_host(host, {group}))
+        queries = sum(is_query(sent, dr, link) for step in self.run.steps[report.at:] for sent in step.sent)
+        told = f"{host} asked for {group} at {words.seconds(report.step.moment)} for the last time, and answered no query since"
+        if queries:
+            told = f"{told}, though {dr} sent {queries} on {link}: {dr} has forgotten its wish"
+            yield Cause(*self.run.at_move(report.step, told), self.of_host(host, {group}))
+
+    def local(self):
+        """A group of 224.0.0.0/24 never leaves its link."""
+        for host, group in self.hosts.told:
+            if is_local(group):
+                step = self.run.steps[self.hosts.told[host, group][0][0]]
+                covers = lambda each, group=group: each.group == group or (each.kind == "odd" and each.cause == "LinkLocal")
+                yield Cause(*self.run.at_move(step, f"{host} asks for {group}, and no router forwards groups of 224.0.0.0/24"), covers)
 
     # ---- what sources send
 
@@ -158,7 +174,7 @@ class Askers:
 
     def causes(self):
         parts = (self.old_hosts, self.old_queriers, self.sourceless, self.strangers, self.other_sources, self.unheard, self.forgotten)
-        for told in (*parts, self.unasked):
+        for told in (*parts, self.local, self.unasked):
             yield from told()
 
 

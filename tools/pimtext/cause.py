@@ -17,8 +17,9 @@ class Symptom:
     group: str | None = None
     source: str | None = None
     host: str | None = None
-    # How it is told where no cause explains it.
+    # How it is told where no cause explains it, and the step of the first packet that it concerns.
     alone: str | None = None
+    at: int | None = None
 
 
 @dataclass(eq=False)
@@ -32,7 +33,7 @@ class Cause:
 
     def lines(self):
         """The cause, and below it each of its symptoms once, with how often it is there."""
-        counts = Counter(self.told(symptom) for symptom in self.symptoms)
+        counts = Counter(self.told(symptom) for symptom in sorted(self.symptoms, key=lambda symptom: symptom.kind == "odd"))
         told = [f"    {text}" + (f" ({count} times)" if count > 1 else "") for text, count in counts.items() if text not in self.text]
         return [f"{self.line}: {self.text}", *told]
 
@@ -43,12 +44,12 @@ class Cause:
 
 
 def attached(causes, symptoms):
-    """The causes with their symptoms, each with the first that covers it, and the symptoms that none does."""
+    """Puts each symptom under the first cause that covers it. Answers those that none does."""
     left = []
     for symptom in symptoms:
         found = next((cause for cause in causes if cause.covers(symptom)), None)
         (found.symptoms if found else left).append(symptom)
-    return [cause for cause in causes if cause.symptoms or not cause.is_hint], left
+    return left
 
 
 def grouped(symptoms):

@@ -5,7 +5,7 @@ refused or that nobody took. Each is told under the first cause that explains it
 """
 from pimtext import printed, reasons, served, trees, words
 from pimtext.askers import Askers
-from pimtext.cause import Symptom, attached, grouped
+from pimtext.cause import Cause, Symptom, attached, grouped
 from pimtext.mistakes import Mistakes
 from pimtext.notes import Lines, Notes
 from pimtext.outages import Outages
@@ -34,19 +34,19 @@ class Symptoms:
             told = f"{stream.host} missed {loss.words()} of {stream.sent} of {whole}"
             if len(verdict.losses) == 1 and not stream.came:
                 told = f"{stream.host} got none of {times(stream.sent, 'packet')} of {whole}"
-            yield self.of_end(loss.end, stream, told)
+            yield self.of_end(loss.end, stream, told, loss.packets[0].at)
         if verdict.end is not None and not verdict.losses:
-            yield self.of_end(verdict.end, stream, f"{stream.host} would get nothing of {whole}")
+            yield self.of_end(verdict.end, stream, f"{stream.host} would get nothing of {whole}", len(self.run.steps))
         if not stream.packets and stream.source not in {packet.source for packet in self.run.packets if packet.group == stream.group}:
             told = f"{stream.host} asked for {whole}, and nobody has sent it"
             yield Symptom("silent", self.run.lines.router(next(iter(self.known))), told, group=stream.group, source=stream.source)
 
-    def of_end(self, end, stream, told):
+    def of_end(self, end, stream, told, at):
         name = end.router or next(iter(self.known))
         line = self.run.on_link(name, end.link if end.router else None)
         where = {"router": end.router, "link": end.link, "address": end.address, "cause": end.cause}
         whose = {"group": stream.group, "source": stream.source, "host": stream.host}
-        return Symptom(end.kind, line, told, **where, **whose, alone=end.text)
+        return Symptom(end.kind, line, told, **where, **whose, alone=end.text, at=at)
 
     def twice(self, stream):
         told = f"{stream.host} got {times(stream.twice, 'packet')} of {words.tree(stream.group, stream.source)} twice"
@@ -70,9 +70,10 @@ class Symptoms:
     def of_tree(self, name, row, end, is_sent):
         what = "its Joins count for nothing" if is_sent else "it sends no Join"
         told = f"{name} has joined {words.tree(row.group, row.source)}, and {what}"
+        place = len(self.run.steps)
         source = None if row.source == ANY else row.source
         where = {"router": end.router, "link": end.link, "address": end.address}
-        return Symptom(end.kind, self.run.on_link(end.router, end.link), told, **where, group=row.group, source=source, alone=end.text)
+        return Symptom(end.kind, self.run.on_link(end.router, end.link), told, **where, group=row.group, source=source, alone=end.text, at=place)
 
     def senders(self):
         """The DR of a source registers with an RP that it can reach."""
@@ -106,15 +107,26 @@ class Symptoms:
             yield from told()
 
 
+def of_odd(run, symptom):
+    """What was refused, ignored or taken by nobody, as the cause of what comes of it."""
+    if symptom.kind == "unheard":
+        covers = lambda each: run.wire.last == 0 and each.kind in ("no neighbour", "lost")
+        return Cause(symptom.line, symptom.text, covers)
+    covers = lambda each: each.kind == "refused" and (each.router, each.link, each.cause) == (symptom.router, symptom.link, symptom.cause)
+    return Cause(symptom.line, symptom.alone or symptom.text, covers)
+
+
 class Diagnosis:
     """`judge` read the file of a run; `places` says the lines of a network of tools/lab, whose packets may be lost on purpose."""
 
     def __init__(self, judge, played, lines, places=None, unheard=frozenset()):
         self.run = run = Run(played, lines, places or Lines(judge), unheard)
         notes, outages = Notes(judge, run), Outages(run)
-        symptoms = [*Symptoms(run).all(), *notes.odd(), *([] if places else notes.undelivered())]
-        causes = [*outages.interfaces(), *outages.clocks(), *Mistakes(run).causes(), *Askers(run).causes(), *outages.rest()]
-        self.causes, left = attached(causes, symptoms)
+        self.causes = [*outages.interfaces(), *outages.clocks(), *Mistakes(run).causes(), *Askers(run).causes(), *outages.rest()]
+        odd = attached(self.causes, [*notes.odd(), *([] if places else notes.undelivered())])
+        self.causes += [of_odd(run, symptom) for symptom in odd]
+        left = attached(self.causes, list(Symptoms(run).all()))
+        self.causes = [cause for cause in self.causes if cause.symptoms or not cause.is_hint]
         self.left = grouped([symptom for symptom in left if symptom.kind not in QUIET])
 
     def ordered(self):

@@ -18,11 +18,13 @@ def ttl_of(taken):
     return (inner or data)[8]
 
 
-def refused(taken):
+def refused(world, taken):
     """The end of a packet that a router refused or ignored."""
-    where = "a Register" if taken.iface is None else "it"
-    told = f"{taken.router} answered to {where}: {words.answer(taken.step.verdict, taken.step.cause)}"
-    return End("refused", told, taken.router, None, None, taken.step.cause)
+    interfaces, iface = world.known[taken.router].router.interfaces, taken.iface
+    link = interfaces[iface].link if iface is not None and iface < len(interfaces) else None
+    what = "the Register" if iface is None else f"the packet on {link}"
+    told = f"{what} was {words.answer(taken.step.verdict, taken.step.cause)} at {taken.router}"
+    return End("refused", told, taken.router, link, None, taken.step.cause)
 
 
 class Death:
@@ -70,7 +72,7 @@ class Death:
     def refused_everywhere(self):
         """Where no router took it at all."""
         began = self.packet.began
-        return refused(began[0]) if all(not taken.is_done() for taken in began) else None
+        return refused(self.world, began[0]) if all(not taken.is_done() for taken in began) else None
 
     def unregistered(self):
         """Why the RP never had it, where nothing else is wrong on the way from the host."""
@@ -87,9 +89,9 @@ class Death:
         return served.unregistered(self.world, self.group, self.source, self.packet.link)
 
     def stranger(self, state, iface):
-        own = state.router.interfaces[iface]
-        told = f"to {state.router.name} the source {self.source} is on no link: it isn't in {own.own.network}, the subnet of {own.link}"
-        return End("stranger", f"{told}, so it registers nothing and begins no tree", state.router.name, own.link, self.source)
+        name, link = state.router.name, state.router.interfaces[iface].link
+        told = f"to {name} the source {self.source} isn't on {link}, nor on any other link of it, so {name} doesn't register it"
+        return End("stranger", told, name, link, self.source)
 
     def register_end(self, copy):
         """What became of a Register."""
@@ -101,7 +103,7 @@ class Death:
             return End("lost", told, name, None, rp)
         last = copy.taken[-1]
         if not last.is_done():
-            return refused(last)
+            return refused(self.world, last)
         state = self.past.known(last.at)[name]
         return served.registers_end(self.world, state, self.group, self.source, rp)
 
@@ -124,17 +126,17 @@ class Death:
 
     def used_up(self, taken):
         where = "in a Register" if taken.iface is None else f"on {self.world.known[taken.router].link(taken.iface)}"
-        told = f"it came to {taken.router} {where} with TTL {ttl_of(taken)}, with which no copy leaves; its source sent it with"
-        return End("ttl", f"{told} TTL {self.packet.ttl}", taken.router)
+        told = f"packets of {self.source} with TTL {self.packet.ttl} come to {taken.router} {where} with TTL {ttl_of(taken)}"
+        return End("ttl", f"{told}, with which no copy leaves", taken.router)
 
     def unheard(self, copy, below, link):
         """Why the router below had nothing of a copy on the link between."""
         name = below.router.name if below else "the host"
         here = [taken for taken in copy.taken if taken.router == name]
         if not here:
-            return End("lost", f"the copy that {copy.by.router} sent on {link} was lost before {name}", copy.by.router, link)
+            return End("lost", f"the copy that {copy.by.router} sent on {link} was lost before {name}", copy.by.router, link, name)
         if not here[0].is_done():
-            return refused(here[0])
+            return refused(self.world, here[0])
         return self.other_way(here[0])
 
     def other_way(self, taken):

@@ -155,7 +155,8 @@ class Mistakes:
         for link, ports in self.run.ports().items():
             for name, interface in ports:
                 before = found.setdefault(interface.own.network, (link, name))
-                if before[0] != link:
+                is_same = any(each.own == interface.own for _, each in self.run.ports()[before[0]])
+                if before[0] != link and not is_same:
                     told = f"{interface.own.network} is the subnet of {link} here, and of {before[0]} at router {before[1]}"
                     yield Cause(*self.run.at_interface(name, interface.number, told))
 

@@ -124,6 +124,9 @@ class Notes:
         if cause == "27":
             return self.no_delivery(number, router)
         count = len(self.played.router(router).interfaces)
+        bytes_given = len(self.played.moves[number - 1].get("hex", "")) // 2
+        if cause == "4" and bytes_given > packets.MOST_IN_A_FRAME and self.played.moves[number - 1]["do"] == "frame":
+            return f"a packet on a link has at most {packets.MOST_IN_A_FRAME} bytes, and this one has {bytes_given}"
         size = ethernet_bytes(bytes.fromhex(self.played.moves[number - 1].get("hex", ""))) if len(cause) == 1 else 0
         if size:
             return f"the bytes begin with an Ethernet header: leave out its {size} bytes, the first {2 * size} digits"

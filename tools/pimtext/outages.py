@@ -1,7 +1,7 @@
 """What fails in a run, or stops for a while: interfaces, routers, clocks, what is lost on a link, and the limit of facts."""
 from collections import defaultdict
 
-from pimtext import limit, packets, printed, story, trees, words
+from pimtext import limit, packets, served, story, trees, words
 from pimtext.cause import Cause
 from pimtext.run import COUNTED, times
 from pimtext.wire import DATA, HELLO, JOIN, PLURALS, REGISTER, names_group
@@ -30,9 +30,11 @@ class Outages:
         whole = [name for name, state in self.known.items() if not state.up and any(router == name for router, _ in down)]
         for name in whole:
             yield self.stopped(name, [step for (router, _), step in down.items() if router == name])
-        for (name, number), step in down.items():
-            if name not in whole:
-                yield self.went_down(name, number, step)
+        single = {key: step for key, step in down.items() if key[0] not in whole}
+        for link, keys in self.whole_links(single).items():
+            yield self.link_down(link, {key: single.pop(key) for key in keys})
+        for (name, number), step in single.items():
+            yield self.went_down(name, number, step)
         for name, state in self.known.items():
             for interface in state.router.interfaces:
                 if (name, interface.number) not in self.ever_up:
@@ -44,14 +46,30 @@ class Outages:
         router = self.known[name].router
         since = words.seconds(max(step.moment for step in steps))
         own, links = {each.address for each in router.interfaces}, {each.link for each in router.interfaces}
+        at = min(self.at_of(name, each.number) for each in router.interfaces)
 
         def covers(each):
             is_own = each.address in own or each.router == name
             is_odd = each.kind == "odd" and each.router == name and each.cause == "23"
             is_lost_way = each.kind == "no route" and self.led_over(each.router, each.address, links)
-            return is_odd or is_lost_way or (is_own and each.kind in ("dead dr", "no neighbour", "no route", "no owner", "lost", "down"))
+            is_used = each.kind == "no join" and self.used(each, links, at)
+            return is_odd or is_used or is_lost_way or (is_own and each.kind in ("dead dr", "no neighbour", "no route", "no owner", "lost", "down"))
 
         return Cause(*self.run.at_router(name, f" is down since {since}, with all its interfaces"), covers)
+
+    def at_of(self, name, number):
+        """The step with which an interface last went up or down; the end where it never did."""
+        step = self.turned.get((name, number))
+        return len(self.run.steps) if step is None else self.run.steps.index(step)
+
+    def used(self, symptom, links, at):
+        """Whether the packets that a host missed after step `at` would have come over one of these links before it."""
+        if symptom.at is None or symptom.host is None or not at < symptom.at:
+            return False
+        world, place = served.World(self.run.past.known(at)), self.run.hosts.links[symptom.host]
+        state, _ = served.serving(world, symptom.group, symptom.source, place)
+        rungs = [] if state is None else served.climb(world, symptom.group, symptom.source, state, place)[0]
+        return any(rung.link in links for rung in rungs[1:])
 
     def led_over(self, name, address, links):
         """Whether a router had a route to an address over one of these links in its configuration."""
@@ -60,6 +78,22 @@ class Outages:
             return False
         found = trees.longest([(each.prefix, each) for each in state.router.routes], trees.ip_address(address))
         return found is not None and state.link(found.iface) in links
+
+    def whole_links(self, down):
+        """The links of several interfaces that are all down, with these."""
+        found = {}
+        for link, ports in self.run.ports().items():
+            keys = [(name, interface.number) for name, interface in ports]
+            if len(keys) > 1 and all(key in down for key in keys):
+                found[link] = keys
+        return found
+
+    def link_down(self, link, steps):
+        names = [name for name, _ in steps]
+        since = words.seconds(max(step.moment for step in steps.values()))
+        told = f": the link {link} is down since {since}, at {' and '.join(names)}"
+        parts = [self.of_interface(name, self.known[name].router.interfaces[number]) for name, number in steps]
+        return Cause(*self.run.at_router(names[0], told), lambda each: any(part(each) for part in parts))
 
     def went_down(self, name, number, step):
         interface = self.known[name].router.interfaces[number]
@@ -70,12 +104,16 @@ class Outages:
         """What follows where an interface is down."""
         link, address = interface.link, interface.address
         kinds = ("interface down", "no neighbour", "dead dr", "down", "not the source's dr")
+        at = self.at_of(name, interface.number)
 
         def covers(each):
             if each.kind in ("odd", "refused") and each.cause == "23":
                 return each.router == name and each.link == link
             if each.kind == "no route":
-                return self.led_over(each.router, each.address, {link})
+                is_own = each.router == name and trees.ip_address(each.address) in interface.own.network
+                return is_own or self.led_over(each.router, each.address, {link})
+            if each.kind == "no join":
+                return self.used(each, {link}, at)
             if each.kind == "lost" and each.link is None:
                 return self.led_over(each.router, each.address, {link})
             return each.kind in kinds and (each.link == link or each.address == address)
@@ -144,7 +182,8 @@ class Outages:
                 return bool({HELLO, JOIN} & set(kinds)) and each.link == link and each.router in receivers and each.address in senders
             if each.kind == "lost" and each.link is None:
                 return HELLO in kinds and self.crosses(each.router, each.address, link)
-            return each.kind == "lost" and each.link == link and each.router in senders and DATA in kinds
+            is_lost = each.kind == "lost" and each.link == link and DATA in kinds
+            return is_lost and each.router in senders and each.address in receivers
 
         return covers
 
@@ -195,9 +234,20 @@ class Outages:
         lost = f"its Join of {words.seconds(missed[0].moment)}, which was to override it, was lost" if missed else "it sent no Join to override it"
         gap = f"; its next Join came at {words.seconds(came.moment)}" if came else ""
         told = f"the Prune of {sent.router} for {group} on {link}, which came to {upper} at {words.seconds(at.moment)}, took effect"
-        told = f"{told} though {below} wants the group there: {lost}{gap}"
-        covers = lambda each: each.kind in ("no join", "lost") and each.link == link and each.group == group and each.host == stream.host
+        told = f"{told} though {below} wants the group there: {lost}{gap}. {self.outage(stream, loss)}"
+        covers = lambda each: each.kind == "no join" and each.link == link and each.group == group and each.host == stream.host
         yield Cause(self.run.on_link(upper, link), told, covers)
+
+    @staticmethod
+    def outage(stream, loss):
+        """How long a host missed packets, where a loss is among them."""
+        run = next(run for run in stream.missing() if loss.packets[0] in run)
+        numbers = f"{run[0].number} to {run[-1].number} ({len(run)})"
+        before = [each.moment for each in stream.first_arrivals() if each.packet.at < run[0].at]
+        after = [each.moment for each in stream.first_arrivals() if each.packet.at > run[-1].at]
+        if not before or not after:
+            return f"{stream.host} missed packets {numbers}"
+        return f"{stream.host} missed packets {numbers}: nothing came to it for {(after[0] - before[-1]) / 1000:g} s"
 
     def prune(self, upper, below, link, group, before):
         """The last Prune of a group that another router than the one below sent on a link, and that came before a step."""
@@ -224,7 +274,7 @@ class Outages:
     def full(self, name, found):
         most = self.known[name].router.table.get("limit", 65536)
         held = self.run.held(found[0][0], name)
-        what = ", ".join(f"{count} {COUNTED[table]}" for table, count in held.items())
+        what = ", ".join(times(count, COUNTED[table]) for table, count in held.items())
         told = f": its limit is {most}, and it held {sum(held.values())} facts ({what}) when it first refused a message, in move"
         told = f"{told} {found[0][1].move}; {times(len(found), 'message was').replace('message wass', 'messages were')} refused 24 (Full)"
         groups = {group for _, step in found for group in groups_of(step)}

@@ -70,14 +70,18 @@ class Run:
 
 
 COUNTED = {
-    printed.Neighbour: "neighbours", printed.GroupRecord: "group records", printed.SourceRecord: "source records",
-    printed.Downstream: "joined and pruned states", printed.AssertState: "asserts", printed.Active: "active sources",
+    printed.Neighbour: "neighbour", printed.GroupRecord: "group record", printed.SourceRecord: "source record",
+    printed.Downstream: "downstream state", printed.AssertState: "assert", printed.Active: "active source",
 }
 
 
 def is_ruled_out(group):
     """Groups that have no RP: those of SSM, and those that never leave their link."""
-    return trees.is_source_specific(group) or group.startswith("224.0.0.")
+    return trees.is_source_specific(group) or is_local(group)
+
+
+def is_local(group):
+    return group.startswith("224.0.0.")
 
 
 def some(names, count=3):

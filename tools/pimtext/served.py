@@ -235,10 +235,10 @@ def next_up(world, state, group, tree):
     whom = f"the RP {root}" if tree == ANY else f"the source {root}"
     path, hop = trees.route(state, root), trees.upstream_neighbour(state, group, tree)
     if path is None:
-        return None, no_route(world, state, root, whom)
+        return None, no_route(world, state, root, whom, tree == ANY)
     link = state.link(path.iface)
     if hop is None:
-        told = f"{name} sends no Join towards {whom}: {world.named(path.next_hop)} on {link} is no neighbour of it"
+        told = f"{world.named(path.next_hop)} on {link}, the next hop of {name} towards {whom}, is no neighbour of it"
         return None, End("no neighbour", told, name, link, path.next_hop)
     above = world.owner(hop.address)
     if above is None:
@@ -256,11 +256,11 @@ def dropped(state, above, group):
     return End("rp disagrees", f"{other} {has}, and drops the Joins of {name} to {rp}", other, None, rp)
 
 
-def no_route(world, state, root, whom):
+def no_route(world, state, root, whom, is_rp_wanted):
     """Why a router has no route to an RP or a source."""
     name = state.router.name
     found = trees.longest([(each.prefix, each) for each in state.routes], ip_address(root))
-    if state.router.has(root) or (found is None and world.owner(root) is None and world.link_of(root) is None):
+    if is_rp_wanted and found is None and world.owner(root) is None:
         return End("no owner", f"no router has the address {root}, and {name} no route to it", name, None, root)
     if found is None:
         return End("no route", f"{name} has no route to {whom}", name, None, root)
@@ -312,6 +312,9 @@ def unregistered(world, group, source, link):
 def registers_end(world, dr, group, source, rp):
     """Why nothing comes of what a DR registers."""
     name, owner = dr.router.name, world.owner(rp)
+    if dr.router.has(rp):
+        told = f"{name} is the RP of {group} to itself, by its address {rp}, so it registers nothing, and no Join for it came to {name}"
+        return End("registers stopped", told, name, None, rp)
     if owner is None:
         return End("no owner", f"{name} registers with {rp}, which no router here has", name, None, rp)
     if not is_rp(owner, group):

@@ -51,11 +51,9 @@ class Copy:
         return self.sent.is_unicast()
 
     def words(self):
-        """Who sent it, and of which link it had taken it."""
-        before = self.by.before
-        if self.by.iface is None:
-            return f"by {self.by.router}, out of a Register"
-        return f"by {self.by.router}, " + (f"from {before.sent.where}" if before else "from its source")
+        """The routers that it came by."""
+        names = [taken.router if taken.before is None or taken.iface is not None else f"a Register to {taken.router}" for taken in self.by.way()]
+        return f"by {', '.join(names)}"
 
 
 @dataclass(eq=False)

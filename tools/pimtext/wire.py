@@ -28,7 +28,7 @@ class Way:
 
     def words(self, kinds=None):
         """How many were lost, of these kinds or of all."""
-        chosen = [kind for kind in kinds or self.sent if self.lost[kind]]
+        chosen = [kind for kind in PLURALS if self.lost[kind] and (kinds is None or kind in kinds)]
         return ", ".join(f"{len(self.lost[kind])} of {len(self.sent[kind])} {PLURALS[kind]}" for kind in chosen)
 
 
