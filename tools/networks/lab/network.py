@@ -316,7 +316,10 @@ class Network:
         """Whether a host is served of a source, a host or an address, at the present; as a text, hop by hop how, or why not."""
         diagnosis, address = self.diagnosis(), source_given(source)
         watch = diagnosis.run.watch
-        verdict = watch.verdict(watch.stream(host.address, group_given(group), address))
+        stream = watch.stream(host.address, group_given(group), address)
+        if watch.origin(stream) is None:
+            raise Mistake(f"the source {address} is in the subnet of no link that is up")
+        verdict = watch.verdict(stream)
         causes = [f"  cause: {cause.line}: {cause.text}" for cause in diagnosis.of(verdict.stream)]
         return Served([*verdict.lines, *causes], verdict.is_served)
 
