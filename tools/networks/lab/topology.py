@@ -183,15 +183,16 @@ def onwards(router, way):
 
 
 def routes(origin):
-    """A router's routes as the scenario file has them: to each link that isn't its own."""
+    """A router's routes as the scenario file has them: to each link that isn't its own. None leads to an address of itself."""
     best = {}
     for router, way in ways(origin).items():
         for port in router.ports:
             metric = way.distance + port.link.cost
             if way.links and port.is_up() and metric < best.get(port.link, (way, metric + 1))[1]:
                 best[port.link] = way, metric
-    own = {port.link for port in origin.ports}
+    own, addresses = {port.link for port in origin.ports}, {port.address for port in origin.ports}
     return [
         f"{link.subnet} {way.hop} {way.port.number} {PREFERENCE} {metric}"
-        for link, (way, metric) in sorted(best.items(), key=lambda pair: pair[0].subnet) if link not in own
+        for link, (way, metric) in sorted(best.items(), key=lambda pair: pair[0].subnet)
+        if link not in own and way.hop not in addresses
     ]
