@@ -130,10 +130,11 @@ class Diagnosis:
         self.left = grouped([symptom for symptom in left if symptom.kind not in QUIET])
 
     def ordered(self):
-        """Causes that explain something first, then the others, each by its line, and then symptoms without a cause."""
+        """Causes by how much they explain, then symptoms without a cause, then causes that explain nothing, each by its line."""
         explain = [cause for cause in self.causes if cause.symptoms]
         others = [cause for cause in self.causes if not cause.symptoms]
-        for part in (explain, self.left, others):
+        yield from sorted(explain, key=lambda cause: (*(-count for count in cause.weight()), cause.line))
+        for part in (self.left, others):
             yield from sorted(part, key=lambda cause: cause.line)
 
     def lines(self):
