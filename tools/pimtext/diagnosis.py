@@ -130,12 +130,9 @@ class Diagnosis:
         self.left = grouped([symptom for symptom in left if symptom.kind not in QUIET])
 
     def ordered(self):
-        """Causes by how much they explain, then symptoms without a cause, then causes that explain nothing, each by its line."""
-        explain = [cause for cause in self.causes if cause.symptoms]
-        others = [cause for cause in self.causes if not cause.symptoms]
-        yield from sorted(explain, key=lambda cause: (*(-count for count in cause.weight()), cause.line))
-        for part in (self.left, others):
-            yield from sorted(part, key=lambda cause: cause.line)
+        """What explains most comes first, equals by their lines; last come causes that explain nothing."""
+        told = [*self.causes, *self.left]
+        return sorted(told, key=lambda cause: (not cause.symptoms, *(-count for count in cause.weight()), cause.line))
 
     def lines(self):
         return ["\n".join(cause.lines()) for cause in self.ordered()]
