@@ -1,5 +1,5 @@
 //! The same as `join.c`, in Rust.
-use pim::{Error, Interface, Range, Route, Router, Settings, Verdict};
+use viqeshor::{Error, Interface, Range, Route, Router, Settings, Verdict};
 use std::net::Ipv4Addr;
 
 fn bytes_of(hex: &str) -> Vec<u8> {
@@ -27,7 +27,7 @@ impl Printer {
         for sent in router.packets() {
             self.frames += 1;
             let hex: String = sent.bytes.iter().map(|byte| format!("{byte:02x}")).collect();
-            if sent.packet.is_unicast {
+            if sent.packet.is_unicast() {
                 println!("unicast {} {} {hex}", self.frames, Ipv4Addr::from(sent.packet.destination));
             } else {
                 let kind = if sent.is_copy { "copy" } else { "frame" };

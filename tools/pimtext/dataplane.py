@@ -1,9 +1,9 @@
-"""A router behind a data plane, which forwards by itself what the router's rows decide, as include/pim.h says. Each duty of a plane
+"""A router behind a data plane, which forwards by itself what the router's rows decide, as include/viqeshor/viqeshor.h says. Each duty of a plane
 has a name, and may be forgotten."""
 from dataclasses import dataclass
 
-import pim
-from pim import Answer
+import viqeshor
+from viqeshor import Answer
 from pimtext import packets
 from pimtext.packets import Refused
 
@@ -109,7 +109,7 @@ class Plane:
     def ask(self, name):
         row = self.router.offload(*name)
         if row is None and not self.minds("nothing"):
-            row = pim.PlaneRow(False, None, frozenset(), frozenset(), frozenset())
+            row = viqeshor.PlaneRow(False, None, frozenset(), frozenset(), frozenset())
         if row is None:
             self.rows.pop(name, None)
         else:
@@ -136,7 +136,7 @@ class Plane:
         copy = packets.aged(whole) if self.minds("aged") and whole[8] else whole
         for to in sorted(row.outgoing):
             if to != iface or not self.minds("incoming"):
-                yield pim.Sent("copy", to, copy)
+                yield viqeshor.Sent("copy", to, copy)
 
     def note(self, name, iface):
         if self.minds("last"):

@@ -1,15 +1,15 @@
-"""What the library's archive declares, as C: the functions and values of crates/pim_c, and assertions that include/pim.h has the same."""
+"""What the library's archive declares, as C: the functions and values of crates/pim_c, and assertions that include/viqeshor/viqeshor.h has the same."""
 import re
 from pathlib import Path
 
 TOP = Path(__file__).resolve().parent.parent.parent
 SOURCES = TOP / "crates" / "pim_c" / "src"
-HEADER = TOP / "include" / "pim.h"
+HEADER = TOP / "include" / "viqeshor.h"
 # What the crate's values are called in C.
 NAMES = {
-    "Handle": "pim_router", "GivenInterface": "pim_interface", "GivenRoute": "pim_route", "GivenRange": "pim_range",
-    "GivenSettings": "pim_settings", "Packet": "pim_packet", "TableRow": "pim_row", "Interfaces": "pim_interfaces",
-    "Forwarding": "pim_forwarding", "PlaneRow": "pim_plane_row", "NamedSource": "pim_source_group",
+    "Handle": "pim_router", "GivenInterface": "viq_interface", "GivenRoute": "viq_route", "GivenRange": "viq_range",
+    "GivenSettings": "viq_settings", "Packet": "viq_packet", "TableRow": "viq_row", "Interfaces": "viq_interfaces",
+    "Forwarding": "viq_forwarding", "PlaneRow": "viq_plane_row", "NamedSource": "viq_source_group",
 }
 # `Place` is a pointer beside what takes no room.
 TYPES = {"u8": "uint8_t", "u32": "uint32_t", "u64": "uint64_t", "usize": "size_t", "bool": "bool", "Place": "void *"}
@@ -68,8 +68,8 @@ def fields_hold(name, fields):
 
 
 def assertions():
-    """A C file that compiles where include/pim.h declares what the crate does."""
-    lines = ['#include "pim.h"']
+    """A C file that compiles where include/viqeshor/viqeshor.h declares what the crate does."""
+    lines = ['#include <viqeshor/viqeshor.h>']
     for name, fields in structs().items():
         lines += fields_hold(name, fields)
     for name, kind in calls():

@@ -17,9 +17,9 @@ INCLUDE = TOP / "include"
 BINDINGS = TOP / "bindings"
 ROOM = TOP / "out" / "library"
 CC = os.environ.get("CC", "cc")
-VERSION = re.search(r'#define PIM_VERSION "(.*)"', (INCLUDE / "pim.h").read_text())[1]
+VERSION = re.search(r'#define VIQ_VERSION "(.*)"', (INCLUDE / "viqeshor.h").read_text())[1]
 # What the shared library is called by the programs that are linked with it.
-SONAME = f"libpim.so.{VERSION.partition('.')[0]}"
+SONAME = f"libviqeshor.so.{VERSION.partition('.')[0]}"
 
 
 def ran(words, **how):
@@ -114,7 +114,7 @@ def archiver():
 def archive(router, how):
     """The archive, of a router's, that says how it was built. The kit's few lines of C around malloc are in it, or are put
     there."""
-    made, tool = ROOM / "libpim.a", archiver()
+    made, tool = ROOM / "libviqeshor.a", archiver()
     made.unlink(missing_ok=True)
     shutil.copyfile(router, made)
     if HEAP not in ran([tool, "t", made]).decode().split():
@@ -140,7 +140,7 @@ class Library:
 
     def shared(self):
         """A shared library of all of it."""
-        made, names = ROOM / "libpim.so", ROOM / "names"
+        made, names = ROOM / "libviqeshor.so", ROOM / "names"
         names.write_text("{ global: pim_*; local: *; };\n")
         flags = [f"-Wl,-soname,{SONAME}", f"-Wl,--version-script={names}", "-Wl,--whole-archive", self.archive, "-Wl,--no-whole-archive"]
         ran([CC, "-shared", "-o", made, *flags])
@@ -197,19 +197,19 @@ Name: pim
 Description: A multicast router core: PIM Sparse Mode and IGMPv3
 Version: {version}
 Cflags: -I${{includedir}}
-Libs: -L${{libdir}} -lpim
+Libs: -L${{libdir}} -lviqeshor
 """
 
-CMAKE = """get_filename_component(PIM_PREFIX "${CMAKE_CURRENT_LIST_DIR}/../../.." ABSOLUTE)
+CMAKE = """get_filename_component(VIQ_PREFIX "${CMAKE_CURRENT_LIST_DIR}/../../.." ABSOLUTE)
 foreach(kind STATIC SHARED)
   string(TOLOWER ${kind} name)
   if(NOT TARGET pim::${name})
     add_library(pim::${name} ${kind} IMPORTED)
-    set_target_properties(pim::${name} PROPERTIES INTERFACE_INCLUDE_DIRECTORIES "${PIM_PREFIX}/include")
+    set_target_properties(pim::${name} PROPERTIES INTERFACE_INCLUDE_DIRECTORIES "${VIQ_PREFIX}/include")
   endif()
 endforeach()
-set_target_properties(pim::static PROPERTIES IMPORTED_LOCATION "${PIM_PREFIX}/lib/libpim.a")
-set_target_properties(pim::shared PROPERTIES IMPORTED_LOCATION "${PIM_PREFIX}/lib/libpim.so" IMPORTED_SONAME "@SONAME@")
+set_target_properties(viqeshor::static PROPERTIES IMPORTED_LOCATION "${VIQ_PREFIX}/lib/libviqeshor.a")
+set_target_properties(viqeshor::shared PROPERTIES IMPORTED_LOCATION "${VIQ_PREFIX}/lib/libviqeshor.so" IMPORTED_SONAME "@SONAME@")
 """
 
 # Versions with the same first number take one another's place, the newer one the older one's.
@@ -234,14 +234,14 @@ def filled(text):
 def install(library, prefix):
     """The header, the archive, the shared library, and what pkg-config and CMake find them by."""
     prefix = prefix.resolve()
-    lib, named = prefix / "lib", f"libpim.so.{VERSION}"
-    for folder in ("include", "lib/pkgconfig", "lib/cmake/pim"):
+    lib, named = prefix / "lib", f"libviqeshor.so.{VERSION}"
+    for folder in ("include", "lib/pkgconfig", "lib/cmake/viqeshor"):
         (prefix / folder).mkdir(parents=True, exist_ok=True)
-    shutil.copy(INCLUDE / "pim.h", prefix / "include")
+    shutil.copy(INCLUDE / "viqeshor.h", prefix / "include")
     shutil.copy(library.archive, lib)
     shutil.copy(library.shared(), lib / named)
     link(named, lib / SONAME)
-    link(SONAME, lib / "libpim.so")
+    link(SONAME, lib / "libviqeshor.so")
     (lib / "pkgconfig" / "pim.pc").write_text(PKG_CONFIG.format(prefix=prefix, version=VERSION))
     (lib / "cmake" / "pim" / "pim-config.cmake").write_text(filled(CMAKE))
     (lib / "cmake" / "pim" / "pim-config-version.cmake").write_text(filled(CMAKE_VERSION))

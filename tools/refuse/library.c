@@ -7,7 +7,7 @@
 #include <stdlib.h>
 #include <string.h>
 
-#include "pim.h"
+#include <viqeshor/viqeshor.h>
 
 enum { MOST_EVENTS = 4096, MOST_ITEMS = 4096, MOST_SOURCES = 64 };
 static const char tables[] = "NGSDAURF";
@@ -49,10 +49,10 @@ struct event {
     size_t first, count; /* bytes, routes or ranges */
 };
 
-static struct pim_settings settings;
-static struct pim_interface interfaces[128];
-static struct pim_route routes[MOST_ITEMS];
-static struct pim_range ranges[MOST_ITEMS];
+static struct viq_settings settings;
+static struct viq_interface interfaces[128];
+static struct viq_route routes[MOST_ITEMS];
+static struct viq_range ranges[MOST_ITEMS];
 static uint8_t bytes[MOST_EVENTS * 256];
 static struct event events[MOST_EVENTS];
 static size_t interface_count, route_count, range_count, byte_count, event_count, first_routes, first_ranges;
@@ -97,7 +97,7 @@ static void read_line(char *line) {
     if (strcmp(word, "new") == 0) {
         uint32_t given[6];
         for (int at = 0; at < 6; at++) given[at] = number();
-        settings = (struct pim_settings){given[0], given[1], given[2], given[3], given[4], given[5] != 0};
+        settings = (struct viq_settings){given[0], given[1], given[2], given[3], given[4], given[5] != 0};
         first_routes = taken_routes = route_count;
         first_ranges = taken_ranges = range_count;
     } else if (strcmp(word, "interface") == 0) {
@@ -116,15 +116,15 @@ static void read_line(char *line) {
     }
 }
 
-static uint32_t play(struct pim_router *router, const struct event *event) {
+static uint32_t play(struct viq_router *router, const struct event *event) {
     switch (event->kind) {
-    case 'a': return pim_advance(router, event->draw, event->moment);
-    case 'f': return pim_frame(router, event->draw, event->iface, bytes + event->first, event->count);
-    case 'u': return pim_unicast(router, event->draw, bytes + event->first, event->count);
-    case '+': return pim_up(router, event->draw, event->iface);
-    case '-': return pim_down(router, event->draw, event->iface);
-    case 'r': return pim_routes(router, event->draw, routes + event->first, event->count);
-    default: return pim_ranges(router, event->draw, ranges + event->first, event->count);
+    case 'a': return viq_advance(router, event->draw, event->moment);
+    case 'f': return viq_frame(router, event->draw, event->iface, bytes + event->first, event->count);
+    case 'u': return viq_unicast(router, event->draw, bytes + event->first, event->count);
+    case '+': return viq_up(router, event->draw, event->iface);
+    case '-': return viq_down(router, event->draw, event->iface);
+    case 'r': return viq_routes(router, event->draw, routes + event->first, event->count);
+    default: return viq_ranges(router, event->draw, ranges + event->first, event->count);
     }
 }
 
@@ -142,11 +142,11 @@ static uint64_t mixed(uint64_t sum, const void *from, size_t count) {
     return sum;
 }
 
-static uint64_t packets_of(struct pim_router *router) {
+static uint64_t packets_of(struct viq_router *router) {
     uint64_t sum = 14695981039346656037u;
-    uint8_t room[PIM_MOST_BYTES];
-    struct pim_packet packet;
-    for (size_t index = 0; pim_packet(router, index, &packet, room, sizeof room); index++) {
+    uint8_t room[VIQ_MOST_BYTES];
+    struct viq_packet packet;
+    for (size_t index = 0; viq_packet(router, index, &packet, room, sizeof room); index++) {
         uint64_t words[] = {packet.is_unicast, packet.iface, packet.destination, packet.length};
         sum = mixed(mixed(sum, words, sizeof words), room, packet.length);
     }
@@ -154,11 +154,11 @@ static uint64_t packets_of(struct pim_router *router) {
 }
 
 /* The rows of the forwarding cache, of every source that comes up. 0 where there is none. */
-static uint64_t cached_of(struct pim_router *router) {
+static uint64_t cached_of(struct viq_router *router) {
     uint64_t sum = 0;
     for (size_t at = 0; at < source_count; at++) {
-        struct pim_forwarding told;
-        if (!pim_cached(router, sources[at].source, sources[at].group, &told)) continue;
+        struct viq_forwarding told;
+        if (!viq_cached(router, sources[at].source, sources[at].group, &told)) continue;
         uint64_t words[] = {at + 1, told.rpf, told.shared_rpf, told.has_spt_bit, told.has_tunnel,
                             told.immediate.low, told.immediate.high, told.inherited.low, told.inherited.high,
                             told.shared_tree.low, told.shared_tree.high};
@@ -167,9 +167,9 @@ static uint64_t cached_of(struct pim_router *router) {
     return sum;
 }
 
-static struct seen look(struct pim_router *router, uint32_t answer) {
-    return (struct seen){packets_of(router), cached_of(router), pim_next_moment(router), pim_probes(router), pim_touched(router),
-                         answer, pim_copies(router)};
+static struct seen look(struct viq_router *router, uint32_t answer) {
+    return (struct seen){packets_of(router), cached_of(router), viq_next_moment(router), viq_probes(router), viq_touched(router),
+                         answer, viq_copies(router)};
 }
 
 static int same(struct seen a, struct seen b) {
@@ -177,9 +177,9 @@ static int same(struct seen a, struct seen b) {
            a.answer == b.answer && a.copies == b.copies;
 }
 
-static uint64_t rows_of(struct pim_router *router, uint64_t sum) {
-    struct pim_row row;
-    for (size_t index = 0; pim_row(router, index, &row); index++) {
+static uint64_t rows_of(struct viq_router *router, uint64_t sum) {
+    struct viq_row row;
+    for (size_t index = 0; viq_row(router, index, &row); index++) {
         uint64_t words[] = {row.table, row.iface, row.group, row.source, row.winner, row.is_rpt,
                             row.is_set, row.state, row.end, row.pending};
         sum = mixed(sum, words, sizeof words);
@@ -188,16 +188,16 @@ static uint64_t rows_of(struct pim_router *router, uint64_t sum) {
 }
 
 /* All tables. Where memory is refused, nothing has changed, and the table is read once more. */
-static int read_all(struct pim_router *router, uint64_t *sum, int *was_refused) {
+static int read_all(struct viq_router *router, uint64_t *sum, int *was_refused) {
     for (const char *table = tables; *table; table++) {
         uint64_t before = rows_of(router, 0);
-        uint32_t answer = pim_read(router, (uint8_t)*table);
-        if (answer == PIM_MEMORY) {
+        uint32_t answer = viq_read(router, (uint8_t)*table);
+        if (answer == VIQ_MEMORY) {
             *was_refused = 1;
             if (rows_of(router, 0) != before) return 0;
-            answer = pim_read(router, (uint8_t)*table);
+            answer = viq_read(router, (uint8_t)*table);
         }
-        if (answer != PIM_DONE) return 0;
+        if (answer != VIQ_DONE) return 0;
         *sum = rows_of(router, *sum);
     }
     return 1;
@@ -207,27 +207,27 @@ static struct seen full[MOST_EVENTS];
 static uint64_t full_rows;
 
 /* Whether a router has failed: the packets are as they were, nothing else is told, and the router answers no more. */
-static int has_failed(struct pim_router *router, uint64_t packets) {
+static int has_failed(struct viq_router *router, uint64_t packets) {
     uint8_t none[1] = {0};
-    uint32_t answers[] = {pim_up(router, 1, 0), pim_down(router, 1, 0), pim_advance(router, 1, UINT64_MAX),
-                          pim_frame(router, 1, 0, none, 0), pim_unicast(router, 1, none, 0),
-                          pim_routes(router, 1, routes, first_routes), pim_ranges(router, 1, ranges, first_ranges),
-                          pim_seen(router, 1, 0, 0x0a000009, 0xe8010101), pim_keep(router, 0x0a000009, 0xe8010101, 1)};
-    struct pim_plane_row offered;
+    uint32_t answers[] = {viq_up(router, 1, 0), viq_down(router, 1, 0), viq_advance(router, 1, UINT64_MAX),
+                          viq_frame(router, 1, 0, none, 0), viq_unicast(router, 1, none, 0),
+                          viq_routes(router, 1, routes, first_routes), viq_ranges(router, 1, ranges, first_ranges),
+                          viq_seen(router, 1, 0, 0x0a000009, 0xe8010101), viq_keep(router, 0x0a000009, 0xe8010101, 1)};
+    struct viq_plane_row offered;
     for (size_t at = 0; at < sizeof answers / sizeof *answers; at++)
-        if (answers[at] != PIM_FAILED) return 0;
+        if (answers[at] != VIQ_FAILED) return 0;
     for (const char *table = tables; *table; table++)
-        if (pim_read(router, (uint8_t)*table) != PIM_FAILED) return 0;
-    struct seen wanted = {packets, 0, PIM_NEVER, 0, 0, PIM_FAILED, 0};
-    if (pim_offload(router, 0x0a000009, 0xe8010101, &offered) || pim_changed(router) != 0) return 0;
-    return pim_may_differ(router, 0x0a000009, 0xe8010101) && pim_rows(router) == 0 && same(look(router, PIM_FAILED), wanted);
+        if (viq_read(router, (uint8_t)*table) != VIQ_FAILED) return 0;
+    struct seen wanted = {packets, 0, VIQ_NEVER, 0, 0, VIQ_FAILED, 0};
+    if (viq_offload(router, 0x0a000009, 0xe8010101, &offered) || viq_changed(router) != 0) return 0;
+    return viq_may_differ(router, 0x0a000009, 0xe8010101) && viq_rows(router) == 0 && same(look(router, VIQ_FAILED), wanted);
 }
 
 /* Finds every source of which there is a fact after some event. */
-static void find_sources(struct pim_router *router) {
-    struct pim_row row;
-    if (pim_read(router, 'F') != PIM_DONE) return;
-    for (size_t index = 0; pim_row(router, index, &row); index++) {
+static void find_sources(struct viq_router *router) {
+    struct viq_row row;
+    if (viq_read(router, 'F') != VIQ_DONE) return;
+    for (size_t index = 0; viq_row(router, index, &row); index++) {
         size_t at = 0;
         while (at < source_count && (sources[at].source != row.source || sources[at].group != row.group)) at++;
         if (at < source_count || source_count == MOST_SOURCES) continue;
@@ -236,47 +236,47 @@ static void find_sources(struct pim_router *router) {
     }
 }
 
-static int began(struct pim_router *router) {
-    return pim_new(router, &settings, interfaces, interface_count, routes, first_routes, ranges, first_ranges) == PIM_DONE;
+static int began(struct viq_router *router) {
+    return viq_new(router, &settings, interfaces, interface_count, routes, first_routes, ranges, first_ranges) == VIQ_DONE;
 }
 
 static void play_for_sources(void) {
-    struct pim_router router = PIM_NO_HANDLE;
+    struct viq_router router = VIQ_NO_HANDLE;
     if (!began(&router)) return;
     for (size_t at = 0; at < event_count; at++) {
         (void)play(&router, &events[at]);
         find_sources(&router);
     }
-    pim_end(&router);
+    viq_end(&router);
 }
 
 static int is_copied(const struct event *event) { return event->kind != 'a' && event->kind != '+' && event->kind != '-'; }
 
 /* Such an answer takes no memory but that of a copy: the event is ignored, or refused for its bytes, its moment or its interface. */
-static int is_sure(uint32_t answer) { return (answer >= PIM_SHORT && answer <= PIM_INTERFACE_DOWN) || answer >= PIM_IGNORED; }
+static int is_sure(uint32_t answer) { return (answer >= VIQ_SHORT && answer <= VIQ_INTERFACE_DOWN) || answer >= VIQ_IGNORED; }
 
 /* After memory was refused to an event: the router has failed (1), or nothing changed and the event may be given again (0); else 2. */
-static int after_refusal(struct pim_router *router, size_t at, struct seen before) {
-    if (pim_read(router, 'N') == PIM_FAILED) return has_failed(router, before.packets) && !is_sure(full[at].answer) ? 1 : 2;
+static int after_refusal(struct viq_router *router, size_t at, struct seen before) {
+    if (viq_read(router, 'N') == VIQ_FAILED) return has_failed(router, before.packets) && !is_sure(full[at].answer) ? 1 : 2;
     return is_copied(&events[at]) && same(look(router, before.answer), before) ? 0 : 2;
 }
 
 /* A run. 0 where all came as without a refusal, 1 where memory was refused and told, 2 otherwise. */
 static int run(int is_first) {
-    struct pim_router router = PIM_NO_HANDLE;
+    struct viq_router router = VIQ_NO_HANDLE;
     uint64_t sum = 0;
     int was_refused = 0;
-    uint32_t answer = pim_new(&router, &settings, interfaces, interface_count, routes, first_routes,
+    uint32_t answer = viq_new(&router, &settings, interfaces, interface_count, routes, first_routes,
                               ranges, first_ranges);
-    if (answer == PIM_MEMORY)
-        return !router.is_there && pim_up(&router, 1, 0) == PIM_NO_ROUTER && pim_next_moment(&router) == PIM_NEVER ? 1 : 2;
-    if (answer != PIM_DONE) return 2;
+    if (answer == VIQ_MEMORY)
+        return !router.is_there && viq_up(&router, 1, 0) == VIQ_NO_ROUTER && viq_next_moment(&router) == VIQ_NEVER ? 1 : 2;
+    if (answer != VIQ_DONE) return 2;
     struct seen before = look(&router, answer);
     for (size_t at = 0; at < event_count; at++) {
         answer = play(&router, &events[at]);
-        if (answer == PIM_MEMORY) {
+        if (answer == VIQ_MEMORY) {
             int outcome = after_refusal(&router, at, before);
-            if (outcome != 0) pim_end(&router);
+            if (outcome != 0) viq_end(&router);
             if (outcome != 0) return outcome;
             was_refused = 1;
             answer = play(&router, &events[at]);
@@ -289,7 +289,7 @@ static int run(int is_first) {
     if (!read_all(&router, &sum, &was_refused)) return 2;
     if (is_first) full_rows = sum;
     else if (sum != full_rows) return 2;
-    pim_end(&router);
+    viq_end(&router);
     return was_refused;
 }
 

@@ -1,4 +1,4 @@
-"""include/pim.h declares what the library's crate does: its calls, and each value's size, places and types."""
+"""include/viqeshor/viqeshor.h declares what the library's crate does: its calls, and each value's size, places and types."""
 import os
 import shutil
 import subprocess
@@ -14,7 +14,7 @@ CC = os.environ.get("CC", "cc")
 def complaint(header):
     """What a compiler says of the assertions over a header; nothing where they hold."""
     with tempfile.TemporaryDirectory() as room:
-        (Path(room) / "pim.h").write_text(header)
+        (Path(room) / "viqeshor.h").write_text(header)
         (Path(room) / "holds.c").write_text(declared.assertions())
         words = [CC, "-std=c11", "-Wall", "-Werror", "-I", room, "-fsyntax-only", f"{room}/holds.c"]
         return subprocess.run(words, capture_output=True, text=True).stderr
@@ -33,10 +33,10 @@ class Header(unittest.TestCase):
     def test_each_other_header_is_found(self):
         changes = {
             "uint32_t draw, uint32_t iface, const uint8_t": "uint32_t draw, uint64_t iface, const uint8_t",
-            "bool pim_cached(": "uint32_t pim_cached(",
+            "bool viq_cached(": "uint32_t viq_cached(",
             "uint32_t prefix; /* with": "uint64_t prefix; /* with",
             "    bool has_tunnel;                   /*": "    uint8_t has_tunnel;                /*",
-            "const struct pim_range *ranges, size_t count": "struct pim_range *ranges, size_t count",
+            "const struct viq_range *ranges, size_t count": "struct viq_range *ranges, size_t count",
         }
         for old, new in changes.items():
             with self.subTest(new):

@@ -1,4 +1,4 @@
-//! A multicast router: PIM Sparse Mode (RFC 7761) and IGMPv3 (RFC 3376). It is what `include/pim.h` describes.
+//! A multicast router: PIM Sparse Mode (RFC 7761) and IGMPv3 (RFC 3376). It is what `include/viqeshor/viqeshor.h` describes.
 //!
 //! A program tells a [`Router`] what happens, by one call an event, and after each sends the packets that it names. The router
 //! starts no thread, opens no socket and reads no clock. Moments are milliseconds from any beginning. A draw is a random number,
@@ -201,7 +201,7 @@ impl Error {
         }
     }
 
-    /// Its number in `include/pim.h`.
+    /// Its number in `include/viqeshor/viqeshor.h`.
     pub fn number(self) -> u32 {
         match self {
             Error::Refused(refusal) => refusal as u32,
@@ -399,9 +399,9 @@ struct Handle {
 }
 
 extern "C" {
-    fn pim_version() -> *const c_char;
-    fn pim_answer_text(answer: u32) -> *const c_char;
-    fn pim_new(
+    fn viq_version() -> *const c_char;
+    fn viq_answer_text(answer: u32) -> *const c_char;
+    fn viq_new(
         router: &mut Handle,
         settings: &Settings,
         interfaces: *const Interface,
@@ -411,30 +411,30 @@ extern "C" {
         ranges: *const Range,
         range_count: usize,
     ) -> u32;
-    fn pim_end(router: &mut Handle);
-    fn pim_advance(router: &mut Handle, draw: u32, moment: u64) -> u32;
-    fn pim_frame(router: &mut Handle, draw: u32, iface: u32, packet: *const u8, length: usize) -> u32;
-    fn pim_unicast(router: &mut Handle, draw: u32, packet: *const u8, length: usize) -> u32;
-    fn pim_up(router: &mut Handle, draw: u32, iface: u32) -> u32;
-    fn pim_down(router: &mut Handle, draw: u32, iface: u32) -> u32;
-    fn pim_routes(router: &mut Handle, draw: u32, routes: *const Route, count: usize) -> u32;
-    fn pim_ranges(router: &mut Handle, draw: u32, ranges: *const Range, count: usize) -> u32;
-    fn pim_packets(router: &mut Handle) -> usize;
-    fn pim_packet(router: &mut Handle, index: usize, packet: &mut Packet, room: *mut u8, room_length: usize) -> bool;
-    fn pim_copies(router: &mut Handle) -> u32;
-    fn pim_next_moment(router: &mut Handle) -> u64;
-    fn pim_read(router: &mut Handle, letter: u8) -> u32;
-    fn pim_rows(router: &mut Handle) -> usize;
-    fn pim_row(router: &mut Handle, index: usize, row: &mut Row) -> bool;
-    fn pim_cached(router: &mut Handle, source: u32, group: u32, forwarding: &mut Forwarding) -> bool;
-    fn pim_offload(router: &mut Handle, source: u32, group: u32, row: &mut PlaneRow) -> bool;
-    fn pim_changed(router: &mut Handle) -> usize;
-    fn pim_changed_source(router: &mut Handle, index: usize, name: &mut SourceGroup) -> bool;
-    fn pim_may_differ(router: &mut Handle, source: u32, group: u32) -> bool;
-    fn pim_seen(router: &mut Handle, draw: u32, iface: u32, source: u32, group: u32) -> u32;
-    fn pim_keep(router: &mut Handle, source: u32, group: u32, moment: u64) -> u32;
-    fn pim_probes(router: &mut Handle) -> u64;
-    fn pim_touched(router: &mut Handle) -> u64;
+    fn viq_end(router: &mut Handle);
+    fn viq_advance(router: &mut Handle, draw: u32, moment: u64) -> u32;
+    fn viq_frame(router: &mut Handle, draw: u32, iface: u32, packet: *const u8, length: usize) -> u32;
+    fn viq_unicast(router: &mut Handle, draw: u32, packet: *const u8, length: usize) -> u32;
+    fn viq_up(router: &mut Handle, draw: u32, iface: u32) -> u32;
+    fn viq_down(router: &mut Handle, draw: u32, iface: u32) -> u32;
+    fn viq_routes(router: &mut Handle, draw: u32, routes: *const Route, count: usize) -> u32;
+    fn viq_ranges(router: &mut Handle, draw: u32, ranges: *const Range, count: usize) -> u32;
+    fn viq_packets(router: &mut Handle) -> usize;
+    fn viq_packet(router: &mut Handle, index: usize, packet: &mut Packet, room: *mut u8, room_length: usize) -> bool;
+    fn viq_copies(router: &mut Handle) -> u32;
+    fn viq_next_moment(router: &mut Handle) -> u64;
+    fn viq_read(router: &mut Handle, letter: u8) -> u32;
+    fn viq_rows(router: &mut Handle) -> usize;
+    fn viq_row(router: &mut Handle, index: usize, row: &mut Row) -> bool;
+    fn viq_cached(router: &mut Handle, source: u32, group: u32, forwarding: &mut Forwarding) -> bool;
+    fn viq_offload(router: &mut Handle, source: u32, group: u32, row: &mut PlaneRow) -> bool;
+    fn viq_changed(router: &mut Handle) -> usize;
+    fn viq_changed_source(router: &mut Handle, index: usize, name: &mut SourceGroup) -> bool;
+    fn viq_may_differ(router: &mut Handle, source: u32, group: u32) -> bool;
+    fn viq_seen(router: &mut Handle, draw: u32, iface: u32, source: u32, group: u32) -> u32;
+    fn viq_keep(router: &mut Handle, source: u32, group: u32, moment: u64) -> u32;
+    fn viq_probes(router: &mut Handle) -> u64;
+    fn viq_touched(router: &mut Handle) -> u64;
 }
 
 fn text(from: *const c_char) -> &'static str {
@@ -444,12 +444,12 @@ fn text(from: *const c_char) -> &'static str {
 
 /// The version of the library, and how it was built: `proved` or `not proved`.
 pub fn version() -> &'static str {
-    text(unsafe { pim_version() })
+    text(unsafe { viq_version() })
 }
 
 /// What an answer's number says.
 pub fn answer_text(answer: u32) -> &'static str {
-    text(unsafe { pim_answer_text(answer) })
+    text(unsafe { viq_answer_text(answer) })
 }
 
 /// A router, which ends where it is dropped.
@@ -466,7 +466,7 @@ impl Router {
         // SAFETY: each slice is passed as its pointer and its length, and the handle has no router.
         let answer = unsafe {
             let (interfaces, routes, ranges) = (interfaces.as_ptr(), routes.as_ptr(), ranges.as_ptr());
-            pim_new(&mut handle, settings, interfaces, interface_count, routes, route_count, ranges, range_count)
+            viq_new(&mut handle, settings, interfaces, interface_count, routes, route_count, ranges, range_count)
         };
         if answer == DONE { Ok(Router(handle)) } else { Err(Error::of(answer)) }
     }
@@ -474,48 +474,48 @@ impl Router {
     /// Time passes up to the moment, which isn't before the present.
     pub fn advance(&mut self, draw: u32, moment: u64) -> Result<Verdict, Error> {
         // SAFETY: the handle has a router of its own; so it is below.
-        verdict(unsafe { pim_advance(&mut self.0, draw, moment) })
+        verdict(unsafe { viq_advance(&mut self.0, draw, moment) })
     }
 
     /// A packet came on an interface, to a group: PIM, IGMP or data.
     pub fn frame(&mut self, draw: u32, iface: u32, packet: &[u8]) -> Result<Verdict, Error> {
-        verdict(unsafe { pim_frame(&mut self.0, draw, iface, packet.as_ptr(), packet.len()) })
+        verdict(unsafe { viq_frame(&mut self.0, draw, iface, packet.as_ptr(), packet.len()) })
     }
 
     /// A PIM packet came for an address of the router.
     pub fn unicast(&mut self, draw: u32, packet: &[u8]) -> Result<Verdict, Error> {
-        verdict(unsafe { pim_unicast(&mut self.0, draw, packet.as_ptr(), packet.len()) })
+        verdict(unsafe { viq_unicast(&mut self.0, draw, packet.as_ptr(), packet.len()) })
     }
 
     /// An interface goes up.
     pub fn up(&mut self, draw: u32, iface: u32) -> Result<Verdict, Error> {
-        verdict(unsafe { pim_up(&mut self.0, draw, iface) })
+        verdict(unsafe { viq_up(&mut self.0, draw, iface) })
     }
 
     /// An interface goes down.
     pub fn down(&mut self, draw: u32, iface: u32) -> Result<Verdict, Error> {
-        verdict(unsafe { pim_down(&mut self.0, draw, iface) })
+        verdict(unsafe { viq_down(&mut self.0, draw, iface) })
     }
 
     /// All unicast routes are replaced.
     pub fn set_routes(&mut self, draw: u32, routes: &[Route]) -> Result<Verdict, Error> {
-        verdict(unsafe { pim_routes(&mut self.0, draw, routes.as_ptr(), routes.len()) })
+        verdict(unsafe { viq_routes(&mut self.0, draw, routes.as_ptr(), routes.len()) })
     }
 
     /// All RP ranges are replaced.
     pub fn set_ranges(&mut self, draw: u32, ranges: &[Range]) -> Result<Verdict, Error> {
-        verdict(unsafe { pim_ranges(&mut self.0, draw, ranges.as_ptr(), ranges.len()) })
+        verdict(unsafe { viq_ranges(&mut self.0, draw, ranges.as_ptr(), ranges.len()) })
     }
 
     /// How many packets the last event sent that met no fault.
     pub fn packet_count(&mut self) -> usize {
-        unsafe { pim_packets(&mut self.0) }
+        unsafe { viq_packets(&mut self.0) }
     }
 
     /// One of them, counted from 0; its bytes go into the room, as many as it takes.
     pub fn packet(&mut self, index: usize, room: &mut [u8]) -> Option<Packet> {
         let mut packet = Packet::default();
-        unsafe { pim_packet(&mut self.0, index, &mut packet, room.as_mut_ptr(), room.len()) }.then_some(packet)
+        unsafe { viq_packet(&mut self.0, index, &mut packet, room.as_mut_ptr(), room.len()) }.then_some(packet)
     }
 
     /// Hands on each of them with its bytes, in the order in which they are to leave.
@@ -533,26 +533,26 @@ impl Router {
         self.each_packet(&mut [0; MOST_BYTES], |packet, bytes| {
             all.push(Sent { packet: *packet, is_copy: false, bytes: bytes.to_vec() });
         });
-        let on_links = all.iter_mut().rev().filter(|sent| !sent.packet.is_unicast);
+        let on_links = all.iter_mut().rev().filter(|sent| !sent.packet.is_unicast());
         on_links.take(self.copies()).for_each(|sent| sent.is_copy = true);
         all
     }
 
     /// How many copies of a data packet the last event sent on links.
     pub fn copies(&mut self) -> usize {
-        unsafe { pim_copies(&mut self.0) as usize }
+        unsafe { viq_copies(&mut self.0) as usize }
     }
 
     /// The moment at which the next timer ends: time is to pass then.
     pub fn next_moment(&mut self) -> Option<u64> {
-        let moment = unsafe { pim_next_moment(&mut self.0) };
+        let moment = unsafe { viq_next_moment(&mut self.0) };
         (moment != NEVER).then_some(moment)
     }
 
     /// The rows of a table, ascending by their keys.
     pub fn rows(&mut self, table: Table) -> Result<Vec<Row>, Error> {
-        match unsafe { pim_read(&mut self.0, table as u8) } {
-            DONE => Ok((0..unsafe { pim_rows(&mut self.0) }).filter_map(|index| self.row(index)).collect()),
+        match unsafe { viq_read(&mut self.0, table as u8) } {
+            DONE => Ok((0..unsafe { viq_rows(&mut self.0) }).filter_map(|index| self.row(index)).collect()),
             answer => Err(Error::of(answer)),
         }
     }
@@ -560,46 +560,46 @@ impl Router {
     /// A row of the table that was read last.
     fn row(&mut self, index: usize) -> Option<Row> {
         let mut row = Row::default();
-        unsafe { pim_row(&mut self.0, index, &mut row) }.then_some(row)
+        unsafe { viq_row(&mut self.0, index, &mut row) }.then_some(row)
     }
 
     /// How data of a source to a group goes, as the forwarding cache has it; `None` where there is no fact of the source.
     pub fn cached(&mut self, source: Ipv4Addr, group: Ipv4Addr) -> Option<Forwarding> {
         let mut told = Forwarding::default();
-        unsafe { pim_cached(&mut self.0, source.into(), group.into(), &mut told) }.then_some(told)
+        unsafe { viq_cached(&mut self.0, source.into(), group.into(), &mut told) }.then_some(told)
     }
 
-    /// What a data plane may do of the packets of a source to a group; `None` where all are the router's. `include/pim.h` says what
+    /// What a data plane may do of the packets of a source to a group; `None` where all are the router's. `include/viqeshor/viqeshor.h` says what
     /// a plane owes.
     pub fn offload(&mut self, source: Ipv4Addr, group: Ipv4Addr) -> Option<PlaneRow> {
         let mut row = PlaneRow::default();
-        unsafe { pim_offload(&mut self.0, source.into(), group.into(), &mut row) }.then_some(row)
+        unsafe { viq_offload(&mut self.0, source.into(), group.into(), &mut row) }.then_some(row)
     }
 
     /// The sources whose rows the last event changed; one may stand there more than once.
     pub fn changed(&mut self) -> Vec<SourceGroup> {
-        (0..unsafe { pim_changed(&mut self.0) }).filter_map(|index| self.changed_source(index)).collect()
+        (0..unsafe { viq_changed(&mut self.0) }).filter_map(|index| self.changed_source(index)).collect()
     }
 
     fn changed_source(&mut self, index: usize) -> Option<SourceGroup> {
         let mut name = SourceGroup::default();
-        unsafe { pim_changed_source(&mut self.0, index, &mut name) }.then_some(name)
+        unsafe { viq_changed_source(&mut self.0, index, &mut name) }.then_some(name)
     }
 
     /// Whether what `offload` tells of a source, with a fact or without one, may have changed at the last event.
     pub fn may_differ(&mut self, source: Ipv4Addr, group: Ipv4Addr) -> bool {
-        unsafe { pim_may_differ(&mut self.0, source.into(), group.into()) }
+        unsafe { viq_may_differ(&mut self.0, source.into(), group.into()) }
     }
 
     /// An event: a data plane saw a packet of a source to a group on an interface. Its copies and its Register don't leave.
     pub fn seen(&mut self, draw: u32, iface: u32, source: Ipv4Addr, group: Ipv4Addr) -> Result<Verdict, Error> {
-        verdict(unsafe { pim_seen(&mut self.0, draw, iface, source.into(), group.into()) })
+        verdict(unsafe { viq_seen(&mut self.0, draw, iface, source.into(), group.into()) })
     }
 
     /// A data plane forwarded a packet of a source to a group at a moment: the source's keepalive timer, where it runs, ends 210 s
     /// after that, or when it would end later. It tells whether the timer runs; it is started by `seen` alone.
     pub fn keep(&mut self, source: Ipv4Addr, group: Ipv4Addr, moment: u64) -> Result<bool, Error> {
-        match unsafe { pim_keep(&mut self.0, source.into(), group.into(), moment) } {
+        match unsafe { viq_keep(&mut self.0, source.into(), group.into(), moment) } {
             DONE => Ok(true),
             NO_TIMER => Ok(false),
             answer => Err(Error::of(answer)),
@@ -608,17 +608,17 @@ impl Router {
 
     /// The trie nodes that the last event visited.
     pub fn probes(&mut self) -> u64 {
-        unsafe { pim_probes(&mut self.0) }
+        unsafe { viq_probes(&mut self.0) }
     }
 
     /// The rows of the forwarding cache that the last event evaluated, put in and took out.
     pub fn touched(&mut self) -> u64 {
-        unsafe { pim_touched(&mut self.0) }
+        unsafe { viq_touched(&mut self.0) }
     }
 }
 
 impl Drop for Router {
     fn drop(&mut self) {
-        unsafe { pim_end(&mut self.0) }
+        unsafe { viq_end(&mut self.0) }
     }
 }

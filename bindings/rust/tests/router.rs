@@ -1,5 +1,5 @@
 //! Each call of the crate once, and what it answers: a Join of 10.0.1.2 comes and a packet of its source, as in `examples/library`.
-use pim::{Error, Interface, Range, Reason, Refusal, Route, Router, Settings, Table, Verdict};
+use viqeshor::{Error, Interface, Range, Reason, Refusal, Route, Router, Settings, Table, Verdict};
 use std::net::Ipv4Addr;
 
 const HELLO_ABOVE: &str = "45C0001E000000000167CEAB0A000001E000000D2000DFFC00010002FFFF";
@@ -81,7 +81,7 @@ fn a_join_a_packet_and_its_copy() {
     let mut router = joined();
     let sent = router.packets();
     assert_eq!(sent.len(), 2);
-    assert!(sent.iter().all(|sent| !sent.is_copy && !sent.packet.is_unicast && sent.packet.iface == 0));
+    assert!(sent.iter().all(|sent| !sent.is_copy && !sent.packet.is_unicast() && sent.packet.iface == 0));
     assert_eq!(router.frame(0, 0, &bytes_of(DATA)), DONE);
     let [copy] = &router.packets()[..] else { panic!("one packet") };
     assert!(copy.is_copy && copy.packet.iface == 1 && copy.packet.length == copy.bytes.len());
@@ -178,8 +178,8 @@ fn a_router_goes_to_another_thread() {
 
 #[test]
 fn texts() {
-    let (number, how) = pim::version().split_once(' ').unwrap();
+    let (number, how) = viqeshor::version().split_once(' ').unwrap();
     assert_eq!(number, env!("CARGO_PKG_VERSION"));
     assert!(["proved", "not proved"].contains(&how));
-    assert_eq!(pim::answer_text(0), "done");
+    assert_eq!(viqeshor::answer_text(0), "done");
 }

@@ -10,7 +10,7 @@
 mod pim;
 mod plain;
 
-use pim::{Error, Interface, MOST_BYTES, Range, Route, Router, Settings, Verdict};
+use viqeshor::{Error, Interface, MOST_BYTES, Range, Route, Router, Settings, Verdict};
 use plain::{Plain, sum16};
 use std::hint::black_box;
 use std::time::Instant;

@@ -1,8 +1,8 @@
 """Each call of the package once, and what it answers: a Join of 10.0.1.2 comes and a packet of its source, as in examples/library."""
 import unittest
 
-import pim
-from pim import Answer, Refused, Router
+import viqeshor
+from viqeshor import Answer, Refused, Router
 
 HELLO_ABOVE = "45C0001E000000000167CEAB0A000001E000000D2000DFFC00010002FFFF"
 HELLO_BELOW = "45C0001E000000000167CDAA0A000102E000000D2000DFFC00010002FFFF"
@@ -64,7 +64,7 @@ class Routers(unittest.TestCase):
 
     def test_what_the_router_knows(self):
         router = self.joined()
-        self.assertEqual([len(router.rows(letter)) for letter in pim.TABLES], [2, 0, 0, 1, 0, 1, 0, 0])
+        self.assertEqual([len(router.rows(letter)) for letter in viqeshor.TABLES], [2, 0, 0, 1, 0, 1, 0, 0])
         self.assertIn("U 225.1.1.1 10.0.3.5", " ".join(router.tables()))
         self.assertIsNotNone(router.next_moment())
         with self.assertRaises(Refused):
@@ -118,9 +118,9 @@ class Routers(unittest.TestCase):
         self.assertEqual(router.seen(0, "10.0.3.5", "225.1.1.1"), Answer.NO_ROUTER)
 
     def test_texts(self):
-        self.assertRegex(pim.version(), r"^0\.1\.0 (not )?proved$")
-        self.assertEqual(pim.answer_text(0), "done")
-        self.assertEqual(len({pim.answer_text(answer) for answer in Answer}), len(Answer))
+        self.assertRegex(viqeshor.version(), r"^0\.1\.0 (not )?proved$")
+        self.assertEqual(viqeshor.answer_text(0), "done")
+        self.assertEqual(len({viqeshor.answer_text(answer) for answer in Answer}), len(Answer))
 
 
 if __name__ == "__main__":

@@ -1,13 +1,13 @@
-"""A multicast router: PIM Sparse Mode (RFC 7761) and IGMPv3 (RFC 3376). It is what `include/pim.h` describes, by ctypes.
+"""A multicast router: PIM Sparse Mode (RFC 7761) and IGMPv3 (RFC 3376). It is what `include/viqeshor/viqeshor.h` describes, by ctypes.
 
-    from pim import Router
+    from viqeshor import Router
 
     router = Router([("10.0.0.2", 24), ("10.0.1.1", 24)], ranges=[("224.0.0.0/4", "10.9.9.9")])
     router.up(0)
     for kind, where, packet in router.packets():
         ...
 
-The shared library is the one that is named by `library`, or by PIM_LIBRARY in the environment, or that the system finds as `pim`.
+The shared library is the one that is named by `library`, or by VIQESHOR_LIBRARY in the environment, or that the system finds as `pim`.
 """
 import ctypes
 import ctypes.util
@@ -224,7 +224,7 @@ USUAL: dict[str, int | bool] = {
 
 def found() -> str:
     """The library that is meant where none is named."""
-    return os.environ.get("PIM_LIBRARY") or ctypes.util.find_library("pim") or "libpim.so.0"
+    return os.environ.get("VIQESHOR_LIBRARY") or ctypes.util.find_library("pim") or "libviqeshor.so.0"
 
 
 @cache
@@ -243,12 +243,12 @@ def load(path: str) -> ctypes.CDLL:
 
 def version(library: str | os.PathLike[str] | None = None) -> str:
     """The library's version, and how it was built: `proved` or `not proved`."""
-    return load(os.fspath(library or found())).pim_version().decode()
+    return load(os.fspath(library or found())).viq_version().decode()
 
 
 def answer_text(answer: int, library: str | os.PathLike[str] | None = None) -> str:
     """What an answer says, in a few words."""
-    return load(os.fspath(library or found())).pim_answer_text(c_uint32(answer)).decode()
+    return load(os.fspath(library or found())).viq_answer_text(c_uint32(answer)).decode()
 
 
 def address(text: str) -> int:
@@ -296,7 +296,7 @@ class Router:
         self.handle = Handle()
         self.library = load(os.fspath(library or found()))
         given, lists = Settings(**(USUAL | settings)), array(Interface, [interface_of(row) for row in interfaces])
-        self.must(self.library.pim_new(byref(self.handle), byref(given), *lists, *routes_of(routes), *ranges_of(ranges)))
+        self.must(self.library.viq_new(byref(self.handle), byref(given), *lists, *routes_of(routes), *ranges_of(ranges)))
 
     def __enter__(self) -> Self:
         return self
@@ -306,7 +306,7 @@ class Router:
 
     def must(self, answer: int) -> None:
         if answer:
-            raise Refused(Answer(answer), self.library.pim_answer_text(c_uint32(answer)).decode())
+            raise Refused(Answer(answer), self.library.viq_answer_text(c_uint32(answer)).decode())
 
     def call(self, name: str, *values: Any) -> Any:
         return getattr(self.library, f"pim_{name}")(byref(self.handle), *values)
@@ -383,7 +383,7 @@ class Router:
         lists = (each.interfaces() for each in (told.immediate, told.inherited, told.shared_tree))
         return Forwarding(*ways, told.has_spt_bit, told.has_tunnel, *lists)
 
-    # ---- a data plane; include/pim.h says what one owes
+    # ---- a data plane; include/viqeshor/viqeshor.h says what one owes
 
     def offload(self, source: str, group: str) -> PlaneRow | None:
         """What a data plane may do of the packets of a source to a group; None where all are the router's."""
