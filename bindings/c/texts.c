@@ -1,9 +1,11 @@
-/* The two calls of viqeshor.h that are plain C: what a library says of itself, and what an answer says. */
+/* What a library says of itself, and what an answer says. */
 #include <viqeshor/viqeshor.h>
 
 #ifndef VIQ_HOW
 #define VIQ_HOW "not proved"
 #endif
+
+uint32_t viq_abi(void) { return VIQ_ABI; }
 
 const char *viq_version(void) { return VIQ_VERSION " " VIQ_HOW; }
 
@@ -35,11 +37,13 @@ const char *viq_answer_text(uint32_t answer) {
     case VIQ_BAD_DELAY: return "an interface's delay is out of range";
     case VIQ_CONFIGURED_ROUTES: return "configured routes that can't stand";
     case VIQ_CONFIGURED_RANGES: return "configured RP ranges that can't stand";
-    case VIQ_MEMORY: return "memory was refused";
-    case VIQ_FAILED: return "the router failed before";
-    case VIQ_NO_ROUTER: return "the handle has no router";
+    case VIQ_MEMORY: return "memory was refused, and nothing has changed";
+    case VIQ_FAILED: return "the router was lost before";
+    case VIQ_LOST: return "memory was refused, and the router is lost";
+    case VIQ_NO_ROUTER: return "there is no router";
     case VIQ_NO_TABLE: return "no table has this letter";
     case VIQ_NO_TIMER: return "no keepalive timer of the source runs";
+    case VIQ_OTHER_ABI: return "the program was compiled for another version of the library";
     case VIQ_OWN: return "ignored: the router's own packet";
     case VIQ_NOT_FOR_ME: return "ignored: not for this router";
     case VIQ_OTHER_TYPE: return "ignored: a PIM message of another type";

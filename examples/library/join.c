@@ -15,28 +15,23 @@
 static const char *const links = "nmo";
 static int moves, frames;
 
-static void print_packet(const struct viq_packet *packet, const uint8_t *bytes, bool is_copy) {
+static void print_packet(const struct viq_packet *packet, const uint8_t *bytes) {
     unsigned to = (unsigned)packet->destination;
-    if (packet->is_unicast) printf("unicast %d %u.%u.%u.%u ", ++frames, to >> 24, to >> 16 & 255, to >> 8 & 255, to & 255);
-    else printf("%s %d %c ", is_copy ? "copy" : "frame", ++frames, links[packet->iface]);
+    if (packet->kind == VIQ_UNICAST) printf("unicast %d %u.%u.%u.%u ", ++frames, to >> 24, to >> 16 & 255, to >> 8 & 255, to & 255);
+    else printf("%s %d %c ", packet->kind == VIQ_COPY ? "copy" : "frame", ++frames, links[packet->iface]);
     for (size_t at = 0; at < packet->length; at++) printf("%02x", bytes[at]);
     putchar('\n');
 }
 
-/* What became of an event, and what leaves: the last packets on links are the copies. */
+/* What became of an event, and what leaves. */
 static void took(struct viq_router *router, uint32_t answer) {
     uint8_t bytes[VIQ_MOST_BYTES];
     struct viq_packet packet;
-    size_t on_links = 0;
-    if (answer == VIQ_MEMORY || answer == VIQ_FAILED) exit(1);
-    if (answer >= VIQ_IGNORED) printf("move %d r ignored %u\n", ++moves, (unsigned)answer);
-    else if (answer != VIQ_DONE) printf("move %d r refused %u\n", ++moves, (unsigned)answer);
+    if (viq_is_lost(answer)) exit(1);
+    if (viq_is_ignored(answer)) printf("move %d r ignored %u\n", ++moves, (unsigned)answer);
+    else if (viq_is_refused(answer)) printf("move %d r refused %u\n", ++moves, (unsigned)answer);
     else printf("move %d r done\n", ++moves);
-    for (size_t at = 0; viq_packet(router, at, &packet, bytes, 0); at++) on_links += !packet.is_unicast;
-    for (size_t at = 0, seen = 0; viq_packet(router, at, &packet, bytes, sizeof bytes); at++) {
-        seen += !packet.is_unicast;
-        print_packet(&packet, bytes, seen > on_links - viq_copies(router));
-    }
+    for (size_t at = 0; viq_packet(router, at, &packet, bytes, sizeof bytes); at++) print_packet(&packet, bytes);
 }
 
 /* A packet came on an interface. The draw should be a random number. */
@@ -44,7 +39,7 @@ static void frame(struct viq_router *router, uint32_t iface, const char *hex) {
     uint8_t packet[VIQ_MOST_BYTES];
     size_t length = 0;
     for (unsigned byte; sscanf(hex + 2 * length, "%2x", &byte) == 1; length++) packet[length] = (uint8_t)byte;
-    took(router, viq_frame(router, 0, iface, packet, length));
+    took(router, viq_frame(router, iface, packet, length, viq_draw(0)));
 }
 
 int main(void) {
@@ -52,17 +47,17 @@ int main(void) {
     struct viq_interface interfaces[] = {{0x0a000002, 24, 1, 500, 2500}, {0x0a000101, 24, 1, 500, 2500}, {0x0a000201, 24, 1, 500, 2500}};
     struct viq_route routes[] = {{0x0a090900, 24, 0x0a000001, 0, 110, 20}, {0x0a000300, 24, 0x0a000001, 0, 110, 20}};
     struct viq_range ranges[] = {{0xe0000000, 4, 0x0a090909}};
-    struct viq_router router = VIQ_NO_HANDLE;
-    uint32_t answer = viq_new(&router, &settings, interfaces, 3, routes, 2, ranges, 1);
+    struct viq_router *router = NULL;
+    uint32_t answer = viq_new(&router, VIQ_ABI, &settings, interfaces, 3, routes, 2, ranges, 1);
     if (answer != VIQ_DONE) return printf("refused %u\n", (unsigned)answer), 1;
-    for (uint32_t iface = 0; iface < 3; iface++) took(&router, viq_up(&router, 7, iface));
-    frame(&router, 0, HELLO_ABOVE);
-    frame(&router, 1, HELLO_BELOW);
-    frame(&router, 1, JOIN);
-    took(&router, viq_advance(&router, 0, 999));
-    frame(&router, 0, DATA);
-    took(&router, viq_advance(&router, 0, 1000));
-    frame(&router, 0, MORE_DATA);
-    viq_end(&router);
+    for (uint32_t iface = 0; iface < 3; iface++) took(router, viq_up(router, iface, viq_draw(7)));
+    frame(router, 0, HELLO_ABOVE);
+    frame(router, 1, HELLO_BELOW);
+    frame(router, 1, JOIN);
+    took(router, viq_advance(router, 999, viq_draw(0)));
+    frame(router, 0, DATA);
+    took(router, viq_advance(router, 1000, viq_draw(0)));
+    frame(router, 0, MORE_DATA);
+    viq_end(router);
     return 0;
 }

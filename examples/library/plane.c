@@ -4,7 +4,7 @@
 #include <stdlib.h>
 #include <string.h>
 
-#include <viqeshor/viqeshor.h>
+#include <viqeshor/plane.h>
 
 #define HELLO_ABOVE "45C0001E000000000167CEAB0A000001E000000D2000DFFC00010002FFFF"
 #define HELLO_BELOW "45C0001E000000000167CDAA0A000102E000000D2000DFFC00010002FFFF"
@@ -27,7 +27,7 @@ struct entry {
     uint64_t moment;
 };
 
-static struct viq_router router = VIQ_NO_HANDLE;
+static struct viq_router *router = NULL;
 static struct entry entries[MOST_ROWS];
 static size_t entry_count;
 static bool is_up[INTERFACES];
@@ -45,9 +45,9 @@ static void print_packet(const struct viq_packet *packet, const uint8_t *bytes, 
 static void print_sent(void) {
     uint8_t bytes[VIQ_MOST_BYTES];
     struct viq_packet packet;
-    size_t count = viq_packets(&router);
-    for (size_t at = 0; viq_packet(&router, at, &packet, bytes, sizeof bytes); at++)
-        print_packet(&packet, bytes, at >= count - viq_copies(&router));
+    size_t count = viq_packets(router);
+    for (size_t at = 0; viq_packet(router, at, &packet, bytes, sizeof bytes); at++)
+        print_packet(&packet, bytes, at >= count - viq_copies(router));
 }
 
 /* ---- rows */
@@ -63,7 +63,7 @@ static struct entry *find(uint32_t source, uint32_t group) {
     struct entry made = {.source = source, .group = group};
     for (size_t at = 0; at < entry_count; at++)
         if (entries[at].source == source && entries[at].group == group) return &entries[at];
-    if (entry_count == MOST_ROWS || !viq_offload(&router, source, group, &made.row)) return NULL;
+    if (entry_count == MOST_ROWS || !viq_offload(router, source, group, &made.row)) return NULL;
     entries[entry_count] = made;
     return &entries[entry_count++];
 }
@@ -72,12 +72,12 @@ static struct entry *find(uint32_t source, uint32_t group) {
 static uint32_t took(uint32_t answer) {
     struct viq_source_group name;
     if (answer == VIQ_MEMORY || answer == VIQ_FAILED) exit(1);
-    for (size_t index = 0; viq_changed_source(&router, index, &name); index++)
+    for (size_t index = 0; viq_changed_source(router, index, &name); index++)
         for (size_t at = entry_count; at-- > 0;)
             if (entries[at].source == name.source && entries[at].group == name.group &&
-                !viq_offload(&router, name.source, name.group, &entries[at].row)) let_go(&entries[at]);
+                !viq_offload(router, name.source, name.group, &entries[at].row)) let_go(&entries[at]);
     for (size_t at = entry_count; at-- > 0;)
-        if (!entries[at].row.is_known && viq_may_differ(&router, entries[at].source, entries[at].group)) let_go(&entries[at]);
+        if (!entries[at].row.is_known && viq_may_differ(router, entries[at].source, entries[at].group)) let_go(&entries[at]);
     return answer;
 }
 
@@ -93,15 +93,15 @@ static struct entry *first_noted(void) {
 /* Each note is told with its moment. The draws are of no account, since no timer ends and nothing leaves. */
 static void catch_up(void) {
     for (struct entry *noted; (noted = first_noted());) {
-        uint32_t source = noted->source, group = noted->group, answer = viq_keep(&router, source, group, noted->moment);
+        uint32_t source = noted->source, group = noted->group, answer = viq_keep(router, source, group, noted->moment);
         noted->is_noted = false;
         if (answer != VIQ_DONE && answer != VIQ_NO_TIMER) exit(1);
         if (answer == VIQ_DONE) continue;
         uint32_t iface = noted->iface;
-        took(viq_advance(&router, 0, noted->moment));
-        took(viq_seen(&router, 0, iface, source, group));
+        took(viq_advance(router, noted->moment, viq_draw(0)));
+        took(viq_seen(router, iface, source, group, viq_draw(0)));
     }
-    took(viq_advance(&router, 0, now));
+    took(viq_advance(router, now, viq_draw(0)));
 }
 
 /* ---- packets */
@@ -172,7 +172,7 @@ static void answered(uint32_t answer) {
 static void up(uint32_t iface) {
     catch_up();
     is_up[iface] = true;
-    answered(took(viq_up(&router, 7, iface)));
+    answered(took(viq_up(router, iface, viq_draw(7))));
 }
 
 static void frame(uint32_t iface, const char *hex) {
@@ -181,17 +181,17 @@ static void frame(uint32_t iface, const char *hex) {
     for (unsigned byte; sscanf(hex + 2 * length, "%2x", &byte) == 1; length++) packet[length] = (uint8_t)byte;
     if (is_forwarded(iface, packet, length)) return;
     catch_up();
-    answered(took(viq_frame(&router, 0, iface, packet, length)));
+    answered(took(viq_frame(router, iface, packet, length, viq_draw(0))));
 }
 
 /* Time passes up to a moment; the router need not know it where nothing ends by then. */
 static void advance(uint64_t moment) {
     struct entry *noted = first_noted();
-    bool is_quiet = moment < viq_next_moment(&router) && (!noted || moment < noted->moment + keepalive_period);
+    bool is_quiet = moment < viq_next_moment(router) && (!noted || moment < noted->moment + keepalive_period);
     if (!is_quiet) {
         catch_up();
         now = moment;
-        answered(took(viq_advance(&router, 0, moment)));
+        answered(took(viq_advance(router, moment, viq_draw(0))));
         return;
     }
     now = moment;
@@ -202,7 +202,7 @@ int main(void) {
     struct viq_settings settings = VIQ_USUAL_SETTINGS;
     struct viq_route routes[] = {{0x0a090900, 24, 0x0a000001, 0, 110, 20}, {0x0a000300, 24, 0x0a000001, 0, 110, 20}};
     struct viq_range ranges[] = {{0xe0000000, 4, 0x0a090909}};
-    uint32_t answer = viq_new(&router, &settings, interfaces, INTERFACES, routes, 2, ranges, 1);
+    uint32_t answer = viq_new(&router, VIQ_ABI, &settings, interfaces, INTERFACES, routes, 2, ranges, 1);
     if (answer != VIQ_DONE) return printf("refused %u\n", (unsigned)answer), 1;
     for (uint32_t iface = 0; iface < INTERFACES; iface++) up(iface);
     frame(0, HELLO_ABOVE);
@@ -213,6 +213,6 @@ int main(void) {
     advance(1000);
     frame(0, MORE_DATA);
     fprintf(stderr, "%u packets decided by the plane\n", decided);
-    viq_end(&router);
+    viq_end(router);
     return 0;
 }

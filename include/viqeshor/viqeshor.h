@@ -1,21 +1,38 @@
 /* The multicast router in programs of other languages: PIM Sparse Mode (RFC 7761) and IGMPv3 (RFC 3376).
  *
- * A program tells the router what happens, by one call an event, and after each sends the packets that it names. The router starts
- * no thread, opens no socket and reads no clock. examples/library has whole programs, docs/USING.md what the router expects.
+ * A program tells the router what happens, by one call an event, and after each event sends the packets that it names. The router
+ * starts no thread, opens no socket and reads no clock. With the program's own `clock_ms`, `receive`, `wait_until` and `send`, and a
+ * `send_all` that is one line, `for (n = 0; viq_packet(router, n, &packet, room, sizeof room); n++) send(&packet, room);`:
+ *
+ *     while (viq_advance(router, clock_ms(), viq_draw(random())) == VIQ_DONE) {        time passes
+ *         send_all(router);                                                            packets out
+ *         while (receive(&iface, bytes, &length)) {                                    a packet came
+ *             answer = viq_frame(router, iface, bytes, length, viq_draw(random()));    events in
+ *             if (!viq_is_lost(answer)) send_all(router);                              packets out
+ *         }
+ *         wait_until(viq_next_moment(router));                                         or a packet comes
+ *     }
+ *
+ * moment     a time in ms from any beginning, at most 2^62: viq_advance tells the router the present one.
+ * draw       a random number of 32 bits, another one with each event: random delays come of it.
+ * fact       what the router keeps of a group or a source that is asked for, or that sends: a membership, a Join, an Assert, a
+ *            source that is kept alive. viq_settings limits how many there are.
+ * copy       a packet of data that the router forwards, as it leaves on an interface.
+ * interface  a number, from 0, as the interfaces were given to viq_new.
  *
  * Numbers are in the machine's order, an address too: 10.0.0.1 is 0x0a000001. Packets are whole IPv4 packets, as on the wire.
- * Moments are ms from any beginning, at most 2^62. A draw is a random number, another one with each event: random delays come of it.
- * Interfaces are numbered from 0, as they were given.
+ * examples/library of the repository has whole programs, USING.md says what the router expects of who feeds it, and viqeshor/plane.h
+ * describes a kernel or a chip that forwards by itself.
  *
  * Pointers: each is aligned to its type, points to as many values as the parameter after it counts, and overlaps no other of its
- * call. One that has a count of 0 after it may be NULL; no other may. What they point to is the program's, is read or written in
- * the call alone, and none is kept.
+ * call. One that has a count of 0 after it may be NULL. A router that is NULL is answered as one that isn't there. No other may be
+ * NULL. What they point to is the program's, is read or written in the call alone, and none is kept.
  *
- * A handle belongs to one call at a time, from whichever thread. Different handles know nothing of one another. No call
- * aborts, blocks or calls back, and none may be made from a signal handler. Memory is taken by malloc and realloc, and given back
- * by free: a block has to be aligned to each power of two up to 16 that divides its size. */
-#ifndef PIM_H
-#define PIM_H
+ * A router belongs to one call at a time, from whichever thread. Different routers know nothing of one another. No call aborts, blocks
+ * or calls back, and none may be made from a signal handler. Memory is taken by malloc and realloc, and given back by free: a block
+ * has to be aligned to each power of two up to 16 that divides its size. */
+#ifndef VIQESHOR_VIQESHOR_H
+#define VIQESHOR_VIQESHOR_H
 
 #include <stdbool.h>
 #include <stddef.h>
@@ -34,26 +51,37 @@ extern "C" {
 #define VIQ_READ_ANSWER
 #endif
 
-/* The version of this header. */
+/* The version of this header. While the first number is 0, each second one is another library: a program is compiled anew. */
 #define VIQ_VERSION "0.1.0"
+#define VIQ_VERSION_MAJOR 0
+#define VIQ_VERSION_MINOR 1
+#define VIQ_VERSION_PATCH 0
+
+/* What a compiled program and a library have to agree on: the values, the calls and the numbers of this header and of plane.h. It is
+ * another number wherever one of them changes. viq_new is given it, and refuses another one. */
+#define VIQ_ABI 1
+
+/* The library's number: VIQ_ABI as it was built with. */
+uint32_t viq_abi(void);
 
 /* The version of the library, a blank, and `proved` or `not proved`: how it was built. */
 const char *viq_version(void);
 
-/* A handle: a router, or none. It begins as VIQ_NO_HANDLE; its fields are the library's own. It isn't copied: a copy is no second
- * router, and the calls of one spoil the other. Who made a router ends it by viq_end. */
-struct viq_router {
-    void *place;
-    bool is_there;
-};
-#ifdef __cplusplus
-#define VIQ_NO_HANDLE {}
-#else
-#define VIQ_NO_HANDLE {NULL, false}
-#endif
+/* A router. Who made it ends it by viq_end. */
+struct viq_router;
 
-/* Answers. Refusals are 1 to 39 and change nothing; reasons to ignore an event are 101 to 108. docs/USING.md has each ("Refusals",
- * "Reasons to ignore"). */
+/* A draw. It is a value of its own kind, so that no other number of an event stands in its place. */
+struct viq_draw {
+    uint32_t bits;
+};
+static inline struct viq_draw viq_draw(uint32_t bits) {
+    struct viq_draw draw;
+    draw.bits = bits;
+    return draw;
+}
+
+/* Answers. Refusals are 1 to 39 and change nothing; reasons to ignore an event are above VIQ_IGNORED and change nothing either.
+ * USING.md has each ("Refusals", "Reasons to ignore"). */
 enum {
     VIQ_DONE = 0,
 
@@ -88,14 +116,15 @@ enum {
     VIQ_CONFIGURED_ROUTES = 37,
     VIQ_CONFIGURED_RANGES = 38,
 
-    VIQ_MEMORY = 40,    /* memory was refused */
-    VIQ_FAILED = 41,    /* the router failed before; end it, and make another */
-    VIQ_NO_ROUTER = 50, /* the handle has none */
+    VIQ_MEMORY = 40,    /* memory was refused, and nothing has changed: the call may be made again */
+    VIQ_FAILED = 41,    /* the router was lost before: end it, and make another */
+    VIQ_LOST = 43,      /* memory was refused in the midst of a change: the router is lost, and answers VIQ_FAILED from now on */
+    VIQ_NO_ROUTER = 50, /* the router is NULL */
     VIQ_NO_TABLE = 51,  /* no table has this letter */
     VIQ_NO_TIMER = 52,  /* no keepalive timer of the source runs, and none was started */
+    VIQ_OTHER_ABI = 53, /* the program was compiled for another library than this one */
 
-    /* reasons to ignore an event */
-    VIQ_IGNORED = 101, /* the first of them */
+    VIQ_IGNORED = 100, /* no answer: the reasons to ignore an event are above it */
     VIQ_OWN = 101,
     VIQ_NOT_FOR_ME = 102,
     VIQ_OTHER_TYPE = 103,
@@ -105,6 +134,11 @@ enum {
     VIQ_NOT_RP = 107,
     VIQ_ALREADY = 108
 };
+
+/* Whether an event was refused, or ignored, or the router is lost: now, or before. */
+static inline bool viq_is_refused(uint32_t answer) { return answer > VIQ_DONE && answer < VIQ_MEMORY; }
+static inline bool viq_is_ignored(uint32_t answer) { return answer > VIQ_IGNORED; }
+static inline bool viq_is_lost(uint32_t answer) { return answer == VIQ_LOST || answer == VIQ_FAILED; }
 
 /* What an answer says, in a few words; never NULL. */
 const char *viq_answer_text(uint32_t answer);
@@ -116,6 +150,11 @@ const char *viq_answer_text(uint32_t answer);
 #define VIQ_NO_INTERFACE UINT32_MAX
 
 /* ---- the configuration */
+
+/* The most of each list. A longer one is refused by its count, and isn't read. */
+#define VIQ_MOST_INTERFACES 120
+#define VIQ_MOST_ROUTES 100000
+#define VIQ_MOST_RANGES 256
 
 struct viq_interface {
     uint32_t address;           /* the router's, below 224.0.0.0 and not 0 */
@@ -151,80 +190,91 @@ struct viq_settings {
 };
 #define VIQ_USUAL_SETTINGS {65536, 2, 125, 100, 10, false}
 
-/* Makes a router, at moment 0 and with all interfaces down: 1 to 120 interfaces, at most 100,000 routes and 256 ranges. It answers
- * VIQ_DONE, a refusal of 30 to 38, or VIQ_MEMORY. Where it is done, a router that the handle had is ended; else the handle is as it was. */
-VIQ_READ_ANSWER VIQ_NOT_NULL(1) VIQ_NOT_NULL(2)
-uint32_t viq_new(struct viq_router *router, const struct viq_settings *settings, const struct viq_interface *interfaces,
-                 size_t interface_count, const struct viq_route *routes, size_t route_count, const struct viq_range *ranges,
-                 size_t range_count);
+/* Makes a router, at moment 0 and with all interfaces down: 1 to VIQ_MOST_INTERFACES interfaces, at most VIQ_MOST_ROUTES routes and
+ * VIQ_MOST_RANGES ranges. The second argument is VIQ_ABI. It answers VIQ_DONE, a refusal of 30 to 38, VIQ_MEMORY or VIQ_OTHER_ABI.
+ * What `router` points to is written, and not read: the new router, or NULL where there is none. */
+VIQ_READ_ANSWER VIQ_NOT_NULL(1) VIQ_NOT_NULL(3)
+uint32_t viq_new(struct viq_router **router, uint32_t abi, const struct viq_settings *settings,
+                 const struct viq_interface *interfaces, size_t interface_count, const struct viq_route *routes, size_t route_count,
+                 const struct viq_range *ranges, size_t range_count);
 
-/* Ends the router, and gives its memory back. The handle has none then; where it had none, nothing happens. */
-VIQ_NOT_NULL(1)
+/* Ends the router, and gives its memory back. Of NULL nothing happens. */
 void viq_end(struct viq_router *router);
 
-/* ---- events: each answers VIQ_DONE, a reason to ignore, a refusal of 1 to 26, VIQ_MEMORY, VIQ_FAILED or VIQ_NO_ROUTER
+/* ---- events: each answers VIQ_DONE, a reason to ignore, a refusal of 1 to 26, VIQ_LOST, VIQ_FAILED or VIQ_NO_ROUTER
  *
- * VIQ_MEMORY says that the event didn't happen. Routes and ranges are copied before the router takes them: where memory is refused
- * for that, nothing changes, and the event may be given again. Where it is refused later, or for a packet, which is never copied,
- * the router has failed, and answers VIQ_FAILED from then on. It isn't refused for an event that is ignored, or refused for its
- * bytes, its moment or its interface: those take none. */
+ * Where memory is refused for an event the router is lost: VIQ_LOST, and VIQ_FAILED from then on. The event didn't happen, and nothing
+ * of it is to be sent. Routes and ranges are copied before the router takes them: where memory is refused for that alone, they answer
+ * VIQ_MEMORY, nothing has changed, and what is told below is as it was. An event that is ignored, or refused for its bytes, its moment
+ * or its interface, takes no memory, and is never answered so. */
 
 /* Time passes up to the moment, which isn't before the present: each timer that ends by then fires. */
-VIQ_READ_ANSWER VIQ_NOT_NULL(1)
-uint32_t viq_advance(struct viq_router *router, uint32_t draw, uint64_t moment);
+VIQ_READ_ANSWER
+uint32_t viq_advance(struct viq_router *router, uint64_t moment, struct viq_draw draw);
 
 /* A packet came on an interface, to a group: PIM, IGMP or data. */
-VIQ_READ_ANSWER VIQ_NOT_NULL(1)
-uint32_t viq_frame(struct viq_router *router, uint32_t draw, uint32_t iface, const uint8_t *packet, size_t length);
+VIQ_READ_ANSWER
+uint32_t viq_frame(struct viq_router *router, uint32_t iface, const uint8_t *packet, size_t length, struct viq_draw draw);
 
 /* A PIM packet came for an address of the router: a Register or a Register-Stop. */
-VIQ_READ_ANSWER VIQ_NOT_NULL(1)
-uint32_t viq_unicast(struct viq_router *router, uint32_t draw, const uint8_t *packet, size_t length);
+VIQ_READ_ANSWER
+uint32_t viq_unicast(struct viq_router *router, const uint8_t *packet, size_t length, struct viq_draw draw);
 
 /* An interface goes up, or down. */
-VIQ_READ_ANSWER VIQ_NOT_NULL(1)
-uint32_t viq_up(struct viq_router *router, uint32_t draw, uint32_t iface);
-VIQ_READ_ANSWER VIQ_NOT_NULL(1)
-uint32_t viq_down(struct viq_router *router, uint32_t draw, uint32_t iface);
+VIQ_READ_ANSWER
+uint32_t viq_up(struct viq_router *router, uint32_t iface, struct viq_draw draw);
+VIQ_READ_ANSWER
+uint32_t viq_down(struct viq_router *router, uint32_t iface, struct viq_draw draw);
 
 /* All unicast routes, or all RP ranges, are replaced. */
-VIQ_READ_ANSWER VIQ_NOT_NULL(1)
-uint32_t viq_routes(struct viq_router *router, uint32_t draw, const struct viq_route *routes, size_t count);
-VIQ_READ_ANSWER VIQ_NOT_NULL(1)
-uint32_t viq_ranges(struct viq_router *router, uint32_t draw, const struct viq_range *ranges, size_t count);
+VIQ_READ_ANSWER
+uint32_t viq_routes(struct viq_router *router, const struct viq_route *routes, size_t count, struct viq_draw draw);
+VIQ_READ_ANSWER
+uint32_t viq_ranges(struct viq_router *router, const struct viq_range *ranges, size_t count, struct viq_draw draw);
 
-/* ---- what is to be sent: by the last event that met no fault, VIQ_MEMORY or VIQ_FAILED */
+/* ---- what is to be sent: by the last event that wasn't answered VIQ_MEMORY. Of a lost router, and of NULL, there is nothing. */
 
 /* The most bytes that a packet has. */
 #define VIQ_MOST_BYTES 1528
 
+/* What a packet is. */
+enum {
+    VIQ_FRAME = 1,  /* PIM or IGMP, on the interface, to its group */
+    VIQ_COPY = 2,   /* data that is forwarded, on the interface, to its group */
+    VIQ_UNICAST = 3 /* by unicast routing to the destination */
+};
+
 struct viq_packet {
-    bool is_unicast;      /* by unicast routing to the destination; else on the interface, to its group */
+    uint32_t kind;
     uint32_t iface;       /* or 0 */
     uint32_t destination; /* or 0 */
     size_t length;        /* bytes, at most VIQ_MOST_BYTES */
 };
 
-/* How many packets there are; 0 without a router. */
-VIQ_READ_ANSWER VIQ_NOT_NULL(1)
-size_t viq_packets(struct viq_router *router);
+/* How many packets there are. */
+VIQ_READ_ANSWER
+size_t viq_packets(const struct viq_router *router);
 
 /* One of them, counted from 0 in the order in which they are to leave. Its bytes go into the room, as many as it takes; the rest of
  * the room stays. It answers false, and writes nothing, where there is none of that number. */
-VIQ_NOT_NULL(1) VIQ_NOT_NULL(3)
-bool viq_packet(struct viq_router *router, size_t index, struct viq_packet *packet, uint8_t *room, size_t room_length);
+VIQ_NOT_NULL(3)
+bool viq_packet(const struct viq_router *router, size_t index, struct viq_packet *packet, uint8_t *room, size_t room_length);
 
-/* How many copies of a data packet the last event sent on links: they are the last of its packets on links. 0 after a fault. */
-VIQ_READ_ANSWER VIQ_NOT_NULL(1)
-uint32_t viq_copies(struct viq_router *router);
+/* How many of them are copies. */
+VIQ_READ_ANSWER
+uint32_t viq_copies(const struct viq_router *router);
 
-/* The moment at which the next timer ends, or VIQ_NEVER: viq_advance is to be called then. VIQ_NEVER after a fault. */
-VIQ_READ_ANSWER VIQ_NOT_NULL(1)
-uint64_t viq_next_moment(struct viq_router *router);
+/* The moment at which the next timer ends, or VIQ_NEVER: viq_advance is to be called then. VIQ_NEVER of a lost router, and of NULL. */
+VIQ_READ_ANSWER
+uint64_t viq_next_moment(const struct viq_router *router);
 
 /* ---- what the router knows */
 
-/* A row of a table; docs/USING.md describes the tables. What its kind of row doesn't have is 0, or VIQ_NEVER for a time. */
+/* The state of a row of D, and that of its register in a row of F. */
+enum { VIQ_JOINED = 1, VIQ_PRUNE_PENDING = 2, VIQ_PRUNED = 3 };
+enum { VIQ_REGISTER_NONE = 0, VIQ_REGISTER_JOINED = 1, VIQ_REGISTER_JOIN_PENDING = 2, VIQ_REGISTER_PRUNED = 3 };
+
+/* A row of a table; USING.md describes the tables. What its kind of row doesn't have is 0, or VIQ_NEVER for a time. */
 struct viq_row {
     uint32_t table; /* its letter */
     uint32_t iface;
@@ -233,28 +283,31 @@ struct viq_row {
     uint32_t winner; /* of an assert */
     bool is_rpt;     /* (S,G,rpt) */
     bool is_set;     /* G: EXCLUDE; A: lost; R: pruned; F: SPTbit */
-    uint32_t state;  /* D: 1 join, 2 prune pending, 3 prune; F, its register: 0 none, 1 join, 2 join pending, 3 prune */
+    uint32_t state;  /* D: VIQ_JOINED, VIQ_PRUNE_PENDING or VIQ_PRUNED; F: its register, VIQ_REGISTER_NONE to VIQ_REGISTER_PRUNED */
     uint64_t end;    /* ms; U: the next Join; F: the keepalive timer */
     uint64_t pending; /* ms; D: the end of Prune-Pending */
 };
 
-/* Reads the table of a letter: N, G, S, D, A, U, R or F. It answers VIQ_DONE; VIQ_MEMORY, which changes nothing; VIQ_FAILED,
+/* Reads the table of a letter: N, G, S, D, A, U, R or F. It answers VIQ_DONE; VIQ_MEMORY, where nothing has changed; VIQ_FAILED,
  * VIQ_NO_ROUTER or VIQ_NO_TABLE. */
-VIQ_READ_ANSWER VIQ_NOT_NULL(1)
+VIQ_READ_ANSWER
 uint32_t viq_read(struct viq_router *router, uint8_t letter);
 
 /* How many rows the last table had that was read, and one of them, counted from 0, ascending by their keys. It answers false, and
  * writes nothing, where there is none of that number. They stay as they were read, whatever happens to the router. */
-VIQ_READ_ANSWER VIQ_NOT_NULL(1)
-size_t viq_rows(struct viq_router *router);
-VIQ_NOT_NULL(1) VIQ_NOT_NULL(3)
-bool viq_row(struct viq_router *router, size_t index, struct viq_row *row);
+VIQ_READ_ANSWER
+size_t viq_rows(const struct viq_router *router);
+VIQ_NOT_NULL(3)
+bool viq_row(const struct viq_router *router, size_t index, struct viq_row *row);
 
 /* A set of interfaces, as bits. */
 struct viq_interfaces {
     uint64_t low;  /* 0 to 63, the lowest bit first */
     uint64_t high; /* 64 to 119, the lowest bit first */
 };
+static inline bool viq_has(const struct viq_interfaces *set, uint32_t iface) {
+    return iface < 128 && ((iface < 64 ? set->low >> iface : set->high >> (iface - 64)) & 1) != 0;
+}
 
 /* How data of a source to a group goes, as the forwarding cache has it. */
 struct viq_forwarding {
@@ -267,93 +320,18 @@ struct viq_forwarding {
     struct viq_interfaces shared_tree; /* inherited_olist(S,G,rpt) */
 };
 
-/* Tells it. It answers false, and writes nothing, where there is no fact of the source, after a fault, and without a router. */
-VIQ_READ_ANSWER VIQ_NOT_NULL(1) VIQ_NOT_NULL(4)
-bool viq_cached(struct viq_router *router, uint32_t source, uint32_t group, struct viq_forwarding *forwarding);
-
-/* ---- a data plane: a kernel or a chip that forwards by rows that the router tells
- *
- * A packet that a row decides is forwarded or dropped by the plane, and the router hears of it later. What no row decides is the
- * router's: it comes whole by viq_frame. What plane and router send together is then what the router alone would send, event by
- * event. For this the plane owes:
- *
- * One order. Packets, what the plane tells and events come one after the other, and each packet goes by the rows of its moment: none
- * goes by a row that an event before it has changed, nor past the router's next moment before viq_advance.
- *
- * A look at each packet before it asks a row. It is a row's where all of this holds, else the router's:
- * - its interface is configured and up;
- * - it has at most 1500 bytes, of which 20 and more are its header, of version 4, with a right checksum; its total length covers the
- *   header and isn't more than there is; it is no fragment (DF may be set);
- * - its source is above 0, below 224.0.0.0, and no address of the router, also of none of its interfaces that are down;
- * - its destination is in 224.0.0.0/4, and not in 224.0.0.0/24;
- * - its protocol isn't 2, IGMP's.
- *
- * To forward as the router does. On an interface of to_core the packet is the router's. Else, on the incoming one, a copy leaves on each
- * outgoing interface but for the one on which it came, with the TTL lower by one, the checksum made anew, and no bytes past the
- * total length; none leaves where the TTL was 0 or 1. On any other interface nothing leaves. In both cases, where the interface is in
- * alive, the plane notes the source, the interface and the moment in place of what it has noted of this source and group.
- *
- * To ask anew. After each event, viq_seen and viq_advance too, it asks pim_offload again for each source that viq_changed tells, and lets
- * go of the row where that answers false. It lets go of the row of a source without a fact (is_known is false) where viq_may_differ
- * answers true, or of all of these, and asks for one as a packet comes.
- *
- * To catch up. Before each event of the router's own, viq_frame of a packet of data too, it tells of all that it has noted, and lets it go;
- * then it has the router advance to the present. It does so when the router's next moment has come, before viq_advance, and at the
- * latest 210 s after the last packet that is noted of any source. Each note is told by viq_keep with its moment. Where that answers
- * VIQ_NO_TIMER the note is told by viq_advance to its moment and viq_seen; those that are told so go by their moments.
- *
- * To end with it. After an answer of VIQ_MEMORY or VIQ_FAILED it lets go of all rows and notes. */
-
-/* What a data plane may do of the packets of a source to a group. */
-struct viq_plane_row {
-    bool is_known;                  /* the source has a fact: the row stays until viq_changed tells the source */
-    uint32_t incoming;              /* where packets are accepted, or VIQ_NO_INTERFACE */
-    struct viq_interfaces outgoing; /* where copies of these leave, but for the interface on which they came */
-    struct viq_interfaces alive;    /* where a packet shows that the source is alive, accepted or not */
-    struct viq_interfaces to_core;  /* where a packet is the router's, whatever else the row says */
-};
-
-/* Tells it. It answers false, and writes nothing, where all packets are the router's: there is no fact of the source and no room for
- * one; after a fault; without a router. */
-VIQ_READ_ANSWER VIQ_NOT_NULL(1) VIQ_NOT_NULL(4)
-bool viq_offload(struct viq_router *router, uint32_t source, uint32_t group, struct viq_plane_row *row);
-
-struct viq_source_group {
-    uint32_t source;
-    uint32_t group;
-};
-
-/* How many sources the last event changed the rows of, and one of them, counted from 0; one may stand there more than once. It
- * answers false, and writes nothing, where there is none of that number. There is none where viq_touched is 0, and none after a fault. */
-VIQ_READ_ANSWER VIQ_NOT_NULL(1)
-size_t viq_changed(struct viq_router *router);
-VIQ_NOT_NULL(1) VIQ_NOT_NULL(3)
-bool viq_changed_source(struct viq_router *router, size_t index, struct viq_source_group *name);
-
-/* Whether what pim_offload tells of a source, with a fact or without one, may have changed at the last event: where it answers false, each
- * packet is decided as before. True after a fault, and without a router. */
-VIQ_READ_ANSWER VIQ_NOT_NULL(1)
-bool viq_may_differ(struct viq_router *router, uint32_t source, uint32_t group);
-
-/* An event: the plane saw a packet of a source to a group on an interface. It does what viq_frame does of such a packet with a TTL of
- * 1, so its copies and its Register don't leave, and what else is to be sent does. Of VIQ_MEMORY the router fails. */
-VIQ_READ_ANSWER VIQ_NOT_NULL(1)
-uint32_t viq_seen(struct viq_router *router, uint32_t draw, uint32_t iface, uint32_t source, uint32_t group);
-
-/* The plane forwarded a packet of a source to a group at a moment, at most 2^62: the keepalive timer of the source, where it runs, ends
- * 210 s after that, or when it would end later. It is no event: what is to be sent, the costs and what changed stay, and so does the
- * present. It answers VIQ_DONE, VIQ_NO_TIMER, VIQ_MEMORY, after which the router has failed, VIQ_FAILED or VIQ_NO_ROUTER. */
-VIQ_READ_ANSWER VIQ_NOT_NULL(1)
-uint32_t viq_keep(struct viq_router *router, uint32_t source, uint32_t group, uint64_t moment);
+/* Tells it. It answers false, and writes nothing, where there is no fact of the source, of a lost router, and of NULL. */
+VIQ_READ_ANSWER VIQ_NOT_NULL(4)
+bool viq_cached(const struct viq_router *router, uint32_t source, uint32_t group, struct viq_forwarding *forwarding);
 
 /* ---- costs */
 
 /* What the last event cost: the trie nodes that it visited, and the rows of the forwarding cache that it evaluated, put in and took
- * out. 0 after a fault. */
-VIQ_READ_ANSWER VIQ_NOT_NULL(1)
-uint64_t viq_probes(struct viq_router *router);
-VIQ_READ_ANSWER VIQ_NOT_NULL(1)
-uint64_t viq_touched(struct viq_router *router);
+ * out. 0 of a lost router, and of NULL. */
+VIQ_READ_ANSWER
+uint64_t viq_probes(const struct viq_router *router);
+VIQ_READ_ANSWER
+uint64_t viq_touched(const struct viq_router *router);
 
 #ifdef __cplusplus
 }

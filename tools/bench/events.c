@@ -8,16 +8,16 @@
 #include <viqeshor/viqeshor.h>
 
 enum { MOST_INTERFACES = 120, MOST_ROUTES = 100000 };
-static struct viq_router router = VIQ_NO_HANDLE;
+static struct viq_router *router = NULL;
 static struct viq_route routes[MOST_ROUTES];
 static size_t route_count = 0;
 static uint8_t packet[VIQ_MOST_BYTES];
 
 static uint32_t take(char kind, uint32_t iface, size_t length) {
     switch (kind) {
-    case 'u': return viq_up(&router, 7, iface);
-    case 'f': return viq_frame(&router, 7, iface, packet, length);
-    default: return viq_routes(&router, 7, routes, route_count);
+    case 'u': return viq_up(router, iface, viq_draw(7));
+    case 'f': return viq_frame(router, iface, packet, length, viq_draw(7));
+    default: return viq_routes(router, routes, route_count, viq_draw(7));
     }
 }
 
@@ -57,7 +57,7 @@ static void play(FILE *file) {
             iface = (unsigned)atoi(line + 3);
         uint32_t answer = is_counted ? counted(line[0], iface, length) : take(line[0], iface, length);
         if (line[0] == 'r') route_count = 0;
-        if (is_counted) printf("%u %llu\n", (unsigned)answer, (unsigned long long)viq_probes(&router));
+        if (is_counted) printf("%u %llu\n", (unsigned)answer, (unsigned long long)viq_probes(router));
         if (!is_counted && answer != VIQ_DONE) exit(1);
     }
 }
@@ -72,7 +72,7 @@ int main(int words, char **word) {
     for (uint32_t at = 0; at < count; at++)
         interfaces[at] = (struct viq_interface){0x0a000002 + (at << 8), 24, 1, 500, 2500};
     settings.limit = 1000000;
-    if (viq_new(&router, &settings, interfaces, count, routes, 0, ranges, 1) != VIQ_DONE) return 1;
+    if (viq_new(&router, VIQ_ABI, &settings, interfaces, count, routes, 0, ranges, 1) != VIQ_DONE) return 1;
     play(file);
     return 0;
 }

@@ -4,10 +4,10 @@
 #include <stdlib.h>
 #include <string.h>
 
-#include <viqeshor/viqeshor.h>
+#include <viqeshor/plane.h>
 
 enum { SOURCES_A_GROUP = 100, BYTES = 128 };
-static struct viq_router router = VIQ_NO_HANDLE;
+static struct viq_router *router = NULL;
 static uint64_t now = 1;
 
 static void must(uint32_t answer) {
@@ -21,10 +21,10 @@ static void play(const char *path) {
     FILE *file = fopen(path, "r");
     while (file && fgets(line, sizeof line, file)) {
         size_t length = 0;
-        if (sscanf(line, "up %u", &iface) == 1) must(viq_up(&router, 7, iface));
+        if (sscanf(line, "up %u", &iface) == 1) must(viq_up(router, iface, viq_draw(7)));
         if (sscanf(line, "frame %u %s", &iface, hex) != 2) continue;
         for (; sscanf(hex + 2 * length, "%2x", &byte) == 1; length++) packet[length] = (uint8_t)byte;
-        must(viq_frame(&router, 7, iface, packet, length));
+        must(viq_frame(router, iface, packet, length, viq_draw(7)));
     }
 }
 
@@ -57,14 +57,14 @@ __attribute__((noinline)) void counted(char call, const uint8_t *packet, uint32_
     struct viq_packet copy;
     switch (call) {
     case 'f':
-        must(viq_frame(&router, 7, 0, packet, BYTES));
-        for (size_t at = 0, count = viq_packets(&router); at < count; at++) viq_packet(&router, at, &copy, room, sizeof room);
+        must(viq_frame(router, 0, packet, BYTES, viq_draw(7)));
+        for (size_t at = 0, count = viq_packets(router); at < count; at++) viq_packet(router, at, &copy, room, sizeof room);
         break;
-    case 's': must(viq_seen(&router, 7, 0, source, group)); break;
-    case 'k': must(viq_keep(&router, source, group, now)); break;
-    case 'o': must(viq_offload(&router, source, group, &row) && row.is_known ? VIQ_DONE : VIQ_NO_TIMER); break;
-    case 'u': must(viq_offload(&router, 0x0a09ffff, group, &row) && !row.is_known ? VIQ_DONE : VIQ_NO_TIMER); break;
-    default: must(viq_may_differ(&router, source, group) ? VIQ_NO_TIMER : VIQ_DONE);
+    case 's': must(viq_seen(router, 0, source, group, viq_draw(7))); break;
+    case 'k': must(viq_keep(router, source, group, now)); break;
+    case 'o': must(viq_offload(router, source, group, &row) && row.is_known ? VIQ_DONE : VIQ_NO_TIMER); break;
+    case 'u': must(viq_offload(router, 0x0a09ffff, group, &row) && !row.is_known ? VIQ_DONE : VIQ_NO_TIMER); break;
+    default: must(viq_may_differ(router, source, group) ? VIQ_NO_TIMER : VIQ_DONE);
     }
 }
 
@@ -77,15 +77,15 @@ int main(int words, char **word) {
     if (words != 5) return 2;
     uint32_t rows = (uint32_t)atoi(word[2]), count = (uint32_t)atoi(word[4]);
     settings.limit = 1000000;
-    must(viq_new(&router, &settings, interfaces, 2, routes, 1, ranges, 1));
+    must(viq_new(&router, VIQ_ABI, &settings, interfaces, 2, routes, 1, ranges, 1));
     play(word[1]);
     /* The second packet of a source sets SPTbit. */
     for (uint32_t at = 0; at < 2 * rows; at++) {
         make_data(packet, at % rows);
-        must(viq_frame(&router, 7, 0, packet, BYTES));
+        must(viq_frame(router, 0, packet, BYTES, viq_draw(7)));
     }
     for (uint32_t at = 0, row = 0; at < count; at++, row = (row + 7919) % rows) {
-        if (at % 64 == 0) must(viq_advance(&router, 7, now++));
+        if (at % 64 == 0) must(viq_advance(router, now++, viq_draw(7)));
         make_data(packet, row);
         counted(word[3][0], packet, source_of(row), group_of(row));
     }

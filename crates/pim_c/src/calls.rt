@@ -1,18 +1,22 @@
 //! The functions that C calls. Each repeats what the call promises that it makes.
 ghost use Rattle.std.specs.Option.{option_map_or};
 ghost use Rattle.std.specs.List.{slice_get};
-ghost use Rattle.std.specs.Prelude.{◌≡◌, None, length, map, option_and_then, unwrap_or};
+ghost use Rattle.std.specs.Prelude.{◌≡◌, None, length, map, nat_lt, option_and_then, unwrap_or};
+ghost use Rattle.pim_model.specs.Judging.{last_moment};
 ghost use Rattle.pim_model.specs.Timers.{next_moment};
 ghost use Rattle.pim_offload.specs.Seen.{seen_event};
 ghost use Rattle.pim_types.specs.declared.event.EventKind.{EventKind};
-ghost use Rattle.pim_c.specs.Called.{CachedTold, Copied, SourceKept, Made, NameTold, OffloadTold, PacketTold, ReadBy, RowTold, Seen, Stepped, changed_in, may_differ_in, packets_in, probes_in, rows_in, standing_in, touched_in};
+ghost use Rattle.pim_c.specs.Called.{CachedTold, Copied, KeepAnswered, Made, NameTold, OffloadTold, PacketTold, ReadBy, RowTold, Seen, Stepped, changed_in, copies_in, is_copy, may_differ_in, packets_in, probes_in, rows_in, standing_in, touched_in};
 ghost use Rattle.pim_ifset.specs.Members.{iface_of};
 ghost use Rattle.pim_c.specs.Given.{config_of, given_event, range_of, route_of};
 ghost use Rattle.pim_c.specs.Told.{never, table_of_letter};
 
 use crate::given::{self, GivenInterface, GivenRange, GivenRoute, GivenSettings};
 use crate::handle::Handle;
-use crate::told::{self, Forwarding, MEMORY, NO_TABLE, NamedSource, Packet, PlaneRow, TableRow};
+use crate::told::{
+    self, Forwarding, LAST_MOMENT, MEMORY, MOMENT_FAR, NO_TABLE, NamedSource, Packet, PlaneRow,
+    TableRow,
+};
 use pim_intake::LentEvent;
 use pim_types::{Addr, Event, EventKind, IfaceId};
 use std::alloc::Global;
@@ -45,7 +49,12 @@ pub extern "C" fn viq_core_end(alloc: Global, router: &mut Handle)
 
 /// Time passes up to the moment, in ms.
 #[unsafe(no_mangle)]
-pub extern "C" fn viq_core_advance(alloc: Global, router: &mut Handle, draw: u32, moment: u64) -> u32
+pub extern "C" fn viq_core_advance(
+    alloc: Global,
+    router: &mut Handle,
+    draw: u32,
+    moment: u64,
+) -> u32
     ensures { Stepped router.old.place.inside (given_event draw (EventKind.Advance moment)) result router.new.place.inside }
 {
     let kind = EventKind::Advance { moment };
@@ -69,7 +78,12 @@ pub extern "C" fn viq_core_frame(
 
 /// A packet was received for an address of the router.
 #[unsafe(no_mangle)]
-pub extern "C" fn viq_core_unicast(alloc: Global, router: &mut Handle, draw: u32, packet: &[u8]) -> u32
+pub extern "C" fn viq_core_unicast(
+    alloc: Global,
+    router: &mut Handle,
+    draw: u32,
+    packet: &[u8],
+) -> u32
     ensures { Stepped router.old.place.inside (given_event draw (EventKind.Unicast packet.now)) result router.new.place.inside }
 {
     router.step(alloc, &LentEvent::unicast(draw, packet))
@@ -123,7 +137,7 @@ pub extern "C" fn viq_core_ranges(
     router.step_copied(alloc, given::new_ranges(alloc, draw, ranges))
 }
 
-/// How many packets the last event sent that was taken.
+/// How many packets the last event sent that was taken; none once the router has failed.
 #[unsafe(no_mangle)]
 pub extern "C" fn viq_core_packets(alloc: Global, router: &mut Handle) -> usize
     ensures count { result ≡ length (packets_in router.old.place.inside) }
@@ -141,7 +155,9 @@ pub extern "C" fn viq_core_packet(
     packet: &mut Packet,
     room: &mut [u8],
 ) -> bool
-    ensures told { PacketTold (slice_get (packets_in router.old.place.inside) index) result packet.old packet.new room.old room.new }
+    ensures told { PacketTold (slice_get (packets_in router.old.place.inside) index)
+        (is_copy (packets_in router.old.place.inside) (copies_in (standing_in router.old.place.inside)) index)
+        result packet.old packet.new room.old room.new }
     ensures stays { router.new.place.inside ≡ router.old.place.inside }
 {
     router.packet(alloc, index, packet, room)
@@ -290,7 +306,7 @@ pub extern "C" fn viq_core_seen(
     router.seen(alloc, draw, iface, source, group)
 }
 
-/// A data plane forwarded its last packet of a source to a group at the moment, in ms.
+/// A data plane forwarded its last packet of a source to a group at the moment, in ms, at most 2^62.
 #[unsafe(no_mangle)]
 pub extern "C" fn viq_core_keep(
     alloc: Global,
@@ -299,8 +315,11 @@ pub extern "C" fn viq_core_keep(
     group: u32,
     moment: u64,
 ) -> u32
-    ensures { SourceKept router.old.place.inside source group moment result router.new.place.inside }
+    ensures { KeepAnswered (nat_lt last_moment moment) router.old.place.inside source group moment result router.new.place.inside }
 {
+    if LAST_MOMENT < moment {
+        return MOMENT_FAR;
+    }
     let source = Addr { bits: source };
     let group = Addr { bits: group };
     router.keep(alloc, source, group, moment)
