@@ -16,12 +16,12 @@ fn main() {
     println!("cargo:rerun-if-changed={}", archive.display());
     if archive.exists() {
         println!("cargo:rustc-link-search=native={}", folder.display());
-        println!("cargo:rustc-link-lib=static=pim");
+        println!("cargo:rustc-link-lib=static=viqeshor");
     } else if given.is_none() && is_installed() {
-        println!("cargo:rustc-link-lib=pim");
+        println!("cargo:rustc-link-lib=viqeshor");
     } else {
-        eprintln!("pim: there is no library {}", archive.display());
-        eprintln!("pim: `tools/library --unproved` of the repository makes it; VIQESHOR_LIB_DIR may name another folder");
+        eprintln!("viqeshor: there is no library {}", archive.display());
+        eprintln!("viqeshor: `tools/library --unproved` of the repository makes it; VIQESHOR_LIB_DIR may name another folder");
         exit(1);
     }
 }

@@ -16,7 +16,6 @@
 enum { MOST_ROWS = 64, INTERFACES = 3 };
 static const struct viq_interface interfaces[INTERFACES] = {
     {0x0a000002, 24, 1, 500, 2500}, {0x0a000101, 24, 1, 500, 2500}, {0x0a000201, 24, 1, 500, 2500}};
-static const uint64_t keepalive_period = 210000;
 
 /* A source of a group: its row, and the last packet of which the router has still to hear. */
 struct entry {
@@ -36,8 +35,8 @@ static unsigned moves, frames, decided;
 
 /* ---- what is printed */
 
-static void print_packet(const struct viq_packet *packet, const uint8_t *bytes, bool is_copy) {
-    printf("%s %u %c ", is_copy ? "copy" : "frame", ++frames, "nmo"[packet->iface]);
+static void print_packet(const struct viq_packet *packet, const uint8_t *bytes) {
+    printf("%s %u %c ", packet->kind == VIQ_COPY ? "copy" : "frame", ++frames, "nmo"[packet->iface]);
     for (size_t at = 0; at < packet->length; at++) printf("%02x", bytes[at]);
     putchar('\n');
 }
@@ -45,16 +44,10 @@ static void print_packet(const struct viq_packet *packet, const uint8_t *bytes, 
 static void print_sent(void) {
     uint8_t bytes[VIQ_MOST_BYTES];
     struct viq_packet packet;
-    size_t count = viq_packets(router);
-    for (size_t at = 0; viq_packet(router, at, &packet, bytes, sizeof bytes); at++)
-        print_packet(&packet, bytes, at >= count - viq_copies(router));
+    for (size_t at = 0; viq_packet(router, at, &packet, bytes, sizeof bytes); at++) print_packet(&packet, bytes);
 }
 
 /* ---- rows */
-
-static bool has(const struct viq_interfaces *set, uint32_t iface) {
-    return (iface < 64 ? set->low >> iface : set->high >> (iface - 64)) & 1;
-}
 
 static void let_go(struct entry *entry) { *entry = entries[--entry_count]; }
 
@@ -71,7 +64,7 @@ static struct entry *find(uint32_t source, uint32_t group) {
 /* After each event: the rows of the changed sources are asked anew, and those of sources without a fact go where they may differ. */
 static uint32_t took(uint32_t answer) {
     struct viq_source_group name;
-    if (answer == VIQ_MEMORY || answer == VIQ_FAILED) exit(1);
+    if (viq_is_lost(answer)) exit(1);
     for (size_t index = 0; viq_changed_source(router, index, &name); index++)
         for (size_t at = entry_count; at-- > 0;)
             if (entries[at].source == name.source && entries[at].group == name.group &&
@@ -132,7 +125,7 @@ static bool is_data(uint32_t iface, const uint8_t *packet, size_t length) {
 }
 
 static void copy(const struct entry *entry, uint32_t iface, const uint8_t *packet) {
-    struct viq_packet to = {.length = number(packet + 2, 2)};
+    struct viq_packet to = {.kind = VIQ_COPY, .length = number(packet + 2, 2)};
     uint8_t bytes[1500];
     if (packet[8] <= 1) return;
     memcpy(bytes, packet, to.length);
@@ -142,16 +135,16 @@ static void copy(const struct entry *entry, uint32_t iface, const uint8_t *packe
     bytes[10] = (uint8_t)(sum >> 8);
     bytes[11] = (uint8_t)sum;
     for (to.iface = 0; to.iface < INTERFACES; to.iface++)
-        if (to.iface != iface && has(&entry->row.outgoing, to.iface)) print_packet(&to, bytes, true);
+        if (to.iface != iface && viq_has(&entry->row.outgoing, to.iface)) print_packet(&to, bytes);
 }
 
 /* Forwards a packet, or drops it; false where it is the router's. */
 static bool is_forwarded(uint32_t iface, const uint8_t *packet, size_t length) {
     struct entry *entry = is_data(iface, packet, length) ? find(number(packet + 12, 4), number(packet + 16, 4)) : NULL;
-    if (!entry || has(&entry->row.to_core, iface)) return false;
+    if (!entry || viq_has(&entry->row.to_core, iface)) return false;
     printf("move %u r done\n", ++moves);
     decided++;
-    if (has(&entry->row.alive, iface)) {
+    if (viq_has(&entry->row.alive, iface)) {
         entry->is_noted = true;
         entry->iface = iface;
         entry->moment = now;
@@ -163,8 +156,8 @@ static bool is_forwarded(uint32_t iface, const uint8_t *packet, size_t length) {
 /* ---- events */
 
 static void answered(uint32_t answer) {
-    if (answer >= VIQ_IGNORED) printf("move %u r ignored %u\n", ++moves, (unsigned)answer);
-    else if (answer != VIQ_DONE) printf("move %u r refused %u\n", ++moves, (unsigned)answer);
+    if (viq_is_ignored(answer)) printf("move %u r ignored %u\n", ++moves, (unsigned)answer);
+    else if (viq_is_refused(answer)) printf("move %u r refused %u\n", ++moves, (unsigned)answer);
     else printf("move %u r done\n", ++moves);
     print_sent();
 }
@@ -186,9 +179,7 @@ static void frame(uint32_t iface, const char *hex) {
 
 /* Time passes up to a moment; the router need not know it where nothing ends by then. */
 static void advance(uint64_t moment) {
-    struct entry *noted = first_noted();
-    bool is_quiet = moment < viq_next_moment(router) && (!noted || moment < noted->moment + keepalive_period);
-    if (!is_quiet) {
+    if (moment >= viq_next_moment(router)) {
         catch_up();
         now = moment;
         answered(took(viq_advance(router, moment, viq_draw(0))));

@@ -13,7 +13,7 @@ use crate::routes::Counts;
 use crate::settings::Settings;
 use crate::wire::{Links, Unicasts};
 use crate::{debug, info, warn, words};
-use viqeshor::{Error, Packet as Sent, Range, Refusal, Route, Router, Verdict, MOST_BYTES};
+use pim::{Error, Packet as Sent, Range, Refusal, Route, Router, Verdict, MOST_BYTES};
 use std::collections::BTreeMap;
 use std::fmt::Write;
 use std::net::Ipv4Addr;
@@ -117,8 +117,8 @@ fn ranges_of(settings: &Settings) -> Vec<Range> {
     settings.rps.iter().map(|rp| Range::new(rp.groups.address, rp.groups.length.into(), rp.address)).collect()
 }
 
-fn core_settings(settings: &Settings) -> viqeshor::Settings {
-    viqeshor::Settings {
+fn core_settings(settings: &Settings) -> pim::Settings {
+    pim::Settings {
         limit: settings.limit,
         robustness: settings.robustness,
         query_interval: settings.query_interval,
@@ -217,7 +217,7 @@ impl Daemon {
         let Daemon { router, ports, links, unicasts, counters, .. } = self;
         router.each_packet(&mut [0; MOST_BYTES], |packet, bytes| {
             debug!("sends {}{}", place(packet, ports), words::of(bytes));
-            if packet.is_unicast() {
+            if packet.is_unicast {
                 send_unicast(unicasts, counters, bytes);
             } else if let Some(port) = ports.get_mut(packet.iface as usize) {
                 send_on(port, links, bytes);
@@ -270,7 +270,7 @@ impl Daemon {
         if is_due && self.plane.is_overdue(now) {
             self.look()?;
         }
-        self.take(|router, draw| router.advance(now, draw))?;
+        self.take(|router, draw| router.advance(draw, now))?;
         // Where no timer ends nothing differs but the moment.
         self.is_unknown_stale = was_stale || is_due;
         self.are_neighbours_stale |= is_due;
@@ -280,7 +280,7 @@ impl Daemon {
 
 fn place(packet: &Sent, ports: &[Port]) -> String {
     let mut place = String::new();
-    if !packet.is_unicast() {
+    if !packet.is_unicast {
         let _ = write!(place, "on {}: ", ports.get(packet.iface as usize).map_or("?", |port| &port.settings.name));
     }
     place

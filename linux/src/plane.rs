@@ -9,7 +9,7 @@
 //! What comes on another interface is a stray for the kernel, which drops it and hands up one in three seconds, whole.
 use crate::mroute::{Forwarded, Key, Mroute, REGISTER_VIF};
 use crate::netlink::Used;
-use viqeshor::{Interfaces, PlaneRow};
+use pim::{Interfaces, PlaneRow};
 use std::collections::HashMap;
 use std::io;
 

@@ -99,8 +99,8 @@ pub struct Port {
 
 impl Port {
     /// As the router is told: it wants a subnet with room for a neighbour.
-    pub fn told(&self) -> viqeshor::Interface {
-        viqeshor::Interface {
+    pub fn told(&self) -> pim::Interface {
+        pim::Interface {
             address: self.subnet.address.into(),
             length: u32::from(self.subnet.length.min(31)),
             priority: self.settings.priority,

@@ -5,7 +5,7 @@ use crate::plane::Entry;
 use crate::ports::{Port, Standing};
 use crate::routes::{longest, Counts};
 use crate::settings::{mask, RpSettings};
-use viqeshor::{Interfaces, Row, Table};
+use pim::{Interfaces, Row, Table};
 use serde_json::{json, Map, Value};
 use std::collections::{BTreeMap, BTreeSet};
 use std::net::Ipv4Addr;
@@ -328,7 +328,7 @@ fn counters(daemon: &mut Daemon) -> Result<Rows, String> {
         ("events that it refused", refused),
     ];
     let reasons: Vec<_> =
-        it.refused.iter().map(|(number, count)| (format!("  of these: {}", viqeshor::answer_text(*number)), *count)).collect();
+        it.refused.iter().map(|(number, count)| (format!("  of these: {}", pim::answer_text(*number)), *count)).collect();
     let more = [
         ("messages that a full router was offered in parts", it.split),
         ("parts offered", it.parts),

@@ -39,7 +39,7 @@ impl Daemon {
             let runs = !notice.is_core && self.router.keep(source, group, moment).map_err(could_not("the router failed"))?;
             if !runs {
                 self.counters.seen += 1;
-                self.take(|router, draw| router.seen(notice.iface, source, group, draw))?;
+                self.take(|router, draw| router.seen(draw, notice.iface, source, group))?;
             }
             self.plane.told(notice.key, moment);
         }
@@ -53,7 +53,7 @@ impl Daemon {
         let concerns = |iface: u32| row.map_or(true, |row| row.to_core.contains(iface) || row.alive.contains(iface));
         if let Some(iface) = iface.filter(|iface| concerns(*iface) && !self.is_own(key.source)) {
             self.counters.seen += 1;
-            self.take(|router, draw| router.seen(iface, key.source, key.group, draw))?;
+            self.take(|router, draw| router.seen(draw, iface, key.source, key.group))?;
         }
         let row = self.offload(key);
         self.make_room()?;
@@ -80,7 +80,7 @@ impl Daemon {
         if row.map_or(false, |row| row.alive.contains(iface)) {
             self.counters.seen += 1;
             let now = self.now();
-            self.take(|router, draw| router.seen(iface, key.source, key.group, draw))?;
+            self.take(|router, draw| router.seen(draw, iface, key.source, key.group))?;
             self.plane.told(key, now);
         }
         Ok(())
@@ -92,7 +92,7 @@ impl Daemon {
         self.counters.checksums_filled += u64::from(fill_checksum(&mut packet));
         let is_alive = self.offload(key).map_or(false, |row| row.alive.contains(iface));
         let now = self.now();
-        match self.take(|router, draw| router.frame(iface, &packet, draw))? {
+        match self.take(|router, draw| router.frame(draw, iface, &packet))? {
             Answer::Refused(refusal) => debug!("a packet of ({}, {}) is refused: {refusal:?}", key.source, key.group),
             Answer::Done if is_alive => self.plane.told(key, now),
             _ => {}

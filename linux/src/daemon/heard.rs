@@ -2,7 +2,7 @@
 use super::{could_not, Answer, Daemon, Fatal, Neighbour};
 use crate::packet::{fill_registered, is_pim, priority_of, Packet};
 use crate::{debug, info, split, words};
-use viqeshor::{Error, Refusal, Table};
+use pim::{Error, Refusal, Table};
 use std::collections::HashSet;
 use std::net::Ipv4Addr;
 
@@ -25,7 +25,7 @@ impl Daemon {
             self.hellos.insert((number, packet.source()), (words::of(bytes), priority_of(packet)));
             self.are_neighbours_stale = true;
         }
-        let answer = self.take(|router, draw| router.frame(number, bytes, draw))?;
+        let answer = self.take(|router, draw| router.frame(draw, number, bytes))?;
         if let Answer::Refused(refusal) = answer {
             self.ports[number as usize].passed.refused += 1;
             debug!("it is refused: {}", Error::Refused(refusal));
@@ -42,7 +42,7 @@ impl Daemon {
         self.counters.split += u64::from(!parts.is_empty());
         for part in parts {
             self.counters.parts += 1;
-            let answer = self.take(|router, draw| router.frame(number, &part, draw))?;
+            let answer = self.take(|router, draw| router.frame(draw, number, &part))?;
             self.counters.parts_taken += u64::from(answer == Answer::Done);
         }
         Ok(())
@@ -55,7 +55,7 @@ impl Daemon {
         let mut bytes = bytes.to_vec();
         self.counters.checksums_filled += u64::from(fill_registered(&mut bytes));
         debug!("takes {}", words::of(&bytes));
-        let answer = self.take(|router, draw| router.unicast(&bytes, draw))?;
+        let answer = self.take(|router, draw| router.unicast(draw, &bytes))?;
         if let Answer::Refused(refusal) = answer {
             debug!("it is refused: {}", Error::Refused(refusal));
         }

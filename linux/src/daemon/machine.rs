@@ -49,7 +49,7 @@ impl Daemon {
         warn_of_filter(&name);
         self.place_all()?;
         self.advance()?;
-        self.take(|router, draw| router.up(number as u32, draw)).map(|_| ())
+        self.take(|router, draw| router.up(draw, number as u32)).map(|_| ())
     }
 
     pub(super) fn goes_down(&mut self, number: usize, why: String) -> Result<(), Fatal> {
@@ -65,7 +65,7 @@ impl Daemon {
             self.place_all()?;
             self.advance()?;
             self.are_neighbours_stale = true;
-            self.take(|router, draw| router.down(number as u32, draw))?;
+            self.take(|router, draw| router.down(draw, number as u32))?;
         }
         Ok(())
     }
@@ -102,7 +102,7 @@ impl Daemon {
             return Ok(());
         }
         self.advance()?;
-        match self.take(|router, draw| router.set_routes(&told, draw))? {
+        match self.take(|router, draw| router.set_routes(draw, &told))? {
             Answer::Refused(refusal) => {
                 error!("{} routes are refused ({refusal:?}; at most {MOST_ROUTES}): the old ones stay", told.len())
             }

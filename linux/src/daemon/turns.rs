@@ -73,9 +73,9 @@ impl Daemon {
         if are_rps_new {
             self.advance()?;
             let ranges = ranges_of(&self.settings);
-            let answer = self.take(|router, draw| router.set_ranges(&ranges, draw))?;
+            let answer = self.take(|router, draw| router.set_ranges(draw, &ranges))?;
             if let Answer::Refused(refusal) = answer {
-                error!("the RP ranges are refused: {}", viqeshor::Error::Refused(refusal));
+                error!("the RP ranges are refused: {}", pim::Error::Refused(refusal));
             }
         }
         self.read_routes()?;
@@ -92,7 +92,7 @@ impl Daemon {
             "the router begins: {} interfaces, {} RP ranges, the library {}",
             self.ports.len(),
             self.settings.rps.len(),
-            viqeshor::version()
+            pim::version()
         );
         self.settle_ports()?;
         self.read_routes()?;
