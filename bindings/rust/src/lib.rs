@@ -372,7 +372,6 @@ impl Table {
 
 /// A row of a table. What its kind of row doesn't have is 0, or `u64::MAX` for a time.
 #[derive(Clone, Copy, Debug, PartialEq, Eq)]
-#[non_exhaustive]
 pub struct Row {
     /// The table's letter.
     pub table: u32,
@@ -390,6 +389,12 @@ pub struct Row {
     pub end: u64,
     /// In ms.
     pub pending: u64,
+}
+
+impl Default for Row {
+    fn default() -> Row {
+        Row::told(raw::Row::default())
+    }
 }
 
 impl Row {
