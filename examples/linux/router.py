@@ -140,8 +140,6 @@ class Machine:
 
     def done(self, answer, what):
         """Sends what an event named."""
-        if answer in (viqeshor.Answer.MEMORY, viqeshor.Answer.FAILED):
-            sys.exit(f"router.py: {what}: answer {answer}")
         if answer:
             if what:
                 self.say(f"{what}: answer {answer}")
