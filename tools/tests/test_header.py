@@ -12,6 +12,7 @@ from pimtext import declared
 CC = os.environ.get("CC", "cc")
 # Where FRR's own headers are: those that its package for developers installs, or its sources.
 FRR = [Path(path) for path in (os.environ.get("FRR_SOURCES", ""), "/usr/include/frr", "/usr/src/frr") if path]
+FRR_HEADERS = "\n".join(f"#include <{name}>" for name in ("zebra.h", "pimd/pim_instance.h", "pimd/pim_iface.h"))
 BESIDE_FRR = """
 #include <viqeshor/viqeshor.h>
 #include <viqeshor/plane.h>
@@ -131,13 +132,15 @@ class BesideFrr(unittest.TestCase):
     def test_the_headers_of_frr_stand_beside(self):
         top = next((path for path in FRR if (path / "pimd" / "pim_iface.h").exists()), None)
         if top is None:
-            self.skipTest("there are no headers of FRR's pimd; FRR_SOURCES may name a folder that has them")
-        flags = ["-I", top, "-I", top / "lib", "-I", top / "pimd", "-include", top / "config.h", "-D_GNU_SOURCE", "-DPIM_IPV=4"]
-        headers = "\n".join(f"#include <{name}>" for name in ("zebra.h", "pimd/pim_instance.h", "pimd/pim_iface.h"))
-        alone = compiled(headers, *flags)
+            self.skipTest("there are no headers of FRR's pimd; FRR_SOURCES may name a folder that has them, and FRR_CFLAGS what they want")
+        flags = ["-I", top, "-I", top / "lib", "-I", top / "pimd", "-include", top / "config.h", "-DHAVE_CONFIG_H", "-D_GNU_SOURCE",
+                 "-DPIM_IPV=4", *os.environ.get("FRR_CFLAGS", "").split()]
+        alone = compiled(FRR_HEADERS, *flags)
         if alone.returncode:
             self.skipTest(f"FRR's headers don't compile by themselves: {alone.stderr[:300]}")
-        self.assertEqual(compiled(BESIDE_FRR.format(headers=headers), *flags).returncode, 0)
+        for text in (FRR_HEADERS + BESIDE_FRR.format(headers=""), BESIDE_FRR.format(headers=FRR_HEADERS)):
+            beside = compiled(text, *flags)
+            self.assertEqual(beside.returncode, 0, beside.stderr)
 
 
 @unittest.skipUnless(shutil.which(CC), "there is no C compiler")
