@@ -1,4 +1,5 @@
-/* Tries each call of viqeshor.h and plane.h, and what they say of each. A line for each answer that is another one, and a line with their number. */
+/* Tries each call of viqeshor.h and plane.h, and what they say of each. A line for each answer that is another one, and
+ * a line with their number. */
 #include <stdio.h>
 #include <string.h>
 
@@ -197,7 +198,8 @@ static void configurations(void) {
     viq_end(other);
 }
 
-/* ---- events: a Join of 10.0.1.2 and two packets of its source, as in crates/pim_played/data/a_join_that_is_over.toml */
+/* ---- events: a Join of 10.0.1.2 and two packets of its source, as in crates/pim_played/data/a_join_that_is_over.toml
+ * */
 
 static const char hello_above[] = "45C0001E000000000167CEAB0A000001E000000D2000DFFC00010002FFFF";
 static const char hello_below[] = "45C0001E000000000167CDAA0A000102E000000D2000DFFC00010002FFFF";
@@ -396,7 +398,8 @@ static void full(void) {
     viq_end(router);
 }
 
-/* A router with 120 interfaces, and hosts on some that want a source of a group: what is told of interface 64 and above. */
+/* A router with 120 interfaces, and hosts on some that want a source of a group: what is told of interface 64 and
+ * above. */
 static void many_interfaces(void) {
     static const uint32_t hosts[] = {1, 63, 64, 119};
     struct viq_interface many[120];

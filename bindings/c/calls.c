@@ -1,6 +1,7 @@
-/* The calls of viqeshor.h and plane.h, each by the one of its name of crates/pim_c. What C hands on is the pointer alone, which the
- * proved calls leave where it is: NULL is the handle that has no router. A list that is longer than any that is accepted isn't read:
- * one that is refused for the same reason, at the same place in the order of tests, stands for it. */
+/* The calls of viqeshor.h and plane.h, each by the one of its name of crates/pim_c. What C hands on is the pointer
+ * alone, which the proved calls leave where it is: NULL is the handle that has no router. A list that is longer than
+ * any that is accepted isn't read: one that is refused for the same reason, at the same place in the order of tests,
+ * stands for it. */
 #include "core.h"
 
 #define CORE(router) (&(struct viq_core){(void *)(router), (router) != NULL})
@@ -28,17 +29,17 @@ static struct range_list ranges_of(const struct viq_range *ranges, size_t count)
     return count <= VIQ_MOST_RANGES ? given : refused;
 }
 
-uint32_t viq_new(struct viq_router **router, uint32_t abi, const struct viq_settings *settings, const struct viq_interface *interfaces,
-                 size_t interface_count, const struct viq_route *routes, size_t route_count, const struct viq_range *ranges,
-                 size_t range_count) {
+uint32_t viq_new(struct viq_router **router, uint32_t abi, const struct viq_settings *settings,
+                 const struct viq_interface *interfaces, size_t interface_count, const struct viq_route *routes,
+                 size_t route_count, const struct viq_range *ranges, size_t range_count) {
     struct viq_core core = {NULL, false};
     *router = NULL;
     if (abi != VIQ_ABI) return VIQ_OTHER_ABI;
     if (interface_count > VIQ_MOST_INTERFACES) interface_count = 0;
     struct route_list given_routes = routes_of(routes, route_count);
     struct range_list given_ranges = ranges_of(ranges, range_count);
-    uint32_t answer = viq_core_new(&core, settings, interfaces, interface_count, given_routes.at, given_routes.count, given_ranges.at,
-                                   given_ranges.count);
+    uint32_t answer = viq_core_new(&core, settings, interfaces, interface_count, given_routes.at, given_routes.count,
+                                   given_ranges.at, given_ranges.count);
     if (core.is_there) *router = (struct viq_router *)core.place;
     return answer;
 }
@@ -49,7 +50,8 @@ uint32_t viq_advance(struct viq_router *router, uint64_t moment, struct viq_draw
     return viq_core_advance(CORE(router), draw.bits, moment);
 }
 
-uint32_t viq_frame(struct viq_router *router, uint32_t iface, const uint8_t *packet, size_t length, struct viq_draw draw) {
+uint32_t viq_frame(struct viq_router *router, uint32_t iface, const uint8_t *packet, size_t length,
+                   struct viq_draw draw) {
     return viq_core_frame(CORE(router), draw.bits, iface, packet, length);
 }
 
@@ -57,7 +59,9 @@ uint32_t viq_unicast(struct viq_router *router, const uint8_t *packet, size_t le
     return viq_core_unicast(CORE(router), draw.bits, packet, length);
 }
 
-uint32_t viq_up(struct viq_router *router, uint32_t iface, struct viq_draw draw) { return viq_core_up(CORE(router), draw.bits, iface); }
+uint32_t viq_up(struct viq_router *router, uint32_t iface, struct viq_draw draw) {
+    return viq_core_up(CORE(router), draw.bits, iface);
+}
 
 uint32_t viq_down(struct viq_router *router, uint32_t iface, struct viq_draw draw) {
     return viq_core_down(CORE(router), draw.bits, iface);
@@ -75,7 +79,8 @@ uint32_t viq_ranges(struct viq_router *router, const struct viq_range *ranges, s
 
 size_t viq_packets(const struct viq_router *router) { return viq_core_packets(CORE(router)); }
 
-bool viq_packet(const struct viq_router *router, size_t index, struct viq_packet *packet, uint8_t *room, size_t room_length) {
+bool viq_packet(const struct viq_router *router, size_t index, struct viq_packet *packet, uint8_t *room,
+                size_t room_length) {
     return viq_core_packet(CORE(router), index, packet, room, room_length);
 }
 
@@ -87,7 +92,9 @@ uint32_t viq_read(struct viq_router *router, uint8_t letter) { return viq_core_r
 
 size_t viq_rows(const struct viq_router *router) { return viq_core_rows(CORE(router)); }
 
-bool viq_row(const struct viq_router *router, size_t index, struct viq_row *row) { return viq_core_row(CORE(router), index, row); }
+bool viq_row(const struct viq_router *router, size_t index, struct viq_row *row) {
+    return viq_core_row(CORE(router), index, row);
+}
 
 bool viq_cached(const struct viq_router *router, uint32_t source, uint32_t group, struct viq_forwarding *forwarding) {
     return viq_core_cached(CORE(router), source, group, forwarding);

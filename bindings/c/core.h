@@ -1,4 +1,5 @@
-/* The calls of crates/pim_c, each proved, by which calls.c makes those of viqeshor.h and plane.h. A program doesn't make them. */
+/* The calls of crates/pim_c, each proved, by which calls.c makes those of viqeshor.h and plane.h. A program doesn't
+ * make them. */
 #ifndef VIQESHOR_CORE_H
 #define VIQESHOR_CORE_H
 
@@ -10,9 +11,9 @@ struct viq_core {
     bool is_there;
 };
 
-uint32_t viq_core_new(struct viq_core *router, const struct viq_settings *settings, const struct viq_interface *interfaces,
-                      size_t interface_count, const struct viq_route *routes, size_t route_count, const struct viq_range *ranges,
-                      size_t range_count);
+uint32_t viq_core_new(struct viq_core *router, const struct viq_settings *settings,
+                      const struct viq_interface *interfaces, size_t interface_count, const struct viq_route *routes,
+                      size_t route_count, const struct viq_range *ranges, size_t range_count);
 void viq_core_end(struct viq_core *router);
 uint32_t viq_core_advance(struct viq_core *router, uint32_t draw, uint64_t moment);
 uint32_t viq_core_frame(struct viq_core *router, uint32_t draw, uint32_t iface, const uint8_t *packet, size_t length);
@@ -22,7 +23,8 @@ uint32_t viq_core_down(struct viq_core *router, uint32_t draw, uint32_t iface);
 uint32_t viq_core_routes(struct viq_core *router, uint32_t draw, const struct viq_route *routes, size_t count);
 uint32_t viq_core_ranges(struct viq_core *router, uint32_t draw, const struct viq_range *ranges, size_t count);
 size_t viq_core_packets(struct viq_core *router);
-bool viq_core_packet(struct viq_core *router, size_t index, struct viq_packet *packet, uint8_t *room, size_t room_length);
+bool viq_core_packet(struct viq_core *router, size_t index, struct viq_packet *packet, uint8_t *room,
+                     size_t room_length);
 uint32_t viq_core_copies(struct viq_core *router);
 uint64_t viq_core_next_moment(struct viq_core *router);
 uint32_t viq_core_read(struct viq_core *router, uint8_t letter);

@@ -1,5 +1,6 @@
-/* One router: 10.0.1.2 joins a source, data comes and is copied, the Join ends, and data comes again. What becomes of each event
- * and what leaves is printed as ./pimlab prints it; crates/pim_played/data/a_join_that_is_over.toml is the same as a scenario. */
+/* One router: 10.0.1.2 joins a source, data comes and is copied, the Join ends, and data comes again. What becomes of
+ * each event and what leaves is printed as ./pimlab prints it; crates/pim_played/data/a_join_that_is_over.toml is the
+ * same as a scenario. */
 #include <stdio.h>
 #include <stdlib.h>
 
@@ -17,7 +18,8 @@ static int moves, frames;
 
 static void print_packet(const struct viq_packet *packet, const uint8_t *bytes) {
     unsigned to = (unsigned)packet->destination;
-    if (packet->kind == VIQ_UNICAST) printf("unicast %d %u.%u.%u.%u ", ++frames, to >> 24, to >> 16 & 255, to >> 8 & 255, to & 255);
+    if (packet->kind == VIQ_UNICAST)
+        printf("unicast %d %u.%u.%u.%u ", ++frames, to >> 24, to >> 16 & 255, to >> 8 & 255, to & 255);
     else printf("%s %d %c ", packet->kind == VIQ_COPY ? "copy" : "frame", ++frames, links[packet->iface]);
     for (size_t at = 0; at < packet->length; at++) printf("%02x", bytes[at]);
     putchar('\n');
@@ -44,7 +46,8 @@ static void frame(struct viq_router *router, uint32_t iface, const char *hex) {
 
 int main(void) {
     struct viq_settings settings = VIQ_USUAL_SETTINGS;
-    struct viq_interface interfaces[] = {{0x0a000002, 24, 1, 500, 2500}, {0x0a000101, 24, 1, 500, 2500}, {0x0a000201, 24, 1, 500, 2500}};
+    struct viq_interface interfaces[] = {
+        {0x0a000002, 24, 1, 500, 2500}, {0x0a000101, 24, 1, 500, 2500}, {0x0a000201, 24, 1, 500, 2500}};
     struct viq_route routes[] = {{0x0a090900, 24, 0x0a000001, 0, 110, 20}, {0x0a000300, 24, 0x0a000001, 0, 110, 20}};
     struct viq_range ranges[] = {{0xe0000000, 4, 0x0a090909}};
     struct viq_router *router = NULL;

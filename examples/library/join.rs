@@ -1,6 +1,6 @@
 //! The same as `join.c`, in Rust.
-use viqeshor::{Error, Interface, Kind, Range, Route, Router, Settings, Verdict};
 use std::net::Ipv4Addr;
+use viqeshor::{Error, Interface, Kind, Range, Route, Router, Settings, Verdict};
 
 fn bytes_of(hex: &str) -> Vec<u8> {
     let digit = |at: usize| hex.as_bytes()[at] as char;

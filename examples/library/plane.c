@@ -1,5 +1,5 @@
-/* The router of join.c behind a data plane: a table of rows that the router tells, by which packets of data are forwarded or dropped
- * without it. A kernel or a chip would stand in its place. It prints what join.c prints. */
+/* The router of join.c behind a data plane: a table of rows that the router tells, by which packets of data are
+ * forwarded or dropped without it. A kernel or a chip would stand in its place. It prints what join.c prints. */
 #include <stdio.h>
 #include <stdlib.h>
 #include <string.h>
@@ -61,7 +61,8 @@ static struct entry *find(uint32_t source, uint32_t group) {
     return &entries[entry_count++];
 }
 
-/* After each event: the rows of the changed sources are asked anew, and those of sources without a fact go where they may differ. */
+/* After each event: the rows of the changed sources are asked anew, and those of sources without a fact go where they
+ * may differ. */
 static uint32_t took(uint32_t answer) {
     struct viq_source_group name;
     if (viq_is_lost(answer)) exit(1);
@@ -70,7 +71,8 @@ static uint32_t took(uint32_t answer) {
             if (entries[at].source == name.source && entries[at].group == name.group &&
                 !viq_offload(router, name.source, name.group, &entries[at].row)) let_go(&entries[at]);
     for (size_t at = entry_count; at-- > 0;)
-        if (!entries[at].row.is_known && viq_may_differ(router, entries[at].source, entries[at].group)) let_go(&entries[at]);
+        if (!entries[at].row.is_known && viq_may_differ(router, entries[at].source, entries[at].group))
+            let_go(&entries[at]);
     return answer;
 }
 
@@ -121,7 +123,8 @@ static bool is_data(uint32_t iface, const uint8_t *packet, size_t length) {
     for (size_t at = 0; at < INTERFACES; at++)
         if (source == interfaces[at].address) return false;
     bool is_whole = (number(packet + 6, 2) & 0x3fff) == 0;
-    return is_whole && source > 0 && source < 0xe0000000 && group >> 28 == 14 && group >> 8 != 0xe00000 && packet[9] != 2;
+    bool is_data = group >> 28 == 14 && group >> 8 != 0xe00000 && packet[9] != 2;
+    return is_whole && is_data && source > 0 && source < 0xe0000000;
 }
 
 static void copy(const struct entry *entry, uint32_t iface, const uint8_t *packet) {

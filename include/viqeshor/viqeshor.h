@@ -1,8 +1,9 @@
 /* The multicast router in programs of other languages: PIM Sparse Mode (RFC 7761) and IGMPv3 (RFC 3376).
  *
- * A program tells the router what happens, by one call an event, and after each event sends the packets that it names. The router
- * starts no thread, opens no socket and reads no clock. With the program's own `clock_ms`, `receive`, `wait_until` and `send`, and a
- * `send_all` that is one line, `for (n = 0; viq_packet(router, n, &packet, room, sizeof room); n++) send(&packet, room);`:
+ * A program tells the router what happens, by one call an event, and after each event sends the packets that it names.
+ * The router starts no thread, opens no socket and reads no clock. With the program's own `clock_ms`, `receive`,
+ * `wait_until` and `send`, and a `send_all` that is one line, `for (n = 0; viq_packet(router, n, &packet, room, sizeof
+ * room); n++) send(&packet, room);`:
  *
  *     while (viq_advance(router, clock_ms(), viq_draw(random())) == VIQ_DONE) {        time passes
  *         send_all(router);                                                            packets out
@@ -13,24 +14,25 @@
  *         wait_until(viq_next_moment(router));                                         or a packet comes
  *     }
  *
- * moment     a time in ms from any beginning, at most 2^62: viq_advance tells the router the present one.
- * draw       a random number of 32 bits, another one with each event: random delays come of it.
- * fact       what the router keeps of a group or a source that is asked for, or that sends: a membership, a Join, an Assert, a
+ * moment     a time in ms from any beginning, at most 2^62: viq_advance tells the router the present one. draw       a
+ * random number of 32 bits, another one with each event: random delays come of it. fact       what the router keeps of
+ * a group or a source that is asked for, or that sends: a membership, a Join, an Assert, a
  *            source that is kept alive. viq_settings limits how many there are.
  * copy       a packet of data that the router forwards, as it leaves on an interface.
  * interface  a number, from 0, as the interfaces were given to viq_new.
  *
- * Numbers are in the machine's order, an address too: 10.0.0.1 is 0x0a000001. Packets are whole IPv4 packets, as on the wire.
- * examples/library of the repository has whole programs, USING.md says what the router expects of who feeds it, and viqeshor/plane.h
- * describes a kernel or a chip that forwards by itself.
+ * Numbers are in the machine's order, an address too: 10.0.0.1 is 0x0a000001. Packets are whole IPv4 packets, as on the
+ * wire. examples/library of the repository has whole programs, USING.md says what the router expects of who feeds it,
+ * and viqeshor/plane.h describes a kernel or a chip that forwards by itself.
  *
- * Pointers: each is aligned to its type, points to as many values as the parameter after it counts, and overlaps no other of its
- * call. One that has a count of 0 after it may be NULL. A router that is NULL is answered as one that isn't there. No other may be
- * NULL. What they point to is the program's, is read or written in the call alone, and none is kept.
+ * Pointers: each is aligned to its type, points to as many values as the parameter after it counts, and overlaps no
+ * other of its call. One that has a count of 0 after it may be NULL. A router that is NULL is answered as one that
+ * isn't there. No other may be NULL. What they point to is the program's, is read or written in the call alone, and
+ * none is kept.
  *
- * A router belongs to one call at a time, from whichever thread. Different routers know nothing of one another. No call aborts, blocks
- * or calls back, and none may be made from a signal handler. Memory is taken by malloc and realloc, and given back by free: a block
- * has to be aligned to each power of two up to 16 that divides its size. */
+ * A router belongs to one call at a time, from whichever thread. Different routers know nothing of one another. No call
+ * aborts, blocks or calls back, and none may be made from a signal handler. Memory is taken by malloc and realloc, and
+ * given back by free: a block has to be aligned to each power of two up to 16 that divides its size. */
 #ifndef VIQESHOR_VIQESHOR_H
 #define VIQESHOR_VIQESHOR_H
 
@@ -51,14 +53,15 @@ extern "C" {
 #define VIQ_READ_ANSWER
 #endif
 
-/* The version of this header. While the first number is 0, each second one is another library: a program is compiled anew. */
+/* The version of this header. While the first number is 0, each second one is another library: a program is compiled
+ * anew. */
 #define VIQ_VERSION "0.1.0"
 #define VIQ_VERSION_MAJOR 0
 #define VIQ_VERSION_MINOR 1
 #define VIQ_VERSION_PATCH 0
 
-/* What a compiled program and a library have to agree on: the values, the calls and the numbers of this header and of plane.h. It is
- * another number wherever one of them changes. viq_new is given it, and refuses another one. */
+/* What a compiled program and a library have to agree on: the values, the calls and the numbers of this header and of
+ * plane.h. It is another number wherever one of them changes. viq_new is given it, and refuses another one. */
 #define VIQ_ABI 1
 
 /* The library's number: VIQ_ABI as it was built with. */
@@ -80,8 +83,8 @@ static inline struct viq_draw viq_draw(uint32_t bits) {
     return draw;
 }
 
-/* Answers. Refusals are 1 to 39 and change nothing; reasons to ignore an event are above VIQ_IGNORED and change nothing either.
- * USING.md has each ("Refusals", "Reasons to ignore"). */
+/* Answers. Refusals are 1 to 39 and change nothing; reasons to ignore an event are above VIQ_IGNORED and change nothing
+ * either. USING.md has each ("Refusals", "Reasons to ignore"). */
 enum {
     VIQ_DONE = 0,
 
@@ -118,7 +121,7 @@ enum {
 
     VIQ_MEMORY = 40,    /* memory was refused, and nothing has changed: the call may be made again */
     VIQ_FAILED = 41,    /* the router was lost before: end it, and make another */
-    VIQ_LOST = 43,      /* memory was refused in the midst of a change: the router is lost, and answers VIQ_FAILED from now on */
+    VIQ_LOST = 43,      /* memory was refused in the midst of a change: the router is lost, and VIQ_FAILED from now on */
     VIQ_NO_ROUTER = 50, /* the router is NULL */
     VIQ_NO_TABLE = 51,  /* no table has this letter */
     VIQ_NO_TIMER = 52,  /* no keepalive timer of the source runs, and none was started */
@@ -190,23 +193,24 @@ struct viq_settings {
 };
 #define VIQ_USUAL_SETTINGS {65536, 2, 125, 100, 10, false}
 
-/* Makes a router, at moment 0 and with all interfaces down: 1 to VIQ_MOST_INTERFACES interfaces, at most VIQ_MOST_ROUTES routes and
- * VIQ_MOST_RANGES ranges. The second argument is VIQ_ABI. It answers VIQ_DONE, a refusal of 30 to 38, VIQ_MEMORY or VIQ_OTHER_ABI.
- * What `router` points to is written, and not read: the new router, or NULL where there is none. */
+/* Makes a router, at moment 0 and with all interfaces down: 1 to VIQ_MOST_INTERFACES interfaces, at most
+ * VIQ_MOST_ROUTES routes and VIQ_MOST_RANGES ranges. The second argument is VIQ_ABI. It answers VIQ_DONE, a refusal of
+ * 30 to 38, VIQ_MEMORY or VIQ_OTHER_ABI. What `router` points to is written, and not read: the new router, or NULL
+ * where there is none. */
 VIQ_READ_ANSWER VIQ_NOT_NULL(1) VIQ_NOT_NULL(3)
 uint32_t viq_new(struct viq_router **router, uint32_t abi, const struct viq_settings *settings,
-                 const struct viq_interface *interfaces, size_t interface_count, const struct viq_route *routes, size_t route_count,
-                 const struct viq_range *ranges, size_t range_count);
+                 const struct viq_interface *interfaces, size_t interface_count, const struct viq_route *routes,
+                 size_t route_count, const struct viq_range *ranges, size_t range_count);
 
 /* Ends the router, and gives its memory back. Of NULL nothing happens. */
 void viq_end(struct viq_router *router);
 
 /* ---- events: each answers VIQ_DONE, a reason to ignore, a refusal of 1 to 26, VIQ_LOST, VIQ_FAILED or VIQ_NO_ROUTER
  *
- * Where memory is refused for an event the router is lost: VIQ_LOST, and VIQ_FAILED from then on. The event didn't happen, and nothing
- * of it is to be sent. Routes and ranges are copied before the router takes them: where memory is refused for that alone, they answer
- * VIQ_MEMORY, nothing has changed, and what is told below is as it was. An event that is ignored, or refused for its bytes, its moment
- * or its interface, takes no memory, and is never answered so. */
+ * Where memory is refused for an event the router is lost: VIQ_LOST, and VIQ_FAILED from then on. The event didn't
+ * happen, and nothing of it is to be sent. Routes and ranges are copied before the router takes them: where memory is
+ * refused for that alone, they answer VIQ_MEMORY, nothing has changed, and what is told below is as it was. An event
+ * that is ignored, or refused for its bytes, its moment or its interface, takes no memory, and is never answered so. */
 
 /* Time passes up to the moment, which isn't before the present: each timer that ends by then fires. */
 VIQ_READ_ANSWER
@@ -214,7 +218,8 @@ uint32_t viq_advance(struct viq_router *router, uint64_t moment, struct viq_draw
 
 /* A packet came on an interface, to a group: PIM, IGMP or data. */
 VIQ_READ_ANSWER
-uint32_t viq_frame(struct viq_router *router, uint32_t iface, const uint8_t *packet, size_t length, struct viq_draw draw);
+uint32_t viq_frame(struct viq_router *router, uint32_t iface, const uint8_t *packet, size_t length,
+                   struct viq_draw draw);
 
 /* A PIM packet came for an address of the router: a Register or a Register-Stop. */
 VIQ_READ_ANSWER
@@ -232,7 +237,8 @@ uint32_t viq_routes(struct viq_router *router, const struct viq_route *routes, s
 VIQ_READ_ANSWER
 uint32_t viq_ranges(struct viq_router *router, const struct viq_range *ranges, size_t count, struct viq_draw draw);
 
-/* ---- what is to be sent: by the last event that wasn't answered VIQ_MEMORY. Of a lost router, and of NULL, there is nothing. */
+/* ---- what is to be sent: by the last event that wasn't answered VIQ_MEMORY. Of a lost router, and of NULL, there is
+ * nothing. */
 
 /* The most bytes that a packet has. */
 #define VIQ_MOST_BYTES 1528
@@ -255,16 +261,18 @@ struct viq_packet {
 VIQ_READ_ANSWER
 size_t viq_packets(const struct viq_router *router);
 
-/* One of them, counted from 0 in the order in which they are to leave. Its bytes go into the room, as many as it takes; the rest of
- * the room stays. It answers false, and writes nothing, where there is none of that number. */
+/* One of them, counted from 0 in the order in which they are to leave. Its bytes go into the room, as many as it takes;
+ * the rest of the room stays. It answers false, and writes nothing, where there is none of that number. */
 VIQ_NOT_NULL(3)
-bool viq_packet(const struct viq_router *router, size_t index, struct viq_packet *packet, uint8_t *room, size_t room_length);
+bool viq_packet(const struct viq_router *router, size_t index, struct viq_packet *packet, uint8_t *room,
+                size_t room_length);
 
 /* How many of them are copies. */
 VIQ_READ_ANSWER
 uint32_t viq_copies(const struct viq_router *router);
 
-/* The moment at which the next timer ends, or VIQ_NEVER: viq_advance is to be called then. VIQ_NEVER of a lost router, and of NULL. */
+/* The moment at which the next timer ends, or VIQ_NEVER: viq_advance is to be called then. VIQ_NEVER of a lost router,
+ * and of NULL. */
 VIQ_READ_ANSWER
 uint64_t viq_next_moment(const struct viq_router *router);
 
@@ -283,18 +291,19 @@ struct viq_row {
     uint32_t winner; /* of an assert */
     bool is_rpt;     /* (S,G,rpt) */
     bool is_set;     /* G: EXCLUDE; A: lost; R: pruned; F: SPTbit */
-    uint32_t state;  /* D: VIQ_JOINED, VIQ_PRUNE_PENDING or VIQ_PRUNED; F: its register, VIQ_REGISTER_NONE to VIQ_REGISTER_PRUNED */
+    uint32_t state;  /* D: VIQ_JOINED, VIQ_PRUNE_PENDING or VIQ_PRUNED; F: its register, a VIQ_REGISTER_.. */
     uint64_t end;    /* ms; U: the next Join; F: the keepalive timer */
     uint64_t pending; /* ms; D: the end of Prune-Pending */
 };
 
-/* Reads the table of a letter: N, G, S, D, A, U, R or F. It answers VIQ_DONE; VIQ_MEMORY, where nothing has changed; VIQ_FAILED,
- * VIQ_NO_ROUTER or VIQ_NO_TABLE. */
+/* Reads the table of a letter: N, G, S, D, A, U, R or F. It answers VIQ_DONE; VIQ_MEMORY, where nothing has changed;
+ * VIQ_FAILED, VIQ_NO_ROUTER or VIQ_NO_TABLE. */
 VIQ_READ_ANSWER
 uint32_t viq_read(struct viq_router *router, uint8_t letter);
 
-/* How many rows the last table had that was read, and one of them, counted from 0, ascending by their keys. It answers false, and
- * writes nothing, where there is none of that number. They stay as they were read, whatever happens to the router. */
+/* How many rows the last table had that was read, and one of them, counted from 0, ascending by their keys. It answers
+ * false, and writes nothing, where there is none of that number. They stay as they were read, whatever happens to the
+ * router. */
 VIQ_READ_ANSWER
 size_t viq_rows(const struct viq_router *router);
 VIQ_NOT_NULL(3)
@@ -320,14 +329,15 @@ struct viq_forwarding {
     struct viq_interfaces shared_tree; /* inherited_olist(S,G,rpt) */
 };
 
-/* Tells it. It answers false, and writes nothing, where there is no fact of the source, of a lost router, and of NULL. */
+/* Tells it. It answers false, and writes nothing, where there is no fact of the source, of a lost router, and of NULL.
+ * */
 VIQ_READ_ANSWER VIQ_NOT_NULL(4)
 bool viq_cached(const struct viq_router *router, uint32_t source, uint32_t group, struct viq_forwarding *forwarding);
 
 /* ---- costs */
 
-/* What the last event cost: the trie nodes that it visited, and the rows of the forwarding cache that it evaluated, put in and took
- * out. 0 of a lost router, and of NULL. */
+/* What the last event cost: the trie nodes that it visited, and the rows of the forwarding cache that it evaluated, put
+ * in and took out. 0 of a lost router, and of NULL. */
 VIQ_READ_ANSWER
 uint64_t viq_probes(const struct viq_router *router);
 VIQ_READ_ANSWER

@@ -1,9 +1,10 @@
-/* Plays the events of one router over and over, with one allocation refused each time, and looks at what the library says then.
+/* Plays the events of one router over and over, with one allocation refused each time, and looks at what the library
+ * says then.
  *
- * Standard input has lines of words: `interface`, `route` and `range` with their numbers, `new` with the six settings, and then a
- * line an event, as `frame DRAW IFACE HEX`; `new` takes the lists that stand before it, `routes DRAW` and `ranges DRAW` those since
- * then. All is played a second time as behind a data plane: of each packet of data the router is told by viq_seen and viq_keep. Linked
- * with --wrap=malloc, realloc and free. */
+ * Standard input has lines of words: `interface`, `route` and `range` with their numbers, `new` with the six settings,
+ * and then a line an event, as `frame DRAW IFACE HEX`; `new` takes the lists that stand before it, `routes DRAW` and
+ * `ranges DRAW` those since then. All is played a second time as behind a data plane: of each packet of data the router
+ * is told by viq_seen and viq_keep. Linked with --wrap=malloc, realloc and free. */
 #include <stdio.h>
 #include <stdlib.h>
 #include <string.h>
@@ -222,7 +223,8 @@ static uint64_t rows_of(const struct viq_router *router, uint64_t sum) {
     return sum;
 }
 
-/* What came of a run: all as without a refusal; a lost router; a call that changed nothing, after which all came; anything else. */
+/* What came of a run: all as without a refusal; a lost router; a call that changed nothing, after which all came;
+ * anything else. */
 enum { DONE_WITHOUT, LOST, UNCHANGED, OTHER };
 
 /* All tables. Where memory is refused, nothing has changed, and the table is read once more. */
@@ -292,8 +294,8 @@ static void play_for_sources(void) {
 
 static int is_copied(const struct event *event) { return event->kind == 'r' || event->kind == 'g'; }
 
-/* Such an answer takes no memory but that of a copy: the event is ignored, or refused for its bytes, its moment or its interface. Of
- * viq_seen and viq_keep it isn't said. */
+/* Such an answer takes no memory but that of a copy: the event is ignored, or refused for its bytes, its moment or its
+ * interface. Of viq_seen and viq_keep it isn't said. */
 static int is_sure(const struct event *event, uint32_t answer) {
     bool is_told = event->kind == 's' || event->kind == 'k';
     return !is_told && ((answer >= VIQ_SHORT && answer <= VIQ_INTERFACE_DOWN) || viq_is_ignored(answer));

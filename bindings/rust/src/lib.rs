@@ -1,8 +1,9 @@
-//! A multicast router: PIM Sparse Mode (RFC 7761) and IGMPv3 (RFC 3376). It is what `include/viqeshor/viqeshor.h` describes.
+//! A multicast router: PIM Sparse Mode (RFC 7761) and IGMPv3 (RFC 3376). It is what `include/viqeshor/viqeshor.h`
+//! describes.
 //!
-//! A program tells a [`Router`] what happens, by one call an event, and after each sends the packets that it names. The router
-//! starts no thread, opens no socket and reads no clock. With the program's own `clock_ms`, `receive`, `wait_until`, `send` and
-//! `random`:
+//! A program tells a [`Router`] what happens, by one call an event, and after each sends the packets that it names. The
+//! router starts no thread, opens no socket and reads no clock. With the program's own `clock_ms`, `receive`,
+//! `wait_until`, `send` and `random`:
 //!
 //! ```ignore
 //! let mut room = [0; MOST_BYTES];
@@ -383,7 +384,8 @@ pub struct Row {
     pub winner: Ipv4Addr,
     pub is_rpt: bool,
     pub is_set: bool,
-    /// Of a Join: `JOINED`, `PRUNE_PENDING` or `PRUNED`. Of an active source, its register's: `REGISTER_NONE` to `REGISTER_PRUNED`.
+    /// Of a Join: `JOINED`, `PRUNE_PENDING` or `PRUNED`. Of an active source, its register's: `REGISTER_NONE` to
+    /// `REGISTER_PRUNED`.
     pub state: u32,
     /// In ms.
     pub end: u64,
@@ -471,7 +473,8 @@ impl Forwarding {
 #[derive(Clone, Copy, Debug, Default, PartialEq, Eq)]
 #[non_exhaustive]
 pub struct PlaneRow {
-    /// The source has a fact: the row stays until `Router::changed` has the source, else until `Router::may_differ` is true of it.
+    /// The source has a fact: the row stays until `Router::changed` has the source, else until `Router::may_differ` is
+    /// true of it.
     pub is_known: bool,
     incoming: u32,
     /// Where copies of accepted packets leave, but for the interface on which they came.
@@ -595,7 +598,13 @@ extern "C" {
     fn viq_routes(router: *mut c_void, routes: *const raw::Route, count: usize, draw: Draw) -> u32;
     fn viq_ranges(router: *mut c_void, ranges: *const raw::Range, count: usize, draw: Draw) -> u32;
     fn viq_packets(router: *const c_void) -> usize;
-    fn viq_packet(router: *const c_void, index: usize, packet: *mut raw::Packet, room: *mut u8, room_length: usize) -> bool;
+    fn viq_packet(
+        router: *const c_void,
+        index: usize,
+        packet: *mut raw::Packet,
+        room: *mut u8,
+        room_length: usize,
+    ) -> bool;
     fn viq_copies(router: *const c_void) -> u32;
     fn viq_next_moment(router: *const c_void) -> u64;
     fn viq_read(router: *mut c_void, letter: u8) -> u32;
@@ -630,22 +639,31 @@ pub fn answer_text(answer: u32) -> &'static str {
 }
 
 /// A router, which ends where it is dropped.
-// The pointer is of a router that `viq_new` made, until it is dropped: this is what makes each call below safe. Those that change it
-// borrow it alone.
+// The pointer is of a router that `viq_new` made, until it is dropped: this is what makes each call below safe. Those
+// that change it borrow it alone.
 pub struct Router(NonNull<c_void>);
 
-// SAFETY: a router is memory of its own, taken by malloc. What it does depends on no thread, and one thread has it at a time.
+// SAFETY: a router is memory of its own, taken by malloc. What it does depends on no thread, and one thread has it at a
+// time.
 unsafe impl Send for Router {}
 
 impl fmt::Debug for Router {
     fn fmt(&self, to: &mut fmt::Formatter<'_>) -> fmt::Result {
-        to.debug_struct("Router").field("next_moment", &self.next_moment()).field("packets", &self.packet_count()).finish_non_exhaustive()
+        to.debug_struct("Router")
+            .field("next_moment", &self.next_moment())
+            .field("packets", &self.packet_count())
+            .finish_non_exhaustive()
     }
 }
 
 impl Router {
     /// Makes a router, at moment 0 and with all interfaces down.
-    pub fn new(settings: &Settings, interfaces: &[Interface], routes: &[Route], ranges: &[Range]) -> Result<Router, Error> {
+    pub fn new(
+        settings: &Settings,
+        interfaces: &[Interface],
+        routes: &[Route],
+        ranges: &[Range],
+    ) -> Result<Router, Error> {
         let mut made = null_mut();
         let interfaces: Vec<_> = interfaces.iter().map(Interface::given).collect();
         let routes: Vec<_> = routes.iter().map(Route::given).collect();
@@ -686,8 +704,14 @@ impl Router {
         verdict(unsafe { viq_advance(self.at_mut(), moment, Draw { bits: draw }) })
     }
 
-    /// Time passes up to now, timer by timer, each with a draw of its own; each packet that leaves meanwhile is handed on with its bytes.
-    pub fn run_to(&mut self, now: u64, mut draw: impl FnMut() -> u32, mut send: impl FnMut(&Packet, &[u8])) -> Result<(), Error> {
+    /// Time passes up to now, timer by timer, each with a draw of its own; each packet that leaves meanwhile is handed
+    /// on with its bytes.
+    pub fn run_to(
+        &mut self,
+        now: u64,
+        mut draw: impl FnMut() -> u32,
+        mut send: impl FnMut(&Packet, &[u8]),
+    ) -> Result<(), Error> {
         let mut room = [0; MOST_BYTES];
         loop {
             let next = self.next_moment().map_or(now, |moment| moment.min(now));
@@ -765,7 +789,9 @@ impl Router {
     /// All of them.
     pub fn packets(&self) -> Vec<Sent> {
         let mut all = Vec::new();
-        self.each_packet(&mut [0; MOST_BYTES], |packet, bytes| all.push(Sent { packet: *packet, bytes: bytes.to_vec() }));
+        self.each_packet(&mut [0; MOST_BYTES], |packet, bytes| {
+            all.push(Sent { packet: *packet, bytes: bytes.to_vec() })
+        });
         all
     }
 
@@ -806,7 +832,8 @@ impl Router {
         unsafe { viq_row(self.at(), index, &mut row) }.then(|| Row::told(row))
     }
 
-    /// How data of a source to a group goes, as the forwarding cache has it; `None` where there is no fact of the source.
+    /// How data of a source to a group goes, as the forwarding cache has it; `None` where there is no fact of the
+    /// source.
     pub fn cached(&self, source: Ipv4Addr, group: Ipv4Addr) -> Option<Forwarding> {
         let mut told = Forwarding::default();
         // SAFETY: the router is there.
@@ -841,14 +868,16 @@ impl Router {
         unsafe { viq_may_differ(self.at(), source.into(), group.into()) }
     }
 
-    /// An event: a data plane saw a packet of a source to a group on an interface. Its copies and its Register don't leave.
+    /// An event: a data plane saw a packet of a source to a group on an interface. Its copies and its Register don't
+    /// leave.
     pub fn seen(&mut self, iface: u32, source: Ipv4Addr, group: Ipv4Addr, draw: u32) -> Result<Verdict, Error> {
         // SAFETY: the router is there and borrowed alone.
         verdict(unsafe { viq_seen(self.at_mut(), iface, source.into(), group.into(), Draw { bits: draw }) })
     }
 
-    /// A data plane forwarded a packet of a source to a group at a moment, at most 2^62: the source's keepalive timer, where it runs,
-    /// ends 210 s after that, or when it would end later. It tells whether the timer runs; it is started by `seen` alone.
+    /// A data plane forwarded a packet of a source to a group at a moment, at most 2^62: the source's keepalive timer,
+    /// where it runs, ends 210 s after that, or when it would end later. It tells whether the timer runs; it is started
+    /// by `seen` alone.
     pub fn keep(&mut self, source: Ipv4Addr, group: Ipv4Addr, moment: u64) -> Result<bool, Error> {
         // SAFETY: the router is there and borrowed alone.
         match unsafe { viq_keep(self.at_mut(), source.into(), group.into(), moment) } {

@@ -1,6 +1,6 @@
 //! Each call of the crate once, and what it answers: a Join of 10.0.1.2 comes and a packet of its source, as in `examples/library`.
-use viqeshor::{Error, Interface, Kind, Range, Reason, Refusal, Route, Router, Settings, Table, Verdict, JOINED};
 use std::net::Ipv4Addr;
+use viqeshor::{Error, Interface, Kind, Range, Reason, Refusal, Route, Router, Settings, Table, Verdict, JOINED};
 
 const HELLO_ABOVE: &str = "45C0001E000000000167CEAB0A000001E000000D2000DFFC00010002FFFF";
 const HELLO_BELOW: &str = "45C0001E000000000167CDAA0A000102E000000D2000DFFC00010002FFFF";
@@ -133,7 +133,10 @@ fn what_a_data_plane_is_told() {
     assert_eq!(router.keep(source, group, 0), Ok(false));
     assert_eq!(router.seen(0, source, group, 0), DONE);
     assert_eq!(router.packet_count(), 0);
-    assert_eq!(router.changed().iter().map(|name| (name.source(), name.group())).collect::<Vec<_>>(), [(source, group)]);
+    assert_eq!(
+        router.changed().iter().map(|name| (name.source(), name.group())).collect::<Vec<_>>(),
+        [(source, group)]
+    );
     assert!(router.may_differ(source, group));
     assert!(!router.may_differ(address([10, 0, 3, 6]), address([225, 1, 1, 2])));
     let row = router.offload(source, group).unwrap();
@@ -178,7 +181,9 @@ fn a_moment_that_is_too_far() {
 fn time_passes_timer_by_timer() {
     let (mut at_once, mut by_timers, mut hellos) = (joined(), joined(), Vec::new());
     let mut draws = 0..;
-    by_timers.run_to(100_000, || draws.next().unwrap(), |packet, bytes| hellos.push((packet.iface, bytes.to_vec()))).unwrap();
+    by_timers
+        .run_to(100_000, || draws.next().unwrap(), |packet, bytes| hellos.push((packet.iface, bytes.to_vec())))
+        .unwrap();
     assert!(by_timers.next_moment().unwrap() > 100_000);
     assert_eq!(hellos.iter().filter(|(iface, bytes)| *iface == 2 && bytes[9] == 103 && bytes[20] == 0x20).count(), 4);
     assert_eq!(at_once.advance(100_000, 0), DONE);

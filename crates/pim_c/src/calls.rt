@@ -146,7 +146,8 @@ pub extern "C" fn viq_core_packets(alloc: Global, router: &mut Handle) -> usize
     router.packets(alloc)
 }
 
-/// One of these packets, counted from 0. Its bytes are written into the room, as many as this takes. False where there is none.
+/// One of these packets, counted from 0. Its bytes are written into the room, as many as this takes. False where there
+/// is none.
 #[unsafe(no_mangle)]
 pub extern "C" fn viq_core_packet(
     alloc: Global,

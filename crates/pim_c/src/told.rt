@@ -193,7 +193,8 @@ pub struct TableRow {
     /// The winner of an assert.
     pub winner: u32,
     pub is_rpt: bool,
-    /// A group record in EXCLUDE mode; an assert that the router lost; a source that is pruned off the shared tree; SPTbit.
+    /// A group record in EXCLUDE mode; an assert that the router lost; a source that is pruned off the shared tree;
+    /// SPTbit.
     pub is_set: bool,
     /// Downstream 1 joined, 2 about to be pruned, 3 pruned; register 1 joined, 2 about to be joined, 3 pruned.
     pub state: u32,
