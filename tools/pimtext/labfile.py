@@ -29,7 +29,7 @@ def network(path):
 def told(net, name):
     """A network's run, with the names of its hosts, and what is odd in it."""
     hosts = {host.address: host.name for host in net.hosts.values()}
-    return playpage.Told(name, net.scenario(), hosts, net.notes())
+    return playpage.Told(name, net.scenario(), hosts, net.notes(), True)
 
 
 def is_lab_file(path):

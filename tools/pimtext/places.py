@@ -70,13 +70,13 @@ def graph(nodes, pairs, far, is_ranked):
     if is_ranked:
         yield "rankdir=LR; nodesep=0.9; ranksep=1.5"
     else:
-        yield 'overlap=prism; overlap_scaling=-5; sep="+14"; splines=false; start=7; mode=major; model=shortpath'
+        yield 'overlap=prism; overlap_scaling=0; sep="+10"; splines=false; start=7; mode=major; model=shortpath'
     for node in nodes:
         width, height = SIZES[node[0]]
         yield f"{quoted(node)} [shape=box fixedsize=true width={width} height={height}]"
     for pair in pairs:
         one, other = sorted(pair, key=lambda node: far.get(node, 99))
-        length = 1.15 if "h" in (one[0], other[0]) else 2.1
+        length = 0.5 if "h" in (one[0], other[0]) else 0.8
         yield f"{quoted(one)} -- {quoted(other)} [len={length}]"
     yield "}"
 
@@ -89,7 +89,7 @@ def laid_out(nodes, pairs, far, is_ranked):
     plain = subprocess.run([program, "-Tplain"], input=text, capture_output=True, text=True, check=True).stdout
     rows = re.findall(r'^node (?:"((?:[^"\\]|\\.)*)"|(\S+)) (\S+) (\S+)', plain, re.M)
     named = {quoted(node)[1:-1]: node for node in nodes}
-    scale = (72, -92) if is_ranked else (76, -76)
+    scale = (72, -92) if is_ranked else (92, -72)
     return {named[name or bare]: (scale[0] * float(x), scale[1] * float(y)) for name, bare, x, y in rows}
 
 

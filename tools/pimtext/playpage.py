@@ -18,6 +18,7 @@ class Told:
     text: str
     hosts: dict = field(default_factory=dict)
     notes: list | None = None
+    is_by_time: bool = False
 
 
 def notes_of(told, played, lines):
@@ -38,8 +39,10 @@ def run_of(told):
     """What the page has of a run. Raises scenario.Refused where the program doesn't play it."""
     played = scenario.scenario_of(toml_lines.plain(toml_lines.read(told.text)))
     lines = scenario.run_each(told.text)
-    found = recorded.Recording(played, told.hosts).record(lines).told()
-    return {"name": told.name, "notes": notes_of(told, played, lines), **found}
+    found = recorded.Recording(played, told.hosts, told.is_by_time).record(lines).told()
+    numbers = found.pop("numbers")
+    noted = [[numbers.get(move, 0), text] for move, text in notes_of(told, played, lines)]
+    return {"name": told.name, "notes": noted, **found}
 
 
 def together(runs):
@@ -63,15 +66,15 @@ def data(runs, start):
     for host in hosts:
         by_link[host["link"]].append(host["address"])
     kinds = places.kinds(list(ports), ports, by_link)
-    sources = [run["hosts"][move[5]]["address"] for run in runs for move in run["moves"] if move[5] >= 0 and is_data(run, move)]
+    sources = [run["hosts"][host]["address"] for run in runs for move in run["moves"] for host, at in move[4] if is_data(run, at)]
     where, box = places.places(routers, kinds, ports, by_link, list(dict.fromkeys(sources))[:3])
     trees = [tuple(tree) for run in runs for tree in run["trees"] + run["streams"]]
     names = {f"({source}, {group})": colour for (group, source), colour in colours.colours(trees).items()}
     return {"runs": runs, "places": where, "box": box, "kinds": kinds, "hosts": hosts, "colours": names, "start": start}
 
 
-def is_data(run, move):
-    return ": data" in run["texts"][move[0]]
+def is_data(run, at):
+    return ": data" in run["texts"][run["steps"][at][9]]
 
 
 def page(tolds, start=0):

@@ -156,9 +156,10 @@ def tree_of(sent):
 
 @dataclass
 class Recording:
-    """`hosts` are names by address where the run's maker knows them; `lines` the file's lines of the moves, if known."""
+    """`hosts` are names by address where the run's maker knows them. Where it is by time, all moves of one time are shown as one."""
     played: object
     hosts: dict = field(default_factory=dict)
+    is_by_time: bool = False
 
     def __post_init__(self):
         self.text, self.trees = Texts(), {}
@@ -218,7 +219,9 @@ class Recording:
         verdict = 0 if step.verdict == "done" else self.text(words.answer(step.verdict, step.cause)) + 1
         brought = step.brought.number if step.brought else 0
         iface = -1 if step.iface is None else step.iface
-        self.steps.append([place, number if number != was else -1, step.moment, told, brought, iface, first, len(step.sent), verdict])
+        title = -1 if brought else self.text(f"{step.router}: {words.move(step.did, self.played.router(step.router))}")
+        self.steps.append(
+            [place, number if number != was else -1, step.moment, told, brought, iface, first, len(step.sent), verdict, title])
         self.watch.follow(len(self.steps) - 1, step)
 
     def packet(self, sent, at):
@@ -234,30 +237,67 @@ class Recording:
 
     # ---- what the page gets
 
-    def titles(self):
-        """What each move is."""
-        for number, did in enumerate(self.played.moves):
-            first, count, moment = self.moves[number]
-            name = did.get("router", "")
-            if did["do"] == "settle":
-                told = f"settle: {count} deliver{'y' if count == 1 else 'ies'}"
-            elif did["do"] in ("deliver", "carry") and count:
-                told = f"{name}: takes packet {did['frame']}"
+    def title(self, number):
+        """What a move is, counted from 0."""
+        did, count = self.played.moves[number], self.moves[number][1]
+        name = did.get("router", "")
+        if did["do"] == "settle":
+            return f"settle: {deliveries(count)}"
+        if did["do"] in ("deliver", "carry") and count:
+            return f"{name}: takes packet {did['frame']}"
+        return f"{name}: {words.move(did, self.played.router(name))}"
+
+    def groups(self):
+        """The moves that are shown as one: each by itself, or all of one time."""
+        found = []
+        for number, (_, _, moment) in enumerate(self.moves):
+            if self.is_by_time and found and self.moves[found[-1][0]][2] == moment:
+                found[-1].append(number)
             else:
-                told = f"{name}: {words.move(did, self.played.router(name))}"
-            yield [self.text(told), first, count, moment, did["do"], self.watch.senders.get(number + 1, -1)]
+                found.append([number])
+        return found
+
+    def group(self, numbers):
+        """Moves that are shown as one: a title, the first answer and their count, the time, and what hosts gave in them, as pairs
+        of a host and an answer."""
+        first, moment = self.moves[numbers[0]][0], self.moves[numbers[-1]][2]
+        count = sum(self.moves[number][1] for number in numbers)
+        said = [[self.watch.senders[number + 1], self.moves[number][0]] for number in numbers if number + 1 in self.watch.senders]
+        title = self.summary(numbers, said) if self.is_by_time else self.title(numbers[0])
+        return [self.text(title), first, count, moment, said]
+
+    def summary(self, numbers, said):
+        """What happened at one time."""
+        hosts, dids = list(self.watch.hosts.values()), [self.played.moves[number] for number in numbers]
+        told = [f"{hosts[host].name} {self.verb(self.steps[at])}" for host, at in said]
+        told += [f"{did['router']}: {words.place(self.played.router(did['router']), did['iface'])} {did['do']}"
+                 for did in dids if did["do"] in ("up", "down")]
+        changed = sorted({did["router"] for did in dids if did["do"] in ("routes", "rps")})
+        told += [f"new routes or RPs at {', '.join(changed[:3])}{' ..' * (len(changed) > 3)}"] * bool(changed)
+        brought = sum(self.moves[number][1] for number in numbers if self.played.moves[number]["do"] in ("settle", "deliver", "carry"))
+        told += [deliveries(brought)] * bool(brought)
+        told = list(dict.fromkeys(told))
+        return words.seconds(self.moves[numbers[-1]][2]) + (": " + "; ".join(told) if told else "")
+
+    def verb(self, step):
+        return "reports" if "IGMP report" in self.text.all[step[9]] else "sends"
 
     def told(self):
         """All of it, ready for JSON."""
-        hosts = self.watch.told()
-        moves = list(self.titles())
+        hosts, groups = self.watch.told(), self.groups()
+        moves = [self.group(numbers) for numbers in groups]
+        numbers = {number + 1: place for place, group in enumerate(groups, 1) for number in group}
         return {
             "routers": [router_told(router) for router in self.played.routers],
             "links": [[link, str(net)] for link, net in self.played.links().items()],
             "hosts": hosts, "moves": moves, "steps": self.steps, "packets": self.packets,
             "shapes": [shape.all for shape in self.shapes], "trees": [list(tree) for tree in self.trees],
-            "streams": self.watch.streams, "texts": self.text.all,
+            "streams": self.watch.streams, "texts": self.text.all, "numbers": numbers, "byTime": self.is_by_time,
         }
+
+
+def deliveries(count):
+    return f"{count} deliver{'y' if count == 1 else 'ies'}"
 
 
 def router_told(router):

@@ -7,7 +7,8 @@ const NAMESPACE = "http://www.w3.org/2000/svg";
 const [LEFT, WAITS, CAME, TWICE, MISSED] = [0, 1, 2, 3, 4];
 const MANY_ROUTERS = 9;
 // What is shown: a move of the first run, the answers up to which it is shown, a router and a run.
-const shown = { move: 0, at: 0, router: 0, run: 0, single: false, hidden: new Set(), alone: null, moving: false };
+const shown = { move: 0, at: 0, router: 0, run: 0, single: false, kinds: { source: true, shared: true },
+  hellos: true, alone: null, moving: false };
 const escaped = text => String(text).replace(/[&<>"]/g, sign => ({ "&": "&amp;", "<": "&lt;", ">": "&gt;", '"': "&quot;" }[sign]));
 const seconds = ms => `${(ms / 1000).toFixed(ms % 100 ? 3 : 1)} s`;
 
@@ -54,7 +55,7 @@ class Run {
   title(move) { return move ? this.texts[this.moves[move - 1][0]] : "before the first move" }
   // The move of this run at which the other one is: of the same number where both have as many, else of the same time.
   moveBeside(other, move) {
-    if (other === this || this.moves.length === other.moves.length) return Math.min(move, this.moves.length);
+    if (other === this || !this.byTime && this.moves.length === other.moves.length) return Math.min(move, this.moves.length);
     let found = 0;
     const moment = other.moment(move);
     while (found < this.moves.length && this.moves[found][3] <= moment) found++;
@@ -80,8 +81,9 @@ class Run {
   }
   // How a delivery or a move of its own is called.
   answer(at) {
-    const [router, , , , brought, iface] = this.steps[at], name = this.routers[router].name;
-    if (!brought) return "";
+    if (at < 0 || at >= this.steps.length) return "";
+    const [router, , , , brought, iface, , , , title] = this.steps[at], name = this.routers[router].name;
+    if (!brought) return this.texts[title];
     const packet = this.packets[brought - 1], where = iface < 0 ? "as a unicast" : `on ${iface} ${this.routers[router].ifaces[iface][0]}`;
     return `${name} takes ${where}: packet ${brought} of ${this.routers[packet[0]].name}, ${this.texts[packet[3]]}`;
   }
@@ -186,7 +188,7 @@ class Picture {
     if (isSteep) return [x + 7, y + (isUp ? -6 : 12)];
     return [x, y + (isUp ? 16 : -9)];
   }
-  isShown(tree) { return !shown.hidden.has(tree) && (shown.alone === null || shown.alone === tree) }
+  isShown(tree) { return shown.kinds[tree.startsWith("(*") ? "shared" : "source"] && (shown.alone === null || shown.alone === tree) }
   // The trees on the line between a router and a node, by their names: all that run there in either direction.
   lanes(router, end) {
     const found = new Set(), note = (n, iface) => {
@@ -321,7 +323,7 @@ class Picture {
       if (!flights.has(key)) { flights.set(key, { from, to, kind, tree, when, count: 0 }); order.push(key) }
       flights.get(key).count++;
     };
-    this.putSender(put);
+    this.putSenders(put, start, at);
     for (const packet of this.run.packetsOf(start, at)) {
       const [router, where, isUnicast, kind, , , when, tree, iface] = packet, from = ["r", this.run.routers[router].name];
       const owner = this.run.owners.get(isUnicast ? this.run.texts[where] : "");
@@ -335,16 +337,20 @@ class Picture {
       this.fly(flight, load[way] - 1, times.indexOf(flight.when) * Math.min(220, 2400 / times.length));
     }
   }
-  // What a host gave to a router in this move.
-  putSender(put) {
-    const move = this.run.moves[moveOf(this.run) - 1], sender = move && this.run.hosts[move[5]];
-    if (!sender || this.run === runs[0] && shown.single && shown.at !== this.run.after(shown.move)) return;
-    const router = this.run.steps[move[1]], end = DATA.kinds[sender.link] === "lan" ? ["l", sender.link] : ["r", this.run.routers[router[0]].name];
-    const isReport = /IGMP report/.test(this.run.texts[move[0]]);
-    put(["h", sender.address], end, isReport ? "report" : "data", -1, -1);
+  // What hosts gave to routers.
+  putSenders(put, start, end) {
+    const move = this.run.moves[moveOf(this.run) - 1];
+    for (const [host, at] of move ? move[4] : []) {
+      if (at < start || at >= end) continue;
+      const sender = this.run.hosts[host], step = this.run.steps[at], title = this.run.texts[step[9]];
+      const to = DATA.kinds[sender.link] === "lan" ? ["l", sender.link] : ["r", this.run.routers[step[0]].name];
+      const tree = this.run.trees.findIndex(([group, source]) => source === sender.address && title.includes(`> ${group}: data`));
+      put(["h", sender.address], to, /IGMP report/.test(title) ? "report" : "data", tree, at);
+    }
   }
   fly({ from, to, kind, tree, count }, lane, delay) {
     if (tree >= 0 && !this.isShown(treeName(this.run.trees[tree]))) return;
+    if (!shown.hellos && (kind === "Hello" || kind === "query")) return;
     const colour = tree >= 0 ? colourOf(this.run.trees[tree]) : kind === "data" ? "#333" : "#4a5763";
     const [start, end] = [edgeOf(from[0], placeOf(...from), placeOf(...to)), edgeOf(to[0], placeOf(...to), placeOf(...from))];
     const made = this.svg.appendChild(node("g", {})), text = kind + (count > 1 ? ` ×${count}` : "");
@@ -408,7 +414,10 @@ function hostsPanel(run, at) {
       `${escaped(treeName([group, source]))}<td class=soft>${count}<td class=${STATES[each.state]}>${escaped(each.text)}`];
   }));
   rows.sort((a, b) => b[0] - a[0]);
-  return `<h3>What came to the hosts</h3>` + (rows.length ? `<table>${rows.map(([, text]) => text).join("")}</table>` : "<span class=soft>no host has asked for anything</span>");
+  const good = rows.filter(([state]) => state === CAME), table = some => `<table>${some.map(([, text]) => text).join("")}</table>`;
+  const isLong = good.length > 8, first = isLong ? rows.filter(([state]) => state !== CAME) : rows;
+  return `<h3>What came to the hosts</h3>` + (rows.length ? "" : "<span class=soft>no host has asked for anything</span>") + table(first) +
+    (isLong ? `<details ${shown.goods ? "open" : ""} id=goods><summary class=good>✓ ${good.length} streams come</summary>${table(good)}</details>` : "");
 }
 // A wish for all sources of a group says nothing more once packets of one of them were due.
 function isOnlyWish(run, each, all) {
@@ -455,13 +464,18 @@ function differ(router) {
 function legend() {
   const names = new Set(runs.flatMap(run => run.routers.flatMap((_, n) => run.shape(n, position(run)).arrows.map(([tree]) => treeName(run.trees[tree])))));
   const swatch = (name, dash) => `<svg width=26 height=8><line x1=0 y1=4 x2=26 y2=4 stroke="${COLOURS[name] || "#66737f"}" stroke-width=3 ${dash ? 'stroke-dasharray="7 3.5"' : ""} /></svg>`;
-  const trees = [...names].sort().map(name => `<span data-tree="${escaped(name)}" class="${shown.hidden.has(name) || shown.alone && shown.alone !== name ? "off" : ""}"` +
+  const trees = [...names].sort().map(name => `<span data-tree="${escaped(name)}" class="${shown.alone && shown.alone !== name ? "off" : ""}"` +
     ` title="click: this tree alone">${swatch(name, name.startsWith("(*"))}<b style="color:${COLOURS[name]}">${escaped(name)}</b></span>`);
   byId("legend").innerHTML = (trees.join("") || "<span class=plain>no tree yet</span>") +
-    `<span class=plain>${swatch("", false)} a source's tree</span><span class=plain>${swatch("", true)} the RP's tree (*,G)</span>` +
+    `<span class="plain ${shown.kinds.source ? "" : "off"}" data-kind=source title="click: without these">${swatch("", false)} a source's tree</span>` +
+    `<span class="plain ${shown.kinds.shared ? "" : "off"}" data-kind=shared title="click: without these">${swatch("", true)} the RP's tree (*,G)</span>` +
     `<span class=plain><svg width=26 height=8><line x1=0 y1=4 x2=26 y2=4 stroke="#66737f" stroke-width=2 stroke-dasharray="2 4" /></svg> Registers</span>` +
     `<span class=plain><svg width=12 height=12><circle cx=6 cy=6 r=4 fill="#fff" stroke="#c0392b" stroke-width=1.8 /></svg> expected, and nobody sends</span>` +
     `<span class=plain><svg width=14 height=14><circle cx=7 cy=7 r=5.5 fill="#66737f"/></svg> a packet of data</span>`;
+  for (const each of byId("legend").querySelectorAll("[data-kind]")) each.onclick = () => {
+    shown.kinds[each.dataset.kind] = !shown.kinds[each.dataset.kind];
+    show();
+  };
   for (const each of byId("legend").querySelectorAll("[data-tree]")) each.onclick = () => {
     shown.alone = shown.alone === each.dataset.tree ? null : each.dataset.tree;
     show();
@@ -522,6 +536,7 @@ function show() {
   legend();
   packetsPanel(run, start, at);
   byId("side").innerHTML = differencesPanel() + hostsPanel(run, at) + notesPanel(run) + changesPanel(run, start, at) + routerPanel(run, start, at);
+  if (byId("goods")) byId("goods").ontoggle = event => { shown.goods = event.target.open };
   for (const each of byId("side").querySelectorAll("[data-move]")) each.onclick = () => go(+each.dataset.move);
   const move = moveOf(run), single = shown.single && run === runs[0] ? ` · ${run.answer(at - 1) || ""}` : "";
   byId("caption").textContent = (move ? `Move ${move}. ` : "") + run.title(move) + single;
@@ -568,8 +583,8 @@ function play() {
   byId("play").textContent = timer ? "⏸" : "▶";
 }
 function textOfMove(move) {
-  const run = runs[0], packets = run.packetsOf(run.before(move), run.after(move));
-  return [run.title(move), ...packets.map(packet => run.texts[packet[4]])].join("\n").toLowerCase();
+  const run = runs[0], [from, to] = [run.before(move), run.after(move)], packets = run.packetsOf(from, to);
+  return [run.title(move), ...run.steps.slice(from, to).map(step => run.texts[step[9]] || ""), ...packets.map(packet => run.texts[packet[4]])].join("\n").toLowerCase();
 }
 function search(isNext) {
   const wanted = byId("search").value.trim().toLowerCase(), hits = [];
@@ -608,6 +623,8 @@ function listen() {
   byId("slider").oninput = event => go(+event.target.value);
   byId("idle").onchange = event => byId("moves").classList.toggle("few", !event.target.checked);
   byId("moves").classList.add("few");
+  byId("hellos").checked = shown.hellos = runs[0].routers.length < MANY_ROUTERS;
+  byId("hellos").onchange = event => { shown.hellos = event.target.checked; show() };
   byId("search").oninput = () => search(false);
   byId("search").onkeydown = event => { event.stopPropagation(); if (event.key === "Enter") search(true); if (event.key === "Escape") byId("search").blur() };
   document.onkeydown = event => {
