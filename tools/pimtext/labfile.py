@@ -26,10 +26,10 @@ def network(path):
     return nets[-1] if nets else sys.exit(f"{path} runs no network")
 
 
-def told(net, name):
+def told(net, name, is_by_time=True):
     """A network's run, with the names of its hosts, and what is odd in it."""
     hosts = {host.address: host.name for host in net.hosts.values()}
-    return playpage.Told(name, net.scenario(), hosts, net.notes(), True)
+    return playpage.Told(name, net.scenario(), hosts, net.notes(), is_by_time)
 
 
 def is_lab_file(path):

@@ -8,7 +8,8 @@ from collections import defaultdict
 # Up to so many routers stand in ranks from the sources on; more are laid out by their distances.
 MOST_IN_RANKS = 9
 SIZES = {"r": (1.3, 0.58), "l": (1.17, 0.45), "h": (1.28, 0.36)}
-MARGIN = 78
+# Around the middles of the outermost nodes, to the sides and above and below.
+MARGIN = 96, 70
 
 
 def kinds(links, ports, hosts):
@@ -100,5 +101,6 @@ def places(routers, kinds_of, ports, hosts, roots):
     roots = [("h", host) for host in roots if ("h", host) in nodes] or nodes[:1]
     found = laid_out(nodes, pairs, ranks(pairs, roots), len(routers) <= MOST_IN_RANKS)
     xs, ys = [x for x, _ in found.values()] or [0], [y for _, y in found.values()] or [0]
-    box = [min(xs) - MARGIN, min(ys) - MARGIN, max(xs) - min(xs) + 2 * MARGIN, max(ys) - min(ys) + 2 * MARGIN]
+    wide, high = MARGIN
+    box = [min(xs) - wide, min(ys) - high, max(xs) - min(xs) + 2 * wide, max(ys) - min(ys) + 2 * high]
     return {" ".join(node): [round(x, 1), round(y, 1)] for node, (x, y) in found.items()}, [round(each, 1) for each in box]

@@ -277,7 +277,7 @@ class Recording:
         brought = sum(self.moves[number][1] for number in numbers if self.played.moves[number]["do"] in ("settle", "deliver", "carry"))
         told += [deliveries(brought)] * bool(brought)
         told = list(dict.fromkeys(told))
-        return words.seconds(self.moves[numbers[-1]][2]) + (": " + "; ".join(told) if told else "")
+        return words.seconds(self.moves[numbers[-1]][2]).replace(".000", "") + (": " + "; ".join(told) if told else "")
 
     def verb(self, step):
         return "reports" if "IGMP report" in self.text.all[step[9]] else "sends"

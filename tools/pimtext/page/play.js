@@ -10,7 +10,7 @@ const MANY_ROUTERS = 9;
 const shown = { move: 0, at: 0, router: 0, run: 0, single: false, kinds: { source: true, shared: true },
   hellos: true, alone: null, moving: false };
 const escaped = text => String(text).replace(/[&<>"]/g, sign => ({ "&": "&amp;", "<": "&lt;", ">": "&gt;", '"': "&quot;" }[sign]));
-const seconds = ms => `${(ms / 1000).toFixed(ms % 100 ? 3 : 1)} s`;
+const seconds = ms => `${(ms / 1000).toFixed(ms % 1000 ? 3 : 0)} s`;
 
 // ---- a run
 
@@ -311,7 +311,7 @@ class Picture {
   // Why a host got nothing, in a few short lines; in a large network the panel has it.
   why(x, y, text, state) {
     if (!this.isSmall) return;
-    const lines = wrapped(text.replace(/^packet \d+ (didn't come: )?/, ""), 34).slice(0, 4);
+    const lines = wrapped(text.replace(/^packet \d+ (didn't come: )?/, ""), 30).slice(0, 4);
     lines.forEach((line, n) => this.svg.append(node("text", { x, y: y + n * 12, "text-anchor": "middle", class: "why halo",
       style: state === TWICE ? "fill:#a35f00" : "" }, line)));
   }
@@ -354,12 +354,13 @@ class Picture {
     const colour = tree >= 0 ? colourOf(this.run.trees[tree]) : kind === "data" ? "#333" : "#4a5763";
     const [start, end] = [edgeOf(from[0], placeOf(...from), placeOf(...to)), edgeOf(to[0], placeOf(...to), placeOf(...from))];
     const made = this.svg.appendChild(node("g", {})), text = kind + (count > 1 ? ` ×${count}` : "");
-    const stop = along(start, end, .5), wide = text.length * 5.6 + 12, isCopy = kind === "data" && tree >= 0;
+    const wide = text.length * 5.6 + 12, isCopy = kind === "data" && tree >= 0;
+    const stop = along(start, end, isCopy ? .5 + ((lane % 2 ? 1 : -1) * Math.ceil(lane / 2) * .11) % .4 : .5);
     if (isCopy) made.append(node("circle", { r: 6.5, fill: colour, stroke: "#fff", "stroke-width": 2 }));
     else made.append(node("rect", { x: -wide / 2, y: -8, width: wide, height: 16, rx: 8, fill: colour, stroke: "#fff" }),
       node("text", { y: 3.5, "text-anchor": "middle", style: "font-size:10px;fill:#fff" }, text));
     made.append(node("title", {}, `${text}: ${from[1]} to ${to[1]}`));
-    const drop = isCopy ? lane * 5 : lane * 17;
+    const drop = isCopy ? 0 : lane * 17;
     made.setAttribute("transform", `translate(${stop[0]},${stop[1] + drop})`);
     if (shown.moving) made.animate([{ transform: `translate(${start[0]}px,${start[1]}px)`, opacity: 0 }, { opacity: 1, offset: .15 },
       { transform: `translate(${stop[0]}px,${stop[1] + drop}px)` }], { duration: 600, delay, easing: "ease-out", fill: "backwards" });
@@ -623,7 +624,7 @@ function listen() {
   byId("slider").oninput = event => go(+event.target.value);
   byId("idle").onchange = event => byId("moves").classList.toggle("few", !event.target.checked);
   byId("moves").classList.add("few");
-  byId("hellos").checked = shown.hellos = runs[0].routers.length < MANY_ROUTERS;
+  byId("hellos").checked = shown.hellos = !runs[0].byTime && runs[0].routers.length < MANY_ROUTERS;
   byId("hellos").onchange = event => { shown.hellos = event.target.checked; show() };
   byId("search").oninput = () => search(false);
   byId("search").onkeydown = event => { event.stopPropagation(); if (event.key === "Enter") search(true); if (event.key === "Escape") byId("search").blur() };
