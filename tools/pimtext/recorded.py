@@ -9,7 +9,7 @@ from functools import cache
 
 from pimtext import packets, printed, story, trees, view_text, views, words
 from pimtext.printed import ANY
-from pimtext.watched import Watch
+from pimtext.arrivals import Watch
 
 # An end in a shape's texts is this many seconds and its place in the list of ends.
 MARK = 10 ** 9
