@@ -50,6 +50,11 @@ class Copy:
     def is_register(self):
         return self.sent.is_unicast()
 
+    def words(self):
+        """The routers that it came by."""
+        names = [taken.router if taken.before is None or taken.iface is not None else f"a Register to {taken.router}" for taken in self.by.way()]
+        return f"by {', '.join(names)}"
+
 
 @dataclass(eq=False)
 class Packet:

@@ -5,6 +5,7 @@ from lab.lines import calling
 from lab.mistakes import group_given, ms_given, number_given, payload_given, source_given
 from lab.playing import Action
 from pimtext import packets
+from pimtext.wishes import NOTHING, Wish
 
 # How often a host tells a change on a link that loses packets, and the ms between (RFC 3376, 8.1 and 8.11).
 ROBUSTNESS, UNSOLICITED_INTERVAL = 2, 1000
@@ -20,19 +21,6 @@ class Received:
     payload: bytes
     ttl: int
     path: tuple
-
-
-@dataclass(frozen=True)
-class Wish:
-    """Which sources of a group a host wants: these, or all but these."""
-    is_exclude: bool
-    sources: frozenset
-
-    def has(self, source):
-        return (source in self.sources) != self.is_exclude
-
-
-NOTHING = Wish(False, frozenset())
 
 
 def change(old, new):
@@ -115,6 +103,11 @@ class Host:
         """Whether it is served of a source, a host or an address, at the present; as a text, hop by hop how, or why not."""
         return self.net.served(self, group, source)
 
+    def watch(self, group, source=None):
+        """What came of a group so far, of each source that sent to it or of one: a `Stream` each, with `sent`, `came`, `twice`,
+        `longest_gap` and `first_after` in seconds, and `missing()`."""
+        return self.net.watch(self, group, source)
+
     def send(self, group, payload=b"", ttl=16, after=0.0):
         """Sends a packet of data to a group, at the present or so many seconds later."""
         ttl = number_given(ttl, "TTL", 0, 255, is_whole=True)
@@ -162,8 +155,12 @@ class Speech(Action):
         packet = packets.read(self.data)
         if isinstance(packet.body, packets.Data):
             for other in self.host.link.hosts:
-                if other is not self.host and self.host.net.chance.random() >= self.host.link.loss:
+                if other is self.host:
+                    continue
+                if self.host.net.chance.random() >= self.host.link.loss:
                     other.take(moment, packet, ())
+                else:
+                    self.host.net.unheard.add((other.address, self.data, moment))
 
 
 class Reply(Speech):

@@ -15,8 +15,9 @@ from lab.playing import Action, Player
 from lab.topology import Link, Port, Router, routes
 from lab.traffic import HOSTS, START, Chances, Traffic
 from lab.tree import tree_of
-from pimtext import notes, packets, scenario, served, toml_lines, trees, words
+from pimtext import packets, scenario, toml_lines, trees, words
 from pimtext.addresses import address_in, is_host, prefix_in
+from pimtext.diagnosis import Diagnosis
 from pimtext.faults import ROUTER_KEYS, faults_of
 from pimtext.printed import ANY
 from pimtext.scenario import scenario_of, text_of
@@ -53,7 +54,7 @@ class Network:
         self.routers, self.links, self.hosts, self.ranges, self.fixed = Named("router"), Named("link"), Named("host"), [], {}
         self.now = self.present = self.stepped = 0
         self.player, self.sent, self.paths, self.odd = None, [], {}, []
-        self.made, self.spoken = calling(), {}
+        self.made, self.spoken, self.unheard, self.diagnosed = calling(), {}, set(), None
         MADE.append(weakref.ref(self))
         chances = Chances(seed, delay_given(delay), share_given(reorder, "later ones overtake"))
         self.traffic = Traffic(self, None, chances)
@@ -283,6 +284,7 @@ class Network:
     def tell_hosts(self, link, sent, packet):
         for host in link.hosts:
             if self.chance.random() < link.loss:
+                self.unheard.add((host.address, sent.number))
                 continue
             if isinstance(packet.body, packets.Query):
                 host.hear(packet.body)
@@ -312,17 +314,32 @@ class Network:
 
     def served(self, host, group, source):
         """Whether a host is served of a source, a host or an address, at the present; as a text, hop by hop how, or why not."""
-        world, address = served.World(self.known()), source_given(source)
-        origin = world.link_of(address)
-        if origin is None:
-            raise Mistake(f"the source {address} is in the subnet of no link that is up")
-        return Served(*served.told(world, group_given(group), address, host.address, origin, host.link.name))
+        diagnosis, address = self.diagnosis(), source_given(source)
+        watch = diagnosis.run.watch
+        verdict = watch.verdict(watch.stream(host.address, group_given(group), address))
+        causes = [f"  cause: {cause.line}: {cause.text}" for cause in diagnosis.of(verdict.stream)]
+        return Served([*verdict.lines, *causes], verdict.is_served)
+
+    def watch(self, host, group, source=None):
+        """What came to a host of a group, of each source or of one: streams with their numbers."""
+        self.running()
+        watch = self.diagnosis().run.watch
+        found = watch.asked(host.address, group_given(group), source and source_given(source))
+        return [stream for _, streams in found for stream in streams]
+
+    def diagnosis(self):
+        """The run up to the present with what went wrong in it; it is made once for each present."""
+        key = len(self.running().moves), self.now
+        if self.diagnosed is None or self.diagnosed[0] != key:
+            text = self.scenario()
+            played = scenario_of(toml_lines.plain(toml_lines.read(text)))
+            lines = scenario.run_text(text)
+            self.diagnosed = key, Diagnosis(faults_of(text)[0], played, lines, Lines(self), frozenset(self.unheard))
+        return self.diagnosed[1]
 
     def notes(self):
         """What a reader would wonder about in the run, as `tools/why --run` has it, with the lines of the file that made it."""
-        text = self.scenario()
-        played = scenario_of(toml_lines.plain(toml_lines.read(text)))
-        return list(notes.notes(faults_of(text)[0], played, scenario.run_text(text), Lines(self)))
+        return self.diagnosis().lines()
 
     def packets(self, kind=None):
         """What routers sent, in order, all or of one kind: a class of pimtext.packets, as Register."""
