@@ -28,8 +28,9 @@ def network(path):
 
 def told(net, name, is_by_time=True):
     """A network's run, with the names of its hosts, and what is odd in it."""
+    from lab.lines import Lines
     hosts = {host.address: host.name for host in net.hosts.values()}
-    return playpage.Told(name, net.scenario(), hosts, net.notes(), is_by_time)
+    return playpage.Told(name, net.scenario(), hosts, Lines(net), frozenset(net.unheard), is_by_time)
 
 
 def is_lab_file(path):

@@ -6,43 +6,41 @@ from collections import defaultdict
 from dataclasses import dataclass, field
 from pathlib import Path
 
-from pimtext import colours, faults, notes, places, recorded, scenario, toml_lines
+from pimtext import colours, diagnosis, faults, places, recorded, scenario, toml_lines
 
 FOLDER = Path(__file__).resolve().parent / "page"
 
 
 @dataclass
 class Told:
-    """A run to be shown: its name, the text of its scenario, the names of hosts by address, and where it has them its notes."""
+    """A run to be shown: its name, the text of its scenario, and of a network of tools/lab the names of hosts by address, the lines of
+    its file, and what hosts didn't hear. Where it is by time, a stop of the slider is all moves of one time."""
     name: str
     text: str
     hosts: dict = field(default_factory=dict)
-    notes: list | None = None
+    places: object = None
+    unheard: frozenset = frozenset()
     is_by_time: bool = False
 
 
-def notes_of(told, played, lines):
-    """The notes of a run, each with the move that it is of, 0 where it is of none."""
-    if told.notes is None:
-        found = list(notes.notes(faults.faults_of(told.text)[0], played, lines))
-    else:
-        found = told.notes
-    return [noted(re.sub(r"^[^:]*: ", "", str(note), count=1)) for note in found]
-
-
-def noted(text):
-    found = re.match(r"move (\d+)", text)
-    return [int(found[1]) if found else 0, text]
+def notes_of(found, numbers):
+    """The causes of a diagnosis: the stop at which each shows first, 0 for none, its text, and its symptoms."""
+    for cause in found.ordered():
+        head, *symptoms = cause.lines()
+        text = head.partition(": ")[2]
+        named = re.match(r"move (\d+)", text)
+        places = [found.run.steps[each.at].move for each in cause.symptoms if each.at is not None and each.at < len(found.run.steps)]
+        move = int(named[1]) if named else min(places, default=0)
+        yield [numbers.get(move, 0), text, [symptom.strip() for symptom in symptoms]]
 
 
 def run_of(told):
     """What the page has of a run. Raises scenario.Refused where the program doesn't play it."""
     played = scenario.scenario_of(toml_lines.plain(toml_lines.read(told.text)))
     lines = scenario.run_each(told.text)
-    found = recorded.Recording(played, told.hosts, told.is_by_time).record(lines).told()
-    numbers = found.pop("numbers")
-    noted = [[numbers.get(move, 0), text] for move, text in notes_of(told, played, lines)]
-    return {"name": told.name, "notes": noted, **found}
+    found = diagnosis.Diagnosis(faults.faults_of(told.text)[0], played, lines, told.places, told.unheard)
+    shown = recorded.Recording(played, told.hosts, told.is_by_time).record(lines).told(found)
+    return {"name": told.name, "notes": list(notes_of(found, shown.pop("numbers"))), **shown}
 
 
 def together(runs):

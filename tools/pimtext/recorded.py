@@ -9,7 +9,7 @@ from functools import cache
 
 from pimtext import packets, printed, story, trees, view_text, views, words
 from pimtext.printed import ANY
-from pimtext.arrivals import Watch
+from pimtext.arrivals import Arrivals
 
 # An end in a shape's texts is this many seconds and its place in the list of ends.
 MARK = 10 ** 9
@@ -169,7 +169,6 @@ class Recording:
         self.shapes = [Shapes(self, router) for router in self.played.routers]
         self.now = [(shape.of(self.known[shape.router.name], False)) for shape in self.shapes]
         self.steps, self.packets, self.moves = [], [], []
-        self.watch = Watch(self)
 
     def tree(self, group, source):
         return self.trees.setdefault((group, source), len(self.trees))
@@ -180,11 +179,11 @@ class Recording:
         for part in story.Teller(self.played).tell(lines):
             if isinstance(part, story.Step):
                 waiting = part
-            else:
+            elif waiting is not None:
                 self.begin(waiting.move)
                 self.follow(waiting, part)
+                waiting = None
         self.begin(len(self.played.moves) + 1)
-        self.watch.end(len(self.steps))
         return self
 
     def begin(self, number):
@@ -200,8 +199,6 @@ class Recording:
     def close(self):
         """The move that was begun last is over."""
         self.moves[-1][1] = len(self.steps) - self.moves[-1][0]
-        if self.played.moves[len(self.moves) - 1]["do"] == "settle":
-            self.watch.settled(len(self.steps))
 
     def follow(self, step, tables):
         state = self.known[step.router]
@@ -222,7 +219,6 @@ class Recording:
         title = -1 if brought else self.text(f"{step.router}: {words.move(step.did, self.played.router(step.router))}")
         self.steps.append(
             [place, number if number != was else -1, step.moment, told, brought, iface, first, len(step.sent), verdict, title])
-        self.watch.follow(len(self.steps) - 1, step)
 
     def packet(self, sent, at):
         short, told = packet_words(sent.kind, sent.data)
@@ -262,13 +258,13 @@ class Recording:
         of a host and an answer."""
         first, moment = self.moves[numbers[0]][0], self.moves[numbers[-1]][2]
         count = sum(self.moves[number][1] for number in numbers)
-        said = [[self.watch.senders[number + 1], self.moves[number][0]] for number in numbers if number + 1 in self.watch.senders]
+        said = [[self.arrivals.senders[at], at] for at in range(first, first + count) if at in self.arrivals.senders]
         title = self.summary(numbers, said) if self.is_by_time else self.title(numbers[0])
         return [self.text(title), first, count, moment, said]
 
     def summary(self, numbers, said):
         """What happened at one time."""
-        hosts, dids = list(self.watch.hosts.values()), [self.played.moves[number] for number in numbers]
+        hosts, dids = list(self.arrivals.hosts.values()), [self.played.moves[number] for number in numbers]
         told = [f"{hosts[host].name} {self.verb(self.steps[at])}" for host, at in said]
         told += [f"{did['router']}: {words.place(self.played.router(did['router']), did['iface'])} {did['do']}"
                  for did in dids if did["do"] in ("up", "down")]
@@ -280,11 +276,12 @@ class Recording:
         return words.seconds(self.moves[numbers[-1]][2]).replace(".000", "") + (": " + "; ".join(told) if told else "")
 
     def verb(self, step):
-        return "reports" if "IGMP report" in self.text.all[step[9]] else "sends"
+        return "sends" if ": data" in self.text.all[step[9]] else "reports"
 
-    def told(self):
-        """All of it, ready for JSON."""
-        hosts, groups = self.watch.told(), self.groups()
+    def told(self, diagnosis):
+        """All of it with the diagnosis of the run, ready for JSON."""
+        self.arrivals = Arrivals(self, diagnosis)
+        hosts, groups = self.arrivals.told(), self.groups()
         moves = [self.group(numbers) for numbers in groups]
         numbers = {number + 1: place for place, group in enumerate(groups, 1) for number in group}
         return {
@@ -292,7 +289,7 @@ class Recording:
             "links": [[link, str(net)] for link, net in self.played.links().items()],
             "hosts": hosts, "moves": moves, "steps": self.steps, "packets": self.packets,
             "shapes": [shape.all for shape in self.shapes], "trees": [list(tree) for tree in self.trees],
-            "streams": self.watch.streams, "texts": self.text.all, "numbers": numbers, "byTime": self.is_by_time,
+            "streams": self.arrivals.streams, "texts": self.text.all, "numbers": numbers, "byTime": self.is_by_time,
         }
 
 

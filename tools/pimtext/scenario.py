@@ -147,8 +147,8 @@ def run_text(text, words=("--tables",)):
 
 
 def run_each(text):
-    """The same, with the tables of its router after each answer."""
-    return run_text(text, ("--tables-each",))
+    """The same, with the tables of its router after each answer, and those of all at the end."""
+    return run_text(text, ("--tables", "--tables-each"))
 
 
 def run_file(path):

@@ -28,7 +28,7 @@ class TablesOfEachAnswer(unittest.TestCase):
     def test_they_are_those_of_the_run_up_to_there(self):
         """After each move that is no settle the tables are those at the end of a run of the moves up to it."""
         read = scenario.read(EXAMPLE)
-        parts = list(story.Teller(read).tell(scenario.run_each(read.text())))
+        parts = list(story.Teller(read).tell(scenario.run_text(read.text(), ["--tables-each"])))
         self.assertEqual(len([part for part in parts if isinstance(part, story.Step)]), len(parts) / 2)
         for number, did in enumerate(read.moves, 1):
             cut = scenario.Scenario(read.routers, read.moves[:number])
@@ -46,9 +46,8 @@ class TablesOfEachAnswer(unittest.TestCase):
 
     def test_both_kinds_of_tables_follow_one_another(self):
         text = EXAMPLE.read_text()
-        both = scenario.run_text(text, ("--tables", "--tables-each"))
         end = scenario.run_text(text)[len(scenario.run_text(text, ())):]
-        self.assertEqual(both, scenario.run_each(text) + end)
+        self.assertEqual(scenario.run_each(text), scenario.run_text(text, ["--tables-each"]) + end)
 
 
 class Recorded(unittest.TestCase):
@@ -56,7 +55,7 @@ class Recorded(unittest.TestCase):
         """Of each step the rows in words are those that the run printed, and its ends are theirs."""
         read = scenario.read(EXAMPLE)
         lines = scenario.run_each(read.text())
-        told = recorded.Recording(read).record(lines).told()
+        told = run(read.text())
         tables = [part for part in story.Teller(read).tell(lines) if isinstance(part, story.Tables)]
         now = {}
         for step, table in zip(told["steps"], tables):
@@ -92,7 +91,7 @@ class Recorded(unittest.TestCase):
         told = run(scenario.text_of(net.routers, [*moves, again]))
         state, text = last_state(told, networks.HOST)
         self.assertEqual(state, TWICE)
-        self.assertIn("packet 1 came 2 times", text)
+        self.assertIn("packet 1 came twice", text)
 
     def test_moves_of_one_time_are_one(self):
         told = run(networks.Network().text(), is_by_time=True)

@@ -345,7 +345,7 @@ class Picture {
       const sender = this.run.hosts[host], step = this.run.steps[at], title = this.run.texts[step[9]];
       const to = DATA.kinds[sender.link] === "lan" ? ["l", sender.link] : ["r", this.run.routers[step[0]].name];
       const tree = this.run.trees.findIndex(([group, source]) => source === sender.address && title.includes(`> ${group}: data`));
-      put(["h", sender.address], to, /IGMP report/.test(title) ? "report" : "data", tree, at);
+      put(["h", sender.address], to, /: data/.test(title) ? "data" : "report", tree, at);
     }
   }
   fly({ from, to, kind, tree, count }, lane, delay) {
@@ -427,7 +427,9 @@ function isOnlyWish(run, each, all) {
 }
 function notesPanel(run) {
   if (!run.notes.length) return "";
-  return `<h3>What is odd in this run</h3>` + run.notes.map(([move, text]) => `<div class="jump${move > shown.move ? " gone" : ""}" data-move="${move}">${escaped(text)}</div>`).join("");
+  const rows = run.notes.map(([move, text, symptoms]) => `<div class="jump${move > shown.move ? " gone" : ""}" data-move="${move}"><b>${escaped(text)}</b>` +
+    symptoms.map(each => `<div class=symptom>${escaped(each)}</div>`).join("") + "</div>");
+  return `<h3>What went wrong in this run</h3>` + rows.join("");
 }
 function changesPanel(run, start, at) {
   const rows = changesOf(run, start, at).map(([n, sign, text]) => `<tr><td><b>${escaped(run.routers[n].name)}</b><td class=${sign === "+" ? "plus" : "minus"}>${sign} ${sign === "+" ? escaped(text) : `<s>${escaped(text)}</s>`}`);
