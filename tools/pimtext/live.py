@@ -44,8 +44,8 @@ class Prompt(cmd.Cmd):
             try:
                 if super().onecmd(part):
                     return True
-            except (Mistake, Unclear, Refused, KeyError, OSError) as error:
-                self.say(f"{str(error).strip(chr(39))}")
+            except (Mistake, Unclear, Refused, OSError) as error:
+                self.say(error)
                 return False
             except (TypeError, ValueError):
                 self.say(f"it is called so: {getattr(self, f'do_{part.split()[0]}').__doc__}")

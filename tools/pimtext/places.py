@@ -94,12 +94,19 @@ def laid_out(nodes, pairs, far, is_ranked):
     return {named[name or bare]: (scale[0] * float(x), scale[1] * float(y)) for name, bare, x, y in rows}
 
 
-def places(routers, kinds_of, ports, hosts, roots):
-    """The place of each node by its kind and name, and the box that has all of them."""
+def stretched(found, ratio):
+    """The places with more room between them from above to below, up to a ratio of width to height."""
+    wide, high = (max(each) - min(each) for each in zip(*found.values()))
+    more = min(2.4, max(1.0, wide / ratio / high)) if high else 1.0
+    return {node: (x, more * y) for node, (x, y) in found.items()}
+
+
+def places(routers, kinds_of, ports, hosts, roots, ratio):
+    """The place of each node by its kind and name, and the box that has all of them, about as much wider than high as `ratio` says."""
     pairs = list(edges(kinds_of, ports, hosts))
     nodes = list(dict.fromkeys([("r", name) for name in routers] + [node for pair in pairs for node in pair]))
     roots = [("h", host) for host in roots if ("h", host) in nodes] or nodes[:1]
-    found = laid_out(nodes, pairs, ranks(pairs, roots), len(routers) <= MOST_IN_RANKS)
+    found = stretched(laid_out(nodes, pairs, ranks(pairs, roots), len(routers) <= MOST_IN_RANKS), ratio)
     xs, ys = [x for x, _ in found.values()] or [0], [y for _, y in found.values()] or [0]
     wide, high = MARGIN
     box = [min(xs) - wide, min(ys) - high, max(xs) - min(xs) + 2 * wide, max(ys) - min(ys) + 2 * high]

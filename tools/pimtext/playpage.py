@@ -2,6 +2,9 @@
 import html
 import json
 import re
+import shutil
+import subprocess
+import tempfile
 from collections import defaultdict
 from dataclasses import dataclass, field
 from pathlib import Path
@@ -9,6 +12,8 @@ from pathlib import Path
 from pimtext import colours, diagnosis, faults, places, recorded, scenario, toml_lines
 
 FOLDER = Path(__file__).resolve().parent / "page"
+# A map is so many times as wide as it is high; two share the height.
+WIDE = 1.7
 
 
 @dataclass
@@ -65,7 +70,8 @@ def data(runs, start):
         by_link[host["link"]].append(host["address"])
     kinds = places.kinds(list(ports), ports, by_link)
     sources = [run["hosts"][host]["address"] for run in runs for move in run["moves"] for host, at in move[4] if is_data(run, at)]
-    where, box = places.places(routers, kinds, ports, by_link, list(dict.fromkeys(sources))[:3])
+    ratio = WIDE if len(runs) == 1 else 2 * WIDE
+    where, box = places.places(routers, kinds, ports, by_link, list(dict.fromkeys(sources))[:3], ratio)
     trees = [tuple(tree) for run in runs for tree in run["trees"] + run["streams"]]
     names = {f"({source}, {group})": colour for (group, source), colour in colours.colours(trees).items()}
     return {"runs": runs, "places": where, "box": box, "kinds": kinds, "hosts": hosts, "colours": names, "start": start}
@@ -85,3 +91,17 @@ def page(tolds, start=0):
     for mark, name in parts.items():
         text = text.replace(f"/*{mark}*/", (FOLDER / name).read_text())
     return text.replace("/*DATA*/", told)
+
+
+def picture(text, out, size=(1500, 860)):
+    """A picture of a page as a browser shows it, as PNG. Answers whether there is a browser."""
+    browser = shutil.which("chromium") or shutil.which("chromium-browser")
+    if browser is None:
+        return False
+    with tempfile.TemporaryDirectory(prefix="play-", ignore_cleanup_errors=True) as folder:
+        page = Path(folder) / "page.html"
+        page.write_text(text)
+        words = ["--headless", "--no-sandbox", "--disable-gpu", "--hide-scrollbars", f"--user-data-dir={folder}/browser",
+                 f"--window-size={size[0]},{size[1]}", "--virtual-time-budget=3000", f"--screenshot={out}"]
+        subprocess.run([browser, *words, page.as_uri()], capture_output=True, check=True, timeout=120)
+    return True

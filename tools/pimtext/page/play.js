@@ -174,19 +174,21 @@ class Picture {
       const look = up.has(iface) ? { stroke: "#b9c3cd" } : { stroke: "#d9837a", "stroke-dasharray": "4 4" };
       this.svg.append(node("line", { x1: from[0], y1: from[1], x2: middle[0], y2: middle[1], "stroke-width": 1.4, ...look }));
       if (n) return;
-      const isDr = this.shapes[router].dr.includes(iface), [x, y] = this.besideLine(from, to);
+      const isDr = this.shapes[router].dr.includes(iface), [x, y, anchor] = this.besideLine(router, from, to);
       const text = (this.isSmall ? `${iface}: ${address}` : `${iface}`) + (up.has(iface) ? isDr && end[0] !== "r" ? " DR" : "" : " down");
-      const label = node("text", { x, y, "text-anchor": to[0] < from[0] ? "end" : "start", class: "small halo" }, text);
+      const label = node("text", { x, y, "text-anchor": anchor, class: "small halo" }, text);
       label.append(node("title", {}, `${name}, interface ${iface}: ${address}${isDr ? ", the DR here" : ""}`));
       this.labels.push(label);
     }));
   }
-  // Where the label of an interface stands: near its router, above a line that falls and below one that rises.
-  besideLine(from, to) {
-    const way = Math.hypot(to[0] - from[0], to[1] - from[1]) || 1, [x, y] = along(from, to, Math.min(.3, 12 / way));
-    const isSteep = Math.abs(to[0] - from[0]) < .5 * way, isUp = to[1] < from[1] - 2;
-    if (isSteep) return [x + 7, y + (isUp ? -6 : 12)];
-    return [x, y + (isUp ? 16 : -9)];
+  // Where the label of an interface stands, and from which of its ends on: beside the line, clear of the router's box.
+  besideLine(router, from, to) {
+    const [, middle] = placeOf("r", this.run.routers[router].name), isRight = to[0] >= from[0];
+    if (Math.abs(from[1] - middle) > HALF.r[1]) { // the line leaves by the top or the bottom
+      const [down, lean] = [from[1] < middle ? -5 : 12, (to[0] - from[0]) / Math.max(1, Math.abs(to[1] - from[1]))];
+      return [from[0] + Math.abs(down) * lean + (isRight ? 8 : -8), from[1] + down, isRight ? "start" : "end"];
+    }
+    return [from[0] + (isRight ? 9 : -9), from[1] + (to[1] < from[1] - 2 ? 15 : -8), isRight ? "start" : "end"];
   }
   isShown(tree) { return shown.kinds[tree.startsWith("(*") ? "shared" : "source"] && (shown.alone === null || shown.alone === tree) }
   // The trees on the line between a router and a node, by their names: all that run there in either direction.
@@ -267,7 +269,7 @@ class Picture {
     if (!this.isSmall) return;
     const ends = this.run.ports.get(link).map(([router]) => placeOf("r", this.run.routers[router].name));
     const [x, y] = along(ends[0], ends[1], .5);
-    const label = node("text", { x, y: y + 20, "text-anchor": "middle", class: "small halo" }, link);
+    const label = node("text", { x, y: y - 13, "text-anchor": "middle", class: "small halo" }, link);
     label.append(node("title", {}, net));
     this.svg.append(label);
   }
