@@ -112,7 +112,8 @@ class Notes:
         line, told = self.at_move(number, f", router {first.router}: {many} {words.answer(first.verdict, first.cause)}{last}")
         data = first.taken()
         host = packets.dotted(data[12:16]) if data and len(data) >= 20 else None
-        return Symptom("odd", line, told, first.router, link, None, first.cause, host=host, alone=f"{told}: {meaning}")
+        at = self.steps.index(first)
+        return Symptom("odd", line, told, first.router, link, None, first.cause, host=host, alone=f"{told}: {meaning}", at=at)
 
     def link(self, step):
         interfaces = self.played.router(step.router).interfaces

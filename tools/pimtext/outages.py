@@ -22,6 +22,33 @@ class Outages:
     def is_turn(step):
         return step.did["do"] in ("up", "down") and step.verdict == "done"
 
+    # ---- which routers reach an address
+
+    def is_cut_off(self, symptom, keys):
+        """Whether a router that has no route to an address would reach it over links where these interfaces are up too."""
+        at = len(self.run.steps) if symptom.at is None else symptom.at
+        known = self.known if at >= len(self.run.steps) else self.run.past.known(at)
+        up = {(name, number) for name, state in known.items() for number in state.up}
+        name, address = symptom.router, symptom.address
+        return not self.reaches(name, address, up) and self.reaches(name, address, up | set(keys))
+
+    def reaches(self, name, address, up):
+        """Whether links lead from a router to the link or the router of an address."""
+        found, waiting = set(), [name]
+        while waiting:
+            router = waiting.pop()
+            if router not in found:
+                found.add(router)
+                waiting += self.beside(router, up)
+        own = [each for router in found if router in self.known for each in self.known[router].router.interfaces
+               if (router, each.number) in up]
+        return any(trees.ip_address(address) in each.own.network for each in own)
+
+    def beside(self, router, up):
+        """The routers that share a link with one."""
+        here = {each.link for each in self.known[router].router.interfaces if (router, each.number) in up}
+        return [name for link in here for name, each in self.run.ports()[link] if (name, each.number) in up]
+
     # ---- interfaces
 
     def interfaces(self):
@@ -93,7 +120,8 @@ class Outages:
         since = words.seconds(max(step.moment for step in steps.values()))
         told = f": the link {link} is down since {since}, at {' and '.join(names)}"
         parts = [self.of_interface(name, self.known[name].router.interfaces[number]) for name, number in steps]
-        return Cause(*self.run.at_router(names[0], told), lambda each: any(part(each) for part in parts))
+        covers = lambda each: any(part(each) for part in parts) or (each.kind == "no route" and self.is_cut_off(each, steps))
+        return Cause(*self.run.at_router(names[0], told), covers)
 
     def went_down(self, name, number, step):
         interface = self.known[name].router.interfaces[number]
@@ -111,7 +139,7 @@ class Outages:
                 return each.router == name and each.link == link
             if each.kind == "no route":
                 is_own = each.router == name and trees.ip_address(each.address) in interface.own.network
-                return is_own or self.led_over(each.router, each.address, {link})
+                return is_own or self.led_over(each.router, each.address, {link}) or self.is_cut_off(each, {(name, interface.number)})
             if each.kind == "no join":
                 return self.used(each, {link}, at)
             if each.kind == "lost" and each.link is None:
@@ -119,6 +147,24 @@ class Outages:
             return each.kind in kinds and (each.link == link or each.address == address)
 
         return covers
+
+    def gaps(self):
+        """Interfaces that were down for a while."""
+        went = {}
+        for at, step in enumerate(self.run.steps):
+            key = (step.router, step.iface)
+            if self.is_turn(step) and step.did["do"] == "down":
+                went[key] = at
+            elif self.is_turn(step) and key in went:
+                yield self.gap(*key, went.pop(key), at)
+
+    def gap(self, name, number, began, ended):
+        interface, steps = self.known[name].router.interfaces[number], self.run.steps
+        during = f"from {words.seconds(steps[began].moment)} to {words.seconds(steps[ended].moment)}"
+        told = f": interface {number} (link {interface.link}) was down {during}"
+        whole = self.of_interface(name, interface)
+        covers = lambda each: each.at is not None and began <= each.at <= ended and whole(each)
+        return Cause(*self.run.at_router(name, told), covers, is_hint=True)
 
     # ---- clocks
 
@@ -295,7 +341,7 @@ class Outages:
 
     def rest(self):
         """What is asked for after interfaces and clocks, and after settings and hosts."""
-        for told in (self.limits, self.overrides, self.losses, self.partly):
+        for told in (self.gaps, self.limits, self.overrides, self.losses, self.partly):
             yield from told()
 
 

@@ -8,8 +8,8 @@ from pathlib import Path
 from lab.hosts import Host
 from lab.lines import Lines, calling
 from lab.mistakes import (
-    Mistake, Named, address_given, delay_given, group_given, is_known_key, kind_given, ms_given, near, number_given, share_given,
-    shown, source_given, subnet_given,
+    Mistake, Named, address_given, delay_given, group_given, host_given, is_known_key, kind_given, ms_given, near, number_given,
+    share_given, shown, source_given, subnet_given,
 )
 from lab.playing import Action, Player
 from lab.topology import Link, Port, Router, routes
@@ -99,13 +99,16 @@ class Network:
         """The same, and from the last to the first."""
         return self.line(*routers, *routers[:1] * (len(routers) > 1))
 
-    def host(self, name, at):
-        """A host on a link, or at a router: then it has a link of its own there, which loses nothing."""
+    def host(self, name, at, address=None, igmp=3, answers=True):
+        """A host on a link, or at a router: then it has a link of its own there, which loses nothing. `address` is another one than
+        the network would give it, `igmp` the version that it speaks, 3 or 2, and `answers` whether it answers queries."""
         self.is_new(name, self.hosts)
+        number_given(igmp, "version of IGMP", 2, 3, is_whole=True)
         link = self.links.get(at) if isinstance(at, str) else at
         if not isinstance(link, Link):
             link = self.link(self.known_router(at, " or link"), name=name, loss=0.0)
-        host = Host(name, link, address_given(link.subnet, FIRST_HOST + len(link.hosts), name), self)
+        own = host_given(address) if address else address_given(link.subnet, FIRST_HOST + len(link.hosts), name)
+        host = Host(name, link, own, self, igmp=igmp, answers=answers)
         link.hosts.append(host)
         self.hosts[name] = host
         return host
@@ -167,11 +170,11 @@ class Network:
     # ---- what changes
 
     def change_link(self, link, is_up):
-        ports = [port for port in link.ports if port.router.is_up]
+        ports = [port for port in link.ports if port.router.is_up and port.is_working]
         self.change(link, is_up, ports)
 
     def change_router(self, router, is_up):
-        self.change(router, is_up, [port for port in router.ports if port.link.is_up])
+        self.change(router, is_up, [port for port in router.ports if port.link.is_up and port.is_working])
 
     def change(self, thing, is_up, ports):
         """A link or a router comes or goes: with it its ports, and routes change."""
@@ -182,6 +185,17 @@ class Network:
             self.settles = False
             self.schedule(Action([self.turned(port) for port in ports]), self.now)
             self.each("routes", self.routes_of)
+
+    def change_port(self, port, is_up):
+        """One interface comes or goes."""
+        if self.player is None:
+            port.is_working, self.settles = is_up, self.settles and is_up
+        elif port.is_working != is_up:
+            was, port.is_working = port.is_up(), is_up
+            self.settles = False
+            if was != port.is_up():
+                self.schedule(Action([self.turned(port)]), self.now)
+                self.each("routes", self.routes_of)
 
     def turned(self, port):
         do = "up" if port.is_up() else "down"
@@ -224,7 +238,7 @@ class Network:
             raise Mistake("; ".join(f"{fault.where}: {fault.what}" for fault in judge.faults))
         self.player = Player(tables, {name: self.draw() for name in self.routers})
         self.traffic.read = scenario_of({"router": tables})
-        moves = [self.turned(port) for router in self.routers.values() for port in router.ports]
+        moves = [self.turned(port) for router in self.routers.values() for port in router.ports if port.is_up()]
         self.traffic.schedule(Action(moves), 0, (START,))
 
     def run(self, seconds):
@@ -316,7 +330,10 @@ class Network:
         """Whether a host is served of a source, a host or an address, at the present; as a text, hop by hop how, or why not."""
         diagnosis, address = self.diagnosis(), source_given(source)
         watch = diagnosis.run.watch
-        verdict = watch.verdict(watch.stream(host.address, group_given(group), address))
+        stream = watch.stream(host.address, group_given(group), address)
+        if watch.origin(stream) is None:
+            raise Mistake(f"the source {address} is in the subnet of no link that is up")
+        verdict = watch.verdict(stream)
         causes = [f"  cause: {cause.line}: {cause.text}" for cause in diagnosis.of(verdict.stream)]
         return Served([*verdict.lines, *causes], verdict.is_served)
 
