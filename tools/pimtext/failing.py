@@ -7,7 +7,6 @@ import multiprocessing
 from collections import Counter
 from dataclasses import dataclass, field
 
-from lab.playing import Action
 from lab.topology import ways
 
 # Seconds of the stream before the failure; then packets a second apart at first, and later EVERY seconds apart.
@@ -29,15 +28,7 @@ class Failure:
         elif self.kind == "router":
             net.routers[self.name].stop()
         else:
-            port_down(net, net.routers[self.router].port(net.links[self.name]))
-
-
-def port_down(net, port):
-    """One interface goes down, while those at the other ends of its link stay up. Routes go round it."""
-    port.is_up = lambda: False
-    net.settles = False
-    net.schedule(Action([net.turned(port)]), net.now)
-    net.each("routes", net.routes_of)
+            net.routers[self.router].port(net.links[self.name]).down()
 
 
 def failures(net):

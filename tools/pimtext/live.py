@@ -5,12 +5,15 @@ import shlex
 from pathlib import Path
 
 from lab import Mistake, Network, Refused
-from pimtext import labfile, playpage, view_text, views
+from pimtext import labfile, packets, playpage, view_text, views
 from pimtext.printed import ANY
 
 INTRO = """A network of multicast routers. `help` names the commands, `look` writes the page, ctrl-d ends. As a beginning:
     line r1 r2 r3 / rp r2 / host camera r1 / host viewer r3 / run 10 / join viewer 239.1.1.1 / stream camera 239.1.1.1 / run 5 / look"""
-LOSS = re.compile(r"(?P<share>\d+(?:\.\d+)?)\s*%(?:\s+of\s+(?P<kind>\w[\w-]*?))?\s+on\s+(?P<link>\S+)(?:\s+from\s+(?P<sender>\S+))?$")
+LOSS = re.compile(r"""(?P<share>\d+(?:\.\d+)?)\s*%(?:\s+of\s+(?P<kind>\S+))?\s+on\s+(?P<link>\S+)
+                      (?:\s+from\s+(?P<sender>\S+))?(?:\s+to\s+(?P<receiver>\S+))?$""", re.VERBOSE)
+KINDS = {"joins": packets.JoinPrune, "prunes": packets.JoinPrune, "hellos": packets.Hello, "asserts": packets.Assert,
+         "registers": packets.Register, "data": packets.Data, "queries": packets.Query}
 
 
 class Unclear(Exception):
@@ -148,13 +151,16 @@ class Prompt(cmd.Cmd):
             raise Unclear("name a link, a router, or a router and a link of it")
 
     def do_lose(self, line):
-        """lose 30% on LINK; lose 30% of Joins on LINK; lose 100% of Hellos on LINK from ROUTER: from the present on. Kinds are Joins,
-        Hellos, Asserts, Registers, data, queries, reports. lose 0% on LINK ends it"""
+        """lose 30% on LINK; lose 30% of Joins on LINK; lose 100% of Hellos on LINK from ROUTER to ROUTER: from the present on, between
+        routers. Kinds are Joins (with Prunes), Hellos, Asserts, Registers, data, queries. With 0% the same loses nothing any more"""
         found = LOSS.match(line.strip())
         if found is None:
-            raise Unclear("say it as: lose 30% of Joins on LINK from ROUTER")
-        sender = found["sender"] and self.net.known_router(found["sender"])
-        self.link(found["link"]).lose(float(found["share"]) / 100, found["kind"], sender)
+            raise Unclear("say it as: lose 30% of Joins on LINK from ROUTER to ROUTER")
+        kind = found["kind"] and found["kind"].lower()
+        if kind is not None and kind not in KINDS:
+            raise Unclear(f"{found['kind']} is no kind: it is one of {', '.join(KINDS)}")
+        link = self.link(found["link"])
+        link.lose(float(found["share"]) / 100, kind and KINDS[kind], found["sender"], found["receiver"])
 
     # ---- looking
 

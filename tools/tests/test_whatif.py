@@ -105,6 +105,21 @@ class Prompt(unittest.TestCase):
         self.assertIn("the link r2-r3 is down", told)
         self.assertIn("show ip mroute", told)
 
+    def test_packets_of_one_kind_are_lost(self):
+        """All Joins of the last router are lost from the beginning: nothing comes, and it is told that they are."""
+        told = self.said("line r1 r2 r3 / rp r2 / host camera r1 / host viewer r3 / run 10", "lose 100% of Joins on r2-r3 from r3",
+                         "join viewer 239.1.1.1 / stream camera 239.1.1.1 3", "run 5", "served viewer 239.1.1.1 camera",
+                         "lose 0% of Joins on r2-r3 from r3", "run 60", "send camera 239.1.1.1 late", "run 2", "lose 5% of jam on r2-r3")
+        self.assertIn("isn't served", told)
+        self.assertIn("viewer: 1 packet, the last one of 10.0.4.101 by r1 r2 r3", told)
+        self.assertIn("jam is no kind", told)
+
+    def test_one_interface_goes_down(self):
+        told = self.said(self.BEGIN, "stream camera 239.1.1.1 3", "down r3 r2-r3", "run 4", "served viewer 239.1.1.1 camera", "up r3 r2-r3",
+                         "run 40", "send camera 239.1.1.1", "run 2")
+        self.assertIn("isn't served", told)
+        self.assertIn("viewer: 1 packet", told)
+
     def test_look_writes_the_page_and_keeps_it_new(self):
         told = self.said(self.BEGIN, "look", "stream camera 239.1.1.1 2", "run 3")
         self.assertIn("live.html#9999", told)

@@ -19,7 +19,10 @@ class Run {
     Object.assign(this, data);
     this.changes = this.routers.map(() => [{ at: 0, shape: 0, ends: [] }]);
     this.patches = this.routers.map(() => []);
-    this.steps.forEach(([router, shape, , told], at) => {
+    this.ticks = this.routers.map(() => [{ at: 0, moment: 0 }]);
+    this.packets.forEach((packet, n) => { packet.number = n + 1 });
+    this.steps.forEach(([router, shape, moment, told], at) => {
+      if (moment !== this.ticks[router].at(-1).moment) this.ticks[router].push({ at: at + 1, moment });
       if (shape >= 0) this.changes[router].push({ at: at + 1, shape, ends: told });
       else if (told.length) this.patches[router].push({ at: at + 1, told });
     });
@@ -146,6 +149,7 @@ class Picture {
     const at = position(this.run), start = startOf(this.run);
     this.at = at;
     this.shapes = this.run.routers.map((_, n) => this.run.shape(n, at));
+    this.sortTrees();
     this.svg.replaceChildren(this.heads());
     this.run.routers.forEach((_, n) => this.drawInterfaces(n));
     this.run.routers.forEach((_, n) => this.drawTrees(n));
@@ -191,23 +195,33 @@ class Picture {
     return [from[0] + (isRight ? 9 : -9), from[1] + (to[1] < from[1] - 2 ? 15 : -8), isRight ? "start" : "end"];
   }
   isShown(tree) { return shown.kinds[tree.startsWith("(*") ? "shared" : "source"] && (shown.alone === null || shown.alone === tree) }
-  // The trees on the line between a router and a node, by their names: all that run there in either direction.
-  lanes(router, end) {
-    const found = new Set(), note = (n, iface) => {
-      for (const [tree, incoming, outgoing] of this.shapes[n].arrows)
-        if ((incoming === iface || outgoing.includes(iface)) && this.isShown(treeName(this.run.trees[tree]))) found.add(treeName(this.run.trees[tree]));
-    };
-    this.run.routers[router].ifaces.forEach((_, iface) => {
-      if (!farEnds(this.run, router, iface).some(other => other.join() === end.join())) return;
-      note(router, iface);
-      if (end[0] === "r") for (const [other, port] of this.run.ports.get(this.run.routers[router].ifaces[iface][0])) if (other !== router) note(other, port);
-    });
-    return [...found].sort();
+  // The trees on each line between a router and a node, by their names, and who sends each tree on a link.
+  sortTrees() {
+    this.onLines = new Map();
+    this.senders = new Map();
+    this.shapes.forEach(({ arrows }, router) => arrows.forEach(([tree, incoming, outgoing]) => {
+      const name = treeName(this.run.trees[tree]);
+      if (!this.isShown(name)) return;
+      for (const iface of incoming < 0 ? outgoing : [incoming, ...outgoing]) this.noteLine(router, iface, name);
+      for (const iface of outgoing) {
+        const key = `${this.run.routers[router].ifaces[iface][0]} ${name}`;
+        this.senders.set(key, [...(this.senders.get(key) || []), router]);
+      }
+    }));
+    for (const [key, names] of this.onLines) this.onLines.set(key, [...names].sort());
   }
+  noteLine(router, iface, name) {
+    for (const end of farEnds(this.run, router, iface)) {
+      const keys = [Picture.line("r", this.run.routers[router].name, end)];
+      if (end[0] === "r") keys.push(Picture.line("r", end[1], ["r", this.run.routers[router].name]));
+      for (const key of keys) this.onLines.set(key, (this.onLines.get(key) || new Set()).add(name));
+    }
+  }
+  static line(kind, name, end) { return [kind, name, ...end].join("|") }
   drawTrees(router) {
     const { arrows } = this.shapes[router];
     this.run.routers[router].ifaces.forEach((_, iface) => farEnds(this.run, router, iface).forEach(end => {
-      const lanes = this.lanes(router, end), pitch = Math.max(2.4, Math.min(7, 30 / lanes.length));
+      const lanes = this.onLines.get(Picture.line("r", this.run.routers[router].name, end)) || [], pitch = Math.max(2.4, Math.min(7, 30 / lanes.length));
       for (const [number, incoming, outgoing] of arrows) {
         const name = treeName(this.run.trees[number]), lane = lanes.indexOf(name);
         if (lane < 0 || end[0] === "h" && incoming === iface && !this.isSource(end[1], number)) continue;
@@ -225,7 +239,7 @@ class Picture {
     let [from, to] = aside(...wayOf(this.run, router, end), isFirst ? shift : -shift);
     if (end[0] === "r") to = along(from, to, .5);
     if (isIncoming) [from, to] = [to, from];
-    const isSent = !isIncoming || this.isSent(router, iface, tree, end);
+    const isSent = !isIncoming || this.isSent(router, iface, tree);
     const look = { x1: from[0], y1: from[1], x2: to[0], y2: to[1], stroke: colour, "stroke-width": Math.min(3.2, pitch * .62) };
     if (source === "*") look["stroke-dasharray"] = "7 3.5";
     if (isIncoming || end[0] !== "r") look["marker-end"] = `url(#head${colour.slice(1)})`;
@@ -233,14 +247,12 @@ class Picture {
     line.append(node("title", {}, `${treeName([group, source])}: ${name} ${isIncoming ? "expects" : "sends"} it on ${iface} ${this.run.routers[router].ifaces[iface][0]}`));
     if (!isSent) this.svg.append(node("circle", { cx: from[0], cy: from[1], r: 4.2, fill: "#fff", stroke: "#c0392b", "stroke-width": 1.8 }));
   }
-  // Whether somebody sends a tree on the link where a router expects it: another router, or the source itself.
-  isSent(router, iface, tree, end) {
+  // Whether somebody sends a tree on the link where a router expects it: another router, this or the group's, or the source itself.
+  isSent(router, iface, tree) {
     const [link] = this.run.routers[router].ifaces[iface], [group, source] = this.run.trees[tree];
     if (DATA.hosts.some(host => host.address === source && host.link === link)) return true;
-    return this.run.ports.get(link).some(([other, port]) => other !== router && this.shapes[other].arrows.some(([number, , outgoing]) => {
-      const [otherGroup, otherSource] = this.run.trees[number];
-      return otherGroup === group && (otherSource === source || otherSource === "*") && outgoing.includes(port);
-    }));
+    const others = [...(this.senders.get(`${link} (${source}, ${group})`) || []), ...(this.senders.get(`${link} (*, ${group})`) || [])];
+    return others.some(other => other !== router);
   }
   // Registers go from a source's router to the RP.
   drawRegisters(router) {
@@ -292,10 +304,7 @@ class Picture {
     made.append(node("rect", { x: x - 12, y: y - 8, width: 24, height: 16, rx: 8, fill }),
       node("text", { x, y: y + 4, "text-anchor": "middle", style: "font-size:10px;fill:#fff;font-weight:700" }, text), node("title", {}, title));
   }
-  momentOf(router) {
-    for (let at = this.at - 1; at >= 0; at--) if (this.run.steps[at][0] === router) return this.run.steps[at][2];
-    return 0;
-  }
+  momentOf(router) { return Run.last(this.run.ticks[router], this.at).moment }
   drawHost(host) {
     const place = placeOf("h", host.address), mine = this.run.hosts.find(other => other.address === host.address);
     const { state, text } = mine ? this.run.stateOf(mine, this.at) : { state: LEFT, text: "" };
@@ -399,8 +408,7 @@ function packetsPanel(run, start, at) {
   const packets = run.packetsOf(start, at);
   const rows = packets.map(packet => {
     const [router, where, isUnicast, kind, words, bytes, when] = packet, link = isUnicast ? "unicast" : run.links[where][0];
-    const number = run.packets.indexOf(packet) + 1;
-    return `<tr class="jump" data-at="${when + 1}"><td class=soft>${number}<td>${escaped(run.routers[router].name)}<td class=soft>${escaped(link)}<td>${escaped(run.texts[kind])}` +
+    return `<tr class="jump" data-at="${when + 1}"><td class=soft>${packet.number}<td>${escaped(run.routers[router].name)}<td class=soft>${escaped(link)}<td>${escaped(run.texts[kind])}` +
       `<td><details><summary>${escaped(run.texts[words])}</summary><div class=bytes>${run.texts[bytes]}</div></details>`;
   });
   const odd = run.steps.slice(start, at).map((step, n) => [step, n]).filter(([step]) => step[8]).map(([step, n]) =>
