@@ -103,7 +103,7 @@ class Arrivals:
             for place, arrival in enumerate(came):
                 self.arrived(stream.host, number, packet, came[:place + 1], arrival)
             if not came:
-                text = f"packet {packet.number} didn't come: {why.get(packet, 'it is on its way')}"
+                text = f"packet {packet.number} didn't come: {self.recording.named(why.get(packet, 'it is on its way'))}"
                 self.tell(stream.host, self.over(packet), number, MISSED, text)
 
     def arrived(self, host, number, packet, came, last):

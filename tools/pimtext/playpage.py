@@ -28,15 +28,15 @@ class Told:
     is_by_time: bool = False
 
 
-def notes_of(found, numbers):
+def notes_of(found, numbers, named):
     """The causes of a diagnosis: the stop at which each shows first, 0 for none, its text, and its symptoms."""
     for cause in found.ordered():
         head, *symptoms = cause.lines()
         text = head.partition(": ")[2]
-        named = re.match(r"move (\d+)", text)
+        number = re.match(r"move (\d+)", text)
         places = [found.run.steps[each.at].move for each in cause.symptoms if each.at is not None and each.at < len(found.run.steps)]
-        move = int(named[1]) if named else min(places, default=0)
-        yield [numbers.get(move, 0), text, [symptom.strip() for symptom in symptoms]]
+        move = int(number[1]) if number else min(places, default=0)
+        yield [numbers.get(move, 0), named(text), [named(symptom.strip()) for symptom in symptoms]]
 
 
 def run_of(told):
@@ -44,8 +44,9 @@ def run_of(told):
     played = scenario.scenario_of(toml_lines.plain(toml_lines.read(told.text)))
     lines = scenario.run_each(told.text)
     found = diagnosis.Diagnosis(faults.faults_of(told.text)[0], played, lines, told.places, told.unheard)
-    shown = recorded.Recording(played, told.hosts, told.is_by_time).record(lines).told(found)
-    return {"name": told.name, "notes": list(notes_of(found, shown.pop("numbers"))), **shown}
+    recording = recorded.Recording(played, told.hosts, told.is_by_time).record(lines)
+    shown = recording.told(found)
+    return {"name": told.name, "notes": list(notes_of(found, shown.pop("numbers"), recording.named)), **shown}
 
 
 def together(runs):

@@ -4,6 +4,7 @@ It is made of one run of `pimlab run --tables-each`. A router's *shape* is all t
 come again and again, so each is kept once, with its tables, rows and trees, and a step names the shape and the ends alone. In
 a shape's texts an end stands as a moment of its own beyond all real ones, MARK seconds and its place.
 """
+import re
 from dataclasses import dataclass, field, replace
 from functools import cache
 
@@ -11,6 +12,8 @@ from pimtext import packets, printed, story, trees, view_text, views, words
 from pimtext.printed import ANY
 from pimtext.arrivals import Arrivals
 
+# An address by itself, without the length of a subnet.
+ADDRESS = r"(?<![\d.])\d+\.\d+\.\d+\.\d+(?![\d.]*\d|/)"
 # An end in a shape's texts is this many seconds and its place in the list of ends.
 MARK = 10 ** 9
 # What moves a step's router to another shape although its rows stay: what it heard, and what it was told.
@@ -169,6 +172,10 @@ class Recording:
         self.shapes = [Shapes(self, router) for router in self.played.routers]
         self.now = [(shape.of(self.known[shape.router.name], False)) for shape in self.shapes]
         self.steps, self.packets, self.moves = [], [], []
+
+    def named(self, text):
+        """A text with the names of hosts in the place of their addresses."""
+        return re.sub(ADDRESS, lambda found: self.hosts.get(found[0], found[0]), text)
 
     def tree(self, group, source):
         return self.trees.setdefault((group, source), len(self.trees))

@@ -437,8 +437,10 @@ function isOnlyWish(run, each, all) {
 }
 function notesPanel(run) {
   if (!run.notes.length) return "";
+  const line = text => `<div class=symptom>${escaped(text)}</div>`, most = 4;
   const rows = run.notes.map(([move, text, symptoms]) => `<div class="jump${move > shown.move ? " gone" : ""}" data-move="${move}"><b>${escaped(text)}</b>` +
-    symptoms.map(each => `<div class=symptom>${escaped(each)}</div>`).join("") + "</div>");
+    symptoms.slice(0, most).map(line).join("") + "</div>" + (symptoms.length > most ? `<details class=symptom><summary class=soft>and ${symptoms.length - most} more</summary>` +
+    symptoms.slice(most).map(line).join("") + "</details>" : ""));
   return `<h3>What went wrong in this run</h3>` + rows.join("");
 }
 function changesPanel(run, start, at) {
