@@ -1,4 +1,5 @@
-"""What came to each host of a run as a page shows it: event by event, from the streams that pimtext.watched has followed."""
+"""What came to each host of a run as a page shows it: event by event, from the streams that pimtext.watched has
+followed."""
 from bisect import bisect_right
 from dataclasses import dataclass, field
 
@@ -13,7 +14,8 @@ PATIENCE = 2000
 
 @dataclass(eq=False)
 class Told:
-    """A host or a source; `events` are the number of answers up to which something happened, a stream, a state and a text."""
+    """A host or a source; `events` are the number of answers up to which something happened, a stream, a state and a
+    text."""
     address: str
     name: str
     link: str
@@ -42,12 +44,12 @@ class Arrivals:
         """Whoever gave a report or data to a router, and in which answers."""
         for at, step in enumerate(self.steps):
             data = step.taken() if step.did["do"] == "frame" else None
-            if data is None or len(data) < 20 or step.iface >= len(self.recording.played.router(step.router).interfaces):
+            interfaces = self.recording.played.router(step.router).interfaces
+            if data is None or len(data) < 20 or step.iface >= len(interfaces):
                 continue
             is_data = data[9] not in (packets.PIM, packets.IGMP) and packets.is_multicast(data[16:20])
             if is_data or data[9] == packets.IGMP and not self.is_router(packets.dotted(data[12:16])):
-                link = self.recording.played.router(step.router).interfaces[step.iface].link
-                self.senders[at] = self.host(packets.dotted(data[12:16]), link)
+                self.senders[at] = self.host(packets.dotted(data[12:16]), interfaces[step.iface].link)
 
     def is_router(self, address):
         return any(router.has(address) for router in self.recording.played.routers)
@@ -85,7 +87,8 @@ class Arrivals:
         if wish == was:
             return
         if wish.is_exclude != was.is_exclude:
-            self.tell(host, at, self.stream(group, ANY), WAITS if wish.is_exclude else LEFT, "waits for packets" if wish.is_exclude else "")
+            self.tell(host, at, self.stream(group, ANY), WAITS if wish.is_exclude else LEFT, "waits for packets"
+                      if wish.is_exclude else "")
         for source in [] if wish.is_exclude else sorted(wish.sources - was.sources):
             self.tell(host, at, self.stream(group, source), WAITS, "waits for packets")
 
@@ -103,17 +106,19 @@ class Arrivals:
             for place, arrival in enumerate(came):
                 self.arrived(stream.host, number, packet, came[:place + 1], arrival)
             if not came:
-                text = f"packet {packet.number} didn't come: {self.recording.named(why.get(packet, 'it is on its way'))}"
-                self.tell(stream.host, self.over(packet), number, MISSED, text)
+                told = self.recording.named(why.get(packet, "it is on its way"))
+                self.tell(stream.host, self.over(packet), number, MISSED, f"packet {packet.number} didn't come: {told}")
 
     def arrived(self, host, number, packet, came, last):
         """A packet came to a host, or came again."""
-        ways = [" ".join(taken.router for taken in each.copy.by.way()) if each.copy else "its own link" for each in came]
+        ways = [" ".join(taken.router for taken in each.copy.by.way()) if each.copy else "its own link"
+                for each in came]
         at = last.copy.by.at if last.copy else packet.at
         if len(came) == 1:
             self.tell(host, at, number, CAME, f"packet {packet.number} came by {ways[0]}")
         else:
-            self.tell(host, at, number, TWICE, f"packet {packet.number} came {words_of(len(came))}: by " + ", and by ".join(ways))
+            self.tell(host, at, number, TWICE, f"packet {packet.number} came {words_of(len(came))}: by "
+                      + ", and by ".join(ways))
 
     def over(self, packet):
         """The answer after which a packet is waited for no more."""
@@ -124,7 +129,8 @@ class Arrivals:
         """The numbers of answers at which settles were over."""
         if not hasattr(self, "ends"):
             dids = self.recording.played.moves
-            self.ends = [first + count for (first, count, _), did in zip(self.recording.moves, dids) if did["do"] == "settle"]
+            self.ends = [first + count for (first, count, _), did in zip(self.recording.moves, dids)
+                         if did["do"] == "settle"]
         return self.ends
 
     # ---- what the page gets

@@ -1,10 +1,13 @@
-"""Colours of trees: they follow of the group and the source, so that a tree has the same one in each run and each picture."""
+"""Colours of trees: they follow of the group and the source, so that a tree has the same one in each run and each
+picture."""
 from zlib import crc32
 
 # Twenty-four colours that are read on white, neighbours in the list far from one another.
 PALETTE = [
-    "#1f6fb4", "#c0392b", "#2e9a47", "#8e44ad", "#c77700", "#0f8b8d", "#d6336c", "#6b4f1d", "#3f51b5", "#7a8b00", "#a0522d", "#00838f",
-    "#6a1b9a", "#b71c1c", "#33691e", "#0277bd", "#ad1457", "#ef6c00", "#4527a0", "#00695c", "#827717", "#5d4037", "#455a64", "#e0529c",
+    "#1f6fb4", "#c0392b", "#2e9a47", "#8e44ad", "#c77700", "#0f8b8d", "#d6336c", "#6b4f1d", "#3f51b5", "#7a8b00",
+    "#a0522d", "#00838f",
+    "#6a1b9a", "#b71c1c", "#33691e", "#0277bd", "#ad1457", "#ef6c00", "#4527a0", "#00695c", "#827717", "#5d4037",
+    "#455a64", "#e0529c",
 ]
 
 
@@ -14,8 +17,8 @@ def place_of(tree):
 
 
 def colours(trees):
-    """The colour of each tree: its own place in the palette, or the next that is free where another one has that. Beyond the palette
-    colours come again."""
+    """The colour of each tree: its own place in the palette, or the next that is free where another one has that.
+    Beyond the palette colours come again."""
     found, taken = {}, set()
     for tree in sorted(set(trees)):
         if len(taken) == len(PALETTE):

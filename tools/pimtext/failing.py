@@ -1,7 +1,8 @@
-"""What each single failure does to the hosts of a network of tools/lab: who loses what, for how long, and what comes twice.
+"""What each single failure does to the hosts of a network of tools/lab: who loses what, for how long, and what comes
+twice.
 
-The network is taken as its file leaves it: hosts go on wanting what they want, sources go on sending. Each failure is tried in a
-process of its own, which begins where the file ended.
+The network is taken as its file leaves it: hosts go on wanting what they want, sources go on sending. Each failure is
+tried in a process of its own, which begins where the file ended.
 """
 import multiprocessing
 from collections import Counter
@@ -39,11 +40,13 @@ def failures(net):
     for router in net.routers.values():
         if router.is_up:
             ranges = [prefix for prefix, address in net.ranges if net.owner(address) is router]
-            yield Failure("router", router.name, what=f"router {router.name}" + f" (RP of {', '.join(ranges)})" * bool(ranges))
+            yield Failure("router", router.name, what=f"router {router.name}" + f" (RP of {', '.join(ranges)})"
+                          * bool(ranges))
     for link in shared:
         for port in link.ports:
             if port.is_up():
-                yield Failure("interface", link.name, port.router.name, f"interface {port.number} ({link.name}) of {port.router.name}")
+                yield Failure("interface", link.name, port.router.name,
+                              f"interface {port.number} ({link.name}) of {port.router.name}")
 
 
 # ---- streams
@@ -55,12 +58,16 @@ class Stream:
     source: str
     group: str
 
+    def __str__(self):
+        return f"({self.source}, {self.group})"
+
 
 def streams(net):
     """What hosts have sent in the run so far, by the moves that gave it to routers."""
     from pimtext import spoken
     names = {host.address: host.name for host in net.hosts.values()}
-    sent = [(each.packet.source, each.packet.destination) for each in spoken.said(net.running().steps) if each.is_data()]
+    sent = [(each.packet.source, each.packet.destination) for each in spoken.said(net.running().steps)
+            if each.is_data()]
     return [Stream(names[source], group) for source, group in dict.fromkeys(sent) if source in names]
 
 
@@ -79,8 +86,9 @@ def payload(number):
 
 @dataclass
 class Outage:
-    """What a host got of a stream: `sent` are the times at which packets were, in seconds from the failure on, and `came` says how
-    often each one came. It is cut off where no way of links and routers leads to it from the source any more."""
+    """What a host got of a stream: `sent` are the times at which packets were, in seconds from the failure on, and
+    `came` says how often each one came. It is cut off where no way of links and routers leads to it from the source any
+    more."""
     host: str
     stream: Stream
     sent: list
@@ -96,7 +104,8 @@ class Outage:
         return sum(max(0, times - 1) for times in self.came)
 
     def gaps(self):
-        """Runs of lost packets: when the first was sent, and when the next one that came; None where none came any more."""
+        """Runs of lost packets: when the first was sent, and when the next one that came; None where none came any
+        more."""
         found, first = [], None
         for at, times in zip(self.sent, self.came):
             if times == 0 and first is None:
@@ -108,7 +117,8 @@ class Outage:
 
     def longest(self):
         """The seconds of the longest run of lost packets, and whether nothing came after it."""
-        gaps = [((end if end is not None else self.sent[-1] + EVERY) - first, end is None) for first, end in self.gaps()]
+        gaps = [((end if end is not None else self.sent[-1] + EVERY) - first, end is None) for first,
+                end in self.gaps()]
         return max(gaps, default=(0, False))
 
     def is_for_good(self):
@@ -129,7 +139,8 @@ def outages(net, told, times):
         for host in net.hosts.values():
             if host is source or not host.wants(stream.group, source.address):
                 continue
-            came = Counter(each.payload for each in host.received if each.group == stream.group and each.source == source.address)
+            came = Counter(each.payload for each in host.received if each.group == stream.group
+                           and each.source == source.address)
             times_came = [came[payload(number)] for number in range(len(times))]
             found.append(Outage(host.name, stream, times, times_came, not is_joined(source.link, host.link)))
     return found
@@ -166,8 +177,8 @@ class Effect:
         return [each for each in self.outages if each.lost and not each.is_cut_off]
 
     def worth(self):
-        """How bad it is: streams that don't come again though there is a way, then seconds without packets, packets that came twice, and
-        streams that are cut off."""
+        """How bad it is: streams that don't come again though there is a way, then seconds without packets, packets
+        that came twice, and streams that are cut off."""
         hit = self.hit()
         return (sum(each.is_for_good() for each in hit), sum(each.longest()[0] for each in hit),
                 sum(each.twice for each in self.outages), len(self.cut_off()))

@@ -1,4 +1,5 @@
-"""A file of tools/lab, for tools that look at the network that it makes. The folder tools/networks is on the path of whoever calls."""
+"""A file of tools/lab, for tools that look at the network that it makes. The folder tools/networks is on the path of
+whoever calls."""
 import runpy
 import sys
 import traceback
@@ -8,8 +9,8 @@ from pimtext import playpage
 
 
 def network(path):
-    """The last network that a file makes and runs; ends the program where there is none. An assert of the file that fails is told,
-    and the network that it fails at is the one to look at."""
+    """The last network that a file makes and runs; ends the program where there is none. An assert of the file that
+    fails is told, and the network that it fails at is the one to look at."""
     import lab
     from lab.network import made
     nets, sys.argv = [], [str(path)]

@@ -8,8 +8,9 @@ from lab import Mistake, Network, Refused
 from pimtext import labfile, packets, playpage, view_text, views
 from pimtext.printed import ANY
 
-INTRO = """A network of multicast routers. `help` names the commands, `look` writes the page, ctrl-d ends. As a beginning:
-    line r1 r2 r3 / rp r2 / host camera r1 / host viewer r3 / run 10 / join viewer 239.1.1.1 / stream camera 239.1.1.1 / run 5 / look"""
+INTRO = """A network of multicast routers. `help` names the commands, `look` writes the page, ctrl-d ends. For a beginning:
+    line r1 r2 r3 / rp r2 / host camera r1 / host viewer r3 / run 10
+    join viewer 239.1.1.1 / stream camera 239.1.1.1 / run 5 / look"""
 LOSS = re.compile(r"""(?P<share>\d+(?:\.\d+)?)\s*%(?:\s+of\s+(?P<kind>\S+))?\s+on\s+(?P<link>\S+)
                       (?:\s+from\s+(?P<sender>\S+))?(?:\s+to\s+(?P<receiver>\S+))?$""", re.VERBOSE)
 KINDS = {"joins": packets.JoinPrune, "prunes": packets.JoinPrune, "hellos": packets.Hello, "asserts": packets.Assert,
@@ -42,7 +43,8 @@ class Prompt(cmd.Cmd):
         print(text, file=self.stdout)
 
     def onecmd(self, line):
-        """Several commands may stand on a line, with ` / ` between. What is wrong with one is told, and the prompt goes on."""
+        """Several commands may stand on a line, with ` / ` between. What is wrong with one is told, and the prompt goes
+        on."""
         for part in re.split(r"\s+/\s+", line):
             try:
                 if super().onecmd(part):
@@ -103,7 +105,8 @@ class Prompt(cmd.Cmd):
             self.seen[name] = len(host.received)
             if new:
                 last = " ".join(new[-1].path) or "its own link"
-                self.say(f"  {name}: {len(new)} packet{'s' * (len(new) > 1)}, the last one of {new[-1].source} by {last}")
+                count = f"{len(new)} packet{'s' * (len(new) > 1)}"
+                self.say(f"  {name}: {count}, the last one of {new[-1].source} by {last}")
         if self.is_looked_at:
             self.write()
 
@@ -151,8 +154,9 @@ class Prompt(cmd.Cmd):
             raise Unclear("name a link, a router, or a router and a link of it")
 
     def do_lose(self, line):
-        """lose 30% on LINK; lose 30% of Joins on LINK; lose 100% of Hellos on LINK from ROUTER to ROUTER: from the present on, between
-        routers. Kinds are Joins (with Prunes), Hellos, Asserts, Registers, data, queries. With 0% the same loses nothing any more"""
+        """lose 30% on LINK; lose 30% of Joins on LINK; lose 100% of Hellos on LINK from ROUTER to ROUTER: from the
+        present on, between routers. Kinds are Joins (with Prunes), Hellos, Asserts, Registers, data, queries. With 0%
+        the same loses nothing any more"""
         found = LOSS.match(line.strip())
         if found is None:
             raise Unclear("say it as: lose 30% of Joins on LINK from ROUTER to ROUTER")
@@ -176,7 +180,8 @@ class Prompt(cmd.Cmd):
             self.say("\n".join(view_text.text(views.router(self.net.known()[name]))))
             return
         for link in self.net.links.values():
-            ends = [f"{port.router.name} {port.number}: {port.address}" for port in link.ports] + [f"{host.name} {host.address}" for host in link.hosts]
+            ends = [f"{port.router.name} {port.number}: {port.address}"
+                    for port in link.ports] + [f"{host.name} {host.address}" for host in link.hosts]
             self.say(f"  {link.name}{'' if link.is_up else ' (down)'}: {', '.join(ends)}")
 
     def do_served(self, line):

@@ -3,8 +3,8 @@ from pimtext import story, trees
 
 
 def after_moves(played, lines):
-    """After each move, and before the first: the number of moves, the steps of the last one, and what each router knows. The lines
-    have the tables of each answer. What is known is the same object each time."""
+    """After each move, and before the first: the number of moves, the steps of the last one, and what each router
+    knows. The lines have the tables of each answer. What is known is the same object each time."""
     known, waiting = trees.known(played, [], {}), None
     steps, number = [], 0
     for part in story.Teller(played).tell(lines):

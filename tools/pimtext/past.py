@@ -7,11 +7,13 @@ from pimtext import scenario, story, trees
 
 def copied(state):
     """A router's knowledge as it stands, whatever is followed later."""
-    return replace(state, up=set(state.up), hellos=dict(state.hellos), queriers=dict(state.queriers), asserts=dict(state.asserts))
+    return replace(state, up=set(state.up), hellos=dict(state.hellos), queriers=dict(state.queriers),
+                   asserts=dict(state.asserts))
 
 
 class Past:
-    """A run of a scenario. It is played once, with the tables of each answer; `each` are these lines where they are there already."""
+    """A run of a scenario. It is played once, with the tables of each answer; `each` are these lines where they are
+    there already."""
 
     def __init__(self, played, steps, each=None):
         self.played, self.steps, self.each = played, steps, each
@@ -26,7 +28,8 @@ class Past:
     def follow(self):
         """Keeps what each router knew from each step on."""
         known = trees.known(self.played, [], {})
-        self.times, self.states = {name: [0] for name in known}, {name: [copied(state)] for name, state in known.items()}
+        self.times, self.states = {name: [0] for name in known}, {name: [copied(state)] for name,
+                                                                  state in known.items()}
         waiting, at = None, 0
         for part in story.Teller(self.played).tell(self.each or scenario.run_each(self.played.text())):
             if isinstance(part, story.Step):

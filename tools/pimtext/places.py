@@ -13,8 +13,8 @@ MARGIN = 96, 70
 
 
 def kinds(links, ports, hosts):
-    """What each link is in a picture: a node of its own ("lan"), a line between two routers ("pair"), a line from a router to each
-    host ("stub"), or nothing. `ports` are the routers on each link, `hosts` the hosts there."""
+    """What each link is in a picture: a node of its own ("lan"), a line between two routers ("pair"), a line from a
+    router to each host ("stub"), or nothing. `ports` are the routers on each link, `hosts` the hosts there."""
     found = {}
     for link in links:
         routers, here = len(ports[link]), len(hosts[link])
@@ -102,7 +102,8 @@ def stretched(found, ratio):
 
 
 def places(routers, kinds_of, ports, hosts, roots, ratio):
-    """The place of each node by its kind and name, and the box that has all of them, about as much wider than high as `ratio` says."""
+    """The place of each node by its kind and name, and the box that has all of them, about as much wider than high as
+    `ratio` says."""
     pairs = list(edges(kinds_of, ports, hosts))
     nodes = list(dict.fromkeys([("r", name) for name in routers] + [node for pair in pairs for node in pair]))
     roots = [("h", host) for host in roots if ("h", host) in nodes] or nodes[:1]
@@ -110,4 +111,5 @@ def places(routers, kinds_of, ports, hosts, roots, ratio):
     xs, ys = [x for x, _ in found.values()] or [0], [y for _, y in found.values()] or [0]
     wide, high = MARGIN
     box = [min(xs) - wide, min(ys) - high, max(xs) - min(xs) + 2 * wide, max(ys) - min(ys) + 2 * high]
-    return {" ".join(node): [round(x, 1), round(y, 1)] for node, (x, y) in found.items()}, [round(each, 1) for each in box]
+    return {" ".join(node): [round(x, 1), round(y, 1)] for node,
+            (x, y) in found.items()}, [round(each, 1) for each in box]

@@ -12,14 +12,17 @@ from pathlib import Path
 from pimtext import colours, diagnosis, faults, places, recorded, scenario, toml_lines
 
 FOLDER = Path(__file__).resolve().parent / "page"
+# The scripts of the page, in their order.
+SCRIPTS = ["run.js", "map.js", "panels.js", "play.js"]
 # A map is so many times as wide as it is high; two share the height.
 WIDE = 1.7
 
 
 @dataclass
 class Told:
-    """A run to be shown: its name, the text of its scenario, and of a network of tools/lab the names of hosts by address, the lines of
-    its file, and what hosts didn't hear. Where it is by time, a stop of the slider is all moves of one time."""
+    """A run to be shown: its name, the text of its scenario, and of a network of tools/lab the names of hosts by
+    address, the lines of its file, and what hosts didn't hear. Where it is by time, a stop of the slider is all moves
+    of one time."""
     name: str
     text: str
     hosts: dict = field(default_factory=dict)
@@ -34,7 +37,8 @@ def notes_of(found, numbers, named):
         head, *symptoms = cause.lines()
         text = head.partition(": ")[2]
         number = re.match(r"move (\d+)", text)
-        places = [found.run.steps[each.at].move for each in cause.symptoms if each.at is not None and each.at < len(found.run.steps)]
+        places = [found.run.steps[each.at].move for each in cause.symptoms if each.at is not None
+                  and each.at < len(found.run.steps)]
         move = int(number[1]) if number else min(places, default=0)
         yield [numbers.get(move, 0), named(text), [named(symptom.strip()) for symptom in symptoms]]
 
@@ -70,7 +74,8 @@ def data(runs, start):
     for host in hosts:
         by_link[host["link"]].append(host["address"])
     kinds = places.kinds(list(ports), ports, by_link)
-    sources = [run["hosts"][host]["address"] for run in runs for move in run["moves"] for host, at in move[4] if is_data(run, at)]
+    sources = [run["hosts"][host]["address"] for run in runs for move in run["moves"] for host, at in move[4]
+               if is_data(run, at)]
     ratio = WIDE if len(runs) == 1 else 2 * WIDE
     where, box = places.places(routers, kinds, ports, by_link, list(dict.fromkeys(sources))[:3], ratio)
     trees = [tuple(tree) for run in runs for tree in run["trees"] + run["streams"]]
@@ -87,10 +92,9 @@ def page(tolds, start=0):
     runs = [run_of(told) for told in tolds]
     told = json.dumps(data(runs, start), separators=(",", ":"), ensure_ascii=False).replace("</", "<\\/")
     title = html.escape(" beside ".join(run["name"] for run in runs))
-    parts = {"STYLE": "play.css", "SCRIPT": "play.js"}
+    script = "".join((FOLDER / name).read_text() for name in SCRIPTS)
     text = (FOLDER / "play.html").read_text().replace("TITLE", title)
-    for mark, name in parts.items():
-        text = text.replace(f"/*{mark}*/", (FOLDER / name).read_text())
+    text = text.replace("/*STYLE*/", (FOLDER / "play.css").read_text()).replace("/*SCRIPT*/", script)
     return text.replace("/*DATA*/", told)
 
 
@@ -102,7 +106,8 @@ def picture(text, out, size=(1500, 860)):
     with tempfile.TemporaryDirectory(prefix="play-", ignore_cleanup_errors=True) as folder:
         page = Path(folder) / "page.html"
         page.write_text(text)
-        words = ["--headless", "--no-sandbox", "--disable-gpu", "--hide-scrollbars", f"--user-data-dir={folder}/browser",
+        words = ["--headless", "--no-sandbox", "--disable-gpu", "--hide-scrollbars",
+                 f"--user-data-dir={folder}/browser",
                  f"--window-size={size[0]},{size[1]}", "--virtual-time-budget=3000", f"--screenshot={out}"]
         subprocess.run([browser, *words, page.as_uri()], capture_output=True, check=True, timeout=120)
     return True

@@ -1,8 +1,9 @@
 """A run as a page shows it: what each router knew after each answer, what was sent, and what came to each host.
 
-It is made of one run of `pimlab run --tables-each`. A router's *shape* is all that it knows but for when its timers end: shapes
-come again and again, so each is kept once, with its tables, rows and trees, and a step names the shape and the ends alone. In
-a shape's texts an end stands as a moment of its own beyond all real ones, MARK seconds and its place.
+It is made of one run of `pimlab run --tables-each`. A router's *shape* is all that it knows but for when its timers
+end: shapes come again and again, so each is kept once, with its tables, rows and trees, and a step names the shape and
+the ends alone. In a shape's texts an end stands as a moment of its own beyond all real ones, MARK seconds and its
+place.
 """
 import re
 from dataclasses import dataclass, field, replace
@@ -69,10 +70,13 @@ def row_words(router, row):
         case printed.Upstream():
             return f"joined upstream {words.tree(row.group, row.source)}"
         case printed.SharedTree():
-            return f"{'pruned off' if row.state == 'pruned' else 'keeps'} {words.tree(row.group, row.source, 'rpt')} upstream"
+            verb = "pruned off" if row.state == "pruned" else "keeps"
+            return f"{verb} {words.tree(row.group, row.source, 'rpt')} upstream"
         case printed.Active():
-            register = {"-": "", "join": ", registers", "prune": ", Registers stopped", "pending": ", asks the RP"}[row.register]
-            return f"source {words.tree(row.group, row.source)}{', on its own tree' if row.spt == 'spt' else ''}{register}"
+            register = {"-": "", "join": ", registers", "prune": ", Registers stopped",
+                        "pending": ", asks the RP"}[row.register]
+            by = ", on its own tree" if row.spt == "spt" else ""
+            return f"source {words.tree(row.group, row.source)}{by}{register}"
 
 
 # ---- shapes
@@ -114,7 +118,8 @@ class Shapes:
         rows = list(dict.fromkeys(text(row_words(self.router, row)) for row in state.rows))
         drs = [number for number in sorted(state.up) if trees.is_dr(state, number)]
         rps = sorted({text(f"{prefix}") for prefix, rp in state.rps if state.router.has(rp)})
-        return {"up": sorted(state.up), "dr": drs, "rp": rps, "rows": rows, "arrows": arrows, "registers": registers, "view": tables}
+        return {"up": sorted(state.up), "dr": drs, "rp": rps, "rows": rows, "arrows": arrows, "registers": registers,
+                "view": tables}
 
     def arrow(self, branch):
         incoming = -1 if branch.incoming is None else branch.incoming
@@ -137,11 +142,13 @@ def packet_words(kind, data):
 def kind_words(body):
     """A Join/Prune is called by what it does."""
     if isinstance(body, packets.JoinPrune):
-        verbs = [verb for verb, name in (("Join", "joins"), ("Prune", "prunes")) if any(getattr(each, name) for each in body.groups)]
+        verbs = [verb for verb, name in (("Join", "joins"), ("Prune", "prunes"))
+                 if any(getattr(each, name) for each in body.groups)]
         return "/".join(verbs) or "Join/Prune"
     if isinstance(body, packets.Register):
         return "Null-Register" if body.is_null else "Register"
-    names = {packets.RegisterStop: "Register-Stop", packets.Query: "query", packets.Report: "report", packets.Data: "data"}
+    names = {packets.RegisterStop: "Register-Stop", packets.Query: "query", packets.Report: "report",
+             packets.Data: "data"}
     return names.get(type(body), type(body).__name__)
 
 
@@ -159,7 +166,8 @@ def tree_of(sent):
 
 @dataclass
 class Recording:
-    """`hosts` are names by address where the run's maker knows them. Where it is by time, all moves of one time are shown as one."""
+    """`hosts` are names by address where the run's maker knows them. Where it is by time, all moves of one time are
+    shown as one."""
     played: object
     hosts: dict = field(default_factory=dict)
     is_by_time: bool = False
@@ -168,7 +176,8 @@ class Recording:
         self.text, self.trees = Texts(), {}
         self.routers = {router.name: place for place, router in enumerate(self.played.routers)}
         self.links = {link: place for place, link in enumerate(self.played.links())}
-        self.known = {router.name: trees.Known(router, [], set(), router.routes, router.rps) for router in self.played.routers}
+        self.known = {router.name: trees.Known(router, [], set(), router.routes, router.rps)
+                      for router in self.played.routers}
         self.shapes = [Shapes(self, router) for router in self.played.routers]
         self.now = [(shape.of(self.known[shape.router.name], False)) for shape in self.shapes]
         self.steps, self.packets, self.moves = [], [], []
@@ -225,7 +234,8 @@ class Recording:
         iface = -1 if step.iface is None else step.iface
         title = -1 if brought else self.text(f"{step.router}: {words.move(step.did, self.played.router(step.router))}")
         self.steps.append(
-            [place, number if number != was else -1, step.moment, told, brought, iface, first, len(step.sent), verdict, title])
+            [place, number if number != was else -1, step.moment, told, brought, iface, first, len(step.sent), verdict,
+             title])
 
     def packet(self, sent, at):
         short, told = packet_words(sent.kind, sent.data)
@@ -261,8 +271,8 @@ class Recording:
         return found
 
     def group(self, numbers):
-        """Moves that are shown as one: a title, the first answer and their count, the time, and what hosts gave in them, as pairs
-        of a host and an answer."""
+        """Moves that are shown as one: a title, the first answer and their count, the time, and what hosts gave in
+        them, as pairs of a host and an answer."""
         first, moment = self.moves[numbers[0]][0], self.moves[numbers[-1]][2]
         count = sum(self.moves[number][1] for number in numbers)
         said = [[self.arrivals.senders[at], at] for at in range(first, first + count) if at in self.arrivals.senders]
@@ -277,7 +287,8 @@ class Recording:
                  for did in dids if did["do"] in ("up", "down")]
         changed = sorted({did["router"] for did in dids if did["do"] in ("routes", "rps")})
         told += [f"new routes or RPs at {', '.join(changed[:3])}{' ..' * (len(changed) > 3)}"] * bool(changed)
-        brought = sum(self.moves[number][1] for number in numbers if self.played.moves[number]["do"] in ("settle", "deliver", "carry"))
+        brought = sum(self.moves[number][1] for number in numbers
+                      if self.played.moves[number]["do"] in ("settle", "deliver", "carry"))
         told += [deliveries(brought)] * bool(brought)
         told = list(dict.fromkeys(told))
         return words.seconds(self.moves[numbers[-1]][2]).replace(".000", "") + (": " + "; ".join(told) if told else "")

@@ -24,7 +24,8 @@ class Socket:
         name, port = host.split(":")
         self.stream = socket.create_connection((name, int(port)), PATIENCE)
         key = base64.b64encode(os.urandom(16)).decode()
-        head = [f"GET /{path} HTTP/1.1", f"Host: {host}", "Upgrade: websocket", "Connection: Upgrade", f"Sec-WebSocket-Key: {key}",
+        head = [f"GET /{path} HTTP/1.1", f"Host: {host}", "Upgrade: websocket", "Connection: Upgrade",
+                f"Sec-WebSocket-Key: {key}",
                 "Sec-WebSocket-Version: 13", "", ""]
         self.stream.sendall("\r\n".join(head).encode())
         self.input = self.stream.makefile("rb")
@@ -91,7 +92,8 @@ class Page:
 
     def click(self, selector):
         """A click by the mouse, in the middle of what a selector names."""
-        script = f"(e => [e.x + e.width / 2, e.y + e.height / 2])(document.querySelector({json.dumps(selector)}).getBoundingClientRect())"
+        box = f"document.querySelector({json.dumps(selector)}).getBoundingClientRect()"
+        script = f"(box => [box.x + box.width / 2, box.y + box.height / 2])({box})"
         x, y = self.value(script)
         for kind in ("mousePressed", "mouseReleased"):
             self.call("Input.dispatchMouseEvent", type=kind, x=x, y=y, button="left", clickCount=1)
@@ -115,7 +117,8 @@ def port_of(folder):
 def opened(path, size="1600,1000"):
     """A page of a file."""
     with tempfile.TemporaryDirectory(prefix="play-", ignore_cleanup_errors=True) as name:
-        words = [CHROMIUM, "--headless", "--no-sandbox", "--disable-gpu", "--remote-debugging-port=0", "--remote-allow-origins=*",
+        words = [CHROMIUM, "--headless", "--no-sandbox", "--disable-gpu", "--remote-debugging-port=0",
+                 "--remote-allow-origins=*",
                  f"--user-data-dir={name}", f"--window-size={size}", "about:blank"]
         browser = subprocess.Popen(words, stdout=subprocess.DEVNULL, stderr=subprocess.DEVNULL)
         try:

@@ -34,7 +34,8 @@ class TablesOfEachAnswer(unittest.TestCase):
             cut = scenario.Scenario(read.routers, read.moves[:number])
             _, tables = story.played(cut, scenario.run_text(cut.text()))
             for name in {part.router for part in parts if isinstance(part, story.Step) and part.move == number}:
-                here = [part for step, part in zip(parts[::2], parts[1::2]) if step.move <= number and part.router == name]
+                here = [part for step, part in zip(parts[::2], parts[1::2]) if step.move <= number
+                        and part.router == name]
                 self.assertEqual(here[-1].rows, tables[name].rows, (number, name, did))
 
     def test_nothing_else_is_printed_otherwise(self):
@@ -66,7 +67,8 @@ class Recorded(unittest.TestCase):
                 for at in range(0, len(ends), 2):
                     now[router][1][ends[at]] = ends[at + 1]
             rows = [told["texts"][row] for row in told["shapes"][router][now[router][0]]["rows"]]
-            self.assertEqual(rows, list(dict.fromkeys(recorded.row_words(read.routers[router], row) for row in table.rows)))
+            self.assertEqual(rows, list(dict.fromkeys(recorded.row_words(read.routers[router], row)
+                                                      for row in table.rows)))
             self.assertEqual(now[router][1], recorded.marked(table.rows)[1])
 
     def test_what_came_to_a_host(self):

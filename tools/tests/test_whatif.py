@@ -53,7 +53,7 @@ class Outages(unittest.TestCase):
 
 class WhatIf(unittest.TestCase):
     def test_the_failures_of_a_network_with_two_routers_on_a_lan(self):
-        """The DR of the hosts' LAN falls silent: its neighbour waits 105 s for its Hello, from the last one on, and no longer."""
+        """The DR of the hosts' LAN falls silent: its neighbour waits 105 s from its last Hello on, and no longer."""
         ran = whatif(LAN, "--each", "--kind", "router")
         self.assertEqual((ran.returncode, ran.stderr), (0, ""))
         self.assertIn("3 failures; 1 streams to hosts come without one", ran.stdout)
@@ -85,7 +85,8 @@ class WhatIf(unittest.TestCase):
 class Prompt(unittest.TestCase):
     def said(self, *lines):
         out = io.StringIO()
-        prompt = live.Prompt(out=Path(self.folder.name) / "live.html", stdin=io.StringIO("\n".join([*lines, "quit", ""])), stdout=out)
+        prompt = live.Prompt(out=Path(self.folder.name) / "live.html",
+                             stdin=io.StringIO("\n".join([*lines, "quit", ""])), stdout=out)
         prompt.use_rawinput, prompt.intro, prompt.prompt = False, "", ""
         prompt.cmdloop()
         return out.getvalue()
@@ -107,15 +108,18 @@ class Prompt(unittest.TestCase):
 
     def test_packets_of_one_kind_are_lost(self):
         """All Joins of the last router are lost from the beginning: nothing comes, and it is told that they are."""
-        told = self.said("line r1 r2 r3 / rp r2 / host camera r1 / host viewer r3 / run 10", "lose 100% of Joins on r2-r3 from r3",
+        told = self.said("line r1 r2 r3 / rp r2 / host camera r1 / host viewer r3 / run 10",
+                         "lose 100% of Joins on r2-r3 from r3",
                          "join viewer 239.1.1.1 / stream camera 239.1.1.1 3", "run 5", "served viewer 239.1.1.1 camera",
-                         "lose 0% of Joins on r2-r3 from r3", "run 60", "send camera 239.1.1.1 late", "run 2", "lose 5% of jam on r2-r3")
+                         "lose 0% of Joins on r2-r3 from r3", "run 60", "send camera 239.1.1.1 late", "run 2",
+                         "lose 5% of jam on r2-r3")
         self.assertIn("isn't served", told)
         self.assertIn("viewer: 1 packet, the last one of 10.0.4.101 by r1 r2 r3", told)
         self.assertIn("jam is no kind", told)
 
     def test_one_interface_goes_down(self):
-        told = self.said(self.BEGIN, "stream camera 239.1.1.1 3", "down r3 r2-r3", "run 4", "served viewer 239.1.1.1 camera", "up r3 r2-r3",
+        told = self.said(self.BEGIN, "stream camera 239.1.1.1 3", "down r3 r2-r3", "run 4",
+                         "served viewer 239.1.1.1 camera", "up r3 r2-r3",
                          "run 40", "send camera 239.1.1.1", "run 2")
         self.assertIn("isn't served", told)
         self.assertIn("viewer: 1 packet", told)
@@ -127,9 +131,12 @@ class Prompt(unittest.TestCase):
         self.assertIn("packet 2 came by r1 r2 r3", page)
 
     def test_what_is_wrong_with_a_line_is_told(self):
-        told = self.said("line r1 r2", "dance", "down r7", "join", "host h", "lose half", "run x", "join nobody 239.1.1.1")
-        for text in ("dance is no command", "there is no router or link r7", "it is called so: join HOST GROUP [SOURCE]",
-                     "it is called so: host NAME", "say it as: lose 30%", "'x' is no number of seconds", "there is no host nobody"):
+        told = self.said("line r1 r2", "dance", "down r7", "join", "host h", "lose half", "run x",
+                         "join nobody 239.1.1.1")
+        for text in ("dance is no command", "there is no router or link r7",
+                     "it is called so: join HOST GROUP [SOURCE]",
+                     "it is called so: host NAME", "say it as: lose 30%", "'x' is no number of seconds",
+                     "there is no host nobody"):
             self.assertIn(text, told)
 
 
