@@ -70,7 +70,8 @@ function isOnlyWish(run, each, all) {
 function streamRow(run, host, each) {
   const total = each.came + each.missed, again = each.twice ? `, ${each.twice} again` : "";
   const name = treeName(run.streams[each.stream]), look = STATES[each.state];
-  return `<tr>${cell(MARKS[each.state], look)}${bold(host.name)}<td class=stream style="color:${COLOURS[name]}">${escaped(name)}` +
+  const stream = `<td class=stream style="color:${COLOURS[name]}">${escaped(name)}`;
+  return `<tr>${cell(MARKS[each.state], look)}${bold(host.name)}${stream}` +
     `${cell(total ? `${each.came}/${total}${again}` : "", "soft")}${cell(each.text, look)}`;
 }
 function hostsPanel(run, at) {
@@ -92,7 +93,8 @@ function hostsPanel(run, at) {
 function noteRow([move, text, symptoms]) {
   const lines = symptoms.map(each => `<div class=symptom>${escaped(each)}</div>`), more = lines.slice(MOST_SYMPTOMS);
   return `<div class="jump${move > shown.move ? " gone" : ""}" data-move="${move}"><b>${escaped(text)}</b>` +
-    `${lines.slice(0, MOST_SYMPTOMS).join("")}</div>${more.length ? folded(`and ${more.length} more`, more.join("")) : ""}`;
+    `${lines.slice(0, MOST_SYMPTOMS).join("")}</div>` +
+        (more.length ? folded(`and ${more.length} more`, more.join("")) : "");
 }
 const notesPanel = run => run.notes.length ? titled("What went wrong in this run", run.notes.map(noteRow).join(""))
     : "";
@@ -168,9 +170,10 @@ function legend() {
     return `<span data-tree="${escaped(name)}" class="${isOff ? "off" : ""}" title="click: this tree alone">${line}` +
       `<b style="color:${COLOURS[name]}">${escaped(name)}</b></span>`;
   });
-  const signs = SIGNS.map(([kind, sign, words]) => kind
-    ? `<span class="plain ${shown.kinds[kind] ? "" : "off"}" data-kind=${kind} title="click: without these">${sign} ${words}</span>`
-    : `<span class=plain>${sign} ${words}</span>`);
+  const signs = SIGNS.map(([kind, sign, words]) => {
+    const pick = kind && `data-kind=${kind} title="click: without these"`, isOff = kind && !shown.kinds[kind];
+    return `<span class="plain ${isOff ? "off" : ""}" ${pick}>${sign} ${words}</span>`;
+  });
   byId("legend").innerHTML = (trees.join("") || "<span class=plain>no tree yet</span>") + signs.join("");
   for (const each of byId("legend").querySelectorAll("[data-kind]")) each.onclick = () => {
     shown.kinds[each.dataset.kind] = !shown.kinds[each.dataset.kind];
