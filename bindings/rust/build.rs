@@ -1,17 +1,34 @@
-//! Tells where the library is: in PIM_LIB_DIR, else where `tools/library` leaves it, else where the linker looks by itself.
+//! Tells where the library is: in PIM_LIB_DIR, else where `tools/library` leaves it, else where the C compiler finds it by itself.
 use std::env;
-use std::path::Path;
+use std::path::{Path, PathBuf};
+use std::process::{exit, Command};
 
 fn main() {
     println!("cargo:rerun-if-env-changed=PIM_LIB_DIR");
-    let left = Path::new(env!("CARGO_MANIFEST_DIR")).join("../../out/library");
-    let given = env::var("PIM_LIB_DIR").ok().or_else(|| left.join("libpim.a").exists().then(|| left.display().to_string()));
-    match given {
-        Some(folder) => {
-            println!("cargo:rustc-link-search=native={folder}");
-            println!("cargo:rerun-if-changed={folder}/libpim.a");
-            println!("cargo:rustc-link-lib=static=pim");
-        }
-        None => println!("cargo:rustc-link-lib=pim"),
+    println!("cargo:rerun-if-env-changed=CC");
+    let left = Path::new(env!("CARGO_MANIFEST_DIR")).ancestors().nth(2).map(|top| top.join("out/library")).unwrap_or_default();
+    let given = env::var_os("PIM_LIB_DIR").map(PathBuf::from);
+    let folder = given.clone().unwrap_or(left);
+    let archive = folder.join("libpim.a");
+    // Also where it isn't there: the build is tried again when it is.
+    println!("cargo:rerun-if-changed={}", archive.display());
+    if archive.exists() {
+        println!("cargo:rustc-link-search=native={}", folder.display());
+        println!("cargo:rustc-link-lib=static=pim");
+    } else if given.is_none() && is_installed() {
+        println!("cargo:rustc-link-lib=pim");
+    } else {
+        eprintln!("pim: there is no library {}", archive.display());
+        eprintln!("pim: `tools/library --unproved` of the repository makes it; PIM_LIB_DIR may name another folder with libpim.a");
+        exit(1);
     }
+}
+
+/// Whether the C compiler finds the library in its own folders. It answers the mere name where it doesn't.
+fn is_installed() -> bool {
+    let compiler = env::var("CC").unwrap_or_else(|_| "cc".to_owned());
+    ["libpim.so", "libpim.a"].iter().any(|name| {
+        let asked = Command::new(&compiler).arg(format!("-print-file-name={name}")).output();
+        asked.map_or(false, |said| Path::new(String::from_utf8_lossy(&said.stdout).trim()).is_absolute())
+    })
 }

@@ -107,14 +107,13 @@ class Askers:
                 continue
             is_never_kept = is_local(group) or (trees.is_source_specific(group) and wish.is_exclude)
             if not is_never_kept and not self.is_known(dr, link, group) and self.is_over(dr, taken[-1]):
-                yield from self.gone(host, group, link, dr, taken[-1])
+                yield from self.gone(group, dr, taken[-1])
 
     def is_over(self, dr, report):
-        """Whether a router keeps a wish no longer than since a report (RFC 3376, 8.4), and heard no later one of the host."""
-        table, later = self.known[dr].router.table, [each for each in self.hosts.heard if each.at > report.at]
+        """Whether a router keeps a wish no longer than since a report (RFC 3376, 8.4)."""
+        table = self.known[dr].router.table
         kept = 1000 * table.get("rv", 2) * table.get("qi", 125) + 100 * table.get("qri", 100)
-        is_last = all((each.host, each.step.router) != (report.host, dr) for each in later)
-        return is_last and self.known[dr].moment - report.step.moment >= kept
+        return self.known[dr].moment - report.step.moment >= kept
 
     def is_known(self, dr, link, group):
         """Whether a router knows of hosts on a link that want a group."""
@@ -122,11 +121,14 @@ class Askers:
         numbers = {each.number for each in state.router.on(link)}
         return bool(numbers & (trees.hosts(state, group, ANY) | {row.iface for row in state.rows if is_wanted(row, group)}))
 
-    def gone(self, host, group, link, dr, report):
-        queries = sum(is_query(sent, dr, link) for step in self.run.steps[report.at:] for sent in step.sent)
-        told = f"{host} asked for {group} at {words.seconds(report.step.moment)} for the last time, and answered no query since"
-        if queries:
-            told = f"{told}, though {dr} sent {queries} on {link}: {dr} has forgotten its wish"
+    def gone(self, group, dr, report):
+        """The cause where a host answered none of the queries that came after its report."""
+        host, link = report.host, report.link
+        asked = [at for at, step in enumerate(self.run.steps) if at > report.at and any(is_query(sent, dr, link) for sent in step.sent)]
+        answers = [each for each in self.hosts.heard if each.host == host and each.step.router == dr and asked and each.at > asked[0]]
+        if asked and not answers:
+            told = f"{host} asked for {group} at {words.seconds(report.step.moment)} for the last time, and answered no query since, though"
+            told = f"{told} {dr} sent {len(asked)} on {link}: {dr} has forgotten its wish"
             yield Cause(*self.run.at_move(report.step, told), self.of_host(host, {group}))
 
     def local(self):

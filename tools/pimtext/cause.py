@@ -31,6 +31,11 @@ class Cause:
     symptoms: list = field(default_factory=list)
     is_hint: bool = False
 
+    def weight(self):
+        """How many streams of hosts it explains, and then how many other symptoms."""
+        streams = sum(symptom.host is not None and symptom.kind != "odd" for symptom in self.symptoms)
+        return streams, len(self.symptoms)
+
     def lines(self):
         """The cause, and below it each of its symptoms once, with how often it is there."""
         counts = Counter(self.told(symptom) for symptom in sorted(self.symptoms, key=lambda symptom: symptom.kind == "odd"))

@@ -130,11 +130,9 @@ class Diagnosis:
         self.left = grouped([symptom for symptom in left if symptom.kind not in QUIET])
 
     def ordered(self):
-        """Causes that explain something first, then the others, each by its line, and then symptoms without a cause."""
-        explain = [cause for cause in self.causes if cause.symptoms]
-        others = [cause for cause in self.causes if not cause.symptoms]
-        for part in (explain, self.left, others):
-            yield from sorted(part, key=lambda cause: cause.line)
+        """What explains most comes first, equals by their lines; last come causes that explain nothing."""
+        told = [*self.causes, *self.left]
+        return sorted(told, key=lambda cause: (not cause.symptoms, *(-count for count in cause.weight()), cause.line))
 
     def lines(self):
         return ["\n".join(cause.lines()) for cause in self.ordered()]

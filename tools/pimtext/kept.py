@@ -1,9 +1,13 @@
 """What is built before any proof, and where it is kept: in the user's cache folder, for all clones, by the sum of the sources."""
 import hashlib
 import os
+import sys
 from pathlib import Path
 
 TOP = Path(__file__).resolve().parent.parent.parent
+HERE = Path(__file__).resolve().parent
+# A module of the program's that names the library's calls, and what makes code of the kit's modules.
+CALLS, MADE_BY = HERE / "library.rt.in", [HERE / "modules.py", HERE / "unproved.py"]
 # As the kit compiles what it has proved, but for the level.
 FLAGS = [
     "--target=x86_64-unknown-linux-gnu", "-march=x86-64", "--no-default-config", "-no-canonical-prefixes", "-Wno-override-module",
@@ -38,12 +42,44 @@ def sum_of_sources(name, *others):
         total.update(f"{each}: {' '.join(below)}\n".encode())
         for source in sorted((TOP / "crates" / each / "src").rglob("*.rt")):
             total.update(f"{source.relative_to(TOP)} {source.stat().st_size}\n".encode() + source.read_bytes())
-    for other in others:
+    for other in (*MADE_BY, *others):
         total.update(other.read_bytes())
     return total.hexdigest()[:32]
+
+
+def kept_program():
+    """Where the program is kept."""
+    return cache() / f"pimlab-{sum_of_sources('pimlab')}"
+
+
+def kept_library():
+    """Where the library's calls are kept, as an archive."""
+    return cache() / f"pim_c-{sum_of_sources('pim_c', CALLS)}.a"
+
+
+def sum_of_both():
+    """What a build of both is called."""
+    return hashlib.sha256(f"{kept_program().name} {kept_library().name}".encode()).hexdigest()[:32]
 
 
 def cache():
     """The folder in which builds are kept."""
     given = os.environ.get("XDG_CACHE_HOME", "")
     return Path(given if os.path.isabs(given) else os.path.expanduser("~/.cache")) / "viqeshor"
+
+
+# The folder with builds that were brought along, from the environment.
+BROUGHT = "VIQESHOR_BUILDS"
+
+
+def brought(path, who, folder=None):
+    """A build of the same sources that was made elsewhere, in the folder that is given or that the environment names; None where there is
+    none."""
+    folder = folder or os.environ.get(BROUGHT)
+    if not folder:
+        return None
+    found = Path(folder) / path.name
+    if found.is_file():
+        return found
+    print(f"{who}: {folder} has no build of these sources, which would be called {path.name}", file=sys.stderr, flush=True)
+    return None

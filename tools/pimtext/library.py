@@ -5,10 +5,11 @@ import re
 import shutil
 import subprocess
 import sys
+import tempfile
 from pathlib import Path
 
-from pimtext import unproved
-from pimtext.kept import cache, crates_of, sum_of_sources
+from pimtext import kit, unproved
+from pimtext.kept import brought, crates_of, kept_library
 
 TOP = Path(__file__).resolve().parent.parent.parent
 CRATE = TOP / "crates" / "pim_c"
@@ -58,7 +59,7 @@ def proved_router():
 
 def libraries():
     """Where the kit finds the libraries below the crate: its own, and those that were proved."""
-    kits, crates = unproved.kit() / "rlibs", crates_of("pim_c")
+    kits, crates = kit.kit() / "rlibs", crates_of("pim_c")
     built = {name: TOP / "crates" / name / "out" / "rlib" for name in crates if name != "pim_c"}
     for name in ["std", *crates["pim_c"]]:
         yield from ("--extern", f"{name}={built.get(name, kits) / name}.rlib")
@@ -71,28 +72,30 @@ def prove_over_gate():
     which would prove them again. Where a clone has older ones they are left to `rt lib`, which knows which are up to date."""
     if any((TOP / "crates" / name / "out" / "rlib" / "stamp").exists() for name in crates_of("pim_c")):
         return
-    where = unproved.kit()
+    where = kit.kit()
     words = ["--antt-project", where / "rattle" / "logic" / "antt-project.json", "--logic-built", where / "logic_built", "--jobs", "2"]
     words += ["--links", "pim_c=", "--crate-type", "staticlib", "--toolchain", where / "toolchain", "-o", PROVED]
     ran([where / "bin" / "rattle", "build", "--crate-name", "pim_c", "src/lib.rt", *libraries(), *words], cwd=CRATE)
     PROVED_OF.write_text(sum_of_proved())
 
 
-def unproved_router():
-    """An object of the same sources before any proof, built once a machine."""
-    kept = cache() / f"pim_c-{sum_of_sources('pim_c', unproved.CALLS)}.o"
+def unproved_router(folder):
+    """An archive of the same sources before any proof: brought along in a folder, or built once a machine."""
+    path = kept_library()
+    if found := brought(path, "library", folder):
+        return found
     try:
-        with unproved.alone("library"):
-            if not kept.exists():
-                unproved.say("library: building once, one to two minutes; the build isn't proved")
-                unproved.say(f"library: built in {unproved.build_library(kept)} s, and kept in {cache()}")
-                unproved.forget_old("pim_c-*.o")
-    except unproved.Failed as failed:
+        if not path.exists():
+            print("library: building once, about a minute; the build isn't proved", file=sys.stderr, flush=True)
+        unproved.have_kept(path, "library")
+    except kit.Failed as failed:
         sys.exit(f"{failed}\nlibrary: it couldn't be built")
-    return kept
+    return path
 
 
 # ---- one archive
+
+HEAP = "heap.pic.o"
 
 
 def texts(how):
@@ -101,27 +104,36 @@ def texts(how):
     return made
 
 
+def archiver():
+    """The kit's program for archives, or the C compiler's."""
+    return kit.kit() / "toolchain" / "bin" / "llvm-ar" if shutil.which("rt") else os.environ.get("AR", "ar")
+
+
 def archive(router, how):
-    """The archive, of a router's archive or object, that says how it was built."""
-    made = ROOM / "libpim.a"
-    parts = [router, unproved.kit() / "c" / "liblibc_c.a", texts(how)]
-    adds = [f"add{'lib' if part.suffix == '.a' else 'mod'} {part}" for part in parts]
-    script = "\n".join([f"create {made}", *adds, "save", "end", ""])
-    ran([unproved.kit() / "toolchain" / "bin" / "llvm-ar", "-M"], input=script.encode())
+    """The archive, of a router's, that says how it was built. The kit's few lines of C around malloc are in it, or are put there."""
+    made, tool = ROOM / "libpim.a", archiver()
+    made.unlink(missing_ok=True)
+    shutil.copyfile(router, made)
+    if HEAP not in ran([tool, "t", made]).decode().split():
+        with tempfile.TemporaryDirectory(dir=ROOM) as room:
+            ran([tool, "x", kit.kit() / "c" / "liblibc_c.a", HEAP], cwd=room)
+            ran([tool, "r", made, Path(room) / HEAP])
+    ran([tool, "rs", made, texts(how)])
     return made
 
 
 class Library:
-    """The library in out/library, proved unless another archive of the router is given, or the unproved one is asked for."""
+    """The library in out/library, proved unless another archive of the router is given, or the unproved one is asked for, which is taken
+    from a folder that is named if it is there."""
 
-    def __init__(self, given=None, is_proved=True):
+    def __init__(self, given=None, is_proved=True, folder=None):
         ROOM.mkdir(parents=True, exist_ok=True)
         if given:
             self.archive = archive(given.resolve(), "not proved")
         elif is_proved:
             self.archive = archive(proved_router(), "proved")
         else:
-            self.archive = archive(unproved_router(), "not proved")
+            self.archive = archive(unproved_router(folder), "not proved")
 
     def shared(self):
         """A shared library of all of it."""
@@ -145,6 +157,25 @@ class Library:
         made = ROOM / f"{source.stem}_rs"
         ran(["rustc", "--edition", "2021", "-O", "-o", made, source, "-C", f"link-arg={self.archive}"])
         return made
+
+
+# ---- which library a tool takes
+
+
+def add_choice(parser):
+    """The words that choose a build of the library: the proved one where there is none."""
+    which = parser.add_mutually_exclusive_group()
+    which.add_argument("--unproved", action="store_true", help="of the same sources, before any proof")
+    which.add_argument("--from", type=Path, metavar="FOLDER", dest="folder", help="the same, made elsewhere")
+    which.add_argument("--archive", type=Path, metavar="FILE")
+    return which
+
+
+def chosen(asked):
+    """The library that the words choose, and what it is called."""
+    is_proved = not (asked.unproved or asked.folder)
+    library = Library(asked.archive, is_proved=is_proved, folder=asked.folder)
+    return library, str(asked.archive or ("the proved one" if is_proved else "the unproved one"))
 
 
 # ---- installed

@@ -1,8 +1,8 @@
-"""Which build of the program is run: the proved binary where it is newer than its sources, else an unproved one, which is kept."""
+"""Which build of the program is run: the proved binary where it is newer than its sources, else an unproved one, brought along or kept."""
 import os
 import sys
 
-from pimtext.kept import TOP, cache, sum_of_sources
+from pimtext.kept import TOP, brought, kept_program
 
 PROVED = TOP / "crates" / "pimlab" / "out" / "pimlab"
 # What PIMLAB_BUILD may say.
@@ -22,41 +22,39 @@ def is_proved():
     return True
 
 
-def build(path, is_sanitized):
-    """Builds an unproved program to a path. Answers the seconds."""
+def have_kept(path, is_sanitized):
+    """Has an unproved program kept."""
     # This takes a while to load, and most calls don't build.
-    from pimtext import unproved
+    from pimtext import builds, kit, unproved
     try:
-        return unproved.build_sanitized(path) if is_sanitized else unproved.build_program(path)
-    except unproved.Failed as failed:
+        if is_sanitized:
+            builds.build_once(path, path.name, "pimlab", lambda room, progress: unproved.build_sanitized(room, progress, path))
+        else:
+            unproved.have_kept(path, "pimlab")
+    except kit.Failed as failed:
         sys.stderr.write(str(failed))
         sys.exit("pimlab: it couldn't be built")
 
 
-def build_once(path, is_sanitized):
-    """Has a program kept."""
-    from pimtext import unproved
-    with unproved.alone("pimlab"):
-        if not os.path.exists(path):
-            unproved.say("pimlab: building once, one to two minutes; the build isn't proved (./test builds and proves)")
-            seconds = build(path, is_sanitized)
-            unproved.forget_old("pimlab-*")
-            unproved.say(f"pimlab: built in {seconds} s, and kept in {cache()}")
-
-
 def unproved_program(is_sanitized):
     """Where the unproved program is; None where it can't be kept."""
-    path = f"{cache()}/pimlab-{sum_of_sources('pimlab')}{'-sanitized' if is_sanitized else ''}"
-    if not os.access(path, os.X_OK):
-        import shutil
-        if shutil.which("rt") is None:
-            sys.exit("pimlab: it isn't built, and there is no command `rt`, the Rattle kit's, that could build it")
-        try:
-            build_once(path, is_sanitized)
-        except OSError as error:
-            print(f"pimlab: a build can't be kept: {error}", file=sys.stderr, flush=True)
-            return None
-    return path
+    path = kept_program()
+    path = path.with_name(f"{path.name}-sanitized") if is_sanitized else path
+    found = brought(path, "pimlab") or path
+    if os.access(found, os.X_OK):
+        return str(found)
+    if found != path:
+        sys.exit(f"pimlab: {found} can't be run: it isn't executable")
+    import shutil
+    if shutil.which("rt") is None:
+        sys.exit("pimlab: it isn't built, and there is no command `rt`, the Rattle kit's, that could build it")
+    try:
+        print("pimlab: building once, about a minute; the build isn't proved (./test builds and proves)", file=sys.stderr, flush=True)
+        have_kept(path, is_sanitized)
+    except OSError as error:
+        print(f"pimlab: a build can't be kept: {error}", file=sys.stderr, flush=True)
+        return None
+    return str(path)
 
 
 def wanted():
@@ -81,10 +79,9 @@ def run_once(words):
     """Builds and runs where nothing can be kept; answers the status."""
     import subprocess
     import tempfile
-    print("pimlab: building for this call alone, one to two minutes", file=sys.stderr, flush=True)
     with tempfile.TemporaryDirectory(prefix="pimlab-") as folder:
-        build(f"{folder}/pimlab", wanted() == "sanitized")
-        return subprocess.run([f"{folder}/pimlab", *words]).returncode
+        os.environ["XDG_CACHE_HOME"] = folder
+        return subprocess.run([unproved_program(wanted() == "sanitized"), *words]).returncode
 
 
 def version():

@@ -7,8 +7,8 @@ from dataclasses import dataclass, field
 
 from pimtext import packets, story
 
-# Moves after which a packet of the same bytes is another one.
-PAUSES = ("advance", "settle", "deliver", "carry", "up", "down")
+# A packet comes to the routers of its link by such moves, one directly after the other.
+AT_ONCE = ("frame", "unicast")
 
 
 @dataclass(eq=False)
@@ -137,13 +137,10 @@ class Tracer:
     def __init__(self, played):
         self.played, self.packets = played, []
         self.copies, self.counts = {}, defaultdict(int)
-        self.open = []
 
     def follow(self, at, step):
         kind = step.did["do"]
-        if kind in PAUSES:
-            self.open = []
-        if kind in ("frame", "unicast"):
+        if kind in AT_ONCE:
             self.give(at, step, step.taken(), kind == "unicast")
         elif step.brought is not None and step.cause != "27" and step.brought.number in self.copies:
             copy = self.copies[step.brought.number]
@@ -156,22 +153,23 @@ class Tracer:
         if named is None:
             return
         link = None if is_unicast else self.link(step)
-        same = [packet for packet in self.open if packet.link == link and packet.content == data and self.is_new(packet, step)]
+        same = [packet for packet in self.packets if (packet.link, packet.content) == (link, data) and self.is_at_once(packet, step)]
         self.take(Taken(at, step), (same[0] if same else self.packet(*named, link, data)).began)
 
     def link(self, step):
         interfaces = self.played.router(step.router).interfaces
         return interfaces[step.iface].link if step.iface < len(interfaces) else None
 
-    @staticmethod
-    def is_new(packet, step):
-        return all((taken.router, taken.iface) != (step.router, step.iface) for taken in packet.began)
+    def is_at_once(self, packet, step):
+        """Whether a packet comes to another router of its link with this step, and nothing happened since it came to the last one."""
+        between = self.played.moves[packet.began[-1].step.move:step.move - 1]
+        is_other = all((taken.router, taken.iface) != (step.router, step.iface) for taken in packet.began)
+        return is_other and all(move["do"] in AT_ONCE for move in between)
 
     def packet(self, source, group, link, data):
         self.counts[source, group] += 1
         packet = Packet(source, group, link, data, self.counts[source, group])
         self.packets.append(packet)
-        self.open.append(packet)
         return packet
 
     def take(self, taken, among):

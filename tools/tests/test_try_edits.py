@@ -8,20 +8,26 @@ from tests import stored
 from tests.rooms import kit, repository
 
 try_edits = stored.tool("try_edits")
+CODE = "/// The number.\npub fn number(n: u32) -> u32\n    ensures same { result ≡ n }\n{\n    n\n}\n"
+EDIT = "refused: number same\nfile: src/lib.rt\nold:     n\nnew:     n / 2\n"
 FILES = {
     "crates.txt": "# the crates\nhigh: middle std\nmiddle: low\nlow: std\nother: std\n",
-    "crates/low/src/lib.rt": "low", "crates/low/out/kept": "what a check kept", "crates/low/edits/weak.edit": "a",
-    "crates/middle/src/lib.rt": "middle", "crates/middle/edits/one.edit": "b", "crates/middle/must-fail/two.edit": "c",
+    "crates/low/src/lib.rt": CODE, "crates/low/out/kept": "what a check kept", "crates/low/edits/weak.edit": EDIT,
+    "crates/middle/src/lib.rt": CODE, "crates/middle/edits/one.edit": EDIT, "crates/middle/must-fail/two.edit": EDIT,
     "crates/high/src/lib.rt": "high", "crates/other/src/lib.rt": "other",
 }
+GOAL = ("note: src/lib.rt:2:1: it is not proved that what the function ensures holds when it returns "
+        "(`returns-clause-same`)")
 # It refuses each edit that it finds in the folder of the crate.
 REFUSES = """\
 echo "$* in $(basename $(pwd))" >> {log}
 [ "$1" = lib ] && exit 0
 for edit in crates/$2/must-fail/*.edit; do
-  echo "rt: must-fail $2/$(basename $edit .edit).edit: refused, as it must be: a goal"
+  echo 'rt: must-fail '$2/$(basename $edit .edit).edit': refused, as it must be: {goal}'
 done
-"""
+""".replace("{goal}", GOAL)
+TOLD = f"refused, as it must be: {GOAL}"
+COUNTS = "{} refused, {} NAMES NO CLAUSE, {} NOT AS IT SAYS, {} STILL PROVED, {} does not apply"
 
 
 def tried(script, *words, files=FILES):
@@ -61,24 +67,87 @@ class Tried(unittest.TestCase):
     def test_all_edits_are_put_to_the_judge(self):
         status, lines, asked, left = tried(REFUSES)
         self.assertEqual(status, 0)
-        self.assertEqual(sorted(lines[:-1]), [f"{name}: refused: a goal" for name in ("low/weak", "middle/one", "middle/two")])
-        self.assertEqual(lines[-1], "3 refused, 0 STILL PROVED, 0 does not apply")
+        self.assertEqual(sorted(lines[:-1]),
+            [f"{name}: refused: {GOAL}" for name in ("low/weak", "middle/one", "middle/two")])
+        self.assertEqual(lines[-1], COUNTS.format(3, 0, 0, 0, 0))
         self.assertEqual([each.partition(" in ")[0] for each in asked], ["lib", "must-fail low", "must-fail middle"])
         self.assertEqual(left, {name for name in FILES if name.endswith(".edit")})
 
     def test_of_one_crate_with_what_is_below_it_built(self):
         status, lines, asked, _ = tried(REFUSES, "middle")
-        self.assertEqual((status, lines[-1]), (0, "2 refused, 0 STILL PROVED, 0 does not apply"))
+        self.assertEqual((status, lines[-1]), (0, COUNTS.format(2, 0, 0, 0, 0)))
         self.assertEqual(asked[0], "lib in low")
 
     def test_an_edit_that_is_still_proved(self):
-        passes = REFUSES.replace("refused, as it must be: a goal", "NOT REFUSED")
+        passes = REFUSES.replace(TOLD, "NOT REFUSED")
         status, lines, _, _ = tried(passes, "low")
-        self.assertEqual((status, lines), (1, ["low/weak: STILL PROVED", "0 refused, 1 STILL PROVED, 0 does not apply"]))
+        self.assertEqual((status, lines), (1, ["low/weak: STILL PROVED", COUNTS.format(0, 0, 0, 1, 0)]))
 
     def test_an_edit_that_does_not_apply(self):
-        status, lines, _, _ = tried(REFUSES.replace("refused, as it must be: a goal", "BAD EDIT: no such line"), "low")
+        status, lines, _, _ = tried(REFUSES.replace(TOLD, "BAD EDIT: no such line"), "low")
         self.assertEqual((status, lines[0]), (1, "low/weak: does not apply: no such line"))
+
+    def of_low(self, told, edit=EDIT, *words):
+        return tried(REFUSES.replace(TOLD, told), *words, "low",
+            files={**FILES, "crates/low/edits/weak.edit": edit})[:2]
+
+    def test_an_edit_that_another_clause_refuses(self):
+        status, lines = self.of_low(TOLD.replace("clause-same", "clause-other"))
+        self.assertEqual((1, COUNTS.format(0, 0, 1, 0, 0)), (status, lines[-1]))
+        self.assertIn("low/weak: NOT AS IT SAYS: it is refused by lib::number other, and not by number same", lines[0])
+
+    def test_a_name_and_a_limit_are_no_refusal(self):
+        for told in ("refused, as it must be (only because a proof file names what the edit took away): ./proofs/x",
+                     "refused, as it must be (only by a limit of the prover, which gave no verdict): src/lib.rt:2:1: "
+                     "error"):
+            status, lines = self.of_low(told)
+            self.assertEqual((1, COUNTS.format(0, 0, 1, 0, 0)), (status, lines[-1]))
+
+    def test_an_edit_that_names_no_clause(self):
+        status, lines = self.of_low(TOLD, EDIT.partition("\n")[2])
+        self.assertEqual((1, [f"low/weak: NAMES NO CLAUSE: {GOAL}", COUNTS.format(0, 1, 0, 0, 0)]), (status, lines))
+
+    def test_an_edit_that_no_type_allows(self):
+        edit = EDIT.replace("number same", "error[unknown-name]")
+        told = ("BAD EDIT: it did not reach the prover; the first lines of what it said:\nsrc/lib.rt:2:1: "
+                "error[unknown-name]: cannot find")
+        self.assertEqual(0, self.of_low(told, edit)[0])
+        status, lines = self.of_low(told.replace("unknown-name", "mismatched-types"), edit)
+        self.assertEqual((1, COUNTS.format(0, 0, 0, 0, 1)), (status, lines[-1]))
+        self.assertEqual(1, self.of_low(TOLD, edit)[0])
+
+    def test_those_alone_that_no_type_allows(self):
+        edit = EDIT.replace("number same", "error[unknown-name]")
+        told = REFUSES.replace(TOLD,
+            "BAD EDIT: it did not reach the prover; the first lines of what it said:\nsrc/lib.rt:2:1: "
+            "error[unknown-name]: no")
+        status, lines, asked, _ = tried(told, "--types",
+            files={**FILES, "crates/low/edits/typed.edit": edit, "crates/low/edits/other.edit": edit})
+        self.assertEqual((0, COUNTS.format(2, 0, 0, 0, 0)), (status, lines[-1]))
+        self.assertEqual(["must-fail low", "must-fail low"], [each.partition(" in ")[0] for each in asked])
+
+    def test_a_line_that_the_judge_cuts_is_read_whole(self):
+        judge = REFUSES.replace(TOLD, TOLD[:TOLD.index("-clause-same")]).replace("for edit",
+            '[ "$1" = must-fail ] && for edit')
+        check = """[ "$1" = check ] && grep -q 'n / 2' src/lib.rt && echo '{}; `search` gave up'"""
+        status, lines, asked, _ = tried(judge + check.format(GOAL), "low")
+        self.assertEqual((0, f"low/weak: refused: {GOAL}; `search` gave up"), (status, lines[0]), lines)
+        self.assertIn("check --jobs 1 --only number in low", asked)
+        status, lines, _, _ = tried(judge + check.format(GOAL.replace("-same", "-other")), "--whole", "low/weak")
+        self.assertEqual((1, COUNTS.format(0, 0, 1, 0, 0)), (status, lines[-1]))
+
+    def test_a_clause_that_is_written_in(self):
+        with repository({**FILES, "crates/low/edits/weak.edit": EDIT.partition("\n")[2]}) as room:
+            crate = try_edits.Crate(room / "crates" / "low")
+            try_edits.named(try_edits.Edit(room / "crates/low/edits/weak.edit", crate), TOLD)
+            self.assertEqual(EDIT, (room / "crates/low/edits/weak.edit").read_text())
+            try_edits.named(try_edits.Edit(room / "crates/low/edits/weak.edit", crate), TOLD)
+            self.assertEqual(EDIT, (room / "crates/low/edits/weak.edit").read_text())
+
+    def test_edits_that_are_not_judged_yet(self):
+        status, lines, asked, _ = tried(REFUSES, "--unnamed", "low",
+            files={**FILES, "crates/low/edits/weak.edit": "file: src/lib.rt\n"})
+        self.assertEqual((1, ["low/weak", "1 edits name no clause"], []), (status, lines, asked))
 
     def test_a_judge_that_stops_before_all_are_tried(self):
         status, lines, _, _ = tried(REFUSES.replace("*.edit; do", "one.edit; do"), "middle")

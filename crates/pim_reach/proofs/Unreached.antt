@@ -111,8 +111,8 @@ module _ (g src : ℕ) where
   -- of groups' records that are alike
   module _ (s t : State)
       (groups : (i : ℕ)
-          → same_both same_group_record (row_at s.group_records (star_key i g)) (row_at t.group_records (star_key i g))
-          ≡ true) where
+      → same_both same_group_record (row_at s.group_records (star_key i g)) (row_at t.group_records (star_key i g))
+      ≡ true) where
     excludes_at : (i : ℕ) → is_exclude s g i ≡ is_exclude t g i
     unfolding is_exclude is_exclude_among
     excludes_at i =

@@ -584,8 +584,11 @@ module _ (s : State) (ordered : IsOrdered s) (i : ℕ) (moved : Key → Bool) wh
         → IsMode s.source_records s.group_records (kept_groups t f g made.0 (is_no_record made.0)) star_here
     hadnt none =
         let off : is_some (group_end s i g) ≡ false = (two_none (is_some (group_end s i g)) (any s.source_records) none).0 in
-        inr (off, no_end (is_no_record made.0) (timer_runs ∙ sym (runs_alike t f g) ∙ off),
-        (two_none (is_some (group_end s i g)) (any s.source_records) none).1)
+        inr (
+          off,
+          no_end (is_no_record made.0) (timer_runs ∙ sym (runs_alike t f g) ∙ off),
+          (two_none (is_some (group_end s i g)) (any s.source_records) none).1,
+        )
       where
         two_none : (a b : Bool) → (a || b) ≡ false → (a ≡ false) × (b ≡ false)
         two_none true b e = cc
@@ -735,7 +738,7 @@ module _ (s : State) (ordered : IsOrdered s) (i : ℕ) (keys : List Key) (t : St
       ≡ modes_read (map only_mode (rows_where (reads q) t.group_records)) (map only_side (rows_where (reads q) t.source_records)) =
       modes_alike (reads q) s.source_records s.group_records t.group_records ordered.groups f.groups_rise f.groups
       ∙ ap (modes_read (map only_mode (rows_where (reads q) t.group_records))) seen in
-      λ j. record (scope (reads q) (f.rest j)) { group_records = groups j; source_records = seen j; }
+      λ j. record (scope (reads q) (f.rest j)) { group_records = groups j; source_records = seen j }
 
 pub report_touches_moved : (s : State) (i : ℕ) (records : List Record) → IsOrdered s
     → all_keep_modes s i records ≡ true → AgreesBut (touching (moved_sources s i records)) s (report_seen s i records).0

@@ -124,19 +124,33 @@ class Player:
 
     def keep(self, batch):
         """Keeps the moves of a batch that did anything. Answers its packets, which have the numbers of the kept moves."""
-        numbers = {}
+        numbers, late = {}, []
         for place in batch.busy():
             move = batch.moves[place]
-            self.moves.append(move)
-            self.texts.append(scenario.line_of(move))
+            late += self.caught_up(move, batch.moment)
+            self.add(move, batch.moment)
             numbers[batch.before + place + 1] = len(self.moves)
-            if move["do"] == "advance":
-                self.clocks[move["router"]] = batch.moment
-        steps = [replace(step, move=numbers[step.move], sent=numbered(step.sent, numbers)) for step in batch.steps if step.move in numbers]
+        kept = [replace(step, move=numbers[step.move], sent=numbered(step.sent, numbers)) for step in batch.steps if step.move in numbers]
+        steps = sorted([*late, *kept], key=lambda step: step.move)
         self.steps += steps
         self.lines += sum(1 + len(step.sent) for step in steps)
         self.teller.follow(steps, len(self.moves))
         return [sent for step in steps for sent in step.sent]
+
+    def add(self, move, moment):
+        self.moves.append(move)
+        self.texts.append(scenario.line_of(move))
+        if move["do"] == "advance":
+            self.clocks[move["router"]] = moment
+
+    def caught_up(self, move, moment):
+        """Time that passed for a router in an earlier batch, and did nothing there, is kept where the router does something now."""
+        name = move.get("router")
+        if name is None or move["do"] == "advance" or self.clocks[name] >= moment:
+            return []
+        late = {"do": "advance", "router": name, "moment": moment, "draw": self.draws[name]}
+        self.add(late, moment)
+        return [story.Step(len(self.moves), name, "done", None, moment, late)]
 
     def grow(self, is_whole):
         """The next plan is larger after one that was kept whole."""

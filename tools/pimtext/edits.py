@@ -1,0 +1,202 @@
+"""Edits that must fail: what each changes, and whether what the kit says of it is the refusal that it names."""
+import re
+from collections import Counter
+from dataclasses import dataclass
+from itertools import zip_longest
+
+from pimtext.functions import clauses, functions, module_of, notes_beside
+
+# What the front end is to say of an edit that no type allows.
+ERROR = re.compile(r"error\[[\w-]+\]")
+# What the kit says of an edit in must-fail/, of one that it can name no crate for, and how it begins where it is
+# refused.
+SAID = re.compile(r"rt: must-fail ([\w-]+)/(\S+)\.edit: (.*)")
+BAD = re.compile(r"rt: (\S+): BAD EDIT: (.*)")
+NAME = re.compile(r"[A-Za-z0-9_-][A-Za-z0-9_.-]*\.edit")
+REFUSED = "refused, as it must be"
+UNNAMED = "it names no reason in a line `refused: FUNCTION CLAUSE`"
+BY_A_NAME, BY_A_LIMIT = "only because a proof file names", "only by a limit of the prover"
+# What is said where the kit's line ends before the name of the clause: it passes on 160 letters of the prover's line.
+CUT = "a clause whose name the kit's line cuts"
+# Here the edits are of the network of which the runs are, and a run's premise refuses them.
+OF_NETWORKS = ("pim_served_runs",)
+# Where a goal isn't met: in a proof by hand, whose path ends with the function's name, or in the code.
+IN_PROOF = re.compile(r"\./proofs/(\S*)/(?:Answers|Invariants|Proof)\.antt:\d+:\d+: error: "
+                      r"(?:\d+ declarations? that depends? on )?`([^`]*)(`?)")
+IN_CODE = re.compile(r"(?:note: )?(src/\S+?):(\d+):\d+: (?:error: )?(.*)")
+GOAL = re.compile(r"\(`([^`]*)(`?)")
+
+
+@dataclass(frozen=True)
+class Reason:
+    """Why an edit is refused: the function whose contract isn't met, and the goal as far as the kit's line has it."""
+
+    found: object
+    goal: str
+    is_whole: bool
+
+    def __str__(self):
+        clause = clause_of(self.goal) if self.is_whole else f"{CUT} (`{self.goal}`)"
+        return f"{self.found.function} {clause}"
+
+    def is_of(self, clause):
+        """Whether the clause is this. Where the kit's line cuts its name, what is left of it has to be of no other
+        clause."""
+        if self.is_whole:
+            return clause_of(self.goal) == clause
+        _, named, begun = self.goal.rpartition("-clause-")
+        alike = {it for it in clauses(self.found) if it.startswith(begun)} if named and begun else set()
+        return alike == {clause}
+
+
+def clause_of(goal):
+    """The clause that a goal of the prover's is about: its name, or its kind where it has none."""
+    if re.search(r"(^|-)requires\b", goal):
+        return "requires"
+    if kind := re.match(r"invariant|loop", goal):
+        return kind[0]
+    if named := re.search(r"-clause-(\w+?)(?:-\d+)?$", goal):
+        return named[1]
+    return "ensures" if goal.startswith("returns") else re.split(r"[-_]", goal)[0]
+
+
+class Crate:
+    """A crate's folder, with the functions of its source."""
+
+    def __init__(self, folder):
+        self.folder, self.name = folder, folder.name
+        self.files = {str(path.relative_to(folder)): path.read_text(encoding="utf-8")
+                      for path in sorted((folder / "src").rglob("*.rt"))}
+        self.found = {path: functions(path, text) for path, text in self.files.items()}
+
+    def all(self):
+        return [one for found in self.found.values() for one in found]
+
+    def named(self, words):
+        """The functions that a name is of."""
+        return [one for one in self.all() if one.function.is_named(words)]
+
+    def proved_in(self, path):
+        """The functions whose proof stands in a folder below proofs/: its modules, its type with its trait, its
+        name."""
+        *parts, name = path.split("/")
+        return [one for one in self.all() if one.function.name == name and stands_in(one.function, parts)]
+
+
+def stands_in(function, parts):
+    """Whether a function has a folder of these modules and, at the end, this type with its trait and what tells it
+    apart."""
+    module = list(function.module)
+    if not function.owner:
+        return parts == module
+    return parts[:-1] == module and parts[-1].partition("+")[0].startswith(function.owner + function.trait)
+
+
+class Edit:
+    """An edit that must fail, with the reasons that it names."""
+
+    def __init__(self, path, crate):
+        self.path, self.crate, self.name = path, crate, path.stem
+        self.lines = path.read_text(encoding="utf-8").splitlines()
+        self.wanted = [tuple(line.split()[1:]) for line in self.lines if line.startswith("refused: ")]
+
+    def edited(self, file):
+        """A file of the crate as the edit leaves it."""
+        text, at, old = self.crate.files[file], "", ""
+        for line in self.lines:
+            if line.startswith("file: "):
+                at = line.removeprefix("file: ").strip()
+            elif line.startswith("old: "):
+                old = line.removeprefix("old: ")
+            elif line.startswith("new:") and at == file:
+                text = text.replace(old, line.removeprefix("new:").removeprefix(" "))
+        return text
+
+    def files(self):
+        return {line.removeprefix("file: ").strip() for line in self.lines if line.startswith("file: ")}
+
+    def misnames(self):
+        """What is wrong with the lines `refused:`; None where each is of one function."""
+        if not self.wanted:
+            return UNNAMED
+        for words in self.wanted:
+            found = self.crate.named(words[0]) if len(words) == 2 else []
+            if len(words) != 2 or not found:
+                return f"`refused: {' '.join(words)}` names no function of {self.crate.name} and a clause"
+            if len(found) > 1:
+                return f"`{words[0]}` may be {' or '.join(str(one.function) for one in found)}"
+        return None
+
+    def changes_a_contract(self):
+        """What the edit changes but code: a definition, a contract, a proof. None where it changes none."""
+        for file in sorted(self.files()):
+            if file not in self.crate.files:
+                if self.crate.name in OF_NETWORKS and file.startswith("specs/"):
+                    continue
+                return f"it changes {file}, which isn't code"
+            after, before = self.edited(file), self.crate.found[file]
+            now = [(one.function, one.contract) for one in functions(file, after)]
+            kept = [it for it in now if it[0] in {one.function for one in before}]
+            for one, it in zip_longest(before, kept):
+                if one is None or it != (one.function, one.contract):
+                    return f"it changes the contract of {one.function if one else it[0]}, or its proof"
+            if Counter(notes_beside(self.crate.files[file])) != Counter(notes_beside(after)):
+                return f"it changes what {file} says of its types"
+        return None
+
+    def function_at(self, file, number):
+        """The function that a line of the edited file stands in: the kit tells of a whole function by its first line,
+        which may be an attribute above it."""
+        text = self.edited(file)
+        is_above = text.splitlines()[number - 1].lstrip().startswith("#[")
+        found = functions(file, text)
+        below, above = ([one for one in found if (one.line > number) == after] for after in (True, False))
+        near = below[:1] if is_above else above[-1:]
+        return near[0] if near else None
+
+    def reason(self, told):
+        """The reason that the prover's line tells, as far as the kit passes it on, or None where it tells none."""
+        if found := IN_PROOF.match(told):
+            near = self.crate.proved_in(found[1])
+            return Reason(near[0], found[2], bool(found[3])) if len(near) == 1 else None
+        found = IN_CODE.match(told)
+        if not found or found[1] not in self.crate.files:
+            return None
+        one, goals = self.function_at(found[1], int(found[2])), GOAL.findall(found[3])
+        if one and "`invariant`" in found[3]:
+            return Reason(one, "invariant", True)
+        # A line that is cut may end before its goal begins.
+        goal, closed = goals[-1] if goals else ("", "")
+        return Reason(one, goal, bool(closed)) if one else None
+
+    def meets(self, told):
+        """Whether the prover's line tells one of the reasons that the edit names."""
+        reason = self.reason(told)
+        named = [words for words in self.wanted if reason and reason.found.function.is_named(words[0])]
+        return any(reason.is_of(clause) for _, clause in named)
+
+    def error(self):
+        """The error of the front end that is to refuse the edit; None where the prover is to."""
+        words = [word for words in self.wanted for word in words]
+        return words[0] if len(words) == 1 and ERROR.fullmatch(words[0]) else None
+
+    def wrong(self, said):
+        """What is wrong with the edit by the kit's words on it; None where it is refused as it says."""
+        if self.error() and said is not None:
+            return None if self.error() in ERROR.findall(said) else f"{said}; and not {self.error()}"
+        if said is not None and not said.startswith(REFUSED):
+            return said
+        if wrong := self.misnames() or self.changes_a_contract():
+            return wrong
+        if said is None:
+            return "it wasn't tried"
+        if BY_A_NAME in said:
+            return "it is refused only because a proof names what it takes away"
+        if BY_A_LIMIT in said:
+            return "the prover stopped at a limit and gave no verdict"
+        told = said.removeprefix(REFUSED).removeprefix(": ")
+        reason = self.reason(told)
+        if reason is None:
+            return f"the kit tells no goal that isn't met: {said}"
+        named = " or ".join(" ".join(words) for words in self.wanted)
+        return None if self.meets(told) else f"it is refused by {reason}, and not by {named}"

@@ -1,0 +1,68 @@
+"""What is told of a run of the kit's gate, by lines as the kit prints them."""
+import unittest
+
+from pimtext.told import Told
+
+NAMES = ["pim_ip", "pim_known", "pim_types", "pim_wire", "pim_world"]
+# As the kit prints of a crate that is proved, of one that isn't, and of tests.
+PROVED = """== pim_ip
+by-macro: thiserror::Error blocks=4
+struct pim_ip::addr::Addr: proved
+fn pim_ip::addr::Addr::octets: proved
+empty contracts: 0 found; tried 53 of 53 functions
+logic=proved functions=53 sum=dac8208d650f15bf native=nat,char,string
+rt: pim_ip proved"""
+NOT_PROVED = """== pim_wire
+fn pim_wire::read: proved
+note: src/read.rt:13:5: it is not proved that what the function ensures holds when it returns (`returns`)
+rt: pim_wire NOT PROVED"""
+LIBRARY_FAILED = "rt: pim_world NOT PROVED: its library pim_wire failed"
+TESTS = """== pim_known: its tests
+fn pim_known::known: proved
+logic=proved functions=7 sum=dac8208d650f15bf
+rt: pim_known: its tests are proved"""
+KEPT = "rt: pim_types is kept: an earlier run on this machine proved the same files over the same libraries"
+EDITS = "rt: must-fail pim_ip/counts_one_more.edit: refused, as it must be: note: src/addr.rt:1:1: it is not proved"
+
+
+class Lines(unittest.TestCase):
+    def setUp(self):
+        self.now = 0
+        self.told = Told(NAMES, lambda: self.now)
+
+    def of(self, text, now):
+        self.now = now
+        return [told for line in text.splitlines() for told in self.told.of(line)]
+
+    def test_a_line_a_crate(self):
+        self.assertEqual(["1 of 5 crates: pim_ip proved, 53 functions; 1 min 21 s so far; left: 4 crates"], self.of(PROVED, 81))
+        self.assertEqual(["2 of 5 crates: pim_types kept from an earlier run; 62 min 05 s so far; left: pim_known pim_wire pim_world"],
+                         self.of(KEPT, 3725))
+
+    def test_of_a_crate_that_is_not_proved_all_but_what_is_proved(self):
+        _, block, note, end, *more = self.of(f"{PROVED}\n{NOT_PROVED}", 5)
+        self.assertEqual(["== pim_wire", "rt: pim_wire NOT PROVED"], [block, end])
+        self.assertIn("src/read.rt:13:5", note)
+        self.assertEqual(["2 of 5 crates: pim_wire NOT PROVED; 0 min 05 s so far; left: pim_known pim_types pim_world"], more)
+
+    def test_a_crate_whose_library_failed(self):
+        self.assertEqual([LIBRARY_FAILED, "1 of 5 crates: pim_world NOT PROVED; 0 min 07 s so far; left: 4 crates"], self.of(LIBRARY_FAILED, 7))
+
+    def test_tests_and_edits(self):
+        self.assertEqual(["pim_known: its tests are proved; 0 min 09 s so far"], self.of(TESTS, 9))
+        self.assertEqual(["pim_ip: 3 edits are tried; 0 min 10 s so far"], self.of("rt: pim_ip: trying its must-fail edits (3)", 10))
+        self.assertEqual([], self.of(EDITS, 11))
+        self.assertEqual(["== pim_known: its tests", "rt: pim_known: its tests are NOT PROVED"],
+                         self.of("== pim_known: its tests\nrt: pim_known: its tests are NOT PROVED", 12))
+
+    def test_at_last_nothing_is_left_but_edits(self):
+        told = [line for name in NAMES for line in self.of(f"== {name}\nrt: {name} proved", 60)]
+        self.assertEqual("5 of 5 crates: pim_world proved, 0 functions; 1 min 00 s so far; left: edits and programs", told[-1])
+
+    def test_what_is_of_no_crate_is_passed_on(self):
+        for line in ("rt: FAILED: pim_wire", "rt: waiting for another rt ci in this copy of the repository to end", "a program printed this"):
+            self.assertEqual([line], self.told.of(line))
+
+
+if __name__ == "__main__":
+    unittest.main()
