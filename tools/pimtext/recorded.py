@@ -6,7 +6,7 @@ the ends alone. In a shape's texts an end stands as a moment of its own beyond a
 place.
 """
 import re
-from dataclasses import dataclass, field, replace
+from dataclasses import dataclass, field, fields
 from functools import cache
 
 from pimtext import packets, printed, story, trees, view_text, views, words
@@ -83,10 +83,21 @@ def row_words(router, row):
 
 
 def around(state):
-    """What a router knows beside its rows and their ends."""
-    queriers = tuple((iface, each.address) for iface, each in sorted(state.queriers.items()))
+    """What a router knows beside its rows, their ends and its queriers."""
     heard = tuple(sorted(state.hellos.items(), key=lambda pair: pair[0])), tuple(state.asserts.items())
-    return tuple(sorted(state.up)), tuple(state.routes), tuple(state.rps), queriers, heard
+    return tuple(sorted(state.up)), tuple(state.routes), tuple(state.rps), heard
+
+
+def queriers(state):
+    """The other routers that are queriers still."""
+    found = ((number, trees.querier_of(state, number)) for number in sorted(state.queriers))
+    return tuple((number, querier.address) for number, querier in found if querier is not None)
+
+
+def still(state, rows):
+    """A router's knowledge with other rows, which stays as it is."""
+    told = {each.name: getattr(state, each.name) for each in fields(state)}
+    return trees.Still(**{**told, "rows": rows})
 
 
 class Shapes:
@@ -101,10 +112,10 @@ class Shapes:
         rows, ends = marked(state.rows)
         if self.context is None or not is_context_kept:
             self.context = around(state)
-        key = rows, self.context
+        key = rows, self.context, queriers(state)
         if key not in self.numbers:
             self.numbers[key] = len(self.all)
-            self.all.append(self.made(replace(state, rows=list(rows))))
+            self.all.append(self.made(still(state, list(rows))))
         return self.numbers[key], ends
 
     def made(self, state):
