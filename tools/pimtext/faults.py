@@ -396,7 +396,8 @@ def iface_faults(router):
         if not is_host(iface.address):
             yield 31, iface.line, place, f"{dotted(iface.address)} is no host's address: 0.0.0.0, or 224.0.0.0 and above"
         if not 1 <= iface.length <= 31:
-            yield 32, iface.line, place, f"the prefix length of {shown} is {iface.length}: 1 to 31 may be"
+            way = f"; for an address alone write {dotted(iface.address)}/31" if iface.length == 32 else ""
+            yield 32, iface.line, place, f"the prefix length of {shown} is {iface.length}: 1 to 31 may be{way}"
         for before, other in enumerate(ifaces[:at]):
             if 1 <= iface.length <= 31 and 1 <= other.length <= 31 and overlaps(iface, other):
                 theirs = f"interface {before}, {dotted(other.address)}/{other.length}, in line {other.line}"

@@ -1,214 +1,242 @@
-"""What a scenario is often got wrong in, so that a stream doesn't come though nothing is refused.
+"""What is often got wrong in a network's settings, so that a stream doesn't come though nothing is refused: RPs, links and routes.
 
-Each is told where it is: at a move, a router or an interface. What the routers know is that of the run's end.
+Each is a cause, told at a router or an interface. What the routers know is that of the run's end.
 """
 from collections import Counter, defaultdict
 from difflib import SequenceMatcher
 from ipaddress import ip_address
 
-from pimtext import printed, spoken, trees
+from pimtext import printed, trees
+from pimtext.cause import Cause
 from pimtext.printed import ANY
-from pimtext.served import World
+from pimtext.run import some
 
 # How like one another two names of links are for one to be a slip for the other.
 ALIKE = 0.8
-ETHERNET = {b"\x08\x00": 14, b"\x81\x00": 18}
-
-
-def ethernet_bytes(data):
-    """How many bytes of an Ethernet header a packet begins with, 0 where it doesn't."""
-    size = ETHERNET.get(data[12:14], 0)
-    return size if size and data[size - 2:size] == b"\x08\x00" and data[size:size + 1] == b"\x45" else 0
 
 
 def most(values, is_better=lambda value: False):
     """The one that comes most often, of equal ones a better one, else the first; None of none."""
-    times = Counter(values)
-    return max(times, key=lambda value: (times[value], is_better(value)), default=None)
-
-
-def some(names, count=3):
-    names = list(names)
-    return ", ".join(names[:count]) + (" .." if len(names) > count else "")
+    counts = Counter(values)
+    return max(counts, key=lambda value: (counts[value], is_better(value)), default=None)
 
 
 class Mistakes:
-    """`lines` says the line of a move, a router or an interface."""
-
-    def __init__(self, played, steps, known, lines):
-        self.played, self.known, self.lines = played, known, lines
-        self.world, self.said = World(known), list(spoken.said(steps))
-        wishes = [pair for each in self.said for pair in each.wishes()]
-        self.asked = set(wishes) | set(spoken.joined(steps))
-        self.data = [each for each in self.said if each.is_data()]
-
-    # ---- where it is told
-
-    def at_move(self, step, text):
-        return self.lines.move(step.move), f"move {step.move} ({step.did['do']}), router {step.router}: {text}"
-
-    def at_router(self, name, text):
-        return self.lines.router(name), f"router {name}{text}"
-
-    def at_interface(self, router, number, text):
-        return self.lines.interface(router.name, number), f"router {router.name}, interface {number}: {text}"
+    def __init__(self, run):
+        self.run, self.world, self.known = run, run.world, run.known
 
     # ---- RPs
-
-    def groups(self):
-        """The groups that somebody asks for, sends to or knows, and that need an RP."""
-        found = {group for group, _ in self.asked} | {each.packet.destination for each in self.data}
-        found |= {row.group for state in self.known.values() for row in state.rows if hasattr(row, "group")}
-        return sorted((group for group in found if not trees.is_source_specific(group)), key=ip_address)
 
     def rps(self):
         """Routers of one network have one RP for a group."""
         other, unaware = defaultdict(list), defaultdict(list)
-        for group in self.groups():
+        for group in self.run.groups():
             by_name = {name: trees.rp_of(state, group) for name, state in self.known.items()}
             usual = most([rp for rp in by_name.values() if rp], lambda rp: self.world.owner(rp) is not None)
-            owner = self.world.owner(usual) if usual else None
+            owners = [state for state in self.known.values() if usual and state.router.has(usual)]
             for name, rp in by_name.items():
-                if owner is self.known[name] and rp != usual:
+                if self.known[name] in owners and rp != usual:
                     unaware[name, rp, usual].append(group)
                 elif rp and rp != usual:
                     other[name, rp, usual, next(each for each in by_name if by_name[each] == usual)].append(group)
-        for (name, rp, usual, peer), groups in other.items():
-            theirs = f"{usual} at router {peer} ({self.lines.words(self.lines.router(peer))})"
-            yield self.at_router(name, f": the RP of {some(groups)} is {rp} here, and {theirs}")
-        for (name, rp, usual), groups in unaware.items():
-            whom = f" is the RP of {some(groups)} to other routers, by its address {usual}"
-            own = f"takes {rp} for it" if rp else "has no RP for it itself"
-            yield self.at_router(name, f"{whom}, and {own}: it drops their Joins and stops their Registers")
+        for key, groups in other.items():
+            yield self.other_rp(*key, groups)
+        for key, groups in unaware.items():
+            yield self.unaware(*key, groups)
 
-    def dropped_joins(self):
-        """A Join of a shared tree counts only at a router that has the same RP."""
+    def other_rp(self, name, rp, usual, peer, groups):
+        theirs = f"{usual} at router {peer} ({self.run.lines.words(self.run.lines.router(peer))})"
+        told = f": the RP of {some(groups)} is {rp} here, and {theirs}"
+        kinds = ("rp disagrees", "no owner", "registers stopped")
+        return Cause(*self.run.at_router(name, told), lambda each: each.kind in kinds and each.group in groups)
+
+    def unaware(self, name, rp, usual, groups):
+        own = f"takes {rp} for it" if rp else "has no RP for it itself"
+        told = f" is the RP of {some(groups)} to other routers, by its address {usual}, and {own}"
+        covers = lambda each: each.router == name and each.kind in ("rp disagrees", "no rp") or (
+            each.kind == "registers stopped" and each.group in groups)
+        return Cause(*self.run.at_router(name, f"{told}: it drops their Joins and stops their Registers"), covers)
+
+    def without_rp(self):
+        """A group that is asked for has an RP, at its hosts' routers, at its sources' and between."""
+        nowhere = [group for group in self.run.groups() if not self.run.rps_of(group) and self.is_used(group)]
+        if nowhere:
+            name = next(iter(self.known))
+            told = f"no router has an RP for {some(nowhere)}"
+            yield Cause(self.run.lines.router(name), told, lambda each: each.kind == "no rp" and each.group in nowhere)
         for name, state in self.known.items():
-            for row in state.of(printed.Upstream, source=ANY):
-                hop = trees.upstream_neighbour(state, row.group, ANY)
-                above = self.world.owner(hop.address) if hop else None
-                rp = trees.rp_of(state, row.group)
-                # Where it is the RP itself, `rps` says so.
-                if above is not None and trees.rp_of(above, row.group) is None and not above.router.has(rp):
-                    told = f" has no RP for {row.group}, and drops the Joins of router {name} to {rp}"
-                    yield self.at_router(above.router.name, told)
+            groups = [group for group in self.run.groups() if group not in nowhere and trees.rp_of(state, group) is None]
+            if groups:
+                told = f" has no RP for {some(groups)}, which other routers have"
+                kinds = ("no rp", "rp disagrees")
+                yield Cause(*self.run.at_router(name, told), self.of_router(kinds, name, groups), is_hint=True)
 
-    def senders(self):
-        """The DR of a source registers with an RP that it can reach."""
-        pairs = dict.fromkeys((each.router, each.iface, each.packet.source, each.packet.destination) for each in self.data)
-        for name, iface, source, group in pairs:
-            state = self.known[name]
-            is_here = trees.rpf_interface(state, source) == iface and trees.is_connected(state, source)
-            if trees.is_source_specific(group) or not is_here or not trees.is_dr(state, iface):
-                continue
-            rp, whose = trees.rp_of(state, group), f" is the DR of the source {source}"
-            if rp is None:
-                yield self.at_router(name, f"{whose} and has no RP for {group}: it registers nothing")
-            elif not state.router.has(rp) and trees.route(state, rp) is None:
-                yield self.at_router(name, f"{whose} and has no route to {rp}, the RP of {group}")
+    def is_used(self, group):
+        return any(asked == group and source == ANY for asked, source in self.run.wished())
 
-    # ---- hosts
+    @staticmethod
+    def of_router(kinds, name, groups):
+        return lambda each: each.kind in kinds and each.router == name and each.group in groups
 
-    def reports(self):
-        """The DR of a link has to hear its hosts."""
-        for (name, iface, group), each in self.first_wishes().items():
-            state = self.known[name]
-            if iface in state.up and not trees.is_dr(state, iface) and not self.is_heard(state.link(iface), group):
-                dr = f"it isn't the DR of {state.link(iface)}, which is {self.world.named(trees.dr_of(state, iface))}"
-                told = f"{dr} and has no report of {group}: what a host sends comes to every router of its link"
-                yield self.at_move(each.step, told)
+    def nobody(self):
+        """An RP's address is that of a router."""
+        groups = defaultdict(list)
+        for group in self.run.groups():
+            for rp in self.run.rps_of(group):
+                if self.world.owner(rp) is None:
+                    groups[rp].append(group)
+        for rp, used in groups.items():
+            name = next(name for name, state in self.known.items() if any(trees.rp_of(state, group) == rp for group in used))
+            told = f": no router has the address {rp}, the RP of {some(used)}"
+            yield Cause(*self.run.at_router(name, told), self.of_address(rp), is_hint=True)
 
-    def first_wishes(self):
-        """The first report to each interface that asks for a group."""
-        pairs = [((each.router, each.iface, group), each) for each in self.said for group, _ in each.wishes()]
-        return dict(reversed(pairs))
+    @staticmethod
+    def of_address(address):
+        return lambda each: each.kind in ("no owner", "no route", "lost", "interface down", "no neighbour") and each.address == address
 
-    def is_heard(self, link, group):
-        """Whether a link's DR knows of hosts that want a group."""
-        ports = [(state, number) for state, number in self.world.ports[link] if trees.is_dr(state, number)]
-        return any(state.of(printed.GroupRecord, iface=number, group=group) for state, number in ports)
+    # ---- addresses
 
-    def sourceless(self):
-        """A group of the SSM range is asked for with its source."""
-        for (_, _, group), each in self.first_wishes().items():
-            if trees.is_source_specific(group) and (group, ANY) in each.wishes():
-                why = "and an SSM group has no tree but those of its sources: name one, by ALLOW or TO_IN"
-                yield self.at_move(each.step, f"it asks for {group} without a source, {why}")
+    def addresses(self):
+        """Each router's address is its alone."""
+        owners = defaultdict(list)
+        for link, ports in self.run.ports().items():
+            for name, interface in ports:
+                owners[interface.address].append((name, interface))
+        for address, ports in owners.items():
+            if len(ports) > 1:
+                yield self.address_twice(address, ports)
 
-    # ---- data
+    def address_twice(self, address, ports):
+        names, links = [name for name, _ in ports], {interface.link for _, interface in ports}
+        where = " and ".join(f"{name} (on {interface.link})" for name, interface in ports)
+        what = "each takes what the other sends for its own, and ignores it" if len(links) == 1 else \
+            "what is sent to it comes to one of them alone"
+        groups = [group for group in self.run.groups() if address in self.run.rps_of(group)]
 
-    def strangers(self):
-        """A source is on a link of its first router, or behind another router."""
-        for each in self.first(lambda each: (each.router, each.iface, each.packet.source)):
-            state, source = self.known[each.router], each.packet.source
-            own = state.router.interfaces[each.iface]
-            if ip_address(source) not in own.own.network and trees.rpf_interface(state, source) != each.iface:
-                where = f"isn't in {own.own.network}, the subnet of {own.link}, and no route leads to it there"
-                yield self.at_move(each.step, f"the source {source} {where}: it counts as no source of this link")
+        def covers(each):
+            is_own = each.cause == "Own" and each.router in names and each.host == address
+            is_there = each.link in links and len(links) == 1 and each.kind in ("twice", "no neighbour", "assert", "unwanted")
+            return is_own or is_there or (each.group in groups and each.kind in ("registers stopped", "no join", "rp disagrees"))
 
-    def unasked(self):
-        """Data go where somebody asks for them."""
-        for each in self.first(lambda each: (each.packet.source, each.packet.destination)):
-            group, source = each.packet.destination, each.packet.source
-            wanted = {of for asked, of in self.asked if asked == group}
-            if not wanted:
-                others = sorted({asked for asked, _ in self.asked}, key=ip_address)
-                told = f"; asked for is {some(others)}" if others else ""
-                yield self.at_move(each.step, f"nobody asks for {group} in this run{told}")
-            elif not wanted & {ANY, source}:
-                told = f"{group} is asked for of {some(sorted(wanted, key=ip_address))} alone, and this is data of {source}"
-                yield self.at_move(each.step, told)
+        text = f": {address} is the address of two interfaces, {where}: {what}"
+        return Cause(*self.run.at_router(names[-1], text), covers)
 
-    def first(self, key):
-        """The data, one of each key."""
-        return {key(each): each for each in reversed(self.data)}.values()
+    def host_addresses(self):
+        """A host's address is no router's."""
+        sources = {packet.source: packet.link for packet in self.run.packets if packet.link}
+        for host, link in {**sources, **self.run.hosts.links}.items():
+            owner = self.world.owner(host)
+            if owner is not None:
+                told = f": {host} is also the address of a host on {link}, and {owner.router.name} takes what that sends for its own"
+                covers = lambda each, host=host: each.host == host and (each.cause == "Own" or each.kind in ("unwanted", "odd", "refused"))
+                yield Cause(*self.run.at_router(owner.router.name, told), covers)
 
     # ---- links
 
     def subnets(self):
         """The routers of a link have one subnet there."""
-        for link, ports in self.ports().items():
+        for link, ports in self.run.ports().items():
             usual = most([interface.own.network for _, interface in ports])
-            router, there = next((router, each) for router, each in ports if each.own.network == usual)
+            router, there = next((name, each) for name, each in ports if each.own.network == usual)
             for other, interface in ports:
                 if interface.own.network != usual:
-                    line = self.lines.words(self.lines.interface(router.name, there.number))
-                    both = f"it has {interface.own} on the link {link}, and router {router.name} has {there.own} ({line})"
-                    what = "masks" if usual.overlaps(interface.own.network) else "subnets"
-                    yield self.at_interface(other, interface.number, f"{both}: two {what} on one link")
+                    yield self.other_subnet(link, other, interface, router, there)
 
-    def ports(self):
-        """The interfaces of each link, with their routers."""
-        found = defaultdict(list)
-        for router in self.played.routers:
-            for interface in router.interfaces:
-                found[interface.link].append((router, interface))
-        return found
+    def other_subnet(self, link, other, interface, router, there):
+        line = self.run.lines.words(self.run.lines.interface(router, there.number))
+        both = f"it has {interface.own} on the link {link}, and router {router} has {there.own} ({line})"
+        what = "masks" if there.own.network.overlaps(interface.own.network) else "subnets"
+        covers = lambda each: each.link == link and each.kind in ("stranger", "no neighbour", "no route")
+        return Cause(*self.run.at_interface(other, interface.number, f"{both}: two {what} on one link"), covers)
+
+    def links_of_subnets(self):
+        """A subnet is that of one link."""
+        found = {}
+        for link, ports in self.run.ports().items():
+            for name, interface in ports:
+                before = found.setdefault(interface.own.network, (link, name))
+                is_same = any(each.own == interface.own for _, each in self.run.ports()[before[0]])
+                if before[0] != link and not is_same:
+                    told = f"{interface.own.network} is the subnet of {link} here, and of {before[0]} at router {before[1]}"
+                    yield Cause(*self.run.at_interface(name, interface.number, told))
 
     def link_names(self):
         """A link that one interface has, and whose name is almost that of another link; where both are so, each is told."""
-        ports = self.ports()
+        ports = self.run.ports()
         for link, ((router, interface), *others) in ports.items():
             near = None if others else next((name for name in ports if name != link and self.is_near(ports, name, link)), None)
             if near is not None:
-                yield self.at_interface(router, interface.number, f"no other interface is on the link {link}; is {near} meant?")
+                told = f"no other interface is on the link {link}; is {near} meant?"
+                covers = lambda each, interface=interface: each.kind == "no neighbour" and each.link == interface.link
+                yield Cause(*self.run.at_interface(router, interface.number, told), covers)
 
     @staticmethod
     def is_near(ports, name, link):
-        """Alike, but not told apart by their digits; or of one subnet."""
-        if any(each.own.network == ports[link][0][1].own.network for _, each in ports[name]):
+        """Alike, but not told apart by their digits; or of one subnet. An address that both have is told elsewhere."""
+        own = ports[link][0][1].own
+        if any(each.own == own for _, each in ports[name]):
+            return False
+        if any(each.own.network == own.network for _, each in ports[name]):
             return True
         digits = [[char for char in text if char.isdigit()] for text in (name, link)]
         ratio = SequenceMatcher(None, name.casefold(), link.casefold()).ratio()
         return digits[0] == digits[1] and ratio >= ALIKE
 
-    # ---- all
+    # ---- routes
 
-    def of_routers(self):
-        """Each with its line: what is told at routers and interfaces."""
-        for told in (self.rps, self.dropped_joins, self.senders, self.subnets, self.link_names):
-            yield from told()
+    def loops(self):
+        """A route leads to where its address is."""
+        told = set()
+        for address in self.wanted_addresses():
+            for name in self.known:
+                circle = self.circle(name, address)
+                key = (address, frozenset(circle))
+                if circle and key not in told:
+                    told.add(key)
+                    text = f": the routes to {address} run in a circle, from {' to '.join([*circle, circle[0]])}"
+                    covers = lambda each, address=address: each.kind == "circle" and each.address == address
+                    yield Cause(*self.run.at_router(circle[0], text), covers)
 
-    def of_moves(self):
-        for told in (self.reports, self.sourceless, self.strangers, self.unasked):
-            yield from told()
+    def wanted_addresses(self):
+        """The sources and RPs that are in use."""
+        found = {packet.source for packet in self.run.packets} | {source for _, source in self.run.wished() if source != ANY}
+        return sorted(found.union(*(self.run.rps_of(group) for group in self.run.groups())), key=ip_address)
+
+    def circle(self, name, address):
+        """The routers of a circle that the routes from one to an address run in; empty where they don't."""
+        seen = []
+        while name not in seen:
+            seen.append(name)
+            path = trees.route(self.known[name], address)
+            above = None if path is None or path.is_connected else self.world.owner(path.next_hop)
+            if above is None:
+                return []
+            name = above.router.name
+        return seen[seen.index(name):]
+
+    def next_hops(self):
+        """A next hop is a router's address on the link of the route's interface."""
+        for name, state in self.known.items():
+            for row in state.of(printed.Upstream):
+                path = trees.route(state, trees.root_of(state, row.group, row.source))
+                if path is not None and not path.is_connected and not self.is_there(state, path):
+                    root = trees.root_of(state, row.group, row.source)
+                    told = f": its route to {root} leads to {path.next_hop} on {state.link(path.iface)}, and no router there has that address"
+                    covers = lambda each, name=name, hop=path.next_hop: each.router == name and each.kind == "no neighbour" and each.address == hop
+                    yield Cause(*self.run.at_router(name, told), covers)
+
+    def is_there(self, state, path):
+        """A router of the scenario, or from outside, has the address of a next hop."""
+        own = any(interface.address == path.next_hop for _, interface in self.run.ports()[state.link(path.iface)])
+        return own or bool(state.of(printed.Neighbour, iface=path.iface, address=path.next_hop))
+
+    def causes(self):
+        """Those that explain others come first."""
+        parts = (self.addresses, self.host_addresses, self.rps, self.nobody, self.without_rp, self.loops, self.next_hops)
+        for told in (*parts, self.subnets, self.links_of_subnets, self.link_names):
+            yield from once(told())
+
+
+def once(causes):
+    """Causes of one text once."""
+    return {(cause.line, cause.text): cause for cause in causes}.values()

@@ -1,12 +1,11 @@
-"""What a reader would wonder about in the run of a scenario, each note with its line in the file."""
+"""What moves of a run were refused or ignored, in words, and which packets nobody took: each a symptom with its line in the file."""
 from collections import Counter
 
-from pimtext import limit, packets, printed, reasons, story, trees, words
+from pimtext import packets, story, trace, wishes, words
+from pimtext.cause import Symptom
 from pimtext.faults import MOST_ROUTES, MOST_RPS, Judge, list_faults, route_fault, rp_fault
-from pimtext.mistakes import Mistakes, ethernet_bytes
 
-# No Hello waits longer after `up`, in ms.
-HELLO_DELAY = 5_000
+ETHERNET = {b"\x08\x00": 14, b"\x81\x00": 18}
 
 # What the refusals of moves, and the reasons to ignore them, mean.
 MEANINGS = {
@@ -35,6 +34,12 @@ MEANINGS = {
 }
 
 
+def ethernet_bytes(data):
+    """How many bytes of an Ethernet header a packet begins with, 0 where it doesn't."""
+    size = ETHERNET.get(data[12:14], 0)
+    return size if size and data[size - 2:size] == b"\x08\x00" and data[size:size + 1] == b"\x45" else 0
+
+
 class Lines:
     """Where moves, routers and interfaces stand in the file that `judge` read."""
 
@@ -57,59 +62,76 @@ class Lines:
 
 
 class Notes:
-    """A run beside its file: `judge` read the file, `played` is the same as a scenario, and `places` says the lines."""
+    """The odd steps of a run: `judge` read the file."""
 
-    def __init__(self, judge, played, lines, places=None):
-        self.judge, self.played, self.places = judge, played, places or Lines(judge)
-        self.steps, self.tables = story.played(played, lines)
-        self.known = trees.known(played, self.steps, self.tables)
+    def __init__(self, judge, run):
+        self.judge, self.run, self.played, self.steps = judge, run, run.played, run.steps
         self.sent = [sent for step in self.steps for sent in step.sent]
 
     def at_move(self, number, text):
-        return self.places.move(number), f"move {number} ({self.played.moves[number - 1]['do']}){text}"
-
-    def at_router(self, name, text):
-        return self.places.router(name), f"router {name}{text}"
+        return self.run.lines.move(number), f"move {number} ({self.played.moves[number - 1]['do']}){text}"
 
     # ---- moves that were refused or ignored, and settles that stopped
 
-    def moves(self):
-        odd = Counter((step.move, step.router, step.verdict, step.cause) for step in self.steps if step.verdict != "done")
+    def odd(self):
+        """Those of one router, one reason and one sender are one symptom."""
+        found = {}
+        for step in self.steps:
+            if step.verdict != "done":
+                found.setdefault(self.key(step), []).append(step)
+        for steps in found.values():
+            yield self.symptom(steps)
         made = Counter(step.move for step in self.steps if step.is_settle())
-        for number in range(1, len(self.played.moves) + 1):
-            for (move, router, verdict, cause), times in odd.items():
-                if move == number:
-                    yield self.at_move(number, f", router {router}: {self.odd(number, router, verdict, cause, times)}")
-            if made[number] >= story.SETTLE_LIMIT:
+        for number, count in made.items():
+            if count >= story.SETTLE_LIMIT:
                 limit = f"its limit of {story.SETTLE_LIMIT} deliveries"
-                yield self.at_move(number, f" stopped at {limit}, and later packets wait for the next settle: is there a loop?")
+                told = f" stopped at {limit}, and later packets wait for the next settle: is there a loop?"
+                yield Symptom("odd", *self.at_move(number, told))
 
-    def odd(self, number, router, verdict, cause, times):
-        is_settle = self.played.moves[number - 1]["do"] == "settle"
-        whom = f"{times} deliveries were" if times > 1 else "a delivery was" if is_settle else "it was"
-        return f"{whom} {words.answer(verdict, cause)}: {self.meaning(number, router, cause)}"
+    def key(self, step):
+        what = self.meaning(step.move, step.router, step.cause)
+        return step.router, step.iface, step.verdict, step.cause, what, self.what(step), step.is_settle()
+
+    @staticmethod
+    def what(step):
+        """What was refused or ignored: whose packets."""
+        data = step.taken()
+        if not data or len(data) < 20:
+            return f"moves `{step.did['do']}`"
+        source = packets.dotted(data[12:16])
+        if trace.names(data):
+            return f"packets of data of {source}"
+        return f"IGMP messages of {source}" if wishes.igmp_of(data) else f"PIM messages of {source}"
+
+    def symptom(self, steps):
+        first, number = steps[0], steps[0].move
+        link = self.link(first)
+        meaning = self.meaning(number, first.router, first.cause)
+        many = f"{len(steps)} {self.what(first)} were" if len(steps) > 1 else "a delivery was" if first.is_settle() else "it was"
+        last = f", up to move {steps[-1].move}" if steps[-1].move != number else ""
+        line, told = self.at_move(number, f", router {first.router}: {many} {words.answer(first.verdict, first.cause)}{last}")
+        data = first.taken()
+        host = packets.dotted(data[12:16]) if data and len(data) >= 20 else None
+        at = self.steps.index(first)
+        return Symptom("odd", line, told, first.router, link, None, first.cause, host=host, alone=f"{told}: {meaning}", at=at)
+
+    def link(self, step):
+        interfaces = self.played.router(step.router).interfaces
+        return interfaces[step.iface].link if step.iface is not None and step.iface < len(interfaces) else None
 
     def meaning(self, number, router, cause):
         if cause in ("25", "26"):
             return self.wrong_list(number, router, cause == "25")
         if cause == "27":
             return self.no_delivery(number, router)
-        if cause == "24":
-            return MEANINGS[cause] + self.taken_along(number, router)
-        count = len(self.known[router].router.interfaces)
+        count = len(self.played.router(router).interfaces)
+        bytes_given = len(self.played.moves[number - 1].get("hex", "")) // 2
+        if cause == "4" and bytes_given > packets.MOST_IN_A_FRAME and self.played.moves[number - 1]["do"] == "frame":
+            return f"a packet on a link has at most {packets.MOST_IN_A_FRAME} bytes, and this one has {bytes_given}"
         size = ethernet_bytes(bytes.fromhex(self.played.moves[number - 1].get("hex", ""))) if len(cause) == 1 else 0
         if size:
             return f"the bytes begin with an Ethernet header: leave out its {size} bytes, the first {2 * size} digits"
         return MEANINGS[cause] + (f", and it has {count}" if cause == "22" else "")
-
-    def taken_along(self, number, router):
-        """What a move that the limit refused says again of the router's facts."""
-        refused = [step for step in self.steps if (step.move, step.router, step.cause) == (number, router, "24")]
-        rows = list(dict.fromkeys(row for step in refused for row in limit.said_again(self.played, step)))
-        if not rows:
-            return ""
-        shown = ", ".join(map(limit.told, rows[:4])) + (" .." if len(rows) > 4 else "")
-        return f". It is refused whole, so what it says again isn't refreshed, and ends as if it hadn't come: {shown}"
 
     def wrong_list(self, number, router, is_routes):
         """What is wrong with the routes or ranges of a move."""
@@ -128,59 +150,17 @@ class Notes:
         before = [sent for sent in self.sent if sent.move < number]
         if not 1 <= did["frame"] <= len(before):
             return f"there is no packet {did['frame']} yet: {len(before)} were sent before, counted from 1"
-        sent, interfaces = before[did["frame"] - 1], self.known[router].router.interfaces
+        sent, interfaces = before[did["frame"] - 1], self.played.router(router).interfaces
         if sent.is_unicast():
             return f"packet {sent.number} is a unicast, which `carry` brings"
         iface = did["iface"]
         there = f"interface {iface} is on {interfaces[iface].link}" if iface < len(interfaces) else f"it has no interface {iface}"
         return f"packet {sent.number} was sent on the link {sent.where}, and {there}"
 
-    # ---- time and interfaces
-
-    def routers(self):
-        advanced = {did["router"] for did in self.played.moves if did["do"] == "advance"}
-        for name, known in self.known.items():
-            up = {step.iface: step.moment for step in self.steps if self.is_up(step, name)}
-            for interface in known.router.interfaces:
-                if interface.number not in up:
-                    told = f": interface {interface.number} (link {interface.link}) never goes up: it needs a move `up`"
-                    yield self.at_router(name, told)
-            if name not in advanced:
-                told = ": its clock stands at 0, so no timer of it ends, and no Hello leaves it of itself"
-                yield self.at_router(name, " is never advanced" + told)
-                continue
-            for number in sorted(known.up - self.greeted(name)):
-                yield from self.silent(name, number, up[number] + HELLO_DELAY)
-
-    @staticmethod
-    def is_up(step, name):
-        return step.router == name and step.did["do"] == "up" and step.verdict == "done"
-
-    def greeted(self, name):
-        """The interfaces of a router that a Hello has left."""
-        mine = [sent for sent in self.sent if sent.router == name and sent.kind == "frame"]
-        return {story.sending_interface(self.played, sent) for sent in mine if isinstance(sent.packet().body, packets.Hello)}
-
-    def silent(self, name, number, until):
-        moment = self.tables[name].moment
-        if moment < until:
-            told = f": no Hello has left interface {number}: it leaves by moment {until}, and the router was advanced to {moment}"
-            yield self.at_router(name, told)
-
-    # ---- trees whose Joins reach nobody
-
-    def trees(self):
-        for name, known in self.known.items():
-            for row in known.of(printed.Upstream):
-                why = reasons.why_no_join(known, row.group, row.source)
-                if why:
-                    told = f" has joined {words.tree(row.group, row.source)}, and {why}, so it sends no Join"
-                    yield self.at_router(name, told)
-
     # ---- packets that nobody took
 
     def undelivered(self):
-        last = max((at for at, did in enumerate(self.played.moves, 1) if did["do"] == "settle"), default=0)
+        last = self.run.wire.last
         named = {did["frame"] for did in self.played.moves if "frame" in did}
         links = Counter(interface.link for router in self.played.routers for interface in router.interfaces)
         left = [sent for sent in self.sent if sent.move > last and sent.number not in named]
@@ -188,15 +168,5 @@ class Notes:
         if left:
             shown = ", ".join(left[:6]) + (" .." if len(left) > 6 else "")
             reach = f"{len(left)} packets reach" if len(left) > 1 else "a packet reaches"
-            yield self.at_move(len(self.played.moves), f": {reach} nobody, since no settle or deliver comes after: {shown}")
-
-
-def notes(judge, played, lines, places=None):
-    """The notes of a run, each `LINE: text`, by the lines of the moves, then by those of the routers. Where `places` says
-    the lines, it is a network of tools/lab: packets that reach nobody are lost on purpose there."""
-    found = Notes(judge, played, lines, places)
-    mistakes = Mistakes(played, found.steps, found.known, found.places)
-    moves = [*found.moves(), *mistakes.of_moves()]
-    routers = [*found.routers(), *found.trees(), *mistakes.of_routers()]
-    for part in (moves, routers, [] if places else found.undelivered()):
-        yield from (f"{line}: {text}" for line, text in sorted(part, key=lambda note: note[0]))
+            told = f": {reach} nobody, since no settle or deliver comes after: {shown}"
+            yield Symptom("unheard", *self.at_move(len(self.played.moves), told))

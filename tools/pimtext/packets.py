@@ -412,6 +412,12 @@ def write_report(host, records, service=0):
     return write_igmp(host, "224.0.0.22", body, service)
 
 
+def write_old_report(host, group, is_leave=False):
+    """What a host tells its routers by IGMPv2: that it wants a group, or wants it no more."""
+    body = bytes([0x17 if is_leave else 0x16, 0, 0, 0]) + octets(group)
+    return write_igmp(host, "224.0.0.2" if is_leave else group, body)
+
+
 def write_data(source, group, payload, ttl=16, port=5000):
     """A UDP packet with its checksum."""
     size = 8 + len(payload)

@@ -1,9 +1,13 @@
-"""Whether a host is served: the way of a source's packets by what the routers know, hop by hop, where it ends, and why."""
+"""The way of a source's packets to a host by what the routers know: hop by hop, where it ends, and why.
+
+It is what the macros of RFC 7761 make of the routers' tables. What really came of packets that were sent is in pimtext.died.
+"""
 from collections import defaultdict
 from dataclasses import dataclass
 from ipaddress import ip_address
 
-from pimtext import printed, reasons, spoken, trees, words
+from pimtext import printed, reasons, trees, words
+from pimtext.ends import End
 from pimtext.printed import ANY
 
 
@@ -56,6 +60,11 @@ class World:
         """An address with its router's name."""
         owner = self.owner(address)
         return address if owner is None else f"{owner.router.name} ({address})"
+
+    def every(self, address):
+        """The same of a router that may have gone, or of several that have the address."""
+        names = [state.router.name for state in self.known.values() if state.router.has(address)]
+        return f"{' and '.join(names)} ({address})" if names else address
 
     def link_of(self, address):
         """The link whose subnet has an address, None where none has."""
@@ -157,30 +166,49 @@ def onward(world, hop, by_link):
 
 
 def serving(world, group, source, link):
-    """The router that serves the hosts of a link; None and why where none does."""
+    """The router that serves the hosts of a link; else None, and why there is none."""
     here = world.ports[link]
     for state, number in here:
         wanted = trees.included(state, group, source) | (trees.included(state, group, ANY) - trees.excluded(state, group, source))
         if number in wanted:
-            return state, ""
+            return state, None
     if not here:
-        return None, f"no router has an interface on {link} that is up"
-    for state, number in here:
-        against = reasons.unserved(state, group, source, number)
-        if against and reasons.causes(state, group, source, number):
-            return None, f"{state.router.name} knows of its wish, but {'; '.join(against)}"
-    return None, unwanted(here, group, source, link)
+        return None, End("down", f"no router has an interface on {link} that is up", link=link)
+    drs = [(state, number) for state, number in here if trees.is_dr(state, number)]
+    if not drs:
+        return None, absent_dr(world, here, link)
+    for state, number in drs:
+        lost = reasons.lost(state, group, source, number)
+        if lost and reasons.causes(state, group, source, number):
+            told = f"{state.router.name}, the DR of {link}, lost the assert of ({lost[0].source}, {group}) to {lost[0].winner}"
+            return None, End("assert", told, state.router.name, link, lost[0].winner)
+    return None, unwanted(drs, group, source, link)
 
 
-def unwanted(here, group, source, link):
-    """Why no router takes it that hosts of a link want the packets."""
-    for state, number in here:
-        named = sorted({row.source for row in state.of(printed.SourceRecord, iface=number, group=group)})
-        if state.of(printed.GroupRecord, iface=number, group=group, mode="include") and named:
-            return f"hosts on {link} want {group} of {', '.join(named)} alone"
-        if number in trees.excluded(state, group, source):
-            return f"hosts on {link} want {group}, but not of {source}"
-    return f"no router on {link} knows of a host that wants {group}: none has asked, or its membership is over"
+def absent_dr(world, here, link):
+    """The routers of a link take somebody for its DR who isn't there."""
+    state, number = here[0]
+    address = trees.dr_of(state, number)
+    if any(other.router.interfaces[port].address == address for other, port in here):
+        told = f"each router on {link} takes another one for its DR: {state.router.name} takes {world.every(address)} for it"
+        return End("dead dr", told, state.router.name, link, address)
+    until = state.of(printed.Neighbour, iface=number, address=address)[0].end
+    gone = f"{world.every(address)}, which is gone from {link}, and takes it for a neighbour until {words.seconds(until)}"
+    return End("dead dr", f"{state.router.name} isn't the DR of {link}: it takes that to be {gone}", state.router.name, link, address)
+
+
+def unwanted(drs, group, source, link):
+    """Why the DR of a link doesn't take it that hosts there want the packets."""
+    state, number = drs[0]
+    name, wants = state.router.name, f"to {state.router.name}, the DR of {link}, hosts there want {group}"
+    named = sorted({row.source for row in state.of(printed.SourceRecord, iface=number, group=group) if row.end is not None})
+    if state.of(printed.GroupRecord, iface=number, group=group, mode="include") and named:
+        return End("unwanted", f"{wants} of {', '.join(named)} alone", name, link)
+    if number in trees.excluded(state, group, source):
+        return End("excluded", f"{wants}, but not of {source}", name, link)
+    if trees.is_source_specific(group) and state.of(printed.GroupRecord, iface=number, group=group):
+        return End("unwanted", f"{wants} without a source, and an SSM group has no tree but those of its sources", name, link)
+    return End("unwanted", f"{name}, the DR of {link}, knows of no host that wants {group}", name, link)
 
 
 def has_joined(state, group, source):
@@ -203,33 +231,68 @@ def next_up(world, state, group, tree):
     """The router to which one sends its Joins, and the link between; else None, and why there is none."""
     name, root = state.router.name, trees.root_of(state, group, tree)
     if root is None:
-        return None, f"{name} has no RP for {group}"
+        return None, End("no rp", f"{name} has no RP for {group}", name)
     whom = f"the RP {root}" if tree == ANY else f"the source {root}"
     path, hop = trees.route(state, root), trees.upstream_neighbour(state, group, tree)
     if path is None:
-        return None, f"{name} has no route to {whom}"
+        return None, no_route(world, state, root, whom, tree == ANY)
+    link = state.link(path.iface)
     if hop is None:
-        where = words.place(state.router, path.iface)
-        return None, f"{name} sends no Join towards {whom}: {world.named(path.next_hop)} on {where} is no neighbour"
+        told = f"{world.named(path.next_hop)} on {link}, the next hop of {name} towards {whom}, is no neighbour of it"
+        return None, End("no neighbour", told, name, link, path.next_hop)
     above = world.owner(hop.address)
     if above is None:
-        return None, f"{name} sends its Joins to {hop.address}, which no router here has"
-    return above, state.link(path.iface)
+        return None, End("no owner", f"{name} sends its Joins to {hop.address}, which no router here has", name, link, hop.address)
+    told = dropped(state, above, group) if tree == ANY else None
+    return (None, told) if told else (above, link)
+
+
+def dropped(state, above, group):
+    """A Join of a shared tree counts only at a router that has the same RP; None where it does."""
+    name, other, rp, theirs = state.router.name, above.router.name, trees.rp_of(state, group), trees.rp_of(above, group)
+    if theirs == rp:
+        return None
+    has = f"has no RP for {group}" if theirs is None else f"has {theirs} as the RP of {group}"
+    return End("rp disagrees", f"{other} {has}, and drops the Joins of {name} to {rp}", other, None, rp)
+
+
+def no_route(world, state, root, whom, is_rp_wanted):
+    """Why a router has no route to an RP or a source."""
+    name = state.router.name
+    found = trees.longest([(each.prefix, each) for each in state.routes], ip_address(root))
+    if is_rp_wanted and found is None and world.owner(root) is None:
+        return End("no owner", f"no router has the address {root}, and {name} no route to it", name, None, root)
+    if found is None:
+        return End("no route", f"{name} has no route to {whom}", name, None, root)
+    link = state.link(found.iface)
+    return End("interface down", f"{name}'s interface on {link}, which leads to {whom}, is down", name, link, root)
 
 
 def climb(world, group, source, state, link):
-    """The rungs from a host's router up to the root, the source's router or the RP; and why they end before it, or ""."""
+    """The rungs from a host's router up to the root, the source's router or the RP; and why they end before it, or None."""
     rungs, tree = [], tree_at(state, group, source)
     while all(rung.state is not state or rung.source != tree for rung in rungs):
         rungs.append(Rung(state, link, tree))
         if trees.is_connected(state, source) if tree == source else is_rp(state, group):
-            return rungs, ""
+            return rungs, None
         above, told = next_up(world, state, group, tree)
         if above is None:
             return rungs, told
         state, link = above, told
         tree = source if tree == source else tree_at(state, group, source)
-    return rungs, f"the Joins run in a circle by {state.router.name}"
+    names = [rung.state.router.name for rung in rungs]
+    round_ = " to ".join([*names[names.index(state.router.name):], state.router.name])
+    root = trees.root_of(state, group, tree)
+    return rungs, End("circle", f"the Joins towards {root} run in a circle, from {round_}", state.router.name, link, root)
+
+
+def parted(group, source, rungs):
+    """The first rung from the host up that nothing asks for the packets on the link below; None where all are asked."""
+    for below, rung in zip(rungs, rungs[1:]):
+        numbers = [each.number for each in rung.state.router.on(rung.link)]
+        if not any(reasons.causes(rung.state, group, source, number) for number in numbers):
+            return stopped(rung.state, group, source, rung.link, below.state)
+    return None
 
 
 # ---- why it ends
@@ -239,18 +302,31 @@ def unregistered(world, group, source, link):
     """Why the RP has no packets of a source."""
     drs = [state for state, number in world.ports[link] if trees.is_dr(state, number)]
     if not drs:
-        return f"no router on {link} is the DR of {source}"
+        return End("not the source's dr", f"no router on {link} is the DR of {source}", link=link)
     name, rp = drs[0].router.name, trees.rp_of(drs[0], group)
     if rp is None:
-        return f"{name}, the DR of {source}, has no RP for {group}"
-    owner = world.owner(rp)
+        return End("no rp", f"{name}, the DR of {source}, has no RP for {group}", name)
+    return registers_end(world, drs[0], group, source, rp)
+
+
+def registers_end(world, dr, group, source, rp):
+    """Why nothing comes of what a DR registers."""
+    name, owner = dr.router.name, world.owner(rp)
+    if dr.router.has(rp):
+        told = f"{name} is the RP of {group} to itself, by its address {rp}, so it registers nothing, and no Join for it came to {name}"
+        return End("registers stopped", told, name, None, rp)
     if owner is None:
-        return f"{name}, the DR of {source}, registers with {rp}, which no router here has"
+        return End("no owner", f"{name} registers with {rp}, which no router here has", name, None, rp)
     if not is_rp(owner, group):
         own = trees.rp_of(owner, group)
         told = f"has {own} as its RP" if own else "has no RP for it"
-        return f"{name} registers {group} with {world.named(rp)}, which {told}, and stops the Registers"
-    return f"the Registers of {name} are stopped, and {world.named(rp)} has not joined ({source}, {group})"
+        told = f"{name} registers {group} with {world.named(rp)}, which {told}, and stops the Registers"
+        return End("rp disagrees", told, owner.router.name, None, rp)
+    rows = dr.of(printed.Active, group=group, source=source)
+    if any(row.register in ("prune", "pending") for row in rows):
+        told = f"the Registers of {name} are stopped, and {world.named(rp)} has no packets of ({source}, {group}) by its own tree"
+        return End("registers stopped", told, name, None, rp)
+    return End("registers stopped", f"{name} sends no Registers of ({source}, {group}) to {world.named(rp)}", name, None, rp)
 
 
 def stopped(state, group, source, link, below):
@@ -258,15 +334,18 @@ def stopped(state, group, source, link, below):
     numbers = [each.number for each in state.router.on(link)]
     name = state.router.name
     if not set(numbers) & state.up:
-        return f"{name} has no interface on {link} that is up"
+        return End("interface down", f"{name} has no interface on {link} that is up", name, link)
     for number in numbers:
         against = reasons.obstacles(state, group, source, number)
         if against:
-            return f"{name}, on {words.place(state.router, number)}: {'; '.join(against)}"
-    whose = f"no Join for {group} of {below.router.name} is there" if below else "no wish of a host is there"
+            kind = "assert" if "assert" in against[0] else "pruned" if "Prune" in against[0] else "unwanted"
+            return End(kind, f"{name}, on {words.place(state.router, number)}: {'; '.join(against)}", name, link)
     if any(reasons.causes(state, group, source, number) for number in numbers):
-        whose = "the packets come from there"
-    return f"{name}, on {words.place(state.router, numbers[0])}: {whose}"
+        return End("rpf", f"{name}, on {words.place(state.router, numbers[0])}: the packets come from there", name, link)
+    if below is None:
+        return End("unwanted", f"{name}, on {words.place(state.router, numbers[0])}: no wish of a host is there", name, link)
+    told = f"{name}, on {words.place(state.router, numbers[0])}: no Join for {group} of {below.router.name} is there"
+    return End("no join", told, name, link, below.router.name)
 
 
 # ---- in words
@@ -288,75 +367,21 @@ def waiting_line(rung, group):
     return f"  {rung.state.router.name} waits for it: it is to come by ({rung.source}, {group})"
 
 
-def ended(world, group, source, origin, link):
-    """The lines of a stream that doesn't come to a host's link; the last one says why."""
-    state, why = serving(world, group, source, link)
+def expected(world, group, source, origin, link):
+    """By what the routers know: whether packets would come to a host's link, the lines of their way, and the end where they don't."""
+    hops, by_link = flow(world, group, source, origin)
+    state, end = serving(world, group, source, link)
+    if link in by_link and state is not None:
+        return [hop_line(world, hop, group, source) for hop in by_link[link].way()], None
     if state is None:
-        return [why]
-    hops, _ = flow(world, group, source, origin)
+        return [], end
     rungs, broken = climb(world, group, source, state, link)
     came = {hop.state.router.name: hop for hop in hops if hop.taken.by or trees.is_connected(hop.state, source)}
     place = next((at for at, rung in enumerate(rungs) if rung.state.router.name in came), None)
     waiting = [waiting_line(rung, group) for rung in reversed(rungs[:place])]
     if place is None:
         way = [hop_line(world, hop, group, source) for hop in hops[:MOST_SHOWN]]
-        return way + waiting + [broken or unregistered(world, group, source, origin)]
+        return way + waiting, broken or unregistered(world, group, source, origin)
     last, below = rungs[place], rungs[place - 1].state if place else None
     way = [hop_line(world, hop, group, source) for hop in came[last.state.router.name].way()]
-    return way + waiting + [stopped(last.state, group, source, last.link, below)]
-
-
-def told(world, group, source, host, origin, link):
-    """Whether a host on one link is served of a source on another: the lines, and whether it is."""
-    head = f"({source}, {group}) from {origin} to {host} on {link}"
-    if origin == link:
-        return [head, "  they are on one link, and no router is between"], True
-    hops, by_link = flow(world, group, source, origin)
-    if link in by_link:
-        state, _ = serving(world, group, source, link)
-        lines = [hop_line(world, hop, group, source) for hop in by_link[link].way()]
-        if state is not None:
-            return [head, *lines, f"{host} is served"], True
-    *lines, why = ended(world, group, source, origin, link)
-    return [head, *lines, f"{host} isn't served: {why}"], False
-
-
-# ---- what is asked
-
-
-def links_of(world, said, address):
-    """The link on which an address is, by its subnet, else by what came from it there."""
-    link = world.link_of(address)
-    heard = [world.known[each.router].link(each.iface) for each in said if each.packet.source == address]
-    return link or next(iter(heard), None)
-
-
-def answers(played, steps, tables, host, group=None, source=None):
-    """Whether a host is served of what it asked for, or of a group or a source of one: (lines, whether it is) of each stream."""
-    world, said = World(trees.known(played, steps, tables)), list(spoken.said(steps))
-    asked = [pair for each in said if each.packet.source == host for pair in each.wishes()]
-    groups = [group] if group else list(dict.fromkeys(group for group, _ in asked))
-    if not groups:
-        yield [f"{host} has asked for no group in this run"], False
-    for each in groups:
-        sources = [source] if source else sources_of(world, said, each, asked)
-        if not sources:
-            yield [f"nobody has sent to {each} in this run: name a source"], False
-        for whom in sources:
-            yield one_answer(world, said, host, each, whom)
-
-
-def sources_of(world, said, group, asked):
-    """The sources that sent to a group, and those that the host asked for by name."""
-    sent = [each.packet.source for each in said if each.is_data() and each.packet.destination == group]
-    known = [row.source for state in world.known.values() for row in state.of(printed.Active, group=group)]
-    named = [source for asked_for, source in asked if asked_for == group and source != ANY]
-    return list(dict.fromkeys([*sent, *known, *named]))
-
-
-def one_answer(world, said, host, group, source):
-    origin, link = links_of(world, said, source), links_of(world, said, host)
-    for address, where in ((source, origin), (host, link)):
-        if where is None:
-            return [f"{host} isn't served of ({source}, {group}): {address} is in the subnet of no link that is up"], False
-    return told(world, group, source, host, origin, link)
+    return way + waiting, stopped(last.state, group, source, last.link, below)

@@ -210,10 +210,10 @@ class Odd(unittest.TestCase):
         net, camera, viewer = small()
         how = viewer.served(GROUP, camera)
         self.assertTrue(how)
-        self.assertEqual(str(how).splitlines()[-1], f"{viewer.address} is served")
+        self.assertEqual(str(how).splitlines()[-1], f"{viewer.address} would be served")
         how = viewer.served("239.1.1.2", camera)
         self.assertFalse(how)
-        self.assertIn("knows of a host that wants 239.1.1.2", str(how))
+        self.assertIn("it has not asked for 239.1.1.2 of", str(how))
 
 
 # What somebody gets wrong in a file, and the sentence.

@@ -1,16 +1,18 @@
 """What `tools/why --run` says where a stream doesn't come though nothing is refused: each mistake with its line."""
 import unittest
 
-from pimtext import notes, scenario, toml_lines
+from pimtext import scenario, toml_lines
+from pimtext.diagnosis import Diagnosis
 from pimtext.faults import faults_of
-from tests.networks import ALLOW, GROUP, RP, SOURCE, SSM, TO_EX, Network, data, report, router
+from tests.networks import ALLOW, GROUP, HOST, RP, SOURCE, SSM, TO_EX, Network, data, report, router
 
 
 def noted(network):
     text = network.text()
     judge, number = faults_of(text)
     assert number == 0, judge.faults
-    return list(notes.notes(judge, scenario.scenario_of(toml_lines.plain(toml_lines.read(text))), scenario.run_text(text)))
+    played = scenario.scenario_of(toml_lines.plain(toml_lines.read(text)))
+    return Diagnosis(judge, played, scenario.run_text(text)).lines()
 
 
 class Mistakes(unittest.TestCase):
@@ -31,10 +33,10 @@ class Mistakes(unittest.TestCase):
     def test_a_dr_without_an_rp(self):
         network = Network()
         network.router("west")["rps"] = []
-        self.told(network, network.line("west"), f"is the DR of the source {SOURCE} and has no RP for {GROUP}")
+        self.told(network, network.line("west"), f"has no RP for {GROUP}, which other routers have")
         network = Network()
         network.router("east")["rps"] = []
-        self.told(network, network.line("east"), "no RP range has the group, so it sends no Join")
+        self.told(network, network.line("east"), f"has no RP for {GROUP}, which other routers have")
 
     def test_an_rp_that_does_not_know_that_it_is_one(self):
         network = Network()
@@ -47,15 +49,14 @@ class Mistakes(unittest.TestCase):
         for made in network.routers:
             made["rps"] = ["239.0.0.0/8 10.0.1.1"]
         network.router("hub")["rps"] = []
-        self.told(network, network.line("hub"), f"has no RP for {GROUP}, and drops the Joins of router east to 10.0.1.1")
+        self.told(network, network.line("hub"), f"has no RP for {GROUP}, and drops the Joins of east to 10.0.1.1")
 
     def test_a_report_at_a_router_that_is_not_dr(self):
         network = Network()
         network.routers.append(router("spare", [("home", "10.8.0.2/24")]))
-        told = f"it isn't the DR of home, which is spare (10.8.0.2) and has no report of {GROUP}"
-        self.told(network, network.said_line(0), told)
+        self.told(network, network.said_line(0), f"the reports of {HOST} came to east and not to spare, the DR of home")
         network.said.append(report(TO_EX, GROUP, router="spare", iface=0))
-        self.assertFalse([note for note in noted(network) if "isn't the DR" in note])
+        self.assertFalse([note for note in noted(network) if "the reports of" in note])
 
     def test_a_source_outside_its_links_subnet(self):
         network = Network(report(TO_EX, GROUP), data(source="10.70.0.50"))
@@ -67,11 +68,11 @@ class Mistakes(unittest.TestCase):
 
     def test_ssm_data_of_another_source(self):
         network = Network(report(ALLOW, SSM, "10.7.0.51"), data(SSM))
-        self.told(network, network.said_line(1), f"{SSM} is asked for of 10.7.0.51 alone, and this is data of {SOURCE}")
+        self.told(network, network.said_line(0), f"{HOST} asks for {SSM} of 10.7.0.51, which has sent nothing in this run")
 
     def test_an_ssm_group_without_a_source(self):
         network = Network(report(TO_EX, SSM))
-        self.told(network, network.said_line(0), f"it asks for {SSM} without a source")
+        self.told(network, network.said_line(0), f"{HOST} asks for {SSM} without a source")
 
     def test_two_subnets_or_masks_on_a_link(self):
         for address, what in (("10.0.3.3/24", "subnets"), ("10.0.2.3/25", "masks")):
@@ -82,7 +83,7 @@ class Mistakes(unittest.TestCase):
     def test_a_dr_without_a_route_to_its_rp(self):
         network = Network()
         network.router("east")["routes"] = []
-        self.told(network, network.line("east"), f"it has no route to the group's RP {RP}, so it sends no Join")
+        self.told(network, network.line("east"), f"east has no route to the RP {RP}")
         network = Network()
         for made in network.routers:
             made["rps"] = ["239.0.0.0/8 10.0.2.2"]

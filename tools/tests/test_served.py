@@ -11,7 +11,7 @@ import unittest
 from pathlib import Path
 
 import lab
-from pimtext import packets, scenario, served, story
+from pimtext import packets, scenario, story, watched
 from tests import stored
 from tests.networks import ALLOW, GROUP, HOST, RP, SOURCE, SSM, TO_EX, Network, data, report, router
 
@@ -21,8 +21,8 @@ TRIALS, SEED = int(os.environ.get("TRIALS", 8)), int(os.environ.get("SEED", 1))
 def answer(network, *asked):
     played = scenario.scenario_of({"router": network.routers, "move": network.moves()})
     steps, tables = story.played(played, scenario.run_text(network.text()))
-    (answer,) = served.answers(played, steps, tables, *(asked or (HOST, GROUP, SOURCE)))
-    return answer
+    ((verdict, lines),) = watched.Watch(played, steps, tables).answers(*(asked or (HOST, GROUP, SOURCE)))
+    return lines, bool(verdict and verdict.is_served)
 
 
 class Served(unittest.TestCase):
@@ -38,10 +38,11 @@ class Served(unittest.TestCase):
         lines, is_served = answer(Network(), HOST)
         self.assertTrue(is_served)
         self.assertEqual(lines[0], f"({SOURCE}, {GROUP}) from studio to {HOST} on home")
-        self.assertEqual([line.split()[0] for line in lines[1:-1]], ["west", "hub", "east"])
-        self.assertIn("hub takes it on 0 west-hub, by the source's tree; ", lines[2])
-        self.assertIn(f"; sends it on 1 hub-east: Join ({SOURCE}, {GROUP}), Join (*, {GROUP})", lines[2])
-        self.assertIn(f"sends it on 1 home: hosts want (*, {GROUP})", lines[3])
+        self.assertEqual(lines[1], "  1 sent since it asked, 1 came, none of them twice; the first came 0 s after the Join")
+        way = [line.strip() for line in lines[2:-1]]
+        self.assertEqual(way[0], f"west took it on 0 studio, TTL 16; registered it with hub ({RP})")
+        self.assertEqual(way[1], "hub took it in a Register, TTL 15; sent it on hub-east")
+        self.assertEqual(way[2], "east took it on 0 hub-east, TTL 14; sent it on home")
 
     def test_by_a_register_and_the_shared_tree(self):
         network = Network(report(TO_EX, GROUP))
@@ -49,30 +50,32 @@ class Served(unittest.TestCase):
             made["spt"] = "never"
         lines, is_served = answer(network, HOST, GROUP, SOURCE)
         self.assertTrue(is_served, lines)
-        self.assertIn(f"registers it with hub ({RP})", lines[1])
-        self.assertIn("hub takes it in a Register; sends it on 1 hub-east", lines[2])
+        self.assertEqual(lines[1], "  nobody has sent since it asked")
+        self.assertIn(f"registers it with hub ({RP})", lines[3])
+        self.assertIn("hub takes it in a Register; sends it on 1 hub-east", lines[4])
+        self.assertEqual(lines[-1], f"{HOST} would be served")
 
     def test_by_a_source_tree(self):
         lines, is_served = answer(Network(report(ALLOW, SSM, SOURCE)), HOST)
         self.assertTrue(is_served, lines)
 
     def test_nobody_asked(self):
-        self.ends(Network(data()), f"no router on home knows of a host that wants {GROUP}")
+        self.ends(Network(data()), f"it has not asked for {GROUP} of {SOURCE} in this run")
         lines, is_served = answer(Network(data()), HOST)
         self.assertEqual((lines, is_served), ([f"{HOST} has asked for no group in this run"], False))
 
     def test_another_source_was_asked_for(self):
         network = Network(report(ALLOW, SSM, "10.7.0.51"))
-        self.ends(network, f"hosts on home want {SSM} of 10.7.0.51 alone", asked=(HOST, SSM, SOURCE))
+        self.ends(network, f"it has not asked for {SSM} of {SOURCE} in this run", asked=(HOST, SSM, SOURCE))
 
     def test_the_source_is_blocked(self):
         network = Network(report(TO_EX, GROUP, SOURCE), data())
-        self.ends(network, f"hosts on home want {GROUP}, but not of {SOURCE}")
+        self.ends(network, f"it has not asked for {GROUP} of {SOURCE} in this run")
 
     def test_no_rp_at_the_hosts_router(self):
         network = Network()
         network.router("east")["rps"] = []
-        self.ends(network, f"east has no RP for {GROUP}", "west takes it on 0 studio")
+        self.ends(network, f"east has no RP for {GROUP}", "west took it on 0 studio")
 
     def test_no_rp_at_the_sources_router(self):
         network = Network()
@@ -82,8 +85,8 @@ class Served(unittest.TestCase):
     def test_an_rp_that_does_not_know_that_it_is_one(self):
         network = Network()
         network.router("hub")["rps"] = []
-        stopped = "west takes it on 0 studio; its Registers are stopped"
-        self.ends(network, f"hub has no RP for {GROUP}", stopped, "east waits for it")
+        registered = f"west took it on 0 studio, TTL 16; registered it with hub ({RP})"
+        self.ends(network, f"hub has no RP for {GROUP}, and drops the Joins of east", registered, "east waits for it")
 
     def test_no_route(self):
         network = Network()
@@ -93,16 +96,16 @@ class Served(unittest.TestCase):
     def test_no_neighbour(self):
         network = Network()
         network.router("east")["routes"][0] = "10.0.1.0/24 10.0.2.9 0 110 10"
-        self.ends(network, f"east sends no Join towards the RP {RP}: 10.0.2.9 on 0 hub-east is no neighbour")
+        self.ends(network, f"10.0.2.9 on hub-east, the next hop of east towards the RP {RP}, is no neighbour of it")
 
     def test_an_interface_that_is_down(self):
         network = Network(report(TO_EX, GROUP), data(), {"do": "down", "router": "hub", "iface": 1})
-        self.ends(network, "hub has no interface on hub-east that is up", "west takes it on 0 studio", "east waits for it")
+        self.ends(network, "hub has no interface on hub-east that is up", "nobody has sent since the network changed")
 
     def test_not_the_dr(self):
         network = Network()
         network.routers.append(router("spare", [("home", "10.8.0.2/24")]))
-        self.ends(network, "east knows of its wish, but it isn't the DR, which is 10.8.0.2")
+        self.ends(network, f"spare, the DR of home, knows of no host that wants {GROUP}")
 
     def test_pruned(self):
         prune = packets.GroupEntries(GROUP, 32, (), (packets.Entry(SOURCE, 32, False, True),))
@@ -191,8 +194,12 @@ class Asked(unittest.TestCase):
         status, out, err = self.called(Network(), HOST)
         self.assertEqual((status, out.splitlines()[-1], err), (0, f"{HOST} is served", ""))
         status, out, _ = self.called(Network(data()), HOST, GROUP)
+        self.assertEqual((status, out.splitlines()[-1]), (1, f"{HOST} has not asked for {GROUP} in this run"))
+        network = Network()
+        network.router("east")["rps"] = []
+        status, out, _ = self.called(network, HOST, GROUP)
         self.assertEqual(status, 1)
-        self.assertIn(f"{HOST} isn't served: ", out)
+        self.assertIn(f"{HOST} isn't served: east has no RP for {GROUP}\n  cause: ", out)
 
     def test_words_that_are_no_addresses(self):
         for words, told in ((["home"], "home is no host's address"), ([HOST, SOURCE], f"{SOURCE} is no group's address")):

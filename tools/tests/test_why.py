@@ -13,6 +13,7 @@ from collections import Counter
 from concurrent.futures import ThreadPoolExecutor
 
 from pimtext import notes, scenario, toml_lines
+from pimtext.diagnosis import Diagnosis
 from pimtext.faults import faults_of
 from pimtext.scenario import PIMLAB
 from tests import stored
@@ -361,14 +362,14 @@ move = [
 # What is changed in it, and what is noted then.
 ODD = [
     ('{ do = "advance", router = "hub", moment = 5000 },\n', "", "2: router hub is never advanced"),
-    ('{ do = "advance", router = "hub", moment = 5000 },\n', "", "10.0.0.2 on interface 0, towards the group's RP 10.0.0.2, is no neighbour"),
+    ('{ do = "advance", router = "hub", moment = 5000 },\n', "", "hub (10.0.0.2) on lan, the next hop of edge towards the RP 10.0.0.2, is no neighbour"),
     ('"hub", moment = 5000', '"hub", moment = 1', "no Hello has left interface 0: it leaves by moment 5000, and the router was advanced to 1"),
     ('{ do = "up", router = "edge", iface = 1, draw = 3 },\n', "", "interface 1 (link home) never goes up"),
     ('{ do = "up", router = "edge", iface = 1, draw = 3 },\n', "", "move 6 (frame), router edge: it was refused 23 (InterfaceDown)"),
     ('iface = 1, draw = 3', "iface = 0, draw = 3", "it was ignored (Already)"),
     ('iface = 1, draw = 3', "iface = 2, draw = 3", "refused 22 (NoInterface): the router has no interface of this number; they are counted from 0, and it has 2"),
-    ('"edge", rps = ["239.0.0.0/8', '"edge", rps = ["238.0.0.0/8', "no RP range has the group"),
-    ('"edge", rps = ["239.0.0.0/8 10.0.0.2', '"edge", rps = ["239.0.0.0/8 10.9.9.9', "it has no route to the group's RP 10.9.9.9"),
+    ('"edge", rps = ["239.0.0.0/8', '"edge", rps = ["238.0.0.0/8', "router edge has no RP for 239.1.1.1, which other routers have"),
+    ('"edge", rps = ["239.0.0.0/8 10.0.0.2', '"edge", rps = ["239.0.0.0/8 10.9.9.9', "no router has the address 10.9.9.9, and edge no route to it"),
     ('  { do = "settle" },\n]', '  { do = "deliver", router = "hub", iface = 0, frame = 99 },\n]', "there is no packet 99 yet: 8 were sent before"),
     ('  { do = "settle" },\n]', '  { do = "deliver", router = "hub", iface = 0, frame = 3 },\n]', "packet 3 was sent on the link home, and interface 0 is on lan"),
     ('  { do = "settle" },\n]', "]", "2 packets reach nobody"),
@@ -381,7 +382,7 @@ class Odd(unittest.TestCase):
     def noted(self, text):
         judge, number = faults_of(text)
         self.assertEqual(number, 0)
-        return list(notes.notes(judge, scenario.scenario_of(toml_lines.plain(toml_lines.read(text))), scenario.run_text(text)))
+        return Diagnosis(judge, scenario.scenario_of(toml_lines.plain(toml_lines.read(text))), scenario.run_text(text)).lines()
 
     def test_nothing_is_odd_in_a_good_run(self):
         self.assertEqual(self.noted(RUN), [])
@@ -412,14 +413,14 @@ class Odd(unittest.TestCase):
             said = [note for note in self.noted((stored.DATA / f"{name}.toml").read_text()) if "refused 24 (Full)" in note]
             with self.subTest(name):
                 self.assertEqual(len(said), 1)
-                self.assertEqual(said[0].partition("as if it hadn't come: ")[2], rows or "")
+                self.assertEqual(said[0].splitlines()[0].partition("as if it hadn't come: ")[2], rows or "")
 
     def test_each_stored_run_can_be_noted(self):
         for path, lines in stored.played():
             text = path.read_text()
             judge, _ = faults_of(text)
             with self.subTest(path.name):
-                list(notes.notes(judge, scenario.scenario_of(toml_lines.plain(toml_lines.read(text))), lines))
+                Diagnosis(judge, scenario.scenario_of(toml_lines.plain(toml_lines.read(text))), lines).lines()
 
 
 class Words(unittest.TestCase):

@@ -2,9 +2,10 @@
 from dataclasses import dataclass, field
 
 from lab.lines import calling
-from lab.mistakes import group_given, ms_given, number_given, payload_given, source_given
+from lab.mistakes import Mistake, group_given, ms_given, number_given, payload_given, source_given
 from lab.playing import Action
 from pimtext import packets
+from pimtext.wishes import NOTHING, Wish
 
 # How often a host tells a change on a link that loses packets, and the ms between (RFC 3376, 8.1 and 8.11).
 ROBUSTNESS, UNSOLICITED_INTERVAL = 2, 1000
@@ -20,19 +21,6 @@ class Received:
     payload: bytes
     ttl: int
     path: tuple
-
-
-@dataclass(frozen=True)
-class Wish:
-    """Which sources of a group a host wants: these, or all but these."""
-    is_exclude: bool
-    sources: frozenset
-
-    def has(self, source):
-        return (source in self.sources) != self.is_exclude
-
-
-NOTHING = Wish(False, frozenset())
 
 
 def change(old, new):
@@ -59,16 +47,21 @@ def record(kind, group, sources):
 
 @dataclass(eq=False)
 class Host:
+    """`igmp` is the version that it speaks, 3 or 2; `answers` whether it answers queries."""
     name: str
     link: object
     address: str
     net: object = field(repr=False)
     wishes: dict = field(default_factory=dict, repr=False)
     received: list = field(default_factory=list, repr=False)
+    igmp: int = 3
+    answers: bool = True
 
     def join(self, group, source=None):
         """Wants a group, of every source or of one, a host or an address, from the present on."""
         old, source = self.wish(group_given(group)), source and source_given(source)
+        if source is not None and self.igmp == 2:
+            raise Mistake(f"{self.name} speaks IGMPv2, by which no source can be named")
         if source is None:
             self.turn(group, Wish(True, frozenset()))
         else:
@@ -96,12 +89,17 @@ class Host:
             del self.wishes[group]
         if records:
             for again in range(ROBUSTNESS if self.link.loss else 1):
-                report = packets.write_report(self.address, records)
-                self.net.schedule(Speech(self, report), self.net.now + again * UNSOLICITED_INTERVAL)
+                self.net.schedule(Speech(self, self.report(records)), self.net.now + again * UNSOLICITED_INTERVAL)
+
+    def report(self, records):
+        """A report of some records; by IGMPv2 of the first alone, which either wants its group or doesn't."""
+        if self.igmp == 3:
+            return packets.write_report(self.address, records)
+        return packets.write_old_report(self.address, records[0].group, records[0].kind in (TO_IN, IS_IN))
 
     def hear(self, query):
         """Answers a query; the answer is what it wants by then."""
-        if self.wishes:
+        if self.wishes and self.answers:
             self.net.schedule(Reply(self, query), self.net.present + self.net.chance.randint(0, 100 * query.response))
 
     def records(self, query):
@@ -114,6 +112,11 @@ class Host:
     def served(self, group, source):
         """Whether it is served of a source, a host or an address, at the present; as a text, hop by hop how, or why not."""
         return self.net.served(self, group, source)
+
+    def watch(self, group, source=None):
+        """What came of a group so far, of each source that sent to it or of one: a `Stream` each, with `sent`, `came`, `twice`,
+        `longest_gap` and `first_after` in seconds, and `missing()`."""
+        return self.net.watch(self, group, source)
 
     def send(self, group, payload=b"", ttl=16, after=0.0):
         """Sends a packet of data to a group, at the present or so many seconds later."""
@@ -159,11 +162,15 @@ class Speech(Action):
         ]
 
     def done(self, moment):
-        packet = packets.read(self.data)
-        if isinstance(packet.body, packets.Data):
+        if self.data[9] != packets.IGMP:
+            packet = packets.read(self.data)
             for other in self.host.link.hosts:
-                if other is not self.host and self.host.net.chance.random() >= self.host.link.loss:
+                if other is self.host:
+                    continue
+                if self.host.net.chance.random() >= self.host.link.loss:
                     other.take(moment, packet, ())
+                else:
+                    self.host.net.unheard.add((other.address, self.data, moment))
 
 
 class Reply(Speech):
@@ -175,7 +182,8 @@ class Reply(Speech):
 
     def moves(self):
         records = self.host.records(self.query)
-        return self.given(packets.write_report(self.host.address, records)) if records else []
+        parts = [records] if self.host.igmp == 3 else [[each] for each in records]
+        return [move for part in parts if part for move in self.given(self.host.report(part))]
 
     def done(self, moment):
         pass

@@ -69,6 +69,18 @@ def source_given(source):
     return text
 
 
+def host_given(address):
+    """An address that a host or a router may have, or a sentence."""
+    number = address_in(address) if isinstance(address, str) else None
+    if number is None or not is_host(number):
+        raise Mistake(f"{shown(address)} is no address of a host or a router: it is one as \"10.0.1.1\"")
+    return address
+
+
+def length_given(length):
+    return number_given(length, "length of a subnet", 1, 31, is_whole=True)
+
+
 def subnet_given(subnet):
     try:
         return IPv4Network(subnet)

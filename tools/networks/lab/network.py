@@ -8,15 +8,16 @@ from pathlib import Path
 from lab.hosts import Host
 from lab.lines import Lines, calling
 from lab.mistakes import (
-    Mistake, Named, address_given, delay_given, group_given, is_known_key, kind_given, ms_given, near, number_given, share_given,
-    shown, source_given, subnet_given,
+    Mistake, Named, address_given, delay_given, group_given, host_given, is_known_key, kind_given, ms_given, near, number_given,
+    share_given, shown, source_given, subnet_given,
 )
 from lab.playing import Action, Player
 from lab.topology import Link, Port, Router, routes
 from lab.traffic import HOSTS, START, Chances, Traffic
 from lab.tree import tree_of
-from pimtext import notes, packets, scenario, served, toml_lines, trees, words
+from pimtext import packets, scenario, toml_lines, trees, words
 from pimtext.addresses import address_in, is_host, prefix_in
+from pimtext.diagnosis import Diagnosis
 from pimtext.faults import ROUTER_KEYS, faults_of
 from pimtext.printed import ANY
 from pimtext.scenario import scenario_of, text_of
@@ -53,7 +54,7 @@ class Network:
         self.routers, self.links, self.hosts, self.ranges, self.fixed = Named("router"), Named("link"), Named("host"), [], {}
         self.now = self.present = self.stepped = 0
         self.player, self.sent, self.paths, self.odd = None, [], {}, []
-        self.made, self.spoken = calling(), {}
+        self.made, self.spoken, self.unheard, self.diagnosed = calling(), {}, set(), None
         MADE.append(weakref.ref(self))
         chances = Chances(seed, delay_given(delay), share_given(reorder, "later ones overtake"))
         self.traffic = Traffic(self, None, chances)
@@ -98,13 +99,16 @@ class Network:
         """The same, and from the last to the first."""
         return self.line(*routers, *routers[:1] * (len(routers) > 1))
 
-    def host(self, name, at):
-        """A host on a link, or at a router: then it has a link of its own there, which loses nothing."""
+    def host(self, name, at, address=None, igmp=3, answers=True):
+        """A host on a link, or at a router: then it has a link of its own there, which loses nothing. `address` is another one than
+        the network would give it, `igmp` the version that it speaks, 3 or 2, and `answers` whether it answers queries."""
         self.is_new(name, self.hosts)
+        number_given(igmp, "version of IGMP", 2, 3, is_whole=True)
         link = self.links.get(at) if isinstance(at, str) else at
         if not isinstance(link, Link):
             link = self.link(self.known_router(at, " or link"), name=name, loss=0.0)
-        host = Host(name, link, address_given(link.subnet, FIRST_HOST + len(link.hosts), name), self)
+        own = host_given(address) if address else address_given(link.subnet, FIRST_HOST + len(link.hosts), name)
+        host = Host(name, link, own, self, igmp=igmp, answers=answers)
         link.hosts.append(host)
         self.hosts[name] = host
         return host
@@ -166,11 +170,11 @@ class Network:
     # ---- what changes
 
     def change_link(self, link, is_up):
-        ports = [port for port in link.ports if port.router.is_up]
+        ports = [port for port in link.ports if port.router.is_up and port.is_working]
         self.change(link, is_up, ports)
 
     def change_router(self, router, is_up):
-        self.change(router, is_up, [port for port in router.ports if port.link.is_up])
+        self.change(router, is_up, [port for port in router.ports if port.link.is_up and port.is_working])
 
     def change(self, thing, is_up, ports):
         """A link or a router comes or goes: with it its ports, and routes change."""
@@ -181,6 +185,17 @@ class Network:
             self.settles = False
             self.schedule(Action([self.turned(port) for port in ports]), self.now)
             self.each("routes", self.routes_of)
+
+    def change_port(self, port, is_up):
+        """One interface comes or goes."""
+        if self.player is None:
+            port.is_working, self.settles = is_up, self.settles and is_up
+        elif port.is_working != is_up:
+            was, port.is_working = port.is_up(), is_up
+            self.settles = False
+            if was != port.is_up():
+                self.schedule(Action([self.turned(port)]), self.now)
+                self.each("routes", self.routes_of)
 
     def turned(self, port):
         do = "up" if port.is_up() else "down"
@@ -223,7 +238,7 @@ class Network:
             raise Mistake("; ".join(f"{fault.where}: {fault.what}" for fault in judge.faults))
         self.player = Player(tables, {name: self.draw() for name in self.routers})
         self.traffic.read = scenario_of({"router": tables})
-        moves = [self.turned(port) for router in self.routers.values() for port in router.ports]
+        moves = [self.turned(port) for router in self.routers.values() for port in router.ports if port.is_up()]
         self.traffic.schedule(Action(moves), 0, (START,))
 
     def run(self, seconds):
@@ -283,6 +298,7 @@ class Network:
     def tell_hosts(self, link, sent, packet):
         for host in link.hosts:
             if self.chance.random() < link.loss:
+                self.unheard.add((host.address, sent.number))
                 continue
             if isinstance(packet.body, packets.Query):
                 host.hear(packet.body)
@@ -312,17 +328,35 @@ class Network:
 
     def served(self, host, group, source):
         """Whether a host is served of a source, a host or an address, at the present; as a text, hop by hop how, or why not."""
-        world, address = served.World(self.known()), source_given(source)
-        origin = world.link_of(address)
-        if origin is None:
+        diagnosis, address = self.diagnosis(), source_given(source)
+        watch = diagnosis.run.watch
+        stream = watch.stream(host.address, group_given(group), address)
+        if watch.origin(stream) is None:
             raise Mistake(f"the source {address} is in the subnet of no link that is up")
-        return Served(*served.told(world, group_given(group), address, host.address, origin, host.link.name))
+        verdict = watch.verdict(stream)
+        causes = [f"  cause: {cause.line}: {cause.text}" for cause in diagnosis.of(verdict.stream)]
+        return Served([*verdict.lines, *causes], verdict.is_served)
+
+    def watch(self, host, group, source=None):
+        """What came to a host of a group, of each source or of one: streams with their numbers."""
+        self.running()
+        watch = self.diagnosis().run.watch
+        found = watch.asked(host.address, group_given(group), source and source_given(source))
+        return [stream for _, streams in found for stream in streams]
+
+    def diagnosis(self):
+        """The run up to the present with what went wrong in it; it is made once for each present."""
+        key = len(self.running().moves), self.now
+        if self.diagnosed is None or self.diagnosed[0] != key:
+            text = self.scenario()
+            played = scenario_of(toml_lines.plain(toml_lines.read(text)))
+            lines = scenario.run_text(text)
+            self.diagnosed = key, Diagnosis(faults_of(text)[0], played, lines, Lines(self), frozenset(self.unheard))
+        return self.diagnosed[1]
 
     def notes(self):
         """What a reader would wonder about in the run, as `tools/why --run` has it, with the lines of the file that made it."""
-        text = self.scenario()
-        played = scenario_of(toml_lines.plain(toml_lines.read(text)))
-        return list(notes.notes(faults_of(text)[0], played, scenario.run_text(text), Lines(self)))
+        return self.diagnosis().lines()
 
     def packets(self, kind=None):
         """What routers sent, in order, all or of one kind: a class of pimtext.packets, as Register."""

@@ -5,7 +5,7 @@ from ipaddress import IPv4Network
 from itertools import count
 
 from lab.lines import Line, calling
-from lab.mistakes import Mistake, is_known_key, table_given
+from lab.mistakes import Mistake, host_given, is_known_key, kind_given, length_given, share_given, table_given
 from pimtext.printed import Neighbour
 
 # Routes have OSPF's preference.
@@ -57,17 +57,39 @@ class Port:
     link: "Link"
     address: str
     options: dict = field(default_factory=dict)
+    is_working: bool = True
+    length: int | None = None
 
     def is_up(self):
-        return self.router.is_up and self.link.is_up
+        return self.router.is_up and self.link.is_up and self.is_working
+
+    def down(self):
+        """It fails at the present, alone; before the first `run`, it never comes up."""
+        self.link.net.change_port(self, False)
+
+    def up(self):
+        self.link.net.change_port(self, True)
 
     def table(self):
-        return {"link": self.link.name, "address": f"{self.address}/{self.link.subnet.prefixlen}", **self.options}
+        return {"link": self.link.name, "address": f"{self.address}/{self.length or self.link.subnet.prefixlen}", **self.options}
+
+
+@dataclass(frozen=True)
+class Loss:
+    """A share of the packets of one kind that are lost on a link, None for all kinds, from one router to another; None for any."""
+    share: float
+    kind: type | None
+    sender: str | None
+    receiver: str | None
+
+    def is_of(self, packet, sender, receiver):
+        of_kind = self.kind is None or isinstance(packet.body, self.kind)
+        return of_kind and self.sender in (None, sender) and self.receiver in (None, receiver)
 
 
 @dataclass(eq=False)
 class Link:
-    """`loss` is the share of packets that are lost on it, for each receiver by itself."""
+    """`loss` is the share of packets that are lost on it, for each receiver by itself; `losses` are those of one kind or way."""
     name: str
     subnet: IPv4Network
     cost: int
@@ -76,6 +98,29 @@ class Link:
     ports: list = field(default_factory=list, repr=False)
     hosts: list = field(default_factory=list, repr=False)
     is_up: bool = True
+    losses: list = field(default_factory=list, repr=False)
+
+    def lose(self, share, kind=None, sender=None, receiver=None):
+        """From the present on it loses this share of the packets between routers: of one kind, a class of pimtext.packets, as `Hello`,
+        `JoinPrune` or `Data`, and from one router or to one, by their names. Another call of the same kind and way replaces it."""
+        kind_given(kind)
+        names = [router and self.net.known_router(router).name for router in (sender, receiver)]
+        for router in (sender, receiver):
+            if router is not None:
+                self.net.known_router(router).port(self)
+        loss = Loss(share_given(share, "are lost"), kind, *names)
+        same = (loss.kind, loss.sender, loss.receiver)
+        self.losses = [each for each in self.losses if (each.kind, each.sender, each.receiver) != same]
+        self.losses += [loss] if share else []
+        self.net.settles = self.net.settles and not share
+
+    def share_lost(self, packet, sender, receiver):
+        """The share of packets like this one that are lost from a router to another."""
+        kept = 1 - self.loss
+        for loss in self.losses:
+            if loss.is_of(packet, sender, receiver):
+                kept *= 1 - loss.share
+        return 1 - kept
 
     def down(self):
         """It fails at the present: its routers' interfaces go down, and the routes go round it."""
@@ -85,10 +130,20 @@ class Link:
         self.net.change_link(self, True)
 
     def configure(self, router, **options):
-        """Sets keys of a router's interface on this link, as `priority`, before the first `run`."""
+        """Sets keys of a router's interface on this link, as `priority`, before the first `run`; `address` is another address than
+        the network would give it, as one that is there already, and `length` another length of its subnet: a wrong mask."""
         for key in options:
-            is_known_key(key, IFACE_OPTIONS, "an interface")
-        self.net.known_router(router).port(self).options.update(options)
+            is_known_key(key, [*IFACE_OPTIONS, "address", "length"], "an interface")
+        port = self.net.known_router(router).port(self)
+        if "address" in options:
+            port.address = host_given(options.pop("address"))
+        if "length" in options:
+            port.length = length_given(options.pop("length"))
+        port.options.update(options)
+
+    def port(self, router):
+        """The interface of a router on it, which can go `down()` and `up()` alone."""
+        return self.net.known_router(router).port(self)
 
     def packets(self, kind=None):
         """What routers sent on it, all or of one kind: a class of pimtext.packets."""
@@ -128,15 +183,16 @@ def onwards(router, way):
 
 
 def routes(origin):
-    """A router's routes as the scenario file has them: to each link that isn't its own."""
+    """A router's routes as the scenario file has them: to each link that isn't its own. None leads to an address of itself."""
     best = {}
     for router, way in ways(origin).items():
         for port in router.ports:
             metric = way.distance + port.link.cost
-            if way.links and port.link.is_up and metric < best.get(port.link, (way, metric + 1))[1]:
+            if way.links and port.is_up() and metric < best.get(port.link, (way, metric + 1))[1]:
                 best[port.link] = way, metric
-    own = {port.link for port in origin.ports}
+    own, addresses = {port.link for port in origin.ports}, {port.address for port in origin.ports}
     return [
         f"{link.subnet} {way.hop} {way.port.number} {PREFERENCE} {metric}"
-        for link, (way, metric) in sorted(best.items(), key=lambda pair: pair[0].subnet) if link not in own
+        for link, (way, metric) in sorted(best.items(), key=lambda pair: pair[0].subnet)
+        if link not in own and way.hop not in addresses
     ]

@@ -90,7 +90,7 @@ class Traffic:
     def bring(self, sent, router, iface, moment):
         chance = self.chances.of(sent.number, router.name, iface)
         links = self.links_to(sent, router)
-        arrives = math.prod(1 - link.loss for link in links) if links is not None and router.is_up else 0
+        arrives = self.share(sent, links, router) if links is not None and router.is_up else 0
         if chance.random() >= arrives:
             return
         moment += sum(chance.randint(*self.chances.delay) for _ in links)
@@ -101,6 +101,14 @@ class Traffic:
             self.latest[way] = moment = max(moment, self.latest.get(way, 0))
         move = delivery(sent.number, router, iface, chance.getrandbits(32))
         self.schedule(Action([move]), moment, (order, sent.number, router.name, -1 if iface is None else iface))
+
+    @staticmethod
+    def share(sent, links, router):
+        """The share of packets like this one that come to a router over links."""
+        packet = sent.packet()
+        if sent.is_unicast():
+            return math.prod(1 - link.loss for link in links)
+        return math.prod(1 - link.share_lost(packet, sent.router, router.name) for link in links)
 
     def links_to(self, sent, router):
         """The links on which a packet comes to a router, None where it can't."""

@@ -1,0 +1,143 @@
+"""One diagnosis of a run: causes, each with the symptoms that follow from it, and symptoms for which no cause was found.
+
+A symptom is what a reader sees: a host that misses packets or has them twice, a tree whose Joins reach nobody, packets that were
+refused or that nobody took. Each is told under the first cause that explains it, equal ones once.
+"""
+from pimtext import printed, reasons, served, trees, words
+from pimtext.askers import Askers
+from pimtext.cause import Cause, Symptom, attached, grouped
+from pimtext.mistakes import Mistakes
+from pimtext.notes import Lines, Notes
+from pimtext.outages import Outages
+from pimtext.printed import ANY
+from pimtext.run import Run, times
+
+# Symptoms of these kinds are told under a cause alone: what nobody sends or asks for is no fault of itself.
+QUIET = ("silent",)
+
+
+class Symptoms:
+    def __init__(self, run):
+        self.run, self.known, self.world = run, run.known, run.world
+
+    # ---- hosts
+
+    def hosts(self):
+        for verdict in self.run.verdicts:
+            yield from self.missed(verdict)
+            if verdict.stream.twice:
+                yield self.twice(verdict.stream)
+
+    def missed(self, verdict):
+        stream, whole = verdict.stream, words.tree(verdict.stream.group, verdict.stream.source)
+        for loss in verdict.losses:
+            told = f"{stream.host} missed {loss.words()} of {stream.sent} of {whole}"
+            if len(verdict.losses) == 1 and not stream.came:
+                told = f"{stream.host} got none of {times(stream.sent, 'packet')} of {whole}"
+            yield self.of_end(loss.end, stream, told, loss.packets[0].at)
+        if verdict.end is not None and not verdict.losses:
+            yield self.of_end(verdict.end, stream, f"{stream.host} would get nothing of {whole}", len(self.run.steps))
+        if not stream.packets and stream.source not in {packet.source for packet in self.run.packets if packet.group == stream.group}:
+            told = f"{stream.host} asked for {whole}, and nobody has sent it"
+            yield Symptom("silent", self.run.lines.router(next(iter(self.known))), told, group=stream.group, source=stream.source)
+
+    def of_end(self, end, stream, told, at):
+        name = end.router or next(iter(self.known))
+        line = self.run.on_link(name, end.link if end.router else None)
+        where = {"router": end.router, "link": end.link, "address": end.address, "cause": end.cause}
+        whose = {"group": stream.group, "source": stream.source, "host": stream.host}
+        return Symptom(end.kind, line, told, **where, **whose, alone=end.text, at=at)
+
+    def twice(self, stream):
+        told = f"{stream.host} got {times(stream.twice, 'packet')} of {words.tree(stream.group, stream.source)} twice"
+        line = self.run.on_link(stream.senders()[0], stream.link)
+        return Symptom("twice", line, f"{told}: {'; '.join(stream.doubled())}", stream.senders()[0], stream.link,
+                       group=stream.group, source=stream.source, host=stream.host)
+
+    # ---- trees
+
+    def trees(self):
+        """Trees whose Joins reach nobody, or count for nothing."""
+        for name, state in self.known.items():
+            for row in state.of(printed.Upstream):
+                if reasons.is_root(state, row.group, row.source):
+                    continue
+                _, end = served.next_up(self.world, state, row.group, row.source)
+                is_sent = not reasons.why_no_join(state, row.group, row.source)
+                if hasattr(end, "kind") and (not is_sent or end.kind == "rp disagrees"):
+                    yield self.of_tree(name, row, end, is_sent)
+
+    def of_tree(self, name, row, end, is_sent):
+        what = "its Joins count for nothing" if is_sent else "it sends no Join"
+        told = f"{name} has joined {words.tree(row.group, row.source)}, and {what}"
+        place = len(self.run.steps)
+        source = None if row.source == ANY else row.source
+        where = {"router": end.router, "link": end.link, "address": end.address}
+        return Symptom(end.kind, self.run.on_link(end.router, end.link), told, **where, group=row.group, source=source, alone=end.text, at=place)
+
+    def senders(self):
+        """The DR of a source registers with an RP that it can reach."""
+        said = [each for each in self.run.said if each.is_data()]
+        for name, iface, source, group in dict.fromkeys((each.router, each.iface, each.packet.source, each.packet.destination) for each in said):
+            state = self.known[name]
+            is_here = trees.rpf_interface(state, source) == iface and trees.is_connected(state, source)
+            if not trees.is_source_specific(group) and is_here and trees.is_dr(state, iface):
+                yield from self.of_dr(name, state, source, group)
+
+    def of_dr(self, name, state, source, group):
+        rp, whose = trees.rp_of(state, group), f"router {name} is the DR of the source {source}"
+        line = self.run.lines.router(name)
+        if rp is None:
+            told = f"{whose} and has no RP for {group}: it registers nothing"
+            yield Symptom("no rp", line, told, name, group=group, source=source)
+        elif not state.router.has(rp) and trees.route(state, rp) is None:
+            told = f"{whose} and has no route to {rp}, the RP of {group}"
+            yield Symptom("no route", line, told, name, address=rp, group=group, source=source)
+
+    def silent(self):
+        """Groups that hosts ask for and to which nobody sends."""
+        sent = {packet.group for packet in self.run.packets}
+        for host, group in self.run.hosts.told:
+            if group not in sent:
+                told = f"{host} asked for {group}, to which nobody has sent"
+                yield Symptom("silent", self.run.lines.router(next(iter(self.known))), told, group=group, host=host)
+
+    def all(self):
+        for told in (self.hosts, self.trees, self.senders, self.silent):
+            yield from told()
+
+
+def of_odd(run, symptom):
+    """What was refused, ignored or taken by nobody, as the cause of what comes of it."""
+    if symptom.kind == "unheard":
+        covers = lambda each: run.wire.last == 0 and each.kind in ("no neighbour", "lost")
+        return Cause(symptom.line, symptom.text, covers)
+    covers = lambda each: each.kind == "refused" and (each.router, each.link, each.cause) == (symptom.router, symptom.link, symptom.cause)
+    return Cause(symptom.line, symptom.alone or symptom.text, covers)
+
+
+class Diagnosis:
+    """`judge` read the file of a run; `places` says the lines of a network of tools/lab, whose packets may be lost on purpose."""
+
+    def __init__(self, judge, played, lines, places=None, unheard=frozenset()):
+        self.run = run = Run(played, lines, places or Lines(judge), unheard)
+        notes, outages = Notes(judge, run), Outages(run)
+        self.causes = [*outages.interfaces(), *outages.clocks(), *Mistakes(run).causes(), *Askers(run).causes(), *outages.rest()]
+        odd = attached(self.causes, [*notes.odd(), *([] if places else notes.undelivered())])
+        self.causes += [of_odd(run, symptom) for symptom in odd]
+        left = attached(self.causes, list(Symptoms(run).all()))
+        self.causes = [cause for cause in self.causes if cause.symptoms or not cause.is_hint]
+        self.left = grouped([symptom for symptom in left if symptom.kind not in QUIET])
+
+    def ordered(self):
+        """What explains most comes first, equals by their lines; last come causes that explain nothing."""
+        told = [*self.causes, *self.left]
+        return sorted(told, key=lambda cause: (not cause.symptoms, *(-count for count in cause.weight()), cause.line))
+
+    def lines(self):
+        return ["\n".join(cause.lines()) for cause in self.ordered()]
+
+    def of(self, stream):
+        """The causes of what a stream misses."""
+        key = stream.host, stream.group, stream.source
+        return [cause for cause in self.causes if any((each.host, each.group, each.source) == key for each in cause.symptoms)]

@@ -1,0 +1,93 @@
+"""A run with all that a diagnosis reads of it."""
+from ipaddress import ip_address
+
+from pimtext import printed, spoken, story, trees
+from pimtext.printed import ANY
+from pimtext.watched import Watch
+from pimtext.wire import Wire
+
+
+class Run:
+    """`lines` says where moves, routers and interfaces stand; what the routers know in `known` and `world` is that of the end."""
+
+    def __init__(self, played, printed_lines, lines, unheard=frozenset()):
+        self.played, self.lines = played, lines
+        self.steps, self.tables = story.played(played, printed_lines)
+        self.watch, self.wire = Watch(played, self.steps, self.tables, unheard), Wire(played, self.steps)
+        self.known, self.world, self.hosts = self.watch.known, self.watch.now, self.watch.hosts
+        self.packets, self.past = self.watch.packets, self.watch.past
+        self.said = list(spoken.said(self.steps))
+        self.verdicts = [self.watch.verdict(stream) for stream in self.watch.streams()]
+
+    # ---- where it is told
+
+    def at_move(self, step, text):
+        return self.lines.move(step.move), f"move {step.move} ({step.did['do']}), router {step.router}: {text}"
+
+    def at_router(self, name, text):
+        return self.lines.router(name), f"router {name}{text}"
+
+    def at_interface(self, router, number, text):
+        return self.lines.interface(router, number), f"router {router}, interface {number}: {text}"
+
+    def on_link(self, name, link):
+        """The line of a router's interface on a link, else of the router."""
+        here = self.played.router(name).on(link) if link else []
+        return self.lines.interface(name, here[0].number) if here else self.lines.router(name)
+
+    # ---- what it has
+
+    def ports(self):
+        """The interfaces of each link, with their routers' names."""
+        found = {}
+        for router in self.played.routers:
+            for interface in router.interfaces:
+                found.setdefault(interface.link, []).append((router.name, interface))
+        return found
+
+    def wished(self):
+        """Pairs of a group and a source that somebody asked for, ANY where it asked for every source."""
+        found = set(spoken.joined(self.steps))
+        for (host, group), wishes in self.hosts.told.items():
+            if any(wish.is_exclude for _, wish in wishes):
+                found.add((group, ANY))
+            found |= {(group, source) for source in self.hosts.named(host, group)}
+        return found
+
+    def groups(self):
+        """The groups that somebody asks for, sends to or knows, and that need an RP."""
+        found = {group for group, _ in self.wished()} | {packet.group for packet in self.packets}
+        found |= {row.group for state in self.known.values() for row in state.rows if hasattr(row, "group")}
+        return sorted((group for group in found if not is_ruled_out(group)), key=ip_address)
+
+    def rps_of(self, group):
+        return {trees.rp_of(state, group) for state in self.known.values()} - {None}
+
+    def held(self, at, name):
+        """How many facts a router held before a step, by table, of those that its limit counts."""
+        state = self.past.known(at)[name]
+        return {table: len(state.of(table)) for table in COUNTED if state.of(table)}
+
+
+COUNTED = {
+    printed.Neighbour: "neighbour", printed.GroupRecord: "group record", printed.SourceRecord: "source record",
+    printed.Downstream: "downstream state", printed.AssertState: "assert", printed.Active: "active source",
+}
+
+
+def is_ruled_out(group):
+    """Groups that have no RP: those of SSM, and those that never leave their link."""
+    return trees.is_source_specific(group) or is_local(group)
+
+
+def is_local(group):
+    return group.startswith("224.0.0.")
+
+
+def some(names, count=3):
+    names = list(names)
+    return ", ".join(names[:count]) + (" .." if len(names) > count else "")
+
+
+def times(count, word):
+    return f"{count} {word}{'' if count == 1 else 's'}"

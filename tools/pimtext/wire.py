@@ -1,0 +1,95 @@
+"""What was lost between routers in a run: of each packet that one sent, which others on its link, or at its destination, it never
+came to though their interface was up."""
+from collections import defaultdict
+from dataclasses import dataclass, field
+
+from pimtext import packets, story
+
+HELLO, JOIN, DATA, REGISTER, OTHER = "Hello", "Join/Prune", "data", "Register", "other"
+KINDS = {packets.HELLO: HELLO, packets.JOIN_PRUNE: JOIN}
+PLURALS = {HELLO: "Hellos", JOIN: "Joins and Prunes", DATA: "packets of data", REGISTER: "Registers", OTHER: "other packets"}
+
+
+@dataclass(eq=False)
+class Way:
+    """What one router sent to another on a link, None where it was unicasts: by kind, all and what was lost."""
+    sender: str
+    receiver: str
+    link: str | None
+    sent: dict = field(default_factory=lambda: defaultdict(list))
+    lost: dict = field(default_factory=lambda: defaultdict(list))
+
+    def all_lost(self):
+        """The kinds of which nothing came."""
+        return [kind for kind, sent in self.sent.items() if len(self.lost[kind]) == len(sent)]
+
+    def is_dead(self):
+        return bool(self.sent) and len(self.all_lost()) == len(self.sent)
+
+    def words(self, kinds=None):
+        """How many were lost, of these kinds or of all."""
+        chosen = [kind for kind in PLURALS if self.lost[kind] and (kinds is None or kind in kinds)]
+        return ", ".join(f"{len(self.lost[kind])} of {len(self.sent[kind])} {PLURALS[kind]}" for kind in chosen)
+
+
+def kind_of(sent):
+    if sent.kind == "copy":
+        return DATA
+    if sent.is_unicast():
+        return REGISTER if sent.data[20] & 15 == packets.REGISTER else OTHER
+    return next((name for kind, name in KINDS.items() if packets.is_pim(sent.data, kind)), OTHER)
+
+
+class Wire:
+    """All that was sent in a run: `came` has the steps that brought each packet, by its number."""
+
+    def __init__(self, played, steps):
+        self.played, self.steps, self.ways = played, steps, {}
+        self.came, self.up = defaultdict(list), set()
+        for step in steps:
+            if step.brought is not None and step.cause != "27":
+                self.came[step.brought.number].append(step)
+        kinds = ("settle", "deliver", "carry")
+        self.last = max((at for at, did in enumerate(played.moves, 1) if did["do"] in kinds), default=0)
+        for step in steps:
+            self.follow(step)
+
+    def follow(self, step):
+        if step.did["do"] == "up" and step.verdict == "done":
+            self.up.add((step.router, step.iface))
+        if step.did["do"] == "down":
+            self.up.discard((step.router, step.iface))
+        for sent in step.sent:
+            # What is sent after the last delivery is still on its way at the end.
+            if sent.move <= self.last:
+                self.count(sent)
+
+    def count(self, sent):
+        kind, came = kind_of(sent), {(step.router, step.iface) for step in self.came[sent.number]}
+        for router, iface in story.receivers(self.played, sent):
+            if iface is not None and (router, iface) not in self.up:
+                continue
+            link = None if iface is None else sent.where
+            way = self.ways.setdefault((sent.router, router, link), Way(sent.router, router, link))
+            way.sent[kind].append(sent)
+            if (router, iface) not in came:
+                way.lost[kind].append(sent)
+
+    def way(self, sender, receiver, link):
+        return self.ways.get((sender, receiver, link)) or Way(sender, receiver, link)
+
+    # ---- Joins
+
+    def joins(self, router, link):
+        """The Joins and Prunes that a router sent on a link, with what they say."""
+        found = [sent for step in self.steps for sent in step.sent if (sent.router, sent.where) == (router, link)]
+        return [(sent, sent.packet().body) for sent in found if kind_of(sent) == JOIN]
+
+    def answer(self, sent, router):
+        """The first step at which a packet came to a router, None where it never did."""
+        return next((step for step in self.came[sent.number] if step.router == router), None)
+
+
+def names_group(body, group, is_join):
+    """Whether a Join/Prune joins, or prunes, anything of a group."""
+    return any(each.group == group and (each.joins if is_join else each.prunes) for each in body.groups)

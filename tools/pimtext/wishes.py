@@ -1,0 +1,111 @@
+"""What hosts asked for in a run, and when: by all reports that they gave, also by those that routers refused, and by IGMPv2."""
+from collections import defaultdict
+from dataclasses import dataclass
+
+from pimtext import packets
+from pimtext.spoken import ALLOW, BLOCK, IS_EX, IS_IN, TO_EX
+
+# IGMPv1's and IGMPv2's messages of hosts: reports, and the one that leaves.
+OLD_REPORTS, OLD_LEAVE = (0x12, 0x16), 0x17
+
+
+@dataclass(frozen=True)
+class Wish:
+    """Which sources of a group a host wants: these, or all but these."""
+    is_exclude: bool
+    sources: frozenset
+
+    def has(self, source):
+        return (source in self.sources) != self.is_exclude
+
+
+NOTHING, EVERYTHING = Wish(False, frozenset()), Wish(True, frozenset())
+
+
+def after(wish, record):
+    """A host's wish after a record of it."""
+    kind, told = record.kind, frozenset(record.sources)
+    if kind in (IS_EX, TO_EX):
+        return Wish(True, told)
+    if kind in (ALLOW, BLOCK):
+        is_more = (kind == ALLOW) != wish.is_exclude
+        return Wish(wish.is_exclude, wish.sources | told if is_more else wish.sources - told)
+    if kind == IS_IN:
+        # An answer to a query of some sources names no others that it wants.
+        return wish if wish.is_exclude else Wish(False, wish.sources | told)
+    return Wish(False, told)
+
+
+@dataclass(frozen=True)
+class Heard:
+    """A host's report as a router took or refused it: pairs of a group and what the host wants of it after the report."""
+    at: int
+    step: object
+    host: str
+    link: str
+    wishes: tuple
+    is_old: bool = False
+
+
+def igmp_of(data):
+    """The IGMP message in a packet, None in any other."""
+    return data[4 * (data[0] & 15):] if len(data) >= 20 and data[9] == packets.IGMP else None
+
+
+def old_wish(message):
+    """The group of an IGMPv1 or IGMPv2 message, and what its host wants of it; None of any other."""
+    if len(message) != 8 or message[0] not in (*OLD_REPORTS, OLD_LEAVE):
+        return None
+    return packets.dotted(message[4:]), NOTHING if message[0] == OLD_LEAVE else EVERYTHING
+
+
+class Hosts:
+    """What each host wanted: `told` has by host and group the wish from each step on, `links` a host's link."""
+
+    def __init__(self, played, steps):
+        self.played, self.steps = played, steps
+        self.told, self.links, self.heard = defaultdict(list), {}, []
+        for at, step in enumerate(steps):
+            if step.did is not None and step.did["do"] == "frame":
+                self.hear(at, step)
+
+    def hear(self, at, step):
+        data = step.taken()
+        message = igmp_of(data)
+        interfaces = self.played.router(step.router).interfaces
+        if not message or step.iface >= len(interfaces):
+            return
+        host, link, old = packets.dotted(data[12:16]), interfaces[step.iface].link, old_wish(message)
+        wishes = [old] if old else [(record.group, record) for record in records_of(data)]
+        if not wishes:
+            return
+        changed = [(group, told if old else after(self.wish(host, group, at), told)) for group, told in wishes]
+        self.links.setdefault(host, link)
+        self.heard.append(Heard(at, step, host, link, tuple(changed), old is not None))
+        for group, wish in changed:
+            self.told[host, group].append((at, wish))
+
+    def wish(self, host, group, at):
+        """What a host wanted of a group before step `at`."""
+        return next((wish for before, wish in reversed(self.told.get((host, group), [])) if before < at), NOTHING)
+
+    def groups(self, host):
+        return list(dict.fromkeys(group for whose, group in self.told if whose == host))
+
+    def named(self, host, group):
+        """The sources that a host asked for by name."""
+        wishes = [wish for _, wish in self.told.get((host, group), []) if not wish.is_exclude]
+        return list(dict.fromkeys(source for wish in wishes for source in sorted(wish.sources)))
+
+    def joined(self, host, group, source):
+        """The step with which a host first asked for a source, None where it never did."""
+        return next((at for at, wish in self.told.get((host, group), []) if wish.has(source)), None)
+
+
+def records_of(data):
+    """The records of a report that can be read."""
+    try:
+        body = packets.read(data).body
+    except packets.Refused:
+        return ()
+    return body.records if isinstance(body, packets.Report) else ()
