@@ -60,9 +60,14 @@ impl<'a> Packet<'a> {
         address(self.bytes, 16)
     }
 
+    /// It is PIM between the routers of a link.
+    pub fn is_pim_of_link(self) -> bool {
+        self.protocol() == PIM && self.destination() == ALL_PIM_ROUTERS
+    }
+
     /// It is neither PIM nor IGMP between routers and hosts of a link.
     pub fn is_data(self) -> bool {
-        self.protocol() != IGMP && (self.protocol() != PIM || self.destination() != ALL_PIM_ROUTERS)
+        self.protocol() != IGMP && !self.is_pim_of_link()
     }
 
     pub fn is_fragment(self) -> bool {
@@ -141,6 +146,21 @@ fn pseudo_header(packet: Packet) -> [u8; 12] {
 /// Whether a packet is a PIM message of a type, with a whole header.
 pub fn is_pim(packet: Packet, kind: u8) -> bool {
     packet.protocol() == PIM && packet.content().len() >= 4 && packet.content()[0] == 0x20 | kind
+}
+
+/// Whether a packet is a report of IGMPv3.
+pub fn is_report(bytes: &[u8]) -> bool {
+    const REPORT: u8 = 0x22;
+    Packet::read(bytes).map_or(false, |it| it.protocol() == IGMP && it.content().first() == Some(&REPORT))
+}
+
+/// The same report as of a host that has no address yet (RFC 3376, 4.2.13).
+pub fn as_of_nobody(report: &[u8]) -> Vec<u8> {
+    let mut own = report.to_vec();
+    own[12..16].fill(0);
+    let header = header_length(&own);
+    put_checksum(&mut own[..header], 10);
+    own
 }
 
 /// The options of a Hello: the kind of each, and where its value lies in the message. What isn't whole is left out.
