@@ -2,7 +2,7 @@
 use socket2::{Domain, Protocol, Socket, Type};
 use std::fmt;
 use std::io;
-use std::mem::{size_of, MaybeUninit};
+use std::mem::MaybeUninit;
 use std::net::Ipv4Addr;
 use std::os::unix::io::{AsRawFd, RawFd};
 
@@ -174,6 +174,7 @@ impl AsRawFd for Mroute {
 #[cfg(test)]
 mod tests {
     use super::*;
+    use std::mem::size_of;
 
     fn message(kind: u8, vif: u8) -> Vec<u8> {
         let mut bytes = vec![0x45, 0, 0, 0, 0, 0, 0, 0, kind, 0, vif, 0, 10, 1, 0, 50, 239, 1, 1, 1];

@@ -239,6 +239,7 @@ impl Plane {
         left
     }
 
+    #[cfg(test)]
     pub fn has_unset(&self) -> bool {
         self.entries.values().any(|entry| entry.is_unset)
     }

@@ -44,10 +44,6 @@ impl Machine {
         self.links.values().find(|link| link.name == name)
     }
 
-    pub fn names(&self) -> Vec<&str> {
-        self.links.values().map(|link| link.name.as_str()).collect()
-    }
-
     pub fn addresses(&self, index: u32) -> &[Subnet] {
         self.addresses.get(&index).map_or(&[], Vec::as_slice)
     }

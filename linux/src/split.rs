@@ -61,9 +61,10 @@ pub struct Record {
 }
 
 impl Record {
-    /// It makes no state: it takes back what may have been asked for.
+    /// It makes no state: it takes back what may have been asked for, or is of a group of the link alone (224.0.0.0/24).
     pub fn asks_for_nothing(&self) -> bool {
-        self.kind == BLOCK || (self.sources.is_empty() && matches!(self.kind, IS_IN | TO_IN))
+        let is_of_link = self.group.octets().starts_with(&[224, 0, 0]);
+        is_of_link || self.kind == BLOCK || (self.sources.is_empty() && matches!(self.kind, IS_IN | TO_IN))
     }
 
     /// The sources that it asks for; `None` where it asks for all but some.

@@ -82,6 +82,7 @@ impl Refusals {
         self.0.iter().map(|((cause, place), it)| (format!("refused on {place}: {cause}"), it.count))
     }
 
+    #[cfg(test)]
     pub fn of(&self, cause: Cause) -> u64 {
         self.0.iter().filter(|((its, _), _)| *its == cause).map(|(_, it)| it.count).sum()
     }
