@@ -3,8 +3,8 @@
 //!     stream send GROUP ADDRESS COUNT RATE [BYTES]          from the interface that has the address
 //!     stream receive GROUP ADDRESS COUNT SECONDS [BYTES]    until all have come, or for so long
 //!
-//! The receiver prints `joined` once it has, and at the end how many came, how many of these twice, and how many ms after it had
-//! joined the first one came.
+//! The receiver prints `joined` once it has, and at the end how many came, how many of these twice, how many ms after it had
+//! joined the first one came, and the longest time between two of them.
 use socket2::{Domain, SockAddr, Socket, Type};
 use std::io;
 use std::net::{Ipv4Addr, SocketAddrV4, UdpSocket};
@@ -19,7 +19,13 @@ const SENDERS: usize = 8;
 const ROOM: i32 = 64 << 20;
 
 /// Sends the packets of some numbers, each when it is due at the rate of all.
-fn send_some(group: Ipv4Addr, from: Ipv4Addr, numbers: impl Iterator<Item = u64>, rate: u64, bytes: usize) -> io::Result<()> {
+fn send_some(
+    group: Ipv4Addr,
+    from: Ipv4Addr,
+    numbers: impl Iterator<Item = u64>,
+    rate: u64,
+    bytes: usize,
+) -> io::Result<()> {
     let socket = Socket::new(Domain::IPV4, Type::DGRAM, None)?;
     socket.set_multicast_if_v4(&from)?;
     socket.set_multicast_ttl_v4(16)?;
@@ -65,13 +71,17 @@ fn receive(group: Ipv4Addr, at: Ipv4Addr, count: u64, seconds: u64, bytes: usize
     let joined = Instant::now();
     let end = joined + Duration::from_secs(seconds);
     let (mut seen, mut all, mut packet) = (vec![false; count as usize], 0u64, vec![0u8; MOST_BYTES]);
-    let mut first = None;
+    let (mut first, mut last, mut gap) = (None, joined, Duration::ZERO);
     let mut left = count;
     while left > 0 && Instant::now() < end {
         match socket.recv(&mut packet) {
-            Ok(length) if length == bytes => first = first.or_else(|| Some(joined.elapsed())),
+            Ok(length) if length == bytes => {}
             _ => continue,
         }
+        let now = Instant::now();
+        gap = if first.is_some() { gap.max(now - last) } else { gap };
+        first = first.or(Some(now - joined));
+        last = now;
         let mut number = [0; 8];
         number.copy_from_slice(&packet[..8]);
         all += 1;
@@ -81,7 +91,8 @@ fn receive(group: Ipv4Addr, at: Ipv4Addr, count: u64, seconds: u64, bytes: usize
         }
     }
     let first = first.map_or_else(|| "never".to_string(), |first| format!("after {} ms", first.as_millis()));
-    println!("received {} of {count}, and {} twice, the first {first}", count - left, all - (count - left));
+    let (came, gap) = (count - left, gap.as_millis());
+    println!("received {came} of {count}, and {} twice, the first {first}, the longest gap {gap} ms", all - came);
     Ok(())
 }
 

@@ -170,7 +170,8 @@ impl Daemon {
         let (addresses, said) = ports::addresses(&ports, &machine);
         said.iter().for_each(|line| warn!("{line}"));
         ports.iter_mut().zip(addresses).for_each(|(port, subnet)| port.subnet = subnet);
-        for (port, subnet) in ports.iter().filter_map(|port| Some((port, port.subnet?))).filter(|it| it.1.length == 32) {
+        for (port, subnet) in ports.iter().filter_map(|port| Some((port, port.subnet?))).filter(|it| it.1.length == 32)
+        {
             info!("{} has {subnet}, and is told to the router as a subnet of two addresses", port.settings.name);
         }
         let told: Vec<_> = ports.iter().map(Port::told).collect();
@@ -182,12 +183,7 @@ impl Daemon {
             ports,
             machine,
             plane: Plane::default(),
-            routing: Routing {
-                told: Vec::new(),
-                counts: Counts::default(),
-                due: None,
-                settle: machine::ROUTES_SETTLE,
-            },
+            routing: Routing { told: Vec::new(), counts: Counts::default(), due: None, settle: machine::ROUTES_SETTLE },
             neighbours: Neighbours::default(),
             counters: Counters::default(),
             due: Due::default(),
@@ -334,9 +330,8 @@ impl Daemon {
         let now = self.now();
         let Daemon { plane, kernel, ports, policy, counters, .. } = self;
         counters.entries_written += 1;
-        let placed = with_ways(ports, policy, |ways| {
-            plane.place(kernel.as_ref(), Placed { key, row, came_on, now }, ways)
-        });
+        let placed =
+            with_ways(ports, policy, |ways| plane.place(kernel.as_ref(), Placed { key, row, came_on, now }, ways));
         if let Err(error) = placed {
             self.is_unset(&error);
         }

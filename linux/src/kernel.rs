@@ -34,7 +34,11 @@ pub enum Event {
     /// PIM to an address of the machine.
     Unicast(Vec<u8>),
     /// PIM or IGMP to a group; `is_own` where a program on the machine sent it.
-    Frame { index: u32, is_own: bool, packet: Vec<u8> },
+    Frame {
+        index: u32,
+        is_own: bool,
+        packet: Vec<u8>,
+    },
     /// What waited is nothing for the router.
     Nothing,
 }
@@ -184,7 +188,8 @@ impl Kernel for Linux {
     }
 
     fn send_on(&mut self, index: u32, packet: &[u8]) -> io::Result<()> {
-        let sent = if is_query(packet) { self.links.send_shared(index, packet) } else { self.links.send(index, packet) };
+        let sent =
+            if is_query(packet) { self.links.send_shared(index, packet) } else { self.links.send(index, packet) };
         match sent {
             Err(error) if error.raw_os_error() == Some(libc::EMSGSIZE) => self.send_in_fragments(index, packet, error),
             other => other,

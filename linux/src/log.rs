@@ -27,7 +27,8 @@ impl Log for StandardError {
     fn log(&self, record: &Record) {
         let level = record.level().as_str().to_lowercase();
         // Where standard error is gone there is nobody to tell.
-        let _ = writeln!(std::io::stderr().lock(), "{} {level:5} {}", wall_time(OffsetDateTime::now_utc()), record.args());
+        let _ =
+            writeln!(std::io::stderr().lock(), "{} {level:5} {}", wall_time(OffsetDateTime::now_utc()), record.args());
     }
 
     fn flush(&self) {}

@@ -146,7 +146,16 @@ impl Mroute {
         let (packets, bytes, wrong_interface, expire) = (0, 0, 0, 0);
         self.set(
             option,
-            &MfcControl { origin, group, parent: forwarded.parent, thresholds, packets, bytes, wrong_interface, expire },
+            &MfcControl {
+                origin,
+                group,
+                parent: forwarded.parent,
+                thresholds,
+                packets,
+                bytes,
+                wrong_interface,
+                expire,
+            },
         )
     }
 

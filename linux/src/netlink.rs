@@ -255,7 +255,10 @@ impl Netlink {
 
     pub fn links(&mut self) -> io::Result<Vec<Link>> {
         let found = self.dump(|sequence| request(RTM_GETLINK, LINK_HEAD, sequence))?;
-        Ok(found.into_iter().filter_map(|it| if let Message::Link { link, .. } = it { Some(link) } else { None }).collect())
+        Ok(found
+            .into_iter()
+            .filter_map(|it| if let Message::Link { link, .. } = it { Some(link) } else { None })
+            .collect())
     }
 
     /// The IPv4 addresses, each with the kernel's number of its interface.
@@ -287,7 +290,9 @@ impl Netlink {
         let mut routes: Vec<_> = found.iter().filter_map(route).collect();
         if routes.iter().any(|(_, object)| object.is_some()) {
             let objects = self.next_hops()?;
-            routes.iter_mut().for_each(|(route, object)| object.iter().for_each(|number| resolve(route, *number, &objects)));
+            routes
+                .iter_mut()
+                .for_each(|(route, object)| object.iter().for_each(|number| resolve(route, *number, &objects)));
         }
         Ok(routes.into_iter().map(|(route, _)| route).collect())
     }
@@ -326,7 +331,9 @@ fn change_of(message: Message) -> Option<Change> {
         Message::Link { is_gone: true, link } => Some(Change::LinkGone(link.index)),
         Message::Link { link, .. } => Some(Change::Link(link)),
         Message::NextHop(_) => Some(Change::Routes),
-        Message::Other(RtnlMessage::NewAddress(it)) => subnet_of(&it).map(|(index, subnet)| Change::Address { index, subnet }),
+        Message::Other(RtnlMessage::NewAddress(it)) => {
+            subnet_of(&it).map(|(index, subnet)| Change::Address { index, subnet })
+        }
         Message::Other(RtnlMessage::DelAddress(it)) => {
             subnet_of(&it).map(|(index, subnet)| Change::AddressGone { index, subnet })
         }
@@ -345,7 +352,8 @@ fn resolve(route: &mut KernelRoute, number: u32, objects: &HashMap<u32, NextHop>
     if !found.is_empty() && found.iter().all(|object| **object == NextHop::Blackhole) {
         route.kind = Kind::Refusing;
     }
-    route.hops = found.iter().filter_map(|object| if let NextHop::One(hop) = object { Some(*hop) } else { None }).collect();
+    route.hops =
+        found.iter().filter_map(|object| if let NextHop::One(hop) = object { Some(*hop) } else { None }).collect();
     if found.is_empty() {
         warn!("a route of the kernel names the next hop object {number}, which isn't there: it leads nowhere");
     }
@@ -353,7 +361,8 @@ fn resolve(route: &mut KernelRoute, number: u32, objects: &HashMap<u32, NextHop>
 
 fn subnet_of(message: &AddressMessage) -> Option<(u32, Subnet)> {
     // On a link between two `Address` is the other end.
-    let local = message.nlas.iter().find_map(|nla| if let address_nlas::Nla::Local(bytes) = nla { four(bytes) } else { None });
+    let local =
+        message.nlas.iter().find_map(|nla| if let address_nlas::Nla::Local(bytes) = nla { four(bytes) } else { None });
     let subnet = Subnet { address: local?.into(), length: message.header.prefix_len };
     Some((message.header.index, subnet))
 }
@@ -421,7 +430,9 @@ fn hops_of(bytes: &[u8]) -> Vec<Hop> {
         let own = &rest[..length];
         if let Ok(hop) = route_nlas::NextHop::parse(&route_nlas::NextHopBuffer::new(&own)) {
             let gateway =
-                hop.nlas.iter().find_map(|nla| if let route_nlas::Nla::Gateway(bytes) = nla { four(bytes) } else { None });
+                hop.nlas
+                    .iter()
+                    .find_map(|nla| if let route_nlas::Nla::Gateway(bytes) = nla { four(bytes) } else { None });
             let is_dead = rest[2] & (RTNH_F_DEAD | RTNH_F_LINKDOWN) != 0;
             found.push(Hop { gateway, index: hop.interface_id, is_dead });
         }
@@ -522,7 +533,8 @@ mod tests {
         let mut content = vec![0, 0, 1, 0];
         content.extend([5u32, IFF_UP | IFF_RUNNING, 0].iter().flat_map(|it| it.to_ne_bytes()));
         // An attribute of a wrong length and one that nobody knows, before the name.
-        content.extend([attribute(18, &[1, 2, 3]), attribute(999, &[4; 9]), attribute(IFLA_IFNAME, b"vxlan7\0")].concat());
+        content
+            .extend([attribute(18, &[1, 2, 3]), attribute(999, &[4; 9]), attribute(IFLA_IFNAME, b"vxlan7\0")].concat());
         content.extend(attribute(IFLA_MTU, &1450u32.to_ne_bytes()));
         let found = messages(&as_message(RTM_NEWLINK, &content));
         let wanted = Link { index: 5, name: "vxlan7".to_string(), mtu: 1450, is_running: true, is_loopback: false };
@@ -538,7 +550,8 @@ mod tests {
             let content = [vec![2, 0, 0, 0, 0, 0, 0, 0], attribute(NHA_ID, &number.to_ne_bytes()), more].concat();
             next_hop_of(&content).expect("it has a number")
         };
-        let one = |last: u8| [attribute(NHA_OIF, &3u32.to_ne_bytes()), attribute(NHA_GATEWAY, &[10, 0, 0, last])].concat();
+        let one =
+            |last: u8| [attribute(NHA_OIF, &3u32.to_ne_bytes()), attribute(NHA_GATEWAY, &[10, 0, 0, last])].concat();
         let group: Vec<u8> = [1u32, 0, 2, 0].iter().flat_map(|it| it.to_ne_bytes()).collect();
         let objects = HashMap::from([
             object(1, one(2)),

@@ -38,7 +38,13 @@ pub struct Row {
 
 impl From<PlaneRow> for Row {
     fn from(row: PlaneRow) -> Row {
-        Row { is_known: row.is_known, incoming: row.incoming(), outgoing: row.outgoing, alive: row.alive, to_core: row.to_core }
+        Row {
+            is_known: row.is_known,
+            incoming: row.incoming(),
+            outgoing: row.outgoing,
+            alive: row.alive,
+            to_core: row.to_core,
+        }
     }
 }
 
@@ -517,7 +523,10 @@ mod tests {
         plane.place(&cache, placed(row(Some(1), &[0], &[1], &[1]), 0), &ways()).unwrap();
         plane.came_whole(KEY);
         assert!(plane.looked(&[used(5, 0, 0)], 10_000).is_empty());
-        assert_eq!(plane.looked(&[used(7, 0, 0)], 20_000), [Notice { key: KEY, iface: 1, moment: 20_000, is_core: true }]);
+        assert_eq!(
+            plane.looked(&[used(7, 0, 0)], 20_000),
+            [Notice { key: KEY, iface: 1, moment: 20_000, is_core: true }]
+        );
     }
 
     #[test]

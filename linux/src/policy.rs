@@ -291,7 +291,9 @@ impl Policy {
         for entry in message.entries {
             match self.join(books, iface, &entry) {
                 Ok(()) => kept.push(entry),
-                Err(cause) => self.refuse(books.now(), cause, iface, &format_args!("{} of {}", entry.key, packet.source())),
+                Err(cause) => {
+                    self.refuse(books.now(), cause, iface, &format_args!("{} of {}", entry.key, packet.source()))
+                }
             }
         }
         match kept.len() {

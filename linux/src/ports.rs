@@ -35,7 +35,9 @@ impl Machine {
                     known.push(*subnet);
                 }
             }
-            Change::AddressGone { index, subnet } => self.addresses.entry(*index).or_default().retain(|known| known != subnet),
+            Change::AddressGone { index, subnet } => {
+                self.addresses.entry(*index).or_default().retain(|known| known != subnet)
+            }
             Change::Routes | Change::Lost => {}
         }
     }
@@ -209,7 +211,9 @@ pub fn addresses(ports: &[Port], machine: &Machine) -> (Vec<Option<Subnet>>, Vec
         match found.iter().position(overlaps) {
             Some(at) => {
                 let (name, other) = (&port.settings.name, &ports[at].settings.name);
-                said.push(format!("the subnets of {other} and {name} overlap: {name} has no address that can be taken"));
+                said.push(format!(
+                    "the subnets of {other} and {name} overlap: {name} has no address that can be taken"
+                ));
                 found.push(None);
             }
             None => found.push(wanted),
@@ -315,7 +319,8 @@ mod tests {
     fn numbers_stay_when_the_file_changes() {
         let mut ports = ports(&["eth0", "eth1"]);
         take_settings(&mut ports, &settings_of(&["eth7", "eth1"]));
-        let found: Vec<_> = ports.iter().map(|port| (port.number, port.settings.name.as_str(), port.is_removed)).collect();
+        let found: Vec<_> =
+            ports.iter().map(|port| (port.number, port.settings.name.as_str(), port.is_removed)).collect();
         assert_eq!(found, [(0, "eth0", true), (1, "eth1", false), (2, "eth7", false)]);
     }
 }

@@ -286,7 +286,10 @@ impl Check<'_> {
             Some((_, choice)) => *choice,
             None => {
                 let words: Vec<_> = choices.iter().map(|(word, _)| format!("\"{word}\"")).collect();
-                self.wrong(value.start(), format!("{name} is \"{}\"; it is to be {}", value.get_ref(), words.join(" or ")));
+                self.wrong(
+                    value.start(),
+                    format!("{name} is \"{}\"; it is to be {}", value.get_ref(), words.join(" or ")),
+                );
                 choices[0].1
             }
         }
@@ -300,7 +303,10 @@ impl Check<'_> {
             _ => {
                 self.wrong(
                     given.start(),
-                    format!("{what} \"{}\" isn't an IPv4 address with a prefix length, as 10.0.0.1/24", given.get_ref()),
+                    format!(
+                        "{what} \"{}\" isn't an IPv4 address with a prefix length, as 10.0.0.1/24",
+                        given.get_ref()
+                    ),
                 );
                 None
             }
@@ -415,8 +421,9 @@ impl Check<'_> {
         let with_vifs = tables.iter().filter(|table| table.name.get_ref() != LOOPBACK);
         let past = with_vifs.skip(MOST_INTERFACES).next().map(|table| table.name.start());
         if let Some(at) = past {
-            let reason =
-                format!("at most {MOST_INTERFACES}: Linux has 32 virtual interfaces, of which the register tunnel is one");
+            let reason = format!(
+                "at most {MOST_INTERFACES}: Linux has 32 virtual interfaces, of which the register tunnel is one"
+            );
             self.wrong(at, reason);
         }
         let mut names = HashSet::new();
@@ -487,7 +494,10 @@ impl Check<'_> {
                 Some((_, numbers)) => of_protocol.extend(numbers.iter().map(|number| (*number, given))),
                 None => {
                     let words: Vec<_> = PROTOCOLS.iter().map(|(word, _)| *word).collect();
-                    self.wrong(value.start(), format!("no protocol is named {}; there are {}", name.get_ref(), words.join(", ")));
+                    self.wrong(
+                        value.start(),
+                        format!("no protocol is named {}; there are {}", name.get_ref(), words.join(", ")),
+                    );
                 }
             }
         }
@@ -603,7 +613,10 @@ mod tests {
         );
         assert!(!it.stays_on_shared_tree);
         let eth0 = &it.interfaces[0];
-        assert_eq!((eth0.priority, eth0.propagation, eth0.override_interval, eth0.address, eth0.line), (1, 500, 2500, None, 2));
+        assert_eq!(
+            (eth0.priority, eth0.propagation, eth0.override_interval, eth0.address, eth0.line),
+            (1, 500, 2500, None, 2)
+        );
         assert_eq!((it.routes.table, it.routes.preference_of(188)), (254, 110));
     }
 
@@ -615,7 +628,10 @@ mod tests {
             [[interface]]\nname = \"a\"\naddress = \"10.0.0.1/24\"\npriority = 7\npropagation = 1\noverride = 2\n\
             [[rp]]\ngroups = \"239.0.0.0/8\"\naddress = \"10.0.0.1\"\n";
         let it = read(text).unwrap();
-        assert_eq!((it.limit, it.stays_on_shared_tree, it.level, it.socket), (9, true, LevelFilter::Debug, "/run/x".into()));
+        assert_eq!(
+            (it.limit, it.stays_on_shared_tree, it.level, it.socket),
+            (9, true, LevelFilter::Debug, "/run/x".into())
+        );
         assert_eq!((it.robustness, it.query_interval, it.query_response, it.last_member_query), (3, 20, 15, 20));
         let subnet = Subnet { address: Ipv4Addr::new(10, 0, 0, 1), length: 24 };
         let a = InterfaceSettings {
@@ -629,12 +645,18 @@ mod tests {
         };
         assert_eq!(it.interfaces, [a]);
         assert_eq!((it.routes.table, it.routes.preference_of(196), it.routes.preference_of(188)), (7, 1, 5));
-        assert_eq!((it.rps[0].groups.to_string(), it.rps[0].address), ("239.0.0.0/8".to_string(), Ipv4Addr::new(10, 0, 0, 1)));
+        assert_eq!(
+            (it.rps[0].groups.to_string(), it.rps[0].address),
+            ("239.0.0.0/8".to_string(), Ipv4Addr::new(10, 0, 0, 1))
+        );
     }
 
     #[test]
     fn a_problem_has_its_line() {
-        assert_eq!(only(&format!("# none\nlimit = 0\n{SMALL}")), (2, "limit is 0; it is to be 1 to 1000000".to_string()));
+        assert_eq!(
+            only(&format!("# none\nlimit = 0\n{SMALL}")),
+            (2, "limit is 0; it is to be 1 to 1000000".to_string())
+        );
         assert_eq!(only(&format!("{SMALL}address = \"10.0.0.1\"\n")).0, 3);
         assert_eq!(only(&format!("{SMALL}propagation = 32768\n")).0, 3);
         assert_eq!(only(&format!("{SMALL}[[rp]]\ngroups = \"239.0.0.1/8\"\naddress = \"10.0.0.1\"\n")).0, 4);
@@ -676,7 +698,9 @@ mod tests {
         let old = read(SMALL).unwrap();
         let differs = |text: &str| old.differs_in_router(&read(text).unwrap());
         assert!(!differs(&format!("# a line\n{SMALL}")));
-        assert!(!differs(&format!("log = \"debug\"\n{SMALL}passive = true\n[[rp]]\ngroups = \"239.0.0.0/8\"\naddress = \"10.0.0.1\"\n")));
+        assert!(!differs(&format!(
+            "log = \"debug\"\n{SMALL}passive = true\n[[rp]]\ngroups = \"239.0.0.0/8\"\naddress = \"10.0.0.1\"\n"
+        )));
         assert!(differs(&format!("limit = 7\n{SMALL}")) && differs(&format!("{SMALL}priority = 2\n")));
         assert!(differs(&format!("{SMALL}[[interface]]\nname = \"eth1\"\n")));
     }
@@ -690,9 +714,16 @@ mod tests {
         let it = read(text).unwrap();
         let (a, b) = (&it.interfaces[0].policy, &it.interfaces[1].policy);
         let permits = |list: &List, group: [u8; 4]| list.permits(Some([10, 2, 0, 1].into()), group.into());
-        assert_eq!((a.is_passive, a.max_groups, b.max_groups, b.max_neighbours, it.policy.max_registered), (true, 9, 3, 32, 5));
-        assert!(!permits(&a.join, [239, 1, 0, 1]) && permits(&a.join, [239, 2, 0, 1]) && !permits(&b.join, [239, 2, 0, 1]));
-        assert!(permits(&b.send, [239, 2, 0, 1]) && !permits(&b.send, [239, 3, 0, 1]) && permits(&a.send, [239, 3, 0, 1]));
+        assert_eq!(
+            (a.is_passive, a.max_groups, b.max_groups, b.max_neighbours, it.policy.max_registered),
+            (true, 9, 3, 32, 5)
+        );
+        assert!(
+            !permits(&a.join, [239, 1, 0, 1]) && permits(&a.join, [239, 2, 0, 1]) && !permits(&b.join, [239, 2, 0, 1])
+        );
+        assert!(
+            permits(&b.send, [239, 2, 0, 1]) && !permits(&b.send, [239, 3, 0, 1]) && permits(&a.send, [239, 3, 0, 1])
+        );
         assert!(!permits(&it.policy.register, [239, 2, 0, 1]));
         let believed: Vec<_> = b.neighbours.iter().flatten().map(Subnet::to_string).collect();
         assert_eq!(believed, ["10.0.0.2/32", "10.0.0.8/29"]);

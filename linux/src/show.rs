@@ -46,9 +46,9 @@ pub fn answer(daemon: &mut Daemon, line: &str) -> String {
 }
 
 fn as_json(topic: &str, rows: Rows) -> String {
-    let objects = rows
-        .into_iter()
-        .map(|row| Value::Object(row.into_iter().map(|(name, value)| (name.to_string(), value)).collect::<Map<_, _>>()));
+    let objects = rows.into_iter().map(|row| {
+        Value::Object(row.into_iter().map(|(name, value)| (name.to_string(), value)).collect::<Map<_, _>>())
+    });
     let whole = json!({ topic: objects.collect::<Vec<_>>() });
     format!("{whole:#}\n")
 }
@@ -65,11 +65,13 @@ fn cell(value: &Value) -> String {
 
 /// Columns as wide as what stands in them.
 fn as_text(rows: &Rows) -> String {
-    let names: Vec<_> = rows.first().map_or(Vec::new(), |row| row.iter().map(|(name, _)| name.replace('_', " ")).collect());
+    let names: Vec<_> =
+        rows.first().map_or(Vec::new(), |row| row.iter().map(|(name, _)| name.replace('_', " ")).collect());
     let cells = rows.iter().map(|row| row.iter().map(|(_, value)| cell(value)).collect::<Vec<_>>());
     let lines: Vec<_> = std::iter::once(names).chain(cells).collect();
     let count = lines[0].len();
-    let widths: Vec<_> = (0..count).map(|column| lines.iter().map(|line| line[column].len()).max().unwrap_or(0)).collect();
+    let widths: Vec<_> =
+        (0..count).map(|column| lines.iter().map(|line| line[column].len()).max().unwrap_or(0)).collect();
     let padded = |line: &Vec<String>| {
         line.iter().zip(&widths).map(|(cell, width)| format!("{cell:width$}")).collect::<Vec<_>>().join("  ")
     };
@@ -303,8 +305,9 @@ fn mroute(daemon: &mut Daemon) -> Result<Rows, Fatal> {
         let state = states.get(&place);
         let flag = |letter: char, is_set: bool| if is_set { letter.to_string() } else { String::new() };
         let register = state.map_or("none", |row| REGISTER_STATES.get(row.state as usize).copied().unwrap_or("?"));
-        let flags =
-            flag('T', state.map_or(false, |row| row.is_set)) + &flag('F', register == "join") + &flag('U', !entry.is_known());
+        let flags = flag('T', state.map_or(false, |row| row.is_set))
+            + &flag('F', register == "join")
+            + &flag('U', !entry.is_known());
         let row = entry.row.filter(|_| entry.way.accepted.is_some());
         let used = used.get(key);
         let outgoing = row.map_or(Vec::new(), |row| {
@@ -341,8 +344,11 @@ fn counters(daemon: &mut Daemon) -> Result<Rows, Fatal> {
         ("events that it ignored", it.ignored),
         ("events that it refused", refused),
     ];
-    let reasons: Vec<_> =
-        it.refused.iter().map(|(number, count)| (format!("  of these: {}", pim::answer_text(*number)), *count)).collect();
+    let reasons: Vec<_> = it
+        .refused
+        .iter()
+        .map(|(number, count)| (format!("  of these: {}", pim::answer_text(*number)), *count))
+        .collect();
     let more = [
         ("messages that a full router was offered in parts", it.split),
         ("parts offered", it.parts),

@@ -307,7 +307,8 @@ mod tests {
         let found = join_prune(packet).unwrap();
         assert_eq!((found.to, found.holdtime, found.entries.len()), (Ipv4Addr::new(10, 0, 0, 1), 210, 3));
         let said: Vec<_> = found.entries.iter().map(|entry| (entry.is_join, entry.key.to_string())).collect();
-        let wanted = [(true, "(10.1.0.0, 239.1.1.1)"), (false, "(10.1.0.1, 239.1.1.1)"), (false, "(10.1.0.0, 239.1.1.2)")];
+        let wanted =
+            [(true, "(10.1.0.0, 239.1.1.1)"), (false, "(10.1.0.1, 239.1.1.1)"), (false, "(10.1.0.0, 239.1.1.2)")];
         assert_eq!(said, wanted.map(|(is_join, name)| (is_join, name.to_string())));
         // The prune of the first group goes.
         let kept = with_entries(packet, &[found.entries[0].clone(), found.entries[2].clone()]);

@@ -151,7 +151,10 @@ mod tests {
         let stand_in = of(&own).expect("it is a fragment");
         let read = Packet::read(&stand_in).expect("it is a packet");
         assert!(!read.is_fragment() && sum(&[read.header()]) == 0xffff);
-        assert_eq!((read.bytes().len(), read.source(), read.ttl()), (28, Packet::read(&own).expect("so is it").source(), 16));
+        assert_eq!(
+            (read.bytes().len(), read.source(), read.ttl()),
+            (28, Packet::read(&own).expect("so is it").source(), 16)
+        );
         let long = of(&packet(0x4000, 1481)).expect("it is long");
         assert_eq!((long.len(), long[6]), (28, 0x40));
     }
@@ -196,7 +199,9 @@ mod tests {
 
     #[test]
     fn later_fragments_have_the_options_that_are_copied() {
-        let header = [0x48, 0, 0, 0, 0, 0, 0, 0, 16, UDP, 0, 0, 10, 1, 0, 50, 239, 1, 1, 1, 7, 4, 4, 0, 0x94, 4, 0, 0, 0, 0, 0, 0];
+        let header = [
+            0x48, 0, 0, 0, 0, 0, 0, 0, 16, UDP, 0, 0, 10, 1, 0, 50, 239, 1, 1, 1, 7, 4, 4, 0, 0x94, 4, 0, 0, 0, 0, 0, 0,
+        ];
         let own = with_content(&header, &[9; 64]);
         let parts = fragments(Packet::read(&own).expect("it is a packet"), 80).expect("it may be fragmented");
         assert_eq!(parts.iter().map(|part| part[0]).collect::<Vec<_>>(), [0x48, 0x46]);

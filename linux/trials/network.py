@@ -236,8 +236,15 @@ def received(receiver):
 
 def first_after(receiver):
     """After how many ms the first packet came; None where none did."""
-    said = receiver.communicate()[0].split()
-    return None if said[-1] == "never" else int(said[-2])
+    words = receiver.communicate()[0].split()
+    at = words.index("first") + 1
+    return None if words[at].startswith("never") else int(words[at + 1])
+
+
+def longest_gap(receiver):
+    """In ms, between two packets that came one after the other."""
+    words = receiver.communicate()[0].split()
+    return int(words[words.index("gap") + 1])
 
 
 def goes_on(net, group, when):

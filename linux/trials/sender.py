@@ -1,7 +1,8 @@
 #!/usr/bin/env python3
 """A host or a router that sends what others wouldn't; for the trials.
 
-    sender.py INTERFACE ADDRESS reports COUNT [PAUSE]   IGMPv3 reports, each for 183 groups that are new, COUNT groups in all
+    sender.py INTERFACE ADDRESS reports COUNT [PAUSE [FIRST]]  IGMPv3 reports, each for 183 groups that are new, COUNT groups in
+                                                        all, from 239.2.16.0 on or another one
     sender.py INTERFACE ADDRESS report GROUP ..         one report, in fragments where it is long
     sender.py INTERFACE ADDRESS old GROUP               a report of IGMPv2
     sender.py INTERFACE ADDRESS sources COUNT           a packet of data to each of COUNT groups
@@ -73,8 +74,9 @@ def main():
     link, own = Link(interface), socket.inet_aton(address)
     if what == "reports":
         count, pause = int(rest[0]), float(rest[1]) if len(rest) > 1 else 0.0
+        begin = rest[2] if len(rest) > 2 else "239.2.16.0"
         for first in range(0, count, RECORDS):
-            groups = [numbered("239.2.16.0", number) for number in range(first, min(first + RECORDS, count))]
+            groups = [numbered(begin, number) for number in range(first, min(first + RECORDS, count))]
             link.send(ip(own, ALL_IGMP_ROUTERS, IGMP, report(groups)))
             time.sleep(pause)
     elif what == "report":

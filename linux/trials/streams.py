@@ -12,7 +12,7 @@ def join_to_running_stream(net):
     """a host that joins a running stream has its first packet at once, each of eight times, by the router as RP and by FRR's"""
     said = []
     for group in ("239.2.3.1", "239.1.3.1"):
-        sender = net.send("source", group, SOURCE, 6000, 100)
+        sender = net.send("source", group, SOURCE, 30_000, 100)
         time.sleep(3)
         times = []
         for _ in range(8):

@@ -62,13 +62,8 @@ impl Kernel for Handle {
     }
 
     fn links(&mut self) -> io::Result<Vec<Link>> {
-        let link = |index, name: &str| Link {
-            index,
-            name: name.to_string(),
-            mtu: 1500,
-            is_running: true,
-            is_loopback: false,
-        };
+        let link =
+            |index, name: &str| Link { index, name: name.to_string(), mtu: 1500, is_running: true, is_loopback: false };
         Ok(vec![link(ETH0, "eth0"), link(ETH1, "eth1")])
     }
 
@@ -250,7 +245,11 @@ fn an_address_that_comes_late_is_taken() {
     happens(&mut daemon, &fake, report(ETH0, [10, 1, 0, 77], stream.group));
     let late = subnet([10, 5, 0, 1]);
     fake.addresses.borrow_mut().push((ETH1, late));
-    happens(&mut daemon, &fake, (Source::Changes, kernel::Event::Changes(vec![Change::Address { index: ETH1, subnet: late }])));
+    happens(
+        &mut daemon,
+        &fake,
+        (Source::Changes, kernel::Event::Changes(vec![Change::Address { index: ETH1, subnet: late }])),
+    );
     passes(&mut daemon, &fake, 1_100);
     assert_eq!((daemon.ports[1].subnet, daemon.ports[1].standing.is_up()), (Some(late), true));
     assert_eq!(daemon.counters.made_anew, 1);
@@ -267,7 +266,9 @@ fn entries_stay_while_a_router_that_was_made_anew_learns() {
     let flows = Some(Forwarded { parent: 1, outgoing: 0b01 });
     assert_eq!(fake.entry(stream), flows);
     *fake.used.borrow_mut() = vec![Used { key: stream, packets: 9, bytes: 0, stray: 0, idle: 0 }];
-    daemon.take_settings(settings::read(&format!("limit = 1000\n{TWO}")).expect("they are in order")).expect("it goes on");
+    daemon
+        .take_settings(settings::read(&format!("limit = 1000\n{TWO}")).expect("they are in order"))
+        .expect("it goes on");
     assert_eq!((daemon.counters.made_anew, fake.entry(stream)), (1, flows));
     passes(&mut daemon, &fake, 3_000);
     assert_eq!(fake.entry(stream), flows);
@@ -283,7 +284,9 @@ fn what_nobody_asks_for_again_ends_after_the_router_has_learned() {
     let stream = key(NEAR, [239, 1, 1, 1]);
     happens(&mut daemon, &fake, report(ETH0, [10, 1, 0, 77], stream.group));
     happens(&mut daemon, &fake, no_cache(1, stream));
-    daemon.take_settings(settings::read(&format!("limit = 1000\n{TWO}")).expect("they are in order")).expect("it goes on");
+    daemon
+        .take_settings(settings::read(&format!("limit = 1000\n{TWO}")).expect("they are in order"))
+        .expect("it goes on");
     passes(&mut daemon, &fake, 15_000);
     assert_eq!(fake.entry(stream).map_or(0, |entry| entry.outgoing & 0b01), 0);
 }
@@ -335,7 +338,8 @@ fn a_passive_interface_neither_hears_nor_sends_pim() {
     passes(&mut daemon, &fake, 10_000);
     assert!(daemon.neighbours.known.is_empty());
     let is_pim = |bytes: &[u8]| Packet::read(bytes).map_or(false, Packet::is_pim_of_link);
-    let on: BTreeSet<u32> = fake.sent.borrow().iter().filter(|(_, bytes)| is_pim(bytes)).map(|(index, _)| *index).collect();
+    let on: BTreeSet<u32> =
+        fake.sent.borrow().iter().filter(|(_, bytes)| is_pim(bytes)).map(|(index, _)| *index).collect();
     assert_eq!(on, BTreeSet::from([ETH1]));
 }
 

@@ -150,12 +150,9 @@ impl Daemon {
 
     /// What waits at each socket, in turn.
     pub(super) fn turn(&mut self) -> Result<(), Fatal> {
-        for (source, most) in [
-            (Source::Changes, usize::MAX),
-            (Source::Upcalls, TURN),
-            (Source::Unicasts, TURN),
-            (Source::Frames, TURN),
-        ] {
+        for (source, most) in
+            [(Source::Changes, usize::MAX), (Source::Upcalls, TURN), (Source::Unicasts, TURN), (Source::Frames, TURN)]
+        {
             for _ in 0..most {
                 match self.kernel.hear(source) {
                     Ok(Some(event)) => self.happens(event)?,
