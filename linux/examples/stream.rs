@@ -3,8 +3,8 @@
 //!     stream send GROUP ADDRESS COUNT RATE [BYTES]          from the interface that has the address
 //!     stream receive GROUP ADDRESS COUNT SECONDS [BYTES]    until all have come, or for so long
 //!
-//! The receiver prints `joined` once it has, and at the end how many came, how many of these twice, how many ms after it had
-//! joined the first one came, and the longest time between two of them.
+//! The receiver prints `joined` once it has, and at the end how many came, how many of these twice, how many ms after
+//! it had joined the first one came, and the longest time between two of them.
 use socket2::{Domain, SockAddr, Socket, Type};
 use std::io;
 use std::net::{Ipv4Addr, SocketAddrV4, UdpSocket};

@@ -1,7 +1,7 @@
 //! The control socket: a client writes a line, `show WHAT` or `show WHAT json`, and reads the answer to its end.
 //!
-//! An answer is worked out and written by a process of its own, which has the router's memory as it was when it was asked: the
-//! router goes on meanwhile, however long the answer is, and however slowly it is read.
+//! An answer is worked out and written by a process of its own, which has the router's memory as it was when it was
+//! asked: the router goes on meanwhile, however long the answer is, and however slowly it is read.
 use log::debug;
 use std::io::{self, Read, Write};
 use std::os::unix::io::{AsRawFd, RawFd};
@@ -57,8 +57,8 @@ impl Client {
 
 /// Writes an answer in a process of its own, which answers its number.
 fn answer_elsewhere(mut stream: UnixStream, answer: impl FnOnce() -> String) -> io::Result<libc::pid_t> {
-    // SAFETY: the router has one thread, so the child has all of its memory in order. It calls nothing but what works the
-    // answer out and writes it, and ends without running what its parent is to run at its end.
+    // SAFETY: the router has one thread, so the child has all of its memory in order. It calls nothing but what works
+    // the answer out and writes it, and ends without running what its parent is to run at its end.
     match unsafe { libc::fork() } {
         -1 => Err(io::Error::last_os_error()),
         0 => {
@@ -147,6 +147,11 @@ fn is_alive(child: libc::pid_t) -> bool {
 
 impl Drop for Control {
     fn drop(&mut self) {
+        // They hold the router's sockets too, which the next router wants.
+        for child in &self.answers {
+            // SAFETY: it is a child that was not waited for yet.
+            unsafe { libc::kill(*child, libc::SIGKILL) };
+        }
         let _ = std::fs::remove_file(&self.path);
     }
 }

@@ -112,7 +112,8 @@ impl Core {
         self.router.may_differ(key.source, key.group)
     }
 
-    /// The kernel forwarded a packet of a source at a moment, in ms. It tells whether the source's keepalive timer runs.
+    /// The kernel forwarded a packet of a source at a moment, in ms. It tells whether the source's keepalive timer
+    /// runs.
     pub fn keep(&mut self, key: Key, moment: u64) -> Result<bool, Fatal> {
         Ok(self.router.keep(key.source, key.group, moment)?)
     }

@@ -1,4 +1,5 @@
-//! The router on the machine: events of its sockets and clocks go to the library one by one, and what it answers goes out.
+//! The router on the machine: events of its sockets and clocks go to the library one by one, and what it answers goes
+//! out.
 mod anew;
 mod forwarding;
 mod heard;

@@ -79,7 +79,8 @@ pub enum Upcall {
 }
 
 impl Upcall {
-    /// The kernel's message: an IPv4 header of its own, whose TTL, protocol and checksum say what it is, then the packet.
+    /// The kernel's message: an IPv4 header of its own, whose TTL, protocol and checksum say what it is, then the
+    /// packet.
     pub fn read(message: &[u8]) -> Option<Upcall> {
         if message.len() < 20 || message[9] != 0 {
             return None;

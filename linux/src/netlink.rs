@@ -148,7 +148,8 @@ fn messages(bytes: &[u8]) -> Vec<(u32, Message)> {
     found
 }
 
-/// Links and next hops are read here: of their many attributes few are wanted, and one that nobody knows yet costs nothing.
+/// Links and next hops are read here: of their many attributes few are wanted, and one that nobody knows yet costs
+/// nothing.
 fn message(bytes: &[u8]) -> Option<Message> {
     let (kind, content) = (u16::from_ne_bytes([bytes[4], bytes[5]]), &bytes[HEADER..]);
     match kind {

@@ -106,8 +106,9 @@ pub fn with_content(header: &[u8], content: &[u8]) -> Vec<u8> {
     packet
 }
 
-/// Fills in a UDP or TCP checksum that the sender left to its card. Then the place holds the sum of the pseudo header alone.
-/// A checksum that is right stays, and so does one that is wrong in another way. It tells whether one was filled in.
+/// Fills in a UDP or TCP checksum that the sender left to its card. Then the place holds the sum of the pseudo header
+/// alone. A checksum that is right stays, and so does one that is wrong in another way. It tells whether one was
+/// filled in.
 pub fn fill_checksum(packet: &mut [u8]) -> bool {
     let (header, place, pseudo) = match Packet::read(packet) {
         Some(it) if !it.is_fragment() => match (it.protocol(), it.content().len()) {
@@ -199,7 +200,8 @@ pub fn goodbye(hello: &[u8]) -> Option<Vec<u8>> {
     Some(with_content(packet.header(), &content))
 }
 
-/// Fills in the checksum of the packet in a Register: its source may have left it to a card, which the DR's kernel never asked.
+/// Fills in the checksum of the packet in a Register: its source may have left it to a card, which the DR's kernel
+/// never asked.
 pub fn fill_registered(bytes: &mut [u8]) -> bool {
     const REGISTER: u8 = 1;
     let register = Packet::read(bytes).filter(|packet| is_pim(*packet, REGISTER));

@@ -2,10 +2,13 @@
 //!
 //! The kernel accepts packets of a source and a group on one virtual interface. So of a row:
 //!
-//! - where packets on its incoming interface are forwarded, the entry accepts them there and sends them to the outgoing ones;
-//! - where they are the router's, the entry accepts them and sends them to the register tunnel alone: then each comes up
+//! - where packets on its incoming interface are forwarded, the entry accepts them there and sends them to the
+//!   outgoing ones;
+//! - where they are the router's, the entry accepts them and sends them to the register tunnel alone: then each comes
+//!   up
 //!   whole;
-//! - where there is no incoming interface, and packets on another one are the router's, the entry accepts those likewise;
+//! - where there is no incoming interface, and packets on another one are the router's, the entry accepts those
+//!   likewise;
 //! - where nothing is to be had, the entry accepts on the register tunnel, and sends nowhere.
 //!
 //! What comes on another interface is a stray for the kernel, which drops it and hands up one in three seconds, whole.
@@ -258,7 +261,8 @@ impl Plane {
         }
     }
 
-    /// All entries anew, after virtual interfaces came or went, or what may be sent changed. The first error is answered.
+    /// All entries anew, after virtual interfaces came or went, or what may be sent changed. The first error is
+    /// answered.
     pub fn place_all<C: Cache + ?Sized>(&mut self, cache: &C, ways: &Ways) -> io::Result<()> {
         let mut answer = Ok(());
         for (key, entry) in self.entries.iter_mut().filter(|(_, entry)| !entry.is_kept) {
@@ -304,7 +308,8 @@ impl Plane {
         }
     }
 
-    /// Whether the router may let a source go by this moment of which the kernel has forwarded packets since the last look.
+    /// Whether the router may let a source go by this moment of which the kernel has forwarded packets since the last
+    /// look.
     pub fn is_overdue(&self, now: u64) -> bool {
         let ends = self.entries.values().filter(|entry| entry.is_known()).map(|entry| entry.told + KEEPALIVE);
         ends.into_iter().any(|end| end > self.looked_at && end <= now)

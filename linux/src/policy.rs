@@ -1,4 +1,5 @@
-//! What is let through to the router: lists of groups, sources and neighbours, and quotas of what an interface may bring.
+//! What is let through to the router: lists of groups, sources and neighbours, and quotas of what an interface may
+//! bring.
 //!
 //! It stands in front of the library: what it refuses never gets there. What is known is never refused by a quota, so a
 //! refresh goes through. Each refusal is counted, and said at a bounded rate.
@@ -43,7 +44,8 @@ pub struct Gate {
     pub policy: InterfacePolicy,
 }
 
-/// What the router holds of an interface, or would hold after what was let through. What has ended may still stand here.
+/// What the router holds of an interface, or would hold after what was let through. What has ended may still stand
+/// here.
 #[derive(Clone, Debug, Default)]
 struct Held {
     neighbours: HashSet<Ipv4Addr>,

@@ -1,8 +1,8 @@
 //! Of the kernel's unicast routes those that the router is told.
 //!
-//! The router knows routes by a next hop on an interface of its own, and the subnets of its interfaces. Whatever else the kernel
-//! has for a prefix (a blackhole, an interface that isn't the router's, another subnet on a link, a next hop in IPv6) is a hole:
-//! there a shorter route has to end, so it is told as the prefixes around the hole.
+//! The router knows routes by a next hop on an interface of its own, and the subnets of its interfaces. Whatever else
+//! the kernel has for a prefix (a blackhole, an interface that isn't the router's, another subnet on a link, a next
+//! hop in IPv6) is a hole: there a shorter route has to end, so it is told as the prefixes around the hole.
 use crate::settings::{mask, RouteSettings, Subnet};
 use pim::Route;
 use std::collections::HashMap;

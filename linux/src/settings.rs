@@ -371,7 +371,8 @@ impl Check<'_> {
         self.quota("max_neighbors", &own.max_neighbors, &of_all.max_neighbors, USUAL_NEIGHBOURS, MOST_NEIGHBOURS)
     }
 
-    /// What the quotas are where the file has none: of the limit, the room for neighbours, and how many interfaces there are.
+    /// What the quotas are where the file has none: of the limit, the room for neighbours, and how many interfaces
+    /// there are.
     fn usual_quotas(&mut self, limit: u32, file: &File) -> UsualQuotas {
         let mut quiet = Check { text: self.text, problems: Vec::new() };
         let policies: Vec<_> = file
@@ -541,7 +542,8 @@ pub fn not_a_host(subnet: Subnet) -> Option<&'static str> {
     (subnet.length == 0).then_some("its subnet is everything")
 }
 
-/// What TOML's reader says. Of a key that it doesn't know it tells the line of the table, so the key is looked for from there on.
+/// What TOML's reader says. Of a key that it doesn't know it tells the line of the table, so the key is looked for
+/// from there on.
 fn not_read(text: &str, error: &toml::de::Error) -> Problem {
     let reason = error.to_string();
     let reason = reason.split(" at line ").next().unwrap_or(&reason).to_string();
@@ -565,7 +567,8 @@ pub fn read(text: &str) -> Result<Settings, Vec<Problem>> {
 }
 
 impl Settings {
-    /// What is of the library's router, which is made anew where it differs: all but the lists, the quotas and the lines.
+    /// What is of the library's router, which is made anew where it differs: all but the lists, the quotas and the
+    /// lines.
     pub fn differs_in_router(&self, other: &Settings) -> bool {
         let own = |it: &Settings| {
             let interface = |one: &InterfaceSettings| {

@@ -1,7 +1,7 @@
 //! Reports and Join/Prunes in parts: each record of a report, each entry of a Join/Prune, and messages of some of them.
 //!
-//! By the rules a message is taken whole or not at all. So where one names what is known beside what is new, a router at its
-//! limit would let the known end too. Offered part by part, the known is refreshed, and the new alone refused.
+//! By the rules a message is taken whole or not at all. So where one names what is known beside what is new, a router
+//! at its limit would let the known end too. Offered part by part, the known is refreshed, and the new alone refused.
 use crate::packet::{address, is_pim, put_checksum, two, with_content, Packet, IGMP};
 use pim::Row;
 use std::fmt;
@@ -61,7 +61,8 @@ pub struct Record {
 }
 
 impl Record {
-    /// It makes no state: it takes back what may have been asked for, or is of a group of the link alone (224.0.0.0/24).
+    /// It makes no state: it takes back what may have been asked for, or is of a group of the link alone
+    /// (224.0.0.0/24).
     pub fn asks_for_nothing(&self) -> bool {
         let is_of_link = self.group.octets().starts_with(&[224, 0, 0]);
         is_of_link || self.kind == BLOCK || (self.sources.is_empty() && matches!(self.kind, IS_IN | TO_IN))

@@ -1,8 +1,9 @@
 //! Data packets that the library doesn't read: fragments, and packets of more than 1,500 bytes.
 //!
-//! Each of them is an IPv4 packet like any other, and is forwarded as it is (RFC 1812, 5.2.6: a router doesn't reassemble what it
-//! forwards). The library decides of a packet by its header alone. So it is given a short whole packet with the same header, and in
-//! each copy and in the Register that it sends of that one the packet itself stands.
+//! Each of them is an IPv4 packet like any other, and is forwarded as it is (RFC 1812, 5.2.6: a router doesn't
+//! reassemble what it forwards). The library decides of a packet by its header alone. So it is given a short whole
+//! packet with the same header, and in each copy and in the Register that it sends of that one the packet itself
+//! stands.
 use crate::packet::{is_pim, put_checksum, two, with_content, Packet};
 
 /// The most bytes of a packet that the library reads.
@@ -28,7 +29,8 @@ pub fn of(packet: &[u8]) -> Option<Vec<u8>> {
     Some(with_content(&header, &whole.content()[..whole.content().len().min(CONTENT)]))
 }
 
-/// The packet in a Register, and the Register with a stand-in for it; `None` as above, or where it is no Register of data.
+/// The packet in a Register, and the Register with a stand-in for it; `None` as above, or where it is no Register of
+/// data.
 pub fn of_registered(bytes: &[u8]) -> Option<(Vec<u8>, Vec<u8>)> {
     let outer = Packet::read(bytes)?;
     let (head, inner) = registered(outer)?;
@@ -64,7 +66,8 @@ pub fn copy(packet: &[u8], sent: &[u8]) -> Vec<u8> {
     with_ttl(packet, sent[8])
 }
 
-/// A Register of a stand-in, with the packet itself; `None` where it is no such Register, or would be longer than a packet can be.
+/// A Register of a stand-in, with the packet itself; `None` where it is no such Register, or would be longer than a
+/// packet can be.
 pub fn register(packet: &[u8], sent: &[u8]) -> Option<Vec<u8>> {
     let outer = Packet::read(sent)?;
     let (head, inner) = registered(outer)?;

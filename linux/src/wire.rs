@@ -155,7 +155,8 @@ impl Links {
         self.shared.send_to(packet, &SockAddr::from(SocketAddrV4::new(to, 0))).map(|_| ())
     }
 
-    /// The machine is a member of ALL-IGMP-ROUTERS on an interface, so that the reports of its own programs come here too.
+    /// The machine is a member of ALL-IGMP-ROUTERS on an interface, so that the reports of its own programs come here
+    /// too.
     pub fn hear_own_reports(&mut self, index: u32) -> io::Result<()> {
         let member = Socket::new(Domain::IPV4, Type::DGRAM, None)?;
         set_option(&member, libc::IPPROTO_IP, libc::IP_ADD_MEMBERSHIP, &by_index(ALL_IGMP_ROUTERS, index))?;
@@ -205,7 +206,8 @@ impl Unicasts {
         waiting(self.heard.recv(room), room)
     }
 
-    /// A packet that is longer than its link takes leaves in fragments, by a header that the kernel makes of the same values.
+    /// A packet that is longer than its link takes leaves in fragments, by a header that the kernel makes of the same
+    /// values.
     pub fn send(&self, packet: &[u8]) -> io::Result<()> {
         let whole = Packet::read(packet).ok_or(io::ErrorKind::InvalidInput)?;
         let to = SockAddr::from(SocketAddrV4::new(whole.destination(), 0));

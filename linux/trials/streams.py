@@ -37,7 +37,7 @@ def long_packets(net):
             ("source", SOURCE, "viewer", "10.6.0.77", f"239.2.4.{number}"),
             ("source", SOURCE, "hosts", HOST, f"239.1.5.{number}"),
         ):
-            receiver = net.receive(receiving, group, address, 60, 20, size)
+            receiver = net.receive(receiving, group, address, 60, 8, size)
             time.sleep(2)
             sender = net.send(sending, group, source, 60, 20, size)
             came, of, twice = received(receiver)

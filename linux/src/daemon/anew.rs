@@ -1,9 +1,9 @@
 //! The library's router made anew, where its interfaces, their addresses or its settings change.
 //!
-//! The library takes these when its router is made, and has no call that hands the state of one router to another. So the new
-//! router learns again from Hellos, Joins and reports, which it asks for at once. Meanwhile the kernel forwards as it did:
-//! its entries stay until the new router has had the time to learn. Where the library gets calls to save and restore its
-//! state, they belong between the two routers in `make_anew`.
+//! The library takes these when its router is made, and has no call that hands the state of one router to another. So
+//! the new router learns again from Hellos, Joins and reports, which it asks for at once. Meanwhile the kernel
+//! forwards as it did: its entries stay until the new router has had the time to learn. Where the library gets calls
+//! to save and restore its state, they belong between the two routers in `make_anew`.
 use super::{Core, Daemon, Event, Fatal};
 use crate::ports::{self, Port, Standing};
 use crate::settings::Subnet;
@@ -11,7 +11,8 @@ use log::{error, info, warn};
 
 /// Addresses that change together are taken together, in ms.
 const SETTLE: u64 = 1_000;
-/// After its first Hello each neighbour says what it wants, in ms: 5 s for the Hello and 3 s for the Join (RFC 7761, 4.11).
+/// After its first Hello each neighbour says what it wants, in ms: 5 s for the Hello and 3 s for the Join (RFC 7761,
+/// 4.11).
 const NEIGHBOURS_SPEAK: u64 = 10_000;
 /// After the first query each host says what it wants; so much longer it may take, in ms.
 const HOSTS_SLACK: u64 = 2_000;

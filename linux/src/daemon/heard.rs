@@ -24,8 +24,8 @@ fn groups_of(bytes: &[u8]) -> Option<Vec<Ipv4Addr>> {
 }
 
 impl Daemon {
-    /// PIM or IGMP to a group came; from a program on the machine itself only reports are heard, as of a host without an
-    /// address.
+    /// PIM or IGMP to a group came; from a program on the machine itself only reports are heard, as of a host without
+    /// an address.
     pub(super) fn heard(&mut self, index: u32, is_own: bool, frame: &[u8]) -> Result<(), Fatal> {
         // Behind a short packet a card puts what the link wants.
         let bytes = Packet::read(frame).map_or(frame, Packet::bytes);

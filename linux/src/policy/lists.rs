@@ -18,7 +18,8 @@ impl Rule {
     }
 }
 
-/// Rules, of which the first that fits decides. Without a list all is permitted; with one, what no rule fits is refused.
+/// Rules, of which the first that fits decides. Without a list all is permitted; with one, what no rule fits is
+/// refused.
 #[derive(Clone, Debug, Default, PartialEq, Eq)]
 pub struct List(pub Option<Vec<Rule>>);
 
@@ -105,8 +106,9 @@ pub struct UsualQuotas {
 }
 
 impl UsualQuotas {
-    /// The hosts of all interfaces together may take what isn't kept for neighbours, half of it by groups and half by sources;
-    /// those of one interface at most a quarter of the limit by each. The neighbours of an interface may take half of it.
+    /// The hosts of all interfaces together may take what isn't kept for neighbours, half of it by groups and half by
+    /// sources; those of one interface at most a quarter of the limit by each. The neighbours of an interface may
+    /// take half of it.
     pub fn of(limit: u32, reserve: u32, interfaces: u32) -> UsualQuotas {
         let free = limit.saturating_sub(reserve);
         let share = (free / (2 * interfaces.max(1))).min(limit / 4).max(1);
