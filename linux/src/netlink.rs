@@ -96,9 +96,8 @@ pub struct Netlink {
 }
 
 fn serialized(message: RtnlMessage, sequence: u32) -> Vec<u8> {
-    let mut header = NetlinkHeader::default();
-    header.flags = NLM_F_DUMP | NLM_F_REQUEST;
-    header.sequence_number = sequence;
+    let header =
+        NetlinkHeader { flags: NLM_F_DUMP | NLM_F_REQUEST, sequence_number: sequence, ..NetlinkHeader::default() };
     let mut packet = NetlinkMessage { header, payload: NetlinkPayload::from(message) };
     packet.finalize();
     let mut bytes = vec![0; packet.buffer_len()];

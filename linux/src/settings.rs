@@ -336,7 +336,7 @@ impl Check<'_> {
 
     /// The interface's own list, or the one of all.
     fn list(&mut self, own: &Option<Vec<RuleTable>>, usual: &Option<Vec<RuleTable>>) -> List {
-        let given = own.as_ref().or_else(|| usual.as_ref());
+        let given = own.as_ref().or(usual.as_ref());
         List(given.map(|tables| tables.iter().filter_map(|table| self.rule(table)).collect()))
     }
 
@@ -419,8 +419,8 @@ impl Check<'_> {
         if found.is_empty() {
             self.problems.push(Problem { line: 0, reason: "there is no [[interface]]".to_string() });
         }
-        let with_vifs = tables.iter().filter(|table| table.name.get_ref() != LOOPBACK);
-        let past = with_vifs.skip(MOST_INTERFACES).next().map(|table| table.name.start());
+        let mut with_vifs = tables.iter().filter(|table| table.name.get_ref() != LOOPBACK);
+        let past = with_vifs.nth(MOST_INTERFACES).map(|table| table.name.start());
         if let Some(at) = past {
             let reason = format!(
                 "at most {MOST_INTERFACES}: Linux has 32 virtual interfaces, of which the register tunnel is one"

@@ -18,8 +18,9 @@ const SSM: (u32, u8) = (0xe800_0000, 8);
 const PRUNED: u32 = 3;
 const REGISTER_STATES: [&str; 4] = ["none", "join", "join pending", "prune"];
 
-/// Rows of named values, in the order in which a table of text has them.
-type Rows = Vec<Vec<(&'static str, Value)>>;
+/// Named values, in the order in which a table of text has them.
+type Cells = Vec<(&'static str, Value)>;
+type Rows = Vec<Cells>;
 
 /// The answer to a line of a client.
 pub fn answer(daemon: &mut Daemon, line: &str) -> String {
@@ -237,7 +238,7 @@ fn names(daemon: &Daemon, set: Interfaces) -> Vec<String> {
 }
 
 /// The shared trees: each group that a host or a router asked for.
-fn shared_trees(daemon: &mut Daemon) -> Result<BTreeMap<(u32, u32), Vec<(&'static str, Value)>>, Fatal> {
+fn shared_trees(daemon: &mut Daemon) -> Result<BTreeMap<(u32, u32), Cells>, Fatal> {
     let mut wanted: BTreeMap<u32, BTreeSet<String>> = BTreeMap::new();
     for row in rows_of(daemon, Table::Downstream)?.iter().filter(|row| row.source == 0 && row.state != PRUNED) {
         wanted.entry(row.group).or_default().insert(daemon.name(row.iface).to_string());

@@ -48,6 +48,33 @@ pub fn parts(packet: &[u8]) -> Vec<Vec<u8>> {
     }
 }
 
+/// The packet in parts of at most so many bytes, as few as hold its records or groups in their order; itself where it is
+/// short, is no such message, or has one record or group.
+pub fn within(packet: &[u8], most: usize) -> Vec<Vec<u8>> {
+    let mut found: Vec<Vec<u8>> = Vec::new();
+    for part in if packet.len() > most { parts(packet) } else { Vec::new() } {
+        let joined = found.last().and_then(|last| together(last, &part)).filter(|joined| joined.len() <= most);
+        match (joined, found.last_mut()) {
+            (Some(joined), Some(last)) => *last = joined,
+            _ => found.push(part),
+        }
+    }
+    if found.is_empty() {
+        found.push(packet.to_vec());
+    }
+    found
+}
+
+/// Two messages as one.
+fn together(one: &[u8], other: &[u8]) -> Option<Vec<u8>> {
+    let (one, other) = (Packet::read(one)?, Packet::read(other)?);
+    let (from, count_at) = if one.protocol() == IGMP { (RECORDS_AT, 7) } else { (GROUPS_AT, NUMBER_OF_GROUPS_AT) };
+    let mut own = [one.content(), &other.content()[from..]].concat();
+    own[count_at] = own[count_at].checked_add(other.content()[count_at])?;
+    put_checksum(&mut own, 2);
+    Some(with_content(one.header(), &own))
+}
+
 // ---- reports
 
 /// A record of an IGMPv3 report.
@@ -325,5 +352,20 @@ mod tests {
         let found = join_prune(Packet::read(&whole).unwrap()).unwrap().entries;
         let made: Vec<_> = found.iter().map(Entry::makes_state).collect();
         assert_eq!(made, [true, true, false, false, false, true]);
+    }
+
+    #[test]
+    fn a_long_message_has_parts_of_a_length() {
+        let all: Vec<_> = (0..250).map(|last| record(last, 2)).collect();
+        let parts = within(&report(&all), 1500);
+        // 24 and 8 bytes, and 20 for each record.
+        let wanted: Vec<_> = all.chunks(73).map(report).collect();
+        assert_eq!(parts, wanted);
+        let groups: Vec<_> = (0..60).map(|last| group(last, 1)).collect();
+        let parts = within(&join_prune_of(&groups), 500);
+        assert_eq!(parts, groups.chunks(16).map(join_prune_of).collect::<Vec<_>>());
+        let short = report(&all[..3]);
+        assert_eq!(within(&short, 1500), [short]);
+        assert_eq!(within(&[1; 2000], 1500), [vec![1; 2000]]);
     }
 }

@@ -46,7 +46,7 @@ pub fn of_registered(bytes: &[u8]) -> Option<(Vec<u8>, Vec<u8>)> {
     Some((whole, with_content(outer.header(), &[head, stand_in].concat())))
 }
 
-fn registered(outer: Packet) -> Option<(&[u8], &[u8])> {
+fn registered(outer: Packet<'_>) -> Option<(&[u8], &[u8])> {
     let content = outer.content();
     let is_data = is_pim(outer, REGISTER) && content.len() > REGISTER_HEAD && content[4] & NULL_REGISTER == 0;
     is_data.then(|| content.split_at(REGISTER_HEAD))

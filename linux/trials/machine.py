@@ -158,7 +158,7 @@ def vxlan_and_next_hop_objects(net):
 def show_while_the_router_works(net):
     """with 65,536 groups `show` keeps no join waiting, and 32 silent clients of the control socket lock no one out"""
     net.stop_router()
-    net.start_router("limit = 200000\n[policy]\nmax_groups = 100000\n")
+    net.start_router("limit = 200000\n", "max_groups = 100000\n")
     until("the router knows three neighbours", 40, lambda: net.neighbours() >= {"10.2.0.1", "10.3.0.1", "10.7.0.2"})
     group = "239.2.12.1"
     sender = net.send("source", group, SOURCE, 6000, 100)

@@ -161,8 +161,9 @@ class Network:
         said = subprocess.run(inside(place, "vtysh", "--vty_socket", self.room / place, "-c", command), capture_output=True, text=True)
         return said.stdout
 
-    def start_router(self, more="", settings=None, environment=()):
-        self.settings = more + (settings or SETTINGS).format(room=self.room)
+    def start_router(self, more="", policy="", environment=()):
+        self.settings = more + SETTINGS.format(room=self.room)
+        self.settings = self.with_policy(policy)
         (self.room / "router.toml").write_text(self.settings)
         own = self.room / "router"
         own.mkdir(exist_ok=True)
@@ -183,6 +184,10 @@ class Network:
         (self.room / "router.toml").write_text(settings)
         self.router.send_signal(signal.SIGHUP)
         until("the settings are taken", 10, lambda: self.log().count("the settings are read anew") > before)
+
+    def with_policy(self, lines):
+        """The settings that the router started with, and some lines of `[policy]`."""
+        return self.settings.replace("[igmp]\n", f"[policy]\n{lines}\n[igmp]\n") if lines else self.settings
 
     def reload_interface(self, name, lines):
         """The settings that the router started with, and some lines for an interface."""

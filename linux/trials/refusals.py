@@ -126,7 +126,7 @@ def neighbours_that_are_believed(net):
 def list_of_joins(net):
     """a group that `join` doesn't permit isn't joined, by a host or by FRR, and another one is"""
     rules = 'join = [{ groups = "239.2.8.0/24", permit = false }, { groups = "239.0.0.0/8" }]\n'
-    net.reload("[policy]\n" + rules + net.settings)
+    net.reload(net.with_policy(rules))
     receivers = [net.receive("hosts", group, HOST, 1, 60) for group in ("239.2.8.1", "239.2.9.1")]
     receivers += [net.receive("viewer", group, "10.6.0.77", 1, 60) for group in ("239.2.8.2", "239.2.9.2")]
     outgoing = lambda group: net.entry("*", group)["outgoing"]
@@ -163,7 +163,7 @@ def list_of_senders(net):
 
 def list_of_registers(net):
     """a Register that `register` doesn't permit makes no source known, and another one does"""
-    net.reload('[policy]\nregister = [{ groups = "239.2.8.4/32", permit = false }, {}]\n' + net.settings)
+    net.reload(net.with_policy('register = [{ groups = "239.2.8.4/32", permit = false }, {}]\n'))
     for group in ("239.2.8.4", "239.2.8.5"):
         net.send("source", group, SOURCE, 10, 10).wait()
     known = lambda group: net.entry(SOURCE, group)["flags"] not in ("", "U")
@@ -201,7 +201,7 @@ def check_says_quotas(net):
     said = checked(net.settings + '[[interface]]\nname = "to-nowhere"\n')
     if "are kept for neighbours" not in said or "no interface to-nowhere now" not in said or "more than what is left" in said:
         raise Failed(said)
-    said = checked("[policy]\nmax_groups = 60000\n" + net.settings)
+    said = checked(net.with_policy("max_groups = 60000\n"))
     if "more than what is left of the limit" not in said:
         raise Failed(said)
 

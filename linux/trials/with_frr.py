@@ -328,7 +328,7 @@ def limit(net):
     known, new = "239.2.8.1", "239.2.8.2"
     net.stop_router()
     # Three neighbours, and a group; no quota is to be met before the limit.
-    net.start_router("limit = 4\n[policy]\nmax_groups = 100\n")
+    net.start_router("limit = 4\n", "max_groups = 100\n")
     receivers = []
     try:
         until("the router knows three neighbours", 40, lambda: len(net.neighbours()) == 3)

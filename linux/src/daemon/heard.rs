@@ -8,6 +8,9 @@ use pim::{Error, Refusal};
 use std::collections::HashSet;
 use std::net::Ipv4Addr;
 
+/// The most bytes of a packet that the library reads.
+const MOST_READ: usize = 1500;
+
 /// The groups that a packet to a group is about; `None` where it is about more than groups.
 fn groups_of(bytes: &[u8]) -> Option<Vec<Ipv4Addr>> {
     const ASSERT: u8 = 5;
@@ -54,17 +57,25 @@ impl Daemon {
                 return Ok(());
             }
         };
-        if let Some(packet) = Packet::read(&let_in).filter(|packet| is_pim(*packet, 0)) {
-            self.neighbours.hellos.insert((number, packet.source()), (words::of(bytes), priority_of(packet)));
+        for part in split::within(&let_in, MOST_READ) {
+            self.take_part(number, &part)?;
+        }
+        Ok(())
+    }
+
+    /// A message that the library reads: one that came in fragments may be longer, and is taken in parts.
+    fn take_part(&mut self, number: u32, let_in: &[u8]) -> Result<(), Fatal> {
+        if let Some(packet) = Packet::read(let_in).filter(|packet| is_pim(*packet, 0)) {
+            self.neighbours.hellos.insert((number, packet.source()), (words::of(let_in), priority_of(packet)));
             self.neighbours.are_stale = true;
         }
-        let answer = self.take(Event::Frame(number, &let_in))?;
-        self.after(answer, &let_in);
+        let answer = self.take(Event::Frame(number, let_in))?;
+        self.after(answer, let_in);
         if let Answer::Refused(refusal) = answer {
             self.ports[number as usize].passed.refused += 1;
             debug!("it is refused: {}", Error::Refused(refusal));
             if refusal == Refusal::Full {
-                self.offer_parts(number, &let_in)?;
+                self.offer_parts(number, let_in)?;
             }
         }
         Ok(())
