@@ -7,7 +7,7 @@ use crate::plane::Cache;
 use crate::routes::KernelRoute;
 use crate::settings::Subnet;
 use crate::stand_in::fragments;
-use crate::wire::{Links, Unicasts};
+use crate::wire::{Links, OwnReports, Unicasts};
 use std::collections::HashMap;
 use std::io;
 use std::mem::MaybeUninit;
@@ -23,6 +23,7 @@ pub enum Source {
     Changes,
     Upcalls,
     Unicasts,
+    OwnReports,
     Frames,
 }
 
@@ -33,10 +34,11 @@ pub enum Event {
     Upcall(Upcall),
     /// PIM to an address of the machine.
     Unicast(Vec<u8>),
-    /// PIM or IGMP to a group; `is_own` where a program on the machine sent it.
+    /// IGMP of a program on the machine itself.
+    OwnReport(Vec<u8>),
+    /// PIM or IGMP to a group, with the kernel's number of the interface.
     Frame {
         index: u32,
-        is_own: bool,
         packet: Vec<u8>,
     },
     /// What waited is nothing for the router.
@@ -74,6 +76,7 @@ pub struct Linux {
     mroute: Mroute,
     links: Links,
     unicasts: Unicasts,
+    own_reports: OwnReports,
     netlink: Netlink,
     /// The most bytes of a packet, by the kernel's number of an interface.
     mtus: HashMap<u32, usize>,
@@ -87,6 +90,7 @@ impl Linux {
             mroute: Mroute::open().map_err(Fatal::MulticastRouting)?,
             links: Links::open().map_err(Fatal::Socket)?,
             unicasts: Unicasts::open().map_err(Fatal::Socket)?,
+            own_reports: OwnReports::open().map_err(Fatal::Socket)?,
             netlink: Netlink::open().map_err(Fatal::Netlink)?,
             mtus: HashMap::new(),
             room: vec![MaybeUninit::uninit(); ROOM],
@@ -140,16 +144,21 @@ impl Kernel for Linux {
                 Ok(message.map(|message| Upcall::read(message).map_or(Event::Nothing, Event::Upcall)))
             }
             Source::Unicasts => Ok(self.unicasts.hear(room)?.map(|packet| Event::Unicast(packet.to_vec()))),
-            Source::Frames => Ok(self.links.hear(room)?.map(|heard| Event::Frame {
-                index: heard.index,
-                is_own: heard.is_own,
-                packet: heard.packet.to_vec(),
-            })),
+            Source::OwnReports => Ok(self.own_reports.hear(room)?.map(|packet| Event::OwnReport(packet.to_vec()))),
+            Source::Frames => {
+                Ok(self.links.hear(room)?.map(|(index, packet)| Event::Frame { index, packet: packet.to_vec() }))
+            }
         }
     }
 
     fn waits(&self) -> Vec<RawFd> {
-        vec![self.netlink.as_raw_fd(), self.mroute.as_raw_fd(), self.unicasts.as_raw_fd(), self.links.as_raw_fd()]
+        vec![
+            self.netlink.as_raw_fd(),
+            self.mroute.as_raw_fd(),
+            self.unicasts.as_raw_fd(),
+            self.own_reports.as_raw_fd(),
+            self.links.as_raw_fd(),
+        ]
     }
 
     fn links(&mut self) -> io::Result<Vec<Link>> {
@@ -176,7 +185,7 @@ impl Kernel for Linux {
 
     fn add_vif(&mut self, vif: u16, index: u32) -> io::Result<()> {
         self.mroute.add_vif(vif, index)?;
-        self.links.hear_own_reports(index)
+        self.own_reports.hear_from(index)
     }
 
     fn remove_vif(&mut self, vif: u16) -> io::Result<()> {

@@ -68,6 +68,16 @@ impl Held {
         self.sources += usize::from(self.groups.entry(group).or_default().insert(source));
     }
 
+    /// How many facts a record needs that aren't held.
+    fn needed(&self, record: &split::Record) -> usize {
+        let known = self.groups.get(&record.group);
+        let is_new = |source: &&Ipv4Addr| known.map_or(true, |known| !known.contains(source));
+        match record.asks_for_nothing() {
+            true => 0,
+            false => record.sources.iter().filter(is_new).count() + usize::from(known.is_none()),
+        }
+    }
+
     fn add(&mut self, record: &split::Record) {
         self.groups.entry(record.group).or_default();
         record.sources.iter().for_each(|source| self.add_source(record.group, *source));
@@ -218,10 +228,11 @@ impl Policy {
             Some(records) => records,
             None => return Some(packet.bytes().to_vec()),
         };
+        self.read_for_report(books, iface, &records);
         let count = records.len();
         let mut kept = Vec::new();
         for record in records {
-            match self.record(books, iface, &record) {
+            match self.record(iface, &record) {
                 Ok(()) => kept.push(record),
                 Err(cause) => {
                     self.refuse(books.now(), cause, iface, &format_args!("{} of {}", record.group, packet.source()));
@@ -235,7 +246,26 @@ impl Policy {
         }
     }
 
-    fn record(&mut self, books: &mut dyn Books, iface: u32, record: &split::Record) -> Result<(), Cause> {
+    /// Has what is held read anew, where not each of the records may pass by what the books say.
+    fn read_for_report(&mut self, books: &mut dyn Books, iface: u32, records: &[split::Record]) {
+        let room = self.room();
+        let (max_groups, max_sources) = match self.gates.get(&iface) {
+            Some(gate) => (gate.policy.max_groups as usize, gate.policy.max_sources as usize),
+            None => return,
+        };
+        let held = self.held(iface);
+        let needed: usize = records.iter().map(|record| held.needed(record)).sum();
+        let are_many = |record: &split::Record| {
+            held.groups.get(&record.group).map_or(0, HashSet::len) + record.sources.len() > max_sources
+        };
+        let is_tight = needed > room || held.of_hosts() + needed > max_groups;
+        if needed > 0 && (is_tight || records.iter().any(are_many)) {
+            self.read(books);
+        }
+    }
+
+    fn record(&mut self, iface: u32, record: &split::Record) -> Result<(), Cause> {
+        let room = self.room();
         let policy = match self.gates.get(&iface) {
             Some(gate) if !record.asks_for_nothing() => &gate.policy,
             _ => return Ok(()),
@@ -248,37 +278,17 @@ impl Policy {
         if !is_permitted {
             return Err(Cause::JoinList);
         }
-        let passes = |held: &Held, room: usize| {
-            let known = held.groups.get(&record.group);
-            let is_new = |source: &&Ipv4Addr| known.map_or(true, |known| !known.contains(source));
-            let sources = record.sources.iter().filter(is_new).count();
-            match sources + usize::from(known.is_none()) {
-                0 => Ok(()),
-                _ if sources > 0 && known.map_or(0, HashSet::len) + sources > max_sources => Err(Cause::Sources),
-                more if held.of_hosts() + more > max_groups => Err(Cause::Groups),
-                more if more > room => Err(Cause::Reserve),
-                _ => Ok(()),
-            }
-        };
-        self.admitted(books, iface, passes)?;
-        self.held(iface).add(record);
-        Ok(())
-    }
-
-    /// Asks a second time by what the router holds now, where the answer by the books is no.
-    fn admitted(
-        &mut self,
-        books: &mut dyn Books,
-        iface: u32,
-        passes: impl Fn(&Held, usize) -> Result<(), Cause>,
-    ) -> Result<(), Cause> {
-        let room = self.room();
-        if passes(self.held(iface), room).is_ok() {
-            return Ok(());
+        let held = self.held(iface);
+        let known = held.groups.get(&record.group);
+        let sources = held.needed(record) - usize::from(known.is_none());
+        match sources + usize::from(known.is_none()) {
+            0 => return Ok(()),
+            _ if sources > 0 && known.map_or(0, HashSet::len) + sources > max_sources => return Err(Cause::Sources),
+            more if held.of_hosts() + more > max_groups => return Err(Cause::Groups),
+            more if more > room => return Err(Cause::Reserve),
+            _ => held.add(record),
         }
-        self.read(books);
-        let room = self.room();
-        passes(self.held(iface), room)
+        Ok(())
     }
 
     fn join_prune(&mut self, books: &mut dyn Books, iface: u32, packet: Packet) -> Option<Vec<u8>> {
@@ -288,10 +298,11 @@ impl Policy {
             Some(message) if Some(message.to) == own && message.holdtime > 0 => message,
             _ => return Some(packet.bytes().to_vec()),
         };
+        self.read_for_joins(books, iface, &message.entries);
         let count = message.entries.len();
         let mut kept = Vec::new();
         for entry in message.entries {
-            match self.join(books, iface, &entry) {
+            match self.join(iface, &entry) {
                 Ok(()) => kept.push(entry),
                 Err(cause) => {
                     self.refuse(books.now(), cause, iface, &format_args!("{} of {}", entry.key, packet.source()))
@@ -305,7 +316,19 @@ impl Policy {
         }
     }
 
-    fn join(&mut self, books: &mut dyn Books, iface: u32, entry: &split::Entry) -> Result<(), Cause> {
+    fn read_for_joins(&mut self, books: &mut dyn Books, iface: u32, entries: &[split::Entry]) {
+        let room = self.room();
+        let max_joins = self.gates.get(&iface).map_or(usize::MAX, |gate| gate.policy.max_joins as usize);
+        let held = self.held(iface);
+        let is_new = |entry: &&split::Entry| entry.makes_state() && !held.joins.contains(&entry.key);
+        let needed = entries.iter().filter(is_new).count();
+        if needed > room || (needed > 0 && held.joins.len() + needed > max_joins) {
+            self.read(books);
+        }
+    }
+
+    fn join(&mut self, iface: u32, entry: &split::Entry) -> Result<(), Cause> {
+        let room = self.room();
         let policy = match self.gates.get(&iface) {
             Some(gate) => &gate.policy,
             None => return Ok(()),
@@ -313,17 +336,14 @@ impl Policy {
         if entry.is_join && !policy.join.permits(entry.key.source, entry.key.group) {
             return Err(Cause::JoinList);
         }
-        if !entry.makes_state() {
-            return Ok(());
-        }
         let max_joins = policy.max_joins as usize;
-        self.admitted(books, iface, |held, room| match held.joins.len() {
-            _ if held.joins.contains(&entry.key) => Ok(()),
-            count if count >= max_joins => Err(Cause::Joins),
-            _ if room == 0 => Err(Cause::Reserve),
-            _ => Ok(()),
-        })?;
-        self.held(iface).joins.insert(entry.key);
+        let joins = &mut self.held(iface).joins;
+        match joins.len() {
+            _ if !entry.makes_state() || joins.contains(&entry.key) => return Ok(()),
+            count if count >= max_joins => return Err(Cause::Joins),
+            _ if room == 0 => return Err(Cause::Reserve),
+            _ => joins.insert(entry.key),
+        };
         Ok(())
     }
 

@@ -50,6 +50,12 @@ impl Machine {
         self.addresses.get(&index).map_or(&[], Vec::as_slice)
     }
 
+    /// The interface that has an address.
+    pub fn index_of(&self, address: Ipv4Addr) -> Option<u32> {
+        let has = |subnets: &[Subnet]| subnets.iter().any(|subnet| subnet.address == address);
+        self.addresses.iter().find(|(_, subnets)| has(subnets)).map(|(index, _)| *index)
+    }
+
     /// The first address of an interface on which the router could be.
     pub fn first_address(&self, name: &str) -> Option<Subnet> {
         let is_loopback = |subnet: &Subnet| subnet.address.is_loopback();

@@ -1,5 +1,5 @@
 //! The sockets by which packets come and leave.
-use crate::packet::{Packet, PIM};
+use crate::packet::{Packet, IGMP, PIM};
 use socket2::{Domain, Protocol, SockAddr, Socket, Type};
 use std::collections::HashMap;
 use std::io;
@@ -10,7 +10,7 @@ use std::os::unix::io::{AsRawFd, RawFd};
 const ROOM: usize = 16 << 20;
 // linux/if_packet.h
 const PACKET_OTHERHOST: u32 = 3;
-const PACKET_LOOPBACK: u8 = 5;
+const PACKET_LOOPBACK: u32 = 5;
 const PACKET_FANOUT: i32 = 18;
 const FANOUT_DEFRAG_UNIQUE: u32 = (0x8000 | 0x2000) << 16;
 /// Where hosts report their groups (RFC 3376, 4.2.14).
@@ -63,18 +63,6 @@ pub struct Links {
     socket: Socket,
     /// Sends what the machine's own programs are to hear too.
     shared: Socket,
-    /// A member of ALL-IGMP-ROUTERS on each interface, by the kernel's number: a socket has few memberships.
-    members: HashMap<u32, Socket>,
-}
-
-/// A packet that came by a link.
-#[derive(Clone, Debug, PartialEq, Eq)]
-pub struct Heard<'a> {
-    /// The kernel's number of the interface.
-    pub index: u32,
-    /// A program on this machine sent it.
-    pub is_own: bool,
-    pub packet: &'a [u8],
 }
 
 fn link_address(index: u32, hardware: [u8; 6]) -> SockAddr {
@@ -102,18 +90,15 @@ impl Links {
         let socket = Socket::new(Domain::PACKET, Type::DGRAM, Some(Protocol::from(0)))?;
         socket.attach_filter(&[
             instruction(LOAD_WORD, 0, 0, SKF_AD_PKTTYPE),
-            instruction(IF_EQUAL, 3, 0, u32::from(PACKET_LOOPBACK)),
             instruction(IF_AT_LEAST, 7, 0, PACKET_OTHERHOST),
             instruction(LOAD_BYTE, 0, 0, 9),
-            instruction(IF_EQUAL, 2, 1, u32::from(PIM)),
-            // Of the machine itself IGMP alone.
-            instruction(LOAD_BYTE, 0, 0, 9),
-            instruction(IF_EQUAL, 0, 3, u32::from(crate::packet::IGMP)),
+            instruction(IF_EQUAL, 1, 0, u32::from(PIM)),
+            instruction(IF_EQUAL, 0, 4, u32::from(IGMP)),
             instruction(LOAD_BYTE, 0, 0, 16),
             instruction(AND, 0, 0, 0xf0),
-            instruction(IF_EQUAL, 1, 0, 0xe0),
-            instruction(RETURN, 0, 0, 0),
+            instruction(IF_EQUAL, 0, 1, 0xe0),
             instruction(RETURN, 0, 0, u32::MAX),
+            instruction(RETURN, 0, 0, 0),
         ])?;
         socket.set_nonblocking(true)?;
         room_for_bursts(&socket);
@@ -121,7 +106,7 @@ impl Links {
         socket.bind(&link_address(0, [0; 6]))?;
         // A group of one, so that the kernel reassembles fragments before they come here.
         set_option(&socket, libc::SOL_PACKET, PACKET_FANOUT, &FANOUT_DEFRAG_UNIQUE)?;
-        Ok(Links { socket, shared: Links::shared()?, members: HashMap::new() })
+        Ok(Links { socket, shared: Links::shared()? })
     }
 
     fn shared() -> io::Result<Socket> {
@@ -131,17 +116,17 @@ impl Links {
         Ok(shared)
     }
 
-    /// The next packet.
-    pub fn hear<'a>(&self, room: &'a mut [MaybeUninit<u8>]) -> io::Result<Option<Heard<'a>>> {
-        let (received, index, is_own) = match self.socket.recv_from(room) {
+    /// The next packet, with the kernel's number of its interface.
+    pub fn hear<'a>(&self, room: &'a mut [MaybeUninit<u8>]) -> io::Result<Option<(u32, &'a [u8])>> {
+        let (received, index) = match self.socket.recv_from(room) {
             Ok((length, from)) => {
                 // SAFETY: a packet socket answers with a link's address.
                 let link = unsafe { &*from.as_ptr().cast::<libc::sockaddr_ll>() };
-                (Ok(length), link.sll_ifindex as u32, link.sll_pkttype == PACKET_LOOPBACK)
+                (Ok(length), link.sll_ifindex as u32)
             }
-            Err(error) => (Err(error), 0, false),
+            Err(error) => (Err(error), 0),
         };
-        Ok(waiting(received, room)?.map(|packet| Heard { index, is_own, packet }))
+        Ok(waiting(received, room)?.map(|packet| (index, packet)))
     }
 
     pub fn send(&self, index: u32, packet: &[u8]) -> io::Result<()> {
@@ -154,14 +139,47 @@ impl Links {
         let to = Packet::read(packet).ok_or(io::ErrorKind::InvalidInput)?.destination();
         self.shared.send_to(packet, &SockAddr::from(SocketAddrV4::new(to, 0))).map(|_| ())
     }
+}
 
-    /// The machine is a member of ALL-IGMP-ROUTERS on an interface, so that the reports of its own programs come here
-    /// too.
-    pub fn hear_own_reports(&mut self, index: u32) -> io::Result<()> {
+/// Hears the reports of the machine's own programs, which the kernel shows to members of their group alone.
+pub struct OwnReports {
+    socket: Socket,
+    /// A member of ALL-IGMP-ROUTERS on each interface, by the kernel's number: a socket has few memberships.
+    members: HashMap<u32, Socket>,
+}
+
+impl OwnReports {
+    pub fn open() -> io::Result<OwnReports> {
+        let socket = Socket::new(Domain::IPV4, Type::RAW, Some(Protocol::from(i32::from(IGMP))))?;
+        // What the machine sent itself, and no message of its multicast routing, which has the protocol 0.
+        socket.attach_filter(&[
+            instruction(LOAD_WORD, 0, 0, SKF_AD_PKTTYPE),
+            instruction(IF_EQUAL, 0, 3, PACKET_LOOPBACK),
+            instruction(LOAD_BYTE, 0, 0, 9),
+            instruction(IF_EQUAL, 0, 1, u32::from(IGMP)),
+            instruction(RETURN, 0, 0, u32::MAX),
+            instruction(RETURN, 0, 0, 0),
+        ])?;
+        socket.set_nonblocking(true)?;
+        Ok(OwnReports { socket, members: HashMap::new() })
+    }
+
+    /// An interface from which they are to be heard.
+    pub fn hear_from(&mut self, index: u32) -> io::Result<()> {
         let member = Socket::new(Domain::IPV4, Type::DGRAM, None)?;
         set_option(&member, libc::IPPROTO_IP, libc::IP_ADD_MEMBERSHIP, &by_index(ALL_IGMP_ROUTERS, index))?;
         self.members.insert(index, member);
         Ok(())
+    }
+
+    pub fn hear<'a>(&self, room: &'a mut [MaybeUninit<u8>]) -> io::Result<Option<&'a [u8]>> {
+        waiting(self.socket.recv(room), room)
+    }
+}
+
+impl AsRawFd for OwnReports {
+    fn as_raw_fd(&self) -> RawFd {
+        self.socket.as_raw_fd()
     }
 }
 

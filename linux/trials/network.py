@@ -256,7 +256,7 @@ def goes_on(net, group, when):
     """The kernel's counts of a stream rise."""
     def packets():
         said = subprocess.run(inside("router", "ip", "-j", "-s", "mroute", "show"), capture_output=True, text=True).stdout
-        return sum(row["packets"] for row in json.loads(said or "[]") if row["dst"] == group)
+        return sum(row.get("packets", 0) for row in json.loads(said or "[]") if row["dst"] == group)
 
     before = packets()
     until(f"the stream goes on {when}", 5, lambda: packets() > before + 5)

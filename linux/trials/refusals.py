@@ -47,8 +47,8 @@ def flood_of_groups(net):
 def flood_of_sources(net):
     """one that sends to 40,000 groups, too: a stream of another interface goes on, and a new one begins"""
     group = "239.2.7.1"
-    receiver = net.receive("hosts", group, HOST, 400, 60)
-    sender = net.send("source", group, SOURCE, 400, 10)
+    receiver = net.receive("hosts", group, HOST, 10_000, 120)
+    sender = net.send("source", group, SOURCE, 10_000, 50)
     until("the kernel forwards", 20, lambda: net.entry(SOURCE, group)["outgoing"] == ["to-hosts"])
     send(net, "hosts", "to-router", "10.5.0.50", "sources", 40_000)
     until("the flood is refused", 30, lambda: net.refused("max_streams") > 0)
@@ -68,7 +68,7 @@ def flood_of_sources(net):
 
 
 def flood_of_registers(net):
-    """and Registers of 20,000 sources at the RP take their quota, and no more"""
+    """and Registers of 40,000 sources at the RP take their quota, and no more"""
     send(net, "source", "to-first", SOURCE, "registers", "10.5.0.1", "239.2.7.3", 40_000)
     until("they are refused", 20, lambda: net.refused("max_registered") > 0)
     said = is_refused(net, "max_registered", "the Registers")

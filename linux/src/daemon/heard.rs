@@ -27,23 +27,27 @@ fn groups_of(bytes: &[u8]) -> Option<Vec<Ipv4Addr>> {
 }
 
 impl Daemon {
-    /// PIM or IGMP to a group came; from a program on the machine itself only reports are heard, as of a host without
-    /// an address.
-    pub(super) fn heard(&mut self, index: u32, is_own: bool, frame: &[u8]) -> Result<(), Fatal> {
+    /// PIM or IGMP to a group came.
+    pub(super) fn heard(&mut self, index: u32, frame: &[u8]) -> Result<(), Fatal> {
         // Behind a short packet a card puts what the link wants.
         let bytes = Packet::read(frame).map_or(frame, Packet::bytes);
         let number = match self.port_of_index(index) {
             Some(port) if port.standing.is_up() => port.number,
             _ => return Ok(()),
         };
-        let own = match is_own {
-            true if !is_report(bytes) => return Ok(()),
-            true => Some(as_of_nobody(bytes)),
-            false => None,
-        };
-        self.counters.own_reports += u64::from(is_own);
         self.advance()?;
-        self.heard_on(number, own.as_deref().unwrap_or(bytes))
+        self.heard_on(number, bytes)
+    }
+
+    /// IGMP of a program on the machine came: its reports are heard as those of a host that has no address.
+    pub(super) fn heard_own(&mut self, bytes: &[u8]) -> Result<(), Fatal> {
+        let from = Packet::read(bytes).filter(|_| is_report(bytes)).map(Packet::source);
+        let index = from.and_then(|from| self.machine.index_of(from));
+        if let Some(index) = index {
+            self.counters.own_reports += 1;
+            return self.heard(index, &as_of_nobody(bytes));
+        }
+        Ok(())
     }
 
     fn heard_on(&mut self, number: u32, bytes: &[u8]) -> Result<(), Fatal> {

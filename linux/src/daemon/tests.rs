@@ -154,20 +154,20 @@ fn summed(content: &[u8]) -> Vec<u8> {
     content
 }
 
-fn frame(index: u32, is_own: bool, packet: Vec<u8>) -> (Source, kernel::Event) {
-    (Source::Frames, kernel::Event::Frame { index, is_own, packet })
+fn frame(index: u32, packet: Vec<u8>) -> (Source, kernel::Event) {
+    (Source::Frames, kernel::Event::Frame { index, packet })
 }
 
 /// Of a neighbour that isn't to be the designated router.
 fn hello() -> (Source, kernel::Event) {
     let content = summed(&[0x20, 0, 0, 0, 0, 1, 0, 2, 0, 105, 0, 19, 0, 4, 0, 0, 0, 0]);
-    frame(ETH0, false, packet(PIM, [10, 1, 0, 2].into(), [224, 0, 0, 13].into(), &content))
+    frame(ETH0, packet(PIM, [10, 1, 0, 2].into(), [224, 0, 0, 13].into(), &content))
 }
 
 fn report(index: u32, from: [u8; 4], group: Ipv4Addr) -> (Source, kernel::Event) {
     let mut content = vec![0x22, 0, 0, 0, 0, 0, 0, 1, 4, 0, 0, 0];
     content.extend(group.octets());
-    frame(index, from[3] == 1, packet(IGMP, from.into(), [224, 0, 0, 22].into(), &summed(&content)))
+    frame(index, packet(IGMP, from.into(), [224, 0, 0, 22].into(), &summed(&content)))
 }
 
 /// A fragment where there are flags.
@@ -325,7 +325,11 @@ fn a_register_of_a_long_packet_and_of_a_fragment_is_sent_on_as_it_is() {
 #[test]
 fn a_program_on_the_router_is_heard() {
     let (mut daemon, fake) = begun(TWO, &both());
-    happens(&mut daemon, &fake, report(ETH1, [10, 5, 0, 1], [239, 1, 1, 1].into()));
+    let own = match report(ETH1, [10, 5, 0, 1], [239, 1, 1, 1].into()) {
+        (_, kernel::Event::Frame { packet, .. }) => packet,
+        other => panic!("{other:?} is no report"),
+    };
+    happens(&mut daemon, &fake, (Source::OwnReports, kernel::Event::OwnReport(own)));
     let groups = daemon.core.rows(Table::Groups).expect("it tells");
     assert_eq!(groups.iter().map(|row| (row.iface, row.group)).collect::<Vec<_>>(), [(1, 0xef01_0101)]);
     assert_eq!(daemon.counters.own_reports, 1);

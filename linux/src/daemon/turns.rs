@@ -150,9 +150,13 @@ impl Daemon {
 
     /// What waits at each socket, in turn.
     pub(super) fn turn(&mut self) -> Result<(), Fatal> {
-        for (source, most) in
-            [(Source::Changes, usize::MAX), (Source::Upcalls, TURN), (Source::Unicasts, TURN), (Source::Frames, TURN)]
-        {
+        for (source, most) in [
+            (Source::Changes, usize::MAX),
+            (Source::Upcalls, TURN),
+            (Source::Unicasts, TURN),
+            (Source::OwnReports, TURN),
+            (Source::Frames, TURN),
+        ] {
             for _ in 0..most {
                 match self.kernel.hear(source) {
                     Ok(Some(event)) => self.happens(event)?,
@@ -176,7 +180,8 @@ impl Daemon {
             kernel::Event::Changes(changes) => self.changed(changes),
             kernel::Event::Upcall(upcall) => self.upcall(upcall),
             kernel::Event::Unicast(packet) => self.heard_unicast(&packet),
-            kernel::Event::Frame { index, is_own, packet } => self.heard(index, is_own, &packet),
+            kernel::Event::OwnReport(packet) => self.heard_own(&packet),
+            kernel::Event::Frame { index, packet } => self.heard(index, &packet),
             kernel::Event::Nothing => Ok(()),
         }
     }
