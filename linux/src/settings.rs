@@ -626,8 +626,9 @@ mod tests {
     #[test]
     fn all_that_can_be_said_is_taken() {
         let text =
-            "limit = 9\nspt = \"never\"\nlog = \"debug\"\nsocket = \"/run/x\"\n[igmp]\nrobustness = 3\nquery_interval = 20\n\
-            query_response = 1.5\nlast_member_query = 2\n[routes]\ntable = 7\npreference = 5\n[routes.preferences]\nstatic = 1\n\
+            "limit = 9\nspt = \"never\"\nlog = \"debug\"\nsocket = \"/run/x\"\n[igmp]\nrobustness = 3\n\
+            query_interval = 20\nquery_response = 1.5\nlast_member_query = 2\n\
+            [routes]\ntable = 7\npreference = 5\n[routes.preferences]\nstatic = 1\n\
             [[interface]]\nname = \"a\"\naddress = \"10.0.0.1/24\"\npriority = 7\npropagation = 1\noverride = 2\n\
             [[rp]]\ngroups = \"239.0.0.0/8\"\naddress = \"10.0.0.1\"\n";
         let it = read(text).unwrap();
@@ -712,7 +713,8 @@ mod tests {
     fn lists_and_quotas_are_read() {
         let text = "[policy]\nmax_groups = 9\njoin = [{ groups = \"239.1.0.0/16\", permit = false }, {}]\n\
             register = [{ sources = \"10.1.0.0/16\" }]\nmax_registered = 5\n\
-            [[interface]]\nname = \"a\"\npassive = true\n[[interface]]\nname = \"b\"\nneighbors = [\"10.0.0.2\", \"10.0.0.8/29\"]\n\
+            [[interface]]\nname = \"a\"\npassive = true\n\
+            [[interface]]\nname = \"b\"\nneighbors = [\"10.0.0.2\", \"10.0.0.8/29\"]\n\
             max_groups = 3\njoin = []\nsend = [{ sources = \"10.2.0.0/16\", groups = \"239.2.0.0/16\" }]\n";
         let it = read(text).unwrap();
         let (a, b) = (&it.interfaces[0].policy, &it.interfaces[1].policy);

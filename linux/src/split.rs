@@ -48,8 +48,8 @@ pub fn parts(packet: &[u8]) -> Vec<Vec<u8>> {
     }
 }
 
-/// The packet in parts of at most so many bytes, as few as hold its records or groups in their order; itself where it is
-/// short, is no such message, or has one record or group.
+/// The packet in parts of at most so many bytes, as few as hold its records or groups in their order; itself where it
+/// is short, is no such message, or has one record or group.
 pub fn within(packet: &[u8], most: usize) -> Vec<Vec<u8>> {
     let mut found: Vec<Vec<u8>> = Vec::new();
     for part in if packet.len() > most { parts(packet) } else { Vec::new() } {

@@ -1,12 +1,15 @@
-"""What the machine does to the router: interfaces and addresses that come and go, memory that it lacks, links of other kinds."""
-import json
+"""What the machine does to the router: interfaces and addresses that come and go, want of memory, links of each kind."""
 import socket
 import subprocess
 import sys
 import threading
 import time
 
-from trials.network import HOST, SENDER, SETTINGS, SOURCE, Failed, ended, goes_on, inside, ip, received, run, until
+from trials.network import HOST, SENDER, SOURCE, Failed, ended, first_after, goes_on, inside, ip, received, run, until
+
+
+# The neighbours that FRR is.
+THREE = {"10.2.0.1", "10.3.0.1", "10.7.0.2"}
 
 
 def standing(net, name):
@@ -16,7 +19,8 @@ def standing(net, name):
 def no_address_at_start(net):
     """it begins where no interface has an address, says so, and takes each as it comes"""
     net.stop_router()
-    ports = [("to-first", "10.2.0.2/24"), ("to-second", "10.3.0.2/24"), ("to-hosts", "10.5.0.1/24"), ("to-lan", "10.7.0.3/24")]
+    ports = [("to-first", "10.2.0.2/24"), ("to-second", "10.3.0.2/24"), ("to-hosts", "10.5.0.1/24"),
+             ("to-lan", "10.7.0.3/24")]
     for port, address in ports:
         ip("router", "address", "delete", address, "dev", port)
     net.start_router()
@@ -30,11 +34,11 @@ def no_address_at_start(net):
     ip("hosts", "route", "replace", "default", "via", "10.5.0.1")
     for port, address in ports:
         until(f"{port} is up", 15, lambda: standing(net, port)["is_up"] and standing(net, port)["address"] == address)
-    until("the router knows three neighbours", 40, lambda: net.neighbours() >= {"10.2.0.1", "10.3.0.1", "10.7.0.2"})
+    until("the router knows three neighbours", 40, lambda: net.neighbours() >= THREE)
 
 
 def late_address(net):
-    """an address that comes late is taken while a stream of 100 packets a second goes through others, and none of it is lost"""
+    """an address that comes late is taken, and a stream of 100 packets a second through other interfaces loses none"""
     net.stop_router()
     ip("router", "address", "delete", "10.7.0.3/24", "dev", "to-lan")
     net.start_router()
@@ -74,8 +78,7 @@ def interface_that_comes(net):
     net.reload(net.settings)
     if standing(net, "to-nobody")["address"]:
         raise Failed("it is shown though the file hasn't it")
-    until("the router has learned", 30, lambda: "has learned what it needs" in net.log().splitlines()[-1] or net.neighbours() >= {
-        "10.2.0.1", "10.3.0.1", "10.7.0.2"})
+    until("the router knows three neighbours", 40, lambda: net.neighbours() >= THREE)
 
 
 def settings_under_a_stream(net):
@@ -93,7 +96,7 @@ def settings_under_a_stream(net):
     sender.wait()
     came, of, twice = received(receiver)
     net.reload(net.settings)
-    until("the router has learned again", 30, lambda: net.neighbours() >= {"10.2.0.1", "10.3.0.1", "10.7.0.2"})
+    until("the router has learned again", 30, lambda: net.neighbours() >= THREE)
     if came < of:
         raise Failed(f"{came} of {of} came, {twice} twice")
     return f"{came} of {of} came, {twice} twice"
@@ -105,12 +108,13 @@ def kernel_without_memory(net):
     run("cc", "-shared", "-fPIC", "-o", shim, SENDER.parent / "no_memory.c", "-ldl")
     net.stop_router()
     net.start_router(environment=(f"LD_PRELOAD={shim}", f"NO_MEMORY={lacks}"))
-    until("the router knows three neighbours", 40, lambda: net.neighbours() >= {"10.2.0.1", "10.3.0.1", "10.7.0.2"})
+    until("the router knows three neighbours", 40, lambda: net.neighbours() >= THREE)
     group = "239.2.11.3"
     lacks.touch()
     receiver = net.receive("hosts", group, HOST, 1000, 60)
     sender = net.send("source", group, SOURCE, 400, 10)
-    until("it is said", 20, lambda: "the kernel refuses an entry of its forwarding cache: Cannot allocate memory" in net.log())
+    said = "the kernel refuses an entry of its forwarding cache: Cannot allocate memory"
+    until("it is said", 20, lambda: said in net.log())
     time.sleep(2)
     if "nobody: the kernel refused" not in net.entry(SOURCE, group)["forwarding"]:
         raise Failed(f"the entry is {net.entry(SOURCE, group)}")
@@ -127,12 +131,12 @@ def kernel_without_memory(net):
 
 
 def vxlan_and_next_hop_objects(net):
-    """a vxlan link is an interface like another, and routes by next hop objects are read, without the kernel's compatibility too"""
-    ip("router", "link", "add", "vx7", "type", "vxlan", "id", "7", "local", "10.2.0.2", "remote", "10.2.0.1", "dstport", "4789")
+    """a vxlan link is an interface like another; routes by next hop objects are read, without compatibility too"""
+    ip("router", *"link add vx7 type vxlan id 7 local 10.2.0.2 remote 10.2.0.1 dstport 4789".split())
     ip("router", "address", "add", "10.8.1.1/24", "dev", "vx7")
     ip("router", "link", "set", "vx7", "up")
-    net.reload(net.settings + '[[interface]]\nname = "vx7"\n'
-               + "".join(f'[[rp]]\ngroups = "239.{number}.0.0/16"\naddress = "10.{number}.0.1"\n' for number in (70, 71, 72)))
+    ranges = [f'[[rp]]\ngroups = "239.{number}.0.0/16"\naddress = "10.{number}.0.1"\n' for number in (70, 71, 72)]
+    net.reload(net.settings + '[[interface]]\nname = "vx7"\n' + "".join(ranges))
     until("it is up", 15, lambda: standing(net, "vx7")["is_up"])
     if "can't be read" in net.log():
         raise Failed([line for line in net.log().splitlines() if "can't be read" in line][0])
@@ -152,18 +156,19 @@ def vxlan_and_next_hop_objects(net):
     run(*inside("router", "sysctl", "-qw", "net.ipv4.nexthop_compat_mode=1"))
     ip("router", "link", "delete", "vx7")
     net.reload(net.settings)
-    until("the router knows three neighbours", 40, lambda: net.neighbours() >= {"10.2.0.1", "10.3.0.1", "10.7.0.2"})
+    until("the router knows three neighbours", 40, lambda: net.neighbours() >= THREE)
 
 
 def show_while_the_router_works(net):
     """with 65,536 groups `show` keeps no join waiting, and 32 silent clients of the control socket lock no one out"""
     net.stop_router()
     net.start_router("limit = 200000\n", "max_groups = 100000\n")
-    until("the router knows three neighbours", 40, lambda: net.neighbours() >= {"10.2.0.1", "10.3.0.1", "10.7.0.2"})
+    until("the router knows three neighbours", 40, lambda: net.neighbours() >= THREE)
     group = "239.2.12.1"
     sender = net.send("source", group, SOURCE, 6000, 100)
     time.sleep(2)
-    subprocess.run(inside("hosts", sys.executable, SENDER, "to-router", "10.5.0.50", "reports", 65_536, 0.002), check=True)
+    words = [sys.executable, SENDER, "to-router", "10.5.0.50", "reports", 65_536, 0.002]
+    subprocess.run(inside("hosts", *words), check=True)
     until("the groups are known", 30, lambda: next(
         row["count"] for row in net.show("counters") if row["counter"] == "events given to the router") > 300)
     path = str(net.room / "router" / "control")
@@ -183,7 +188,6 @@ def show_while_the_router_works(net):
     asker.start()
     time.sleep(1)
     times = []
-    from trials.network import first_after
     for _ in range(4):
         receiver = net.receive("hosts", group, HOST, 1, 8)
         times.append(first_after(receiver))

@@ -26,18 +26,18 @@ LINKS = [
 ROUTES = {
     "source": ["default via 10.1.0.1"],
     "first": ["10.3.0.0/24 via 10.2.0.2", "10.5.0.0/24 via 10.2.0.2", "10.6.0.0/24 via 10.4.0.2"],
-    "second": ["10.1.0.0/24 via 10.4.0.1", "10.2.0.0/24 via 10.4.0.1", "10.5.0.0/24 via 10.3.0.2", "10.7.0.0/24 via 10.3.0.2"],
+    "second": ["10.1.0.0/24 via 10.4.0.1", "10.2.0.0/24 via 10.4.0.1", "10.5.0.0/24 via 10.3.0.2",
+               "10.7.0.0/24 via 10.3.0.2"],
     "router": ["10.1.0.0/24 via 10.2.0.1", "10.4.0.0/24 via 10.3.0.1", "10.6.0.0/24 via 10.3.0.1"],
     "hosts": ["default via 10.5.0.1"],
     "viewer": ["default via 10.6.0.1"],
     "asker": ["default via 10.7.0.3"],
 }
 RPS = [("239.1.0.0/16", "10.4.0.2"), ("239.2.0.0/16", "10.5.0.1"), ("239.4.0.0/16", "10.4.0.1")]
-PIMD = {
-    "first": "".join(f"interface to-{port}\n ip pim\n ip pim hello 5\n" for port in ("source", "router", "second", "lan")),
-    "second": "".join(f"interface to-{port}\n ip pim\n ip pim hello 5\n" for port in ("first", "router"))
-    + "interface to-viewer\n ip pim\n ip igmp\n",
-}
+WITH_PIM = {"first": ("source", "router", "second", "lan"), "second": ("first", "router")}
+PIMD = {place: "".join(f"interface to-{port}\n ip pim\n ip pim hello 5\n" for port in ports)
+        for place, ports in WITH_PIM.items()}
+PIMD["second"] += "interface to-viewer\n ip pim\n ip igmp\n"
 SETTINGS = """log = "debug"
 socket = "{room}/router/control"
 
@@ -50,8 +50,8 @@ query_response = 2.0
 SOURCE, HOST = "10.1.0.50", "10.5.0.77"
 # With the rights of the unit file alone.
 NOBODY, RIGHTS = 65534, "-all,+net_raw,+net_admin"
-AS_SERVICE = ["setpriv", f"--reuid={NOBODY}", f"--regid={NOBODY}", "--clear-groups", "--no-new-privs", f"--inh-caps={RIGHTS}",
-              f"--ambient-caps={RIGHTS}", f"--bounding-set={RIGHTS}"]
+AS_SERVICE = ["setpriv", f"--reuid={NOBODY}", f"--regid={NOBODY}", "--clear-groups", "--no-new-privs",
+              f"--inh-caps={RIGHTS}", f"--ambient-caps={RIGHTS}", f"--bounding-set={RIGHTS}"]
 # A router on the LAN.
 ASKER = HERE / "trials" / "asker.py"
 # A host that sends what others wouldn't.
@@ -94,7 +94,8 @@ class Network:
 
     def connect(self, left, left_address, right, right_address):
         ends = [(left, f"to-{right}", left_address), (right, f"to-{left}", right_address)]
-        run("ip", "link", "add", ends[0][1], "netns", NAMES[left], "type", "veth", "peer", "name", ends[1][1], "netns", NAMES[right])
+        run("ip", "link", "add", ends[0][1], "netns", NAMES[left], "type", "veth",
+            "peer", "name", ends[1][1], "netns", NAMES[right])
         for place, port, address in ends:
             if address:
                 ip(place, "address", "add", address, "dev", port)
@@ -154,12 +155,13 @@ class Network:
 
     def start_frr_daemon(self, place, daemon):
         room = self.room / place
-        words = ["-z", room / "zserv", "--vty_socket", room, "-f", room / f"{daemon}.conf", "-i", room / f"{daemon}.pid"]
+        words = ["-z", room / "zserv", "--vty_socket", room, "-f", room / f"{daemon}.conf",
+                 "-i", room / f"{daemon}.pid"]
         return self.start(place, FRR / daemon, *words, stdout=subprocess.DEVNULL, stderr=subprocess.DEVNULL)
 
     def frr(self, place, command):
-        said = subprocess.run(inside(place, "vtysh", "--vty_socket", self.room / place, "-c", command), capture_output=True, text=True)
-        return said.stdout
+        words = inside(place, "vtysh", "--vty_socket", self.room / place, "-c", command)
+        return subprocess.run(words, capture_output=True, text=True).stdout
 
     def start_router(self, more="", policy="", environment=()):
         self.settings = more + SETTINGS.format(room=self.room)
@@ -255,7 +257,8 @@ def longest_gap(receiver):
 def goes_on(net, group, when):
     """The kernel's counts of a stream rise."""
     def packets():
-        said = subprocess.run(inside("router", "ip", "-j", "-s", "mroute", "show"), capture_output=True, text=True).stdout
+        words = inside("router", "ip", "-j", "-s", "mroute", "show")
+        said = subprocess.run(words, capture_output=True, text=True).stdout
         return sum(row.get("packets", 0) for row in json.loads(said or "[]") if row["dst"] == group)
 
     before = packets()

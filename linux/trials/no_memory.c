@@ -1,5 +1,5 @@
-/* A kernel that lacks memory for entries of its forwarding cache, as long as the file NO_MEMORY names is there: loaded before the
- * C library (LD_PRELOAD), it answers ENOMEM where a process sets one. */
+/* A kernel that lacks memory for entries of its forwarding cache, as long as the file that NO_MEMORY names is there:
+ * loaded before the C library (LD_PRELOAD), it answers ENOMEM where a process sets one. */
 #define _GNU_SOURCE
 #include <dlfcn.h>
 #include <errno.h>

@@ -1,8 +1,8 @@
 #!/usr/bin/env python3
 """A host or a router that sends what others wouldn't; for the trials.
 
-    sender.py INTERFACE ADDRESS reports COUNT [PAUSE [FIRST]]  IGMPv3 reports, each for 183 groups that are new, COUNT groups in
-                                                        all, from 239.2.16.0 on or another one
+    sender.py INTERFACE ADDRESS reports COUNT [PAUSE [FIRST]]  IGMPv3 reports, each for 183 groups that are new, COUNT
+                                                        groups in all, from 239.2.16.0 on or another one
     sender.py INTERFACE ADDRESS report GROUP ..         one report, in fragments where it is long
     sender.py INTERFACE ADDRESS old GROUP               a report of IGMPv2
     sender.py INTERFACE ADDRESS sources COUNT           a packet of data to each of COUNT groups
@@ -39,8 +39,8 @@ def report(groups):
 
 
 def hello(generation):
-    options = struct.pack("!HHH", 1, 2, 105) + struct.pack("!HHI", 20, 4, generation) + struct.pack("!HHI", 19, 4, 0xFFFFFFFF)
-    return summed(bytes([0x20, 0, 0, 0]) + options)
+    holdtime, priority = struct.pack("!HHH", 1, 2, 105), struct.pack("!HHI", 19, 4, 0xFFFFFFFF)
+    return summed(bytes([0x20, 0, 0, 0]) + holdtime + struct.pack("!HHI", 20, 4, generation) + priority)
 
 
 def register(source, group):

@@ -9,7 +9,7 @@ SIZES = (100, 1480, 9000, 60_000)
 
 
 def join_to_running_stream(net):
-    """a host that joins a running stream has its first packet at once, each of eight times, by the router as RP and by FRR's"""
+    """a host that joins a running stream has its first packet at once, eight times, by the router as RP and by FRR's"""
     said = []
     for group in ("239.2.3.1", "239.1.3.1"):
         sender = net.send("source", group, SOURCE, 30_000, 100)
@@ -29,7 +29,7 @@ def join_to_running_stream(net):
 
 
 def long_packets(net):
-    """packets of 100 to 60,000 bytes arrive: from the router's host by FRR's RP, by the router as RP, and to its host"""
+    """packets of 100 to 60,000 bytes arrive: from its host by FRR's RP, by the router as RP, and to its host"""
     said = []
     for number, size in enumerate(SIZES):
         for sending, source, receiving, address, group in (
@@ -43,7 +43,7 @@ def long_packets(net):
             came, of, twice = received(receiver)
             sender.wait()
             said.append(f"{size} bytes {sending} to {receiving}: {came} of {of}, {twice} twice")
-            # As with short ones FRR loses the first where it has no entry, and the change of trees costs one of each way.
+            # As with short ones FRR loses the first where it has no entry, and a change of trees costs one of each way.
             if came < of - 4:
                 raise Failed("; ".join(said))
     return "; ".join(said)

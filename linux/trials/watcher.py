@@ -3,8 +3,8 @@
 
     watcher.py INTERFACE SENDER COUNT SECONDS
 
-It prints `ready` once it watches, and at the end how many different groups the sender joined, and when the last of them came, in
-seconds since 1970: once there are COUNT, or after so many seconds.
+It prints `ready` once it watches, and at the end how many different groups the sender joined, and when the last of them
+came, in seconds since 1970: once there are COUNT, or after so many seconds.
 """
 import socket
 import struct

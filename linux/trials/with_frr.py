@@ -14,13 +14,18 @@ def neighbours(net):
         until(f"{place} knows {address}", 30, lambda: address in net.frr(place, "show ip pim neighbor"))
 
 
+def frr_joined(net, place, group):
+    """What FRR has joined of a group towards the router."""
+    lines = net.frr(place, "show ip pim join").splitlines()
+    return [line for line in lines if group in line and "JOIN" in line and "to-router" in line]
+
+
 def joins_to_frr(net):
     """a host's report at the router brings a Join to FRR, and its leave a Prune"""
     receiver = net.receive("hosts", "239.1.9.1", HOST, 1, 60)
     until("second has the Join", 15, lambda: "239.1.9.1" in net.frr("second", "show ip pim join"))
     ended(receiver)
-    joined = lambda: [line for line in net.frr("second", "show ip pim join").splitlines() if "239.1.9.1" in line and "JOIN" in line]
-    until("second has the Prune", 20, lambda: not joined())
+    until("second has the Prune", 20, lambda: not frr_joined(net, "second", "239.1.9.1"))
 
 
 def joins_from_frr(net):
@@ -105,7 +110,8 @@ def carried(net, group, sending, source, receiving, receiver_address):
         raise Failed(f"{came} of {of} came, {twice} twice; {said}")
     if int(said.split()[-3]) < 20_000:
         raise Failed(f"the sender was too slow: {said}")
-    return f"{came} of {of} came, none twice; {said}; {net.counter('packets that the kernel handed up whole') - whole} came to the router"
+    whole = net.counter("packets that the kernel handed up whole") - whole
+    return f"{came} of {of} came, none twice; {said}; {whole} came to the router"
 
 
 def stream_as_last_hop(net):
@@ -124,7 +130,7 @@ def stream_as_rp(net):
 
 
 def assert_of(net, source_place, source, group, *rp):
-    """A router on the LAN asks both for a source, and first before that for the group, where an RP is named; what it heard."""
+    """A router on the LAN asks both for a source, and where an RP is named first for the group; what it heard."""
     words = ["to-lan", "10.7.0.77", source, group, "10.7.0.2", "10.7.0.3", 16, *rp]
     asker = net.start("asker", sys.executable, ASKER, *words, stdout=subprocess.PIPE)
     time.sleep(2)
@@ -168,9 +174,8 @@ def prunes(net):
     until("the kernel forwards to the host", 20, lambda: net.entry(SOURCE, group)["outgoing"] == ["to-hosts"])
     ended(receiver)
     until("the kernel forwards nowhere", 20, lambda: net.entry(SOURCE, group)["outgoing"] == [])
-    joined = lambda place: [line for line in net.frr(place, "show ip pim join").splitlines() if group in line and "JOIN" in line and "to-router" in line]
-    until("first has the Prune", 20, lambda: not joined("first"))
-    until("second has the Prune", 20, lambda: not joined("second"))
+    for place in ("first", "second"):
+        until(f"{place} has the Prune", 20, lambda: not frr_joined(net, place, group))
     ended(sender)
 
 
@@ -215,7 +220,8 @@ def link_deleted(net):
     sender = net.send("source", group, SOURCE, 800, 10)
     until("the kernel forwards", 20, lambda: net.entry(SOURCE, group)["outgoing"] == ["to-hosts"])
     ip("router", "link", "delete", "to-lan")
-    until("it is said to be gone", 10, lambda: any(row["interface"] == "to-lan" and row["why_down"] for row in net.show("interfaces")))
+    is_gone = lambda: any(row["interface"] == "to-lan" and row["why_down"] for row in net.show("interfaces"))
+    until("it is said to be gone", 10, is_gone)
     goes_on(net, group, "without it")
     net.connect("router", "10.7.0.3/24", "lan", None)
     until("first is back there", 40, lambda: "10.7.0.2" in net.neighbours())
@@ -297,11 +303,13 @@ def reload(net):
 
 def routes(net):
     """of the kernel's routes the lowest metric and the highest next hop are taken, and a blackhole is a hole"""
-    for route in ("10.60.0.0/14 via 10.2.0.1", "blackhole 10.61.0.0/16", "10.62.0.0/16 nexthop via 10.2.0.1 nexthop via 10.3.0.1",
+    for route in ("10.60.0.0/14 via 10.2.0.1", "blackhole 10.61.0.0/16",
+                  "10.62.0.0/16 nexthop via 10.2.0.1 nexthop via 10.3.0.1",
                   "10.63.0.0/16 via 10.3.0.1 metric 30", "10.63.0.0/16 via 10.2.0.1 metric 20"):
         ip("router", "route", "add", *route.split())
     asked = [(f"239.{number}.0.0/16", f"10.{number}.0.1") for number in range(60, 64)]
-    net.reload(net.settings + "".join(f'[[rp]]\ngroups = "{groups}"\naddress = "{address}"\n' for groups, address in asked))
+    ranges = [f'[[rp]]\ngroups = "{groups}"\naddress = "{address}"\n' for groups, address in asked]
+    net.reload(net.settings + "".join(ranges))
     wanted = ["10.2.0.1", None, "10.3.0.1", "10.2.0.1"]
     until(f"the next hops are {wanted}", 5, lambda: [row["next_hop"] for row in net.show("rp")[len(RPS):]] == wanted)
     ip("router", "route", "delete", "blackhole", "10.61.0.0/16")

@@ -105,7 +105,8 @@ impl Kernel for Handle {
 }
 
 const TWO: &str = "[[interface]]\nname = \"eth0\"\n[[interface]]\nname = \"eth1\"\n\
-    [[rp]]\ngroups = \"239.1.0.0/16\"\naddress = \"10.1.0.1\"\n[[rp]]\ngroups = \"239.2.0.0/16\"\naddress = \"10.9.0.1\"\n";
+    [[rp]]\ngroups = \"239.1.0.0/16\"\naddress = \"10.1.0.1\"\n\
+    [[rp]]\ngroups = \"239.2.0.0/16\"\naddress = \"10.9.0.1\"\n";
 const FAR: Ipv4Addr = Ipv4Addr::new(10, 9, 0, 50);
 const NEAR: Ipv4Addr = Ipv4Addr::new(10, 5, 0, 50);
 
