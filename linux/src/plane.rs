@@ -189,6 +189,12 @@ impl Plane {
         self.unknown.iter().map(|(group, source)| Key { source: *source, group: *group }).collect()
     }
 
+    /// Those of which the router tells nothing, since it is full, or refuses them.
+    pub fn untold(&self) -> Vec<Key> {
+        let is_untold = |key: &Key| self.entries.get(key).map_or(false, |entry| entry.row.is_none());
+        self.unknown().into_iter().filter(is_untold).collect()
+    }
+
     /// Those of a group.
     pub fn unknown_of(&self, group: Ipv4Addr) -> Vec<Key> {
         let places = (group, Ipv4Addr::UNSPECIFIED)..=(group, Ipv4Addr::BROADCAST);

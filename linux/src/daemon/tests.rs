@@ -360,6 +360,11 @@ fn what_may_not_be_sent_is_dropped_by_the_kernel() {
     let other = key([10, 5, 0, 77].into(), [239, 1, 1, 1]);
     happens(&mut daemon, &fake, no_cache(1, other));
     assert_eq!(fake.entry(other), Some(Forwarded { parent: 1, outgoing: 0b01 }));
+    // Once it is permitted its next packet is asked about.
+    daemon.take_settings(settings::read(TWO).expect("they are in order")).expect("it goes on");
+    assert_eq!(fake.entry(stream), None);
+    happens(&mut daemon, &fake, no_cache(1, stream));
+    assert_eq!(fake.entry(stream), Some(Forwarded { parent: 1, outgoing: 0b01 }));
 }
 
 #[test]

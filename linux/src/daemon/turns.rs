@@ -76,6 +76,8 @@ impl Daemon {
             self.set_ranges()?;
         }
         self.place_all();
+        // What was refused may be permitted now: the next packet asks.
+        self.plane.unknown().into_iter().for_each(|key| self.withdraw(key));
         self.read_routes()?;
         info!("the settings are read anew: {} RP ranges", self.settings.rps.len());
         Ok(())
@@ -207,6 +209,8 @@ impl Daemon {
             self.due.look = now + LOOK_EVERY;
             self.look()?;
             self.plane.idle(IDLE).into_iter().for_each(|key| self.withdraw(key));
+            // There may be room for it by now: its next packet asks again.
+            self.plane.untold().into_iter().for_each(|key| self.withdraw(key));
         }
         self.refresh_unknown();
         if is_due(self.due.unset) {
