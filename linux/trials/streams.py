@@ -1,7 +1,7 @@
 """Streams of every kind: joined late, long, of a program on the router."""
 import time
 
-from trials.network import HOST, SOURCE, Failed, ended, first_after, received, until
+from trials.network import HOST, SOURCE, Failed, ended, first_after, ip, received, until
 
 # A join to a running stream is to have its first packet within so many ms.
 SOON = 500
@@ -63,6 +63,35 @@ def first_long_packets_by_registers(net):
     return f"{came} of {of} came, {stood_in} fragments by the router"
 
 
+def whole_long_packets(net):
+    """on links that take 9,000 bytes whole packets of 8,028 are registered by the router, and by FRR with it as RP"""
+    ends = [("source", "first"), ("first", "router"), ("first", "second"), ("second", "router"), ("hosts", "router"),
+            ("second", "viewer")]
+    ends = [(place, f"to-{other}") for left, right in ends for place, other in ((left, right), (right, left))]
+    for place, port in ends:
+        ip(place, "link", "set", port, "mtu", 9000)
+    said = []
+    try:
+        for sending, source, receiving, address, group in (
+            ("hosts", HOST, "viewer", "10.6.0.77", "239.1.4.99"),
+            ("source", SOURCE, "hosts", HOST, "239.2.4.99"),
+        ):
+            stood_in = net.counter("fragments and long packets that a short one stood for")
+            receiver = net.receive(receiving, group, address, 60, 8, 8000)
+            time.sleep(2)
+            sender = net.send(sending, group, source, 60, 20, 8000)
+            came, of, twice = received(receiver)
+            sender.wait()
+            stood_in = net.counter("fragments and long packets that a short one stood for") - stood_in
+            said.append(f"{sending} to {receiving}: {came} of {of}, {twice} twice, {stood_in} by the router")
+            if came < of - 4 or not stood_in:
+                raise Failed("; ".join(said))
+    finally:
+        for place, port in ends:
+            ip(place, "link", "set", port, "mtu", 1500)
+    return "; ".join(said)
+
+
 def program_on_the_router(net):
     """a program on the router that joins a group receives, and the router hears its report and its leave"""
     group = "239.1.6.1"
@@ -83,4 +112,5 @@ def program_on_the_router(net):
     return f"{came} of {of} came, {twice} twice; its group stayed for 55 s, and went with its leave"
 
 
-TRIALS = [join_to_running_stream, long_packets, first_long_packets_by_registers, program_on_the_router]
+TRIALS = [join_to_running_stream, long_packets, first_long_packets_by_registers, whole_long_packets,
+          program_on_the_router]
