@@ -286,7 +286,7 @@ mod tests {
         assert_eq!(port.standing_in(&machine), (Some(2), down("the link is down")));
         machine.take(&Change::LinkGone(2));
         assert_eq!(port.standing_in(&machine), (None, down("there is no such interface")));
-        assert_eq!(addresses(&[port.clone()], &machine).0, [port.subnet]);
+        assert_eq!(addresses(std::slice::from_ref(&port), &machine).0, [port.subnet]);
         machine.take(&Change::Link(link(9, "eth0", true)));
         machine.take(&Change::Address { index: 9, subnet: subnet("10.0.0.1/24") });
         assert_eq!(port.standing_in(&machine), (Some(9), Standing::Up));
@@ -298,9 +298,9 @@ mod tests {
         machine.take(&Change::AddressGone { index: 2, subnet: subnet("10.0.0.1/24") });
         let why = "it hasn't the address 10.0.0.1/24 (it has 10.0.9.1/24)";
         assert_eq!(port.standing_in(&machine), (Some(2), Standing::Down(why.to_string())));
-        assert_eq!(addresses(&[port.clone()], &machine).0, [Some(subnet("10.0.9.1/24"))]);
+        assert_eq!(addresses(std::slice::from_ref(&port), &machine).0, [Some(subnet("10.0.9.1/24"))]);
         port.settings.address = port.subnet;
-        assert_eq!(addresses(&[port.clone()], &machine).0, [port.subnet]);
+        assert_eq!(addresses(std::slice::from_ref(&port), &machine).0, [port.subnet]);
     }
 
     #[test]

@@ -289,14 +289,14 @@ mod tests {
     #[test]
     fn a_join_prune_has_a_part_for_each_group() {
         let groups = [group(1, 0), group(2, 3), group(3, 1)];
-        let wanted: Vec<_> = groups.iter().map(|one| join_prune_of(&[one.clone()])).collect();
+        let wanted: Vec<_> = groups.iter().map(|one| join_prune_of(std::slice::from_ref(one))).collect();
         assert_eq!(parts(&join_prune_of(&groups)), wanted);
     }
 
     #[test]
     fn a_report_has_a_part_for_each_record() {
         let records = [record(1, 2), record(2, 0)];
-        let wanted: Vec<_> = records.iter().map(|one| report(&[one.clone()])).collect();
+        let wanted: Vec<_> = records.iter().map(|one| report(std::slice::from_ref(one))).collect();
         assert_eq!(parts(&report(&records)), wanted);
         assert!(wanted.iter().all(|part| sum(&[Packet::read(part).unwrap().content()]) == 0xffff));
     }
