@@ -96,8 +96,10 @@ struct Due {
     unset: Option<u64>,
     /// The library's router is made anew.
     anew: Option<u64>,
-    /// One that was made anew has learned what it needs.
+    /// One that was made anew may have learned what it needs.
     learned: Option<u64>,
+    /// What it hasn't learned by then it won't.
+    unlearned: u64,
 }
 
 /// Sources without a fact that are to be asked for anew after the turn.

@@ -23,6 +23,11 @@ const READ_EVERY: u64 = 1_000;
 const PART_OF_TIME: u64 = 10;
 const HELLO: u8 = 0;
 const JOIN_PRUNE: u8 = 3;
+const ASSERT: u8 = 5;
+/// Where the group and the source of an Assert stand, and how long one is.
+const ASSERTED_GROUP_AT: usize = 8;
+const ASSERTED_SOURCE_AT: usize = 14;
+const ASSERT_LENGTH: usize = 26;
 const REPORT: u8 = 0x22;
 /// Reports of IGMPv1 and IGMPv2, and the leave.
 const OLD: [u8; 3] = [0x12, 0x16, 0x17];
@@ -53,6 +58,8 @@ struct Held {
     groups: HashMap<Ipv4Addr, HashSet<Ipv4Addr>>,
     sources: usize,
     joins: HashSet<split::JoinKey>,
+    /// Groups and sources of asserts.
+    asserts: HashSet<(Ipv4Addr, Ipv4Addr)>,
 }
 
 impl Held {
@@ -60,8 +67,12 @@ impl Held {
         self.groups.len() + self.sources
     }
 
+    fn of_neighbours(&self) -> usize {
+        self.joins.len() + self.asserts.len()
+    }
+
     fn facts(&self) -> usize {
-        self.neighbours.len() + self.of_hosts() + self.joins.len()
+        self.neighbours.len() + self.of_hosts() + self.of_neighbours()
     }
 
     fn add_source(&mut self, group: Ipv4Addr, source: Ipv4Addr) {
@@ -151,6 +162,9 @@ impl Policy {
         for row in books.rows(Table::Downstream) {
             held.entry(row.iface).or_default().joins.insert(split::JoinKey::of_row(&row));
         }
+        for row in books.rows(Table::Asserts) {
+            held.entry(row.iface).or_default().asserts.insert((row.group.into(), row.source.into()));
+        }
         self.held = held;
         self.read_due = books.now() + READ_EVERY.max(PART_OF_TIME * books.now().saturating_sub(began));
     }
@@ -180,6 +194,9 @@ impl Policy {
         }
         if is_pim(packet, JOIN_PRUNE) {
             return self.join_prune(books, iface, packet);
+        }
+        if is_pim(packet, ASSERT) {
+            self.assert(books, iface, packet)?;
         }
         match packet.content().first() {
             Some(&REPORT) if packet.protocol() == IGMP => self.report(books, iface, packet),
@@ -322,7 +339,7 @@ impl Policy {
         let held = self.held(iface);
         let is_new = |entry: &&split::Entry| entry.makes_state() && !held.joins.contains(&entry.key);
         let needed = entries.iter().filter(is_new).count();
-        if needed > room || (needed > 0 && held.joins.len() + needed > max_joins) {
+        if needed > room || (needed > 0 && held.of_neighbours() + needed > max_joins) {
             self.read(books);
         }
     }
@@ -337,14 +354,41 @@ impl Policy {
             return Err(Cause::JoinList);
         }
         let max_joins = policy.max_joins as usize;
-        let joins = &mut self.held(iface).joins;
-        match joins.len() {
-            _ if !entry.makes_state() || joins.contains(&entry.key) => return Ok(()),
+        let held = self.held(iface);
+        match held.of_neighbours() {
+            _ if !entry.makes_state() || held.joins.contains(&entry.key) => return Ok(()),
             count if count >= max_joins => return Err(Cause::Joins),
             _ if room == 0 => return Err(Cause::Reserve),
-            _ => joins.insert(entry.key),
+            _ => held.joins.insert(entry.key),
         };
         Ok(())
+    }
+
+    fn assert(&mut self, books: &mut dyn Books, iface: u32, packet: Packet) -> Option<()> {
+        let content = packet.content();
+        if content.len() < ASSERT_LENGTH {
+            return Some(());
+        }
+        let key = (address(content, ASSERTED_GROUP_AT), address(content, ASSERTED_SOURCE_AT));
+        let max_joins = self.gates.get(&iface)?.policy.max_joins as usize;
+        let passes = |held: &Held, room: usize| match held.of_neighbours() {
+            _ if held.asserts.contains(&key) => Ok(()),
+            count if count >= max_joins => Err(Cause::Joins),
+            _ if room == 0 => Err(Cause::Reserve),
+            _ => Ok(()),
+        };
+        let mut room = self.room();
+        if passes(self.held(iface), room).is_err() {
+            self.read(books);
+            room = self.room();
+        }
+        if let Err(cause) = passes(self.held(iface), room) {
+            let what = format!("the Assert of ({}, {}) of {}", key.1, key.0, packet.source());
+            self.refuse(books.now(), cause, iface, &what);
+            return None;
+        }
+        self.held(iface).asserts.insert(key);
+        Some(())
     }
 
     // ---- data

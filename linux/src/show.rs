@@ -107,7 +107,8 @@ fn address(number: u32) -> Value {
 
 // ---- RPs and ways
 
-fn rp_of(ranges: &[RpSettings], group: u32) -> Option<Ipv4Addr> {
+/// The RP of a group.
+pub fn rp_of(ranges: &[RpSettings], group: u32) -> Option<Ipv4Addr> {
     let is_ssm = group & mask(SSM.1) == SSM.0;
     let fits = ranges.iter().filter(|range| !is_ssm && range.groups.contains(group));
     fits.max_by_key(|range| range.groups.length).map(|range| range.address)

@@ -102,6 +102,26 @@ def settings_under_a_stream(net):
     return f"{came} of {of} came, {twice} twice"
 
 
+def settings_at_the_rp(net):
+    """nor does one of which the router is the RP: the kernel's entry stays until the DR registers the source again"""
+    group = "239.2.11.4"
+    warm = net.receive("hosts", group, HOST, 30, 20)
+    time.sleep(2)
+    net.send("source", group, SOURCE, 30, 10).wait()
+    receiver = net.receive("hosts", group, HOST, 2600, 150)
+    ended(warm)
+    sender = net.send("source", group, SOURCE, 2600, 20)
+    until("the kernel forwards", 15, lambda: net.entry(SOURCE, group)["outgoing"] == ["to-hosts"])
+    net.reload("limit = 30000\n" + net.settings)
+    until("the router has learned", 110, lambda: net.entry(SOURCE, group)["forwarding"] == "kernel")
+    sender.wait()
+    came, of, twice = received(receiver)
+    net.reload(net.settings)
+    if came < of:
+        raise Failed(f"{came} of {of} came, {twice} twice")
+    return f"{came} of {of} came, {twice} twice"
+
+
 def kernel_without_memory(net):
     """where the kernel has no memory for an entry the router says so, goes on, and sets it once there is some"""
     shim, lacks = net.room / "no_memory.so", net.room / "no-memory"
@@ -206,5 +226,5 @@ def show_while_the_router_works(net):
     return f"{len(rows)} answers of {max(rows)} groups; joins had their first packets after {times} ms"
 
 
-TRIALS = [late_address, no_address_at_start, interface_that_comes, settings_under_a_stream, kernel_without_memory,
-          vxlan_and_next_hop_objects, show_while_the_router_works]
+TRIALS = [late_address, no_address_at_start, interface_that_comes, settings_under_a_stream, settings_at_the_rp,
+          kernel_without_memory, vxlan_and_next_hop_objects, show_while_the_router_works]

@@ -232,9 +232,9 @@ def link_deleted(net):
 
 def another_address(net):
     """one that gets another address takes that, and its own again, and a stream through others flows on meanwhile"""
-    group = "239.2.1.18"
-    receiver = net.receive("hosts", group, HOST, 450, 120)
-    sender = net.send("source", group, SOURCE, 450, 10)
+    group = "239.1.1.18"
+    receiver = net.receive("hosts", group, HOST, 1500, 90)
+    sender = net.send("source", group, SOURCE, 1500, 20)
     until("the kernel forwards", 20, lambda: net.entry(SOURCE, group)["outgoing"] == ["to-hosts"])
     standing = lambda: next(row for row in net.show("interfaces") if row["interface"] == "to-lan")
     for new, old in (("10.7.9.1/24", "10.7.0.3/24"), ("10.7.0.3/24", "10.7.9.1/24")):

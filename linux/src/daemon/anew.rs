@@ -7,7 +7,9 @@
 use super::{Core, Daemon, Event, Fatal};
 use crate::ports::{self, Port, Standing};
 use crate::settings::Subnet;
+use crate::show::rp_of;
 use log::{error, info, warn};
+use std::net::Ipv4Addr;
 
 /// Addresses that change together are taken together, in ms.
 const SETTLE: u64 = 1_000;
@@ -17,6 +19,11 @@ const NEIGHBOURS_SPEAK: u64 = 10_000;
 /// After the first query each host says what it wants; so much longer it may take, in ms.
 const HOSTS_SLACK: u64 = 2_000;
 const MS_PER_TENTH: u64 = 100;
+/// An RP knows a source again once its DR registers it, in ms: after 1.5 times 60 s, and the 5 s of a probe (RFC 7761,
+/// 4.4.1 and 4.11).
+const REGISTERS_COME: u64 = 100_000;
+/// What isn't learned yet is looked at so often, in ms.
+const LOOK_AGAIN: u64 = 5_000;
 /// A source whose last packet is older is no running stream, in ms.
 const RUNNING: u64 = 3_000;
 
@@ -95,6 +102,7 @@ impl Daemon {
         self.see_kept()?;
         let hosts = u64::from(self.settings.query_response) * MS_PER_TENTH + HOSTS_SLACK;
         self.due.learned = Some(self.now() + hosts.max(NEIGHBOURS_SPEAK));
+        self.due.unlearned = self.now() + REGISTERS_COME;
         Ok(())
     }
 
@@ -108,22 +116,36 @@ impl Daemon {
         Ok(())
     }
 
-    /// The new router has had its time: the kernel's entries go by its rows.
+    /// The new router has had its time: the kernel's entries go by its rows. A running stream of which it is the RP waits
+    /// for its next Register.
     pub(super) fn has_learned(&mut self) -> Result<(), Fatal> {
-        self.due.learned = None;
         self.look()?;
+        let now = self.now();
+        let mut wait = false;
         for (key, entry) in self.plane.kept() {
             let is_running = entry.used.map_or(false, |used| used.idle <= RUNNING);
             if let Some(iface) = entry.way.accepted.filter(|_| is_running) {
                 self.see(iface, key)?;
             }
+            let row = self.offload(key).filter(|row| row.is_known);
+            if row.is_none() && is_running && now < self.due.unlearned && self.is_rp_of(key.group) {
+                wait = true;
+                continue;
+            }
             self.plane.let_go(key);
-            match self.offload(key) {
-                Some(row) if row.is_known => self.place(key, Some(row), entry.way.accepted),
-                _ => self.withdraw(key),
+            match row {
+                Some(_) => self.place(key, row, entry.way.accepted),
+                None => self.withdraw(key),
             }
         }
-        info!("the router that was made anew has learned what it needs");
+        self.due.learned = wait.then_some(now + LOOK_AGAIN);
+        if !wait {
+            info!("the router that was made anew has learned what it needs");
+        }
         Ok(())
+    }
+
+    fn is_rp_of(&self, group: Ipv4Addr) -> bool {
+        rp_of(&self.settings.rps, group.into()).map_or(false, |rp| self.is_own(rp))
     }
 }

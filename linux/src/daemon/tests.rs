@@ -280,6 +280,27 @@ fn entries_stay_while_a_router_that_was_made_anew_learns() {
 }
 
 #[test]
+fn an_rp_that_was_made_anew_waits_for_the_next_register() {
+    let (mut daemon, fake) = begun(TWO, &both());
+    let stream = key(FAR, [239, 1, 1, 1]);
+    let asks = || report(ETH1, [10, 5, 0, 77], stream.group);
+    happens(&mut daemon, &fake, register(&data(FAR, stream.group, 0, 40)));
+    happens(&mut daemon, &fake, asks());
+    happens(&mut daemon, &fake, whole(stream, data(FAR, stream.group, 0, 40)));
+    let flows = Some(Forwarded { parent: 0, outgoing: 0b10 });
+    assert_eq!(fake.entry(stream), flows);
+    *fake.used.borrow_mut() = vec![Used { key: stream, packets: 9, bytes: 0, stray: 0, idle: 0 }];
+    daemon.make_anew("a test").expect("it goes on");
+    happens(&mut daemon, &fake, hello());
+    happens(&mut daemon, &fake, asks());
+    passes(&mut daemon, &fake, 60_000);
+    assert_eq!((fake.entry(stream), daemon.plane.kept().len()), (flows, 1));
+    happens(&mut daemon, &fake, register(&data(FAR, stream.group, 0, 40)));
+    passes(&mut daemon, &fake, 6_000);
+    assert_eq!((fake.entry(stream), daemon.plane.kept().len()), (flows, 0));
+}
+
+#[test]
 fn what_nobody_asks_for_again_ends_after_the_router_has_learned() {
     let (mut daemon, fake) = begun(TWO, &both());
     let stream = key(NEAR, [239, 1, 1, 1]);

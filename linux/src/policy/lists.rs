@@ -47,7 +47,7 @@ pub struct InterfacePolicy {
     pub max_groups: u32,
     /// Sources that hosts name for one group.
     pub max_sources: u32,
-    /// What neighbours join: (*,G), (S,G) and prunes of (S,G,rpt).
+    /// What neighbours join, (*,G), (S,G) and prunes of (S,G,rpt), and what their Asserts name.
     pub max_joins: u32,
     /// Sources of groups that come there first.
     pub max_streams: u32,

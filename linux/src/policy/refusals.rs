@@ -33,7 +33,7 @@ impl fmt::Display for Cause {
             Cause::JoinList => "a group or source that `join` doesn't permit",
             Cause::Groups => "a group of hosts above `max_groups`",
             Cause::Sources => "sources of a group above `max_sources`",
-            Cause::Joins => "a join of neighbours above `max_joins`",
+            Cause::Joins => "a join or an Assert of neighbours above `max_joins`",
             Cause::SendList => "a source or group that `send` doesn't permit",
             Cause::Streams => "a source above `max_streams`",
             Cause::RegisterList => "a Register of a source or group that `register` doesn't permit",

@@ -183,6 +183,23 @@ fn a_quota_of_joins_takes_what_is_known() {
 }
 
 #[test]
+fn asserts_share_the_quota_of_joins() {
+    let mut it = policy(1_000, InterfacePolicy { max_joins: 2, ..InterfacePolicy::default() });
+    let mut books = Holds::default();
+    let assert = |last: u8| {
+        let content = [0x25, 0, 0, 0, 1, 0, 0, 32, 239, 1, 1, last, 1, 0, 10, 1, 0, 50, 0, 0, 0, 110, 0, 0, 0, 20];
+        packet(PIM, 2, [224, 0, 0, 13], &content)
+    };
+    assert!(it.frame(&mut books, 0, &join(2, &[1])).is_some());
+    assert_eq!(it.frame(&mut books, 0, &assert(1)), Some(assert(1)));
+    books.rows =
+        vec![row(Table::Downstream, [0; 4], [239, 1, 1, 1]), row(Table::Asserts, [10, 1, 0, 50], [239, 1, 1, 1])];
+    assert_eq!((it.frame(&mut books, 0, &assert(2)), it.frame(&mut books, 0, &join(2, &[2]))), (None, None));
+    assert_eq!(it.frame(&mut books, 0, &assert(1)), Some(assert(1)));
+    assert_eq!(it.refusals.of(Cause::Joins), 2);
+}
+
+#[test]
 fn streams_and_registers_have_lists_and_quotas() {
     let key = |last| Key { source: [10, 1, 0, last].into(), group: [239, 1, 1, 1].into() };
     let one = Subnet { address: [10, 1, 0, 0].into(), length: 28 };
