@@ -188,7 +188,7 @@ def show_while_the_router_works(net):
     sender = net.send("source", group, SOURCE, 6000, 100)
     time.sleep(2)
     words = [sys.executable, SENDER, "to-router", "10.5.0.50", "reports", 65_536, 0.002]
-    subprocess.run(inside("hosts", *words), check=True)
+    subprocess.run(inside("hosts", *words), check=True, stdout=subprocess.DEVNULL)
     until("the groups are known", 30, lambda: next(
         row["count"] for row in net.show("counters") if row["counter"] == "events given to the router") > 300)
     path = str(net.room / "router" / "control")

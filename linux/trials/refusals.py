@@ -9,7 +9,8 @@ FEW_LINES = 4
 
 
 def send(net, place, interface, address, *words):
-    subprocess.run(inside(place, sys.executable, SENDER, interface, address, *words), check=True)
+    said = subprocess.DEVNULL
+    subprocess.run(inside(place, sys.executable, SENDER, interface, address, *words), check=True, stdout=said)
 
 
 def lines(net, words):

@@ -2,7 +2,8 @@
 """A host or a router that sends what others wouldn't; for the trials.
 
     sender.py INTERFACE ADDRESS reports COUNT [PAUSE [FIRST]]  IGMPv3 reports, each for 183 groups that are new, COUNT
-                                                        groups in all, from 239.2.16.0 on or another one
+                                                        groups in all, from 239.2.16.0 on or another one; it prints
+                                                        when it begins, in seconds since 1970
     sender.py INTERFACE ADDRESS report GROUP ..         one report, in fragments where it is long
     sender.py INTERFACE ADDRESS old GROUP               a report of IGMPv2
     sender.py INTERFACE ADDRESS sources COUNT           a packet of data to each of COUNT groups
@@ -75,6 +76,7 @@ def main():
     if what == "reports":
         count, pause = int(rest[0]), float(rest[1]) if len(rest) > 1 else 0.0
         begin = rest[2] if len(rest) > 2 else "239.2.16.0"
+        print(time.time())
         for first in range(0, count, RECORDS):
             groups = [numbered(begin, number) for number in range(first, min(first + RECORDS, count))]
             link.send(ip(own, ALL_IGMP_ROUTERS, IGMP, report(groups)))
