@@ -84,8 +84,13 @@ class Askers:
                 given[each.host, each.link].append(each)
         for (host, link), reports in given.items():
             dr = self.dr_of(link)
-            if dr is not None and all(each.step.router != dr for each in reports):
+            if dr is not None and all(each.step.router != dr for each in reports) and self.was_there(dr, link, reports[-1]):
                 yield self.kept_off(host, link, dr, reports)
+
+    def was_there(self, name, link, report):
+        """Whether a router's interface on a link was up when a report came."""
+        up = self.run.past.known(report.at)[name].up
+        return any(each.number in up for each in self.known[name].router.on(link))
 
     def dr_of(self, link):
         """The router that is a link's DR at the end, None where none there takes itself for it."""

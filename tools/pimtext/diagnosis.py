@@ -49,7 +49,7 @@ class Symptoms:
         return Symptom(end.kind, line, told, **where, **whose, alone=end.text, at=at)
 
     def twice(self, stream):
-        told = f"{stream.host} got {times(stream.twice, 'packet')} of {words.tree(stream.group, stream.source)} twice"
+        told = f"{stream.host} got {times(stream.twice, 'packet')} of {words.tree(stream.group, stream.source)} {stream.how_often()}"
         line = self.run.on_link(stream.senders()[0], stream.link)
         return Symptom("twice", line, f"{told}: {'; '.join(stream.doubled())}", stream.senders()[0], stream.link,
                        group=stream.group, source=stream.source, host=stream.host)

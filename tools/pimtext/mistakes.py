@@ -48,7 +48,8 @@ class Mistakes:
         theirs = f"{usual} at router {peer} ({self.run.lines.words(self.run.lines.router(peer))})"
         told = f": the RP of {some(groups)} is {rp} here, and {theirs}"
         kinds = ("rp disagrees", "no owner", "registers stopped")
-        return Cause(*self.run.at_router(name, told), lambda each: each.kind in kinds and each.group in groups)
+        covers = lambda each: each.kind in kinds and each.group in groups and (each.router == name or each.address == rp)
+        return Cause(*self.run.at_router(name, told), covers)
 
     def unaware(self, name, rp, usual, groups):
         own = f"takes {rp} for it" if rp else "has no RP for it itself"
@@ -115,8 +116,9 @@ class Mistakes:
 
         def covers(each):
             is_own = each.cause == "Own" and each.router in names and each.host == address
-            is_there = each.link in links and len(links) == 1 and each.kind in ("twice", "no neighbour", "assert", "unwanted")
-            return is_own or is_there or (each.group in groups and each.kind in ("registers stopped", "no join", "rp disagrees"))
+            is_there = each.link in links and len(links) == 1 and each.router in names and each.kind in ("twice", "no neighbour")
+            is_rp = each.group in groups and each.kind in ("registers stopped", "no join")
+            return is_own or is_there or (is_rp and (each.router in names or each.address == address))
 
         text = f": {address} is the address of two interfaces, {where}: {what}"
         return Cause(*self.run.at_router(names[-1], text), covers)

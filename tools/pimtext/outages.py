@@ -131,7 +131,6 @@ class Outages:
     def of_interface(self, name, interface):
         """What follows where an interface is down."""
         link, address = interface.link, interface.address
-        kinds = ("interface down", "no neighbour", "dead dr", "down", "not the source's dr")
         at = self.at_of(name, interface.number)
 
         def covers(each):
@@ -144,9 +143,18 @@ class Outages:
                 return self.used(each, {link}, at)
             if each.kind == "lost" and each.link is None:
                 return self.led_over(each.router, each.address, {link})
-            return each.kind in kinds and (each.link == link or each.address == address)
+            return self.is_of_interface(each, name, link, address)
 
         return covers
+
+    @staticmethod
+    def is_of_interface(symptom, name, link, address):
+        """Whether a symptom names an interface, or its address, as what it lacks."""
+        is_here = symptom.router == name and symptom.link == link
+        return {
+            "interface down": is_here, "no neighbour": is_here or symptom.address == address, "dead dr": symptom.address == address,
+            "down": symptom.link == link, "not the source's dr": symptom.link == link,
+        }.get(symptom.kind, False)
 
     def gaps(self):
         """Interfaces that were down for a while."""
@@ -171,17 +179,25 @@ class Outages:
     def clocks(self):
         """Time passes for each router, and its Hellos leave."""
         for name, state in self.known.items():
-            own = {each.address for each in state.router.interfaces}
-            covers = lambda each, own=own: each.kind == "no neighbour" and each.address in own
             if name not in self.advanced:
                 told = " is never advanced: its clock stands at 0, so no timer of it ends, and no Hello leaves it of itself"
-                yield Cause(*self.run.at_router(name, told), covers)
+                own = {each.address for each in state.router.interfaces}
+                yield Cause(*self.run.at_router(name, told), self.of_addresses(own))
                 continue
-            for number in sorted(state.up - self.greeted(name)):
-                until = self.turned[name, number].moment + HELLO_DELAY
-                if state.moment < until:
-                    told = f": no Hello has left interface {number}: it leaves by moment {until}, and the router was advanced to"
-                    yield Cause(*self.run.at_router(name, f"{told} {state.moment}"), covers)
+            yield from (self.silent(name, state, number) for number in sorted(state.up - self.greeted(name)) if self.is_early(name, number))
+
+    @staticmethod
+    def of_addresses(own):
+        return lambda each: each.kind == "no neighbour" and each.address in own
+
+    def is_early(self, name, number):
+        """Whether the first Hello of an interface need not have left yet."""
+        return self.known[name].moment < self.turned[name, number].moment + HELLO_DELAY
+
+    def silent(self, name, state, number):
+        until = self.turned[name, number].moment + HELLO_DELAY
+        told = f": no Hello has left interface {number}: it leaves by moment {until}, and the router was advanced to {state.moment}"
+        return Cause(*self.run.at_router(name, told), self.of_addresses({state.router.interfaces[number].address}))
 
     def greeted(self, name):
         """The interfaces of a router that a Hello has left."""
@@ -273,16 +289,24 @@ class Outages:
             return
         sent, at = pruned
         joins = [join for join, body in self.run.wire.joins(below, link) if names_group(body, group, True) and join.move > sent.move]
-        missed = [join for join in joins if self.run.wire.answer(join, upper) is None]
         came = next((step for join in joins if (step := self.run.wire.answer(join, upper)) is not None), None)
-        if joins and missed[:1] != joins[:1]:
+        until = at.moment + self.override_interval(link)
+        early = [join for join in joins if join.moment <= until]
+        if any(self.run.wire.answer(join, upper) for join in early):
             return
-        lost = f"its Join of {words.seconds(missed[0].moment)}, which was to override it, was lost" if missed else "it sent no Join to override it"
+        lost = f"it sent no Join by {words.seconds(until)} to override it"
+        if early:
+            lost = f"its Join of {words.seconds(early[0].moment)}, which was to override it, was lost"
         gap = f"; its next Join came at {words.seconds(came.moment)}" if came else ""
         told = f"the Prune of {sent.router} for {group} on {link}, which came to {upper} at {words.seconds(at.moment)}, took effect"
         told = f"{told} though {below} wants the group there: {lost}{gap}. {self.outage(stream, loss)}"
         covers = lambda each: each.kind == "no join" and each.link == link and each.group == group and each.host == stream.host
         yield Cause(self.run.on_link(upper, link), told, covers)
+
+    def override_interval(self, link):
+        """How long a Prune on a link waits for a Join that overrides it, in ms (RFC 7761, 4.3.3), by what its routers announce."""
+        tables = [self.known[name].router.table["iface"][interface.number] for name, interface in self.run.ports()[link]]
+        return max(each.get("propagation", 500) for each in tables) + max(each.get("override", 2500) for each in tables)
 
     @staticmethod
     def outage(stream, loss):

@@ -193,7 +193,8 @@ def absent_dr(world, here, link):
         told = f"each router on {link} takes another one for its DR: {state.router.name} takes {world.every(address)} for it"
         return End("dead dr", told, state.router.name, link, address)
     until = state.of(printed.Neighbour, iface=number, address=address)[0].end
-    gone = f"{world.every(address)}, which is gone from {link}, and takes it for a neighbour until {words.seconds(until)}"
+    where = f"which is gone from {link}" if world.owner(address) else "which no router here has"
+    gone = f"{world.every(address)}, {where}, and takes it for a neighbour until {words.seconds(until)}"
     return End("dead dr", f"{state.router.name} isn't the DR of {link}: it takes that to be {gone}", state.router.name, link, address)
 
 

@@ -64,6 +64,11 @@ class Stream:
         runs = groupby(self.packets, key=lambda packet: bool(self.arrivals[packet]))
         return [list(run) for is_there, run in runs if not is_there]
 
+    def how_often(self):
+        """How often a packet came that came more than once, in words."""
+        most = max((len(arrivals) for arrivals in self.arrivals.values()), default=0)
+        return "twice" if most <= 2 else "more than once"
+
     def senders(self):
         """The routers that sent the host packets which came more than once."""
         return list(dict.fromkeys(each.copy.sent.router for each in self.repeated() if each.copy))

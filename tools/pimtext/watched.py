@@ -176,14 +176,14 @@ def numbers(stream):
     if not stream.packets:
         yield "  nobody has sent since it asked"
         return
-    told = f"  {stream.sent} sent since it asked, {stream.came} came" + (f", {stream.twice or 'none'} of them twice" if stream.came else "")
+    told = f"  {stream.sent} sent since it asked, {stream.came} came" + (f", {stream.twice or 'none'} of them {stream.how_often()}" if stream.came else "")
     if stream.longest_gap is not None:
         told += f"; the longest gap {seconds(stream.longest_gap)}"
     if stream.first_after is not None:
         told += f"; the first came {seconds(stream.first_after)} after the Join"
     yield told
     if stream.twice:
-        yield f"  twice: {'; '.join(stream.doubled())}"
+        yield f"  {stream.how_often()}: {'; '.join(stream.doubled())}"
 
 
 def loss_line(loss):
