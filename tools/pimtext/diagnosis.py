@@ -6,6 +6,7 @@ refused or that nobody took. Each is told under the first cause that explains it
 from pimtext import printed, reasons, served, trees, words
 from pimtext.askers import Askers
 from pimtext.cause import Cause, Symptom, attached, grouped
+from pimtext.interfaces import Interfaces
 from pimtext.mistakes import Mistakes
 from pimtext.notes import Lines, Notes
 from pimtext.outages import Outages
@@ -121,8 +122,9 @@ class Diagnosis:
 
     def __init__(self, judge, played, lines, places=None, unheard=frozenset()):
         self.run = run = Run(played, lines, places or Lines(judge), unheard)
-        notes, outages = Notes(judge, run), Outages(run)
-        self.causes = [*outages.interfaces(), *outages.clocks(), *Mistakes(run).causes(), *Askers(run).causes(), *outages.rest()]
+        notes, interfaces = Notes(judge, run), Interfaces(run)
+        self.causes = [*interfaces.causes(), *Mistakes(run).causes(), *Askers(run).causes()]
+        self.causes += [*interfaces.gaps(), *Outages(run).causes()]
         odd = attached(self.causes, [*notes.odd(), *([] if places else notes.undelivered())])
         self.causes += [of_odd(run, symptom) for symptom in odd]
         left = attached(self.causes, list(Symptoms(run).all()))
