@@ -1,4 +1,5 @@
-"""What hosts and sources do so that a stream doesn't come: how they ask, whom their reports reach, and what they send."""
+"""What hosts and sources do so that a stream doesn't come: how they ask, whom their reports reach, and what they
+send."""
 from ipaddress import ip_address
 
 from pimtext import packets, printed, trees, wishes, words
@@ -33,8 +34,8 @@ class Askers:
         """The querier of a link speaks IGMPv3."""
         refused = [step for step in self.run.steps if step.verdict == "refused" and is_old_query(step)]
         for address, steps in gathered((packets.dotted(step.taken()[12:16]), step) for step in refused).items():
-            told = f"{address} asks hosts by IGMPv2 or IGMPv1, which was refused {times(len(steps), 'time')}: hosts that hear it"
-            line, told = self.run.at_move(steps[0], f"{told} answer by the same, which routers refuse too")
+            told = f"{address} asks hosts by IGMPv2 or IGMPv1, which was refused {times(len(steps), 'time')}: hosts"
+            line, told = self.run.at_move(steps[0], f"{told} that hear it answer by the same, which routers refuse too")
             yield Cause(line, told, self.of_host(address, (), "7"))
 
     def sourceless(self):
@@ -53,9 +54,9 @@ class Askers:
         for host, group, source in named:
             if senders.get(group) and source not in senders[group]:
                 sent = some(dict.fromkeys(senders[group]))
-                told = f"{host} asks for {group} of {source}, which has sent nothing in this run: what was sent to it is of"
+                told = f"{host} asks for {group} of {source}, which has sent nothing in this run: what was sent to it"
                 step = self.run.steps[self.hosts.joined(host, group, source)]
-                yield Cause(*self.run.at_move(step, f"{told} {sent}"), self.of_source(group, source))
+                yield Cause(*self.run.at_move(step, f"{told} is of {sent}"), self.of_source(group, source))
 
     @staticmethod
     def of_source(group, source):
@@ -95,8 +96,8 @@ class Askers:
 
     def kept_off(self, host, link, dr, reports):
         names = " and ".join(dict.fromkeys(each.step.router for each in reports))
-        told = f"the reports of {host} came to {names} and not to {dr}, the DR of {link}: what a host sends comes to every"
-        told = f"{told} router of its link, but where a switch keeps it (IGMP snooping)"
+        told = f"the reports of {host} came to {names} and not to {dr}, the DR of {link}: what a host sends comes to"
+        told = f"{told} every router of its link, but where a switch keeps it (IGMP snooping)"
         covers = lambda each: each.kind == "unwanted" and each.host == host and each.link == link
         return Cause(*self.run.at_move(reports[0].step, told), covers)
 
@@ -134,11 +135,12 @@ class Askers:
     def gone(self, group, report):
         """The cause where a host answered none of the queries that came after its report."""
         host, link, dr, steps = report.host, report.link, report.step.router, self.run.steps
-        asked = [at for at in range(report.at + 1, len(steps)) if any(is_query(sent, dr, link) for sent in steps[at].sent)]
+        later = range(report.at + 1, len(steps))
+        asked = [at for at in later if any(is_query(sent, dr, link) for sent in steps[at].sent)]
         answers = [each for each in self.hosts.heard if each.host == host and each.step.router == dr]
         if asked and all(each.at <= asked[0] for each in answers):
-            told = f"{host} asked for {group} at {words.seconds(report.step.moment)} for the last time, and answered no query"
-            told = f"{told} since, though {dr} sent {len(asked)} on {link}: {dr} has forgotten its wish"
+            told = f"{host} asked for {group} at {words.seconds(report.step.moment)} for the last time, and answered no"
+            told = f"{told} query since, though {dr} sent {len(asked)} on {link}: {dr} has forgotten its wish"
             yield Cause(*self.run.at_move(report.step, told), self.of_host(host, {group}))
 
     # ---- what sources send
@@ -168,7 +170,8 @@ class Askers:
         for source, said in gathered((each.packet.source, each) for each in nobody).items():
             groups = some(each.packet.destination for each in said)
             told = f"nobody asks for {groups} in this run" + (f"; asked for is {others}" if others else "")
-            yield Cause(*self.run.at_move(said[0].step, told), lambda each: each.kind == "silent" and each.source is None)
+            covers = lambda each: each.kind == "silent" and each.source is None
+            yield Cause(*self.run.at_move(said[0].step, told), covers)
         yield from self.of_others(first, sources)
 
     def of_others(self, first, sources):
@@ -177,7 +180,8 @@ class Askers:
             group, source = each.packet.destination, each.packet.source
             asked = sources.get(group, [])
             if asked and not {ANY, source} & set(asked) and not trees.is_source_specific(group):
-                told = f"{group} is asked for of {some(sorted(asked, key=ip_address))} alone, and this is data of {source}"
+                named = some(sorted(asked, key=ip_address))
+                told = f"{group} is asked for of {named} alone, and this is data of {source}"
                 yield Cause(*self.run.at_move(each.step, told))
 
     def first(self, key):

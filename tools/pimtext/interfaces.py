@@ -21,7 +21,8 @@ class Interfaces:
         self.advanced = {did["router"] for did in run.played.moves if did["do"] == "advance"}
 
     def last(self, name, number):
-        """The place of the step with which an interface last went up or down, and the step; the end where it never did."""
+        """The place of the step with which an interface last went up or down, and the step; the end where it never
+        did."""
         return self.turns.get((name, number), [(len(self.run.steps), None)])[-1]
 
     def went_down(self):
@@ -34,8 +35,9 @@ class Interfaces:
     def causes(self):
         """Routers whose interfaces are all down, links that are, single interfaces, and those that never go up."""
         down = self.went_down()
-        whole = [name for name, state in self.known.items() if not state.up and any(router == name for router, _ in down)]
-        yield from (self.router_down(name, [step for (router, _), step in down.items() if router == name]) for name in whole)
+        by_router = gathered((name, step) for (name, _), step in down.items())
+        whole = [name for name in by_router if not self.known[name].up]
+        yield from (self.router_down(name, by_router[name]) for name in whole)
         single = {key: step for key, step in down.items() if key[0] not in whole}
         links = self.whole_links(single)
         yield from (self.link_down(link, {key: single[key] for key in keys}) for link, keys in links.items())
@@ -144,7 +146,8 @@ class Interfaces:
         return found is not None and state.link(found.iface) in links
 
     def is_cut_off(self, symptom, keys):
-        """Whether a router that has no route to an address would reach it over links where these interfaces are up too."""
+        """Whether a router that has no route to an address would reach it over links where these interfaces are up
+        too."""
         at = len(self.run.steps) if symptom.at is None else symptom.at
         known = self.known if at >= len(self.run.steps) else self.run.past.known(at)
         up = {(name, number) for name, state in known.items() for number in state.up}
@@ -173,12 +176,13 @@ class Interfaces:
         """Time passes for each router, and its Hellos leave."""
         for name, state in self.known.items():
             if name not in self.advanced:
-                told = " is never advanced: its clock stands at 0, so no timer of it ends, and no Hello leaves it of itself"
+                told = " is never advanced: its clock stands at 0, so no timer of it ends, and no Hello leaves it of"
                 own = {each.address for each in state.router.interfaces}
-                yield Cause(*self.run.at_router(name, told), of_addresses(own))
+                yield Cause(*self.run.at_router(name, f"{told} itself"), of_addresses(own))
             else:
-                silent = sorted(state.up - self.greeted(name))
-                yield from (self.silent(state, number) for number in silent if state.moment < self.greets_by(name, number))
+                ungreeted = sorted(state.up - self.greeted(name))
+                silent = [number for number in ungreeted if state.moment < self.greets_by(name, number)]
+                yield from (self.silent(state, number) for number in silent)
 
     def greeted(self, name):
         """The interfaces of a router that a Hello has left."""

@@ -1,7 +1,7 @@
 """What is often got wrong in a network's settings, so that a stream doesn't come though nothing is refused.
 
-Each is a cause, told at a router or an interface: RPs, addresses, links and routes. What routers know is that of the end.
-"""
+Each is a cause, told at a router or an interface: RPs, addresses, links and routes. What routers know is that of the
+end. """
 from collections import Counter
 from difflib import SequenceMatcher
 from ipaddress import ip_address
@@ -37,7 +37,8 @@ class Mistakes:
             yield self.unaware(name, rp, usual, groups) if is_owner else self.other_rp(name, rp, usual, groups)
 
     def other_rps(self, group):
-        """The routers with another RP for a group than most have: whether one is that RP, its name, its RP and the usual."""
+        """The routers with another RP for a group than most have: whether one is that RP, its name, its RP and the
+        usual."""
         by_name = {name: trees.rp_of(state, group) for name, state in self.known.items()}
         usual = most([rp for rp in by_name.values() if rp], lambda rp: self.world.owner(rp) is not None)
         for name, rp in by_name.items():
@@ -167,9 +168,11 @@ class Mistakes:
                 yield Cause(*self.run.at_interface(name, interface.number, told))
 
     def link_names(self):
-        """A link that one interface has, and whose name is almost that of another link; where both are so, each is told."""
+        """A link that one interface has, and whose name is almost that of another link; where both are so, each is
+        told."""
         for link, ((router, interface), *others) in self.ports.items():
-            near = None if others else next((name for name in self.ports if name != link and self.is_near(name, link)), None)
+            alike = [name for name in self.ports if name != link and not others and self.is_near(name, link)]
+            near = next(iter(alike), None)
             if near is not None:
                 told = f"no other interface is on the link {link}; is {near} meant?"
                 yield Cause(*self.run.at_interface(router, interface.number, told), self.of_lonely(link))
@@ -244,8 +247,8 @@ class Mistakes:
 
     def causes(self):
         """Those that explain others come first."""
-        parts = (self.addresses, self.host_addresses, self.rps, self.nobody, self.without_rp, self.loops, self.next_hops)
-        for told in (*parts, self.subnets, self.links_of_subnets, self.link_names):
+        parts = (self.addresses, self.host_addresses, self.rps, self.nobody, self.without_rp, self.loops)
+        for told in (*parts, self.next_hops, self.subnets, self.links_of_subnets, self.link_names):
             yield from once(told())
 
 

@@ -1,4 +1,5 @@
-"""What stops streams for a while in a run, or for good: what is lost on a link, a Prune that nobody overrode, and the limit."""
+"""What stops streams for a while in a run, or for good: what is lost on a link, a Prune that nobody overrode, and the
+limit."""
 from pimtext import limit, packets, trees, words
 from pimtext.cause import Cause
 from pimtext.run import COUNTED, gathered, times
@@ -92,13 +93,15 @@ class Outages:
                 yield from self.override(stream, loss, *pruned)
 
     def prune(self, group, loss):
-        """The last Prune of a group that another router than the one below sent on its link, and that came before a loss."""
+        """The last Prune of a group that another router than the one below sent on its link, and that came before a
+        loss."""
         upper, below, link = loss.end.router, loss.end.address, loss.end.link
         others = [name for name, _ in self.run.ports()[link] if name not in (upper, below)]
         said = [pair for name in others for pair in self.wire.joins(name, link) if names_group(pair[1], group, False)]
         came = [(sent, self.wire.answer(sent, upper)) for sent, _ in said]
         before = {id(step) for step in self.run.steps[:loss.packets[0].at]}
-        taken = [(sent, step) for sent, step in came if step is not None and step.verdict == "done" and id(step) in before]
+        early = [(sent, step) for sent, step in came if step is not None and id(step) in before]
+        taken = [(sent, step) for sent, step in early if step.verdict == "done"]
         return max(taken, key=lambda pair: pair[0].number) if taken else None
 
     def override(self, stream, loss, sent, taken):
@@ -113,16 +116,18 @@ class Outages:
         lost = f"it sent no Join by {words.seconds(until)} to override it"
         if early:
             lost = f"its Join of {words.seconds(early[0].moment)}, which was to override it, was lost"
-        came = next((step for join in joins if (step := self.wire.answer(join, upper)) is not None), None)
-        later = f"; its next Join came at {words.seconds(came.moment)}" if came else ""
-        told = f"the Prune of {sent.router} for {group} on {link}, which came to {upper} at {words.seconds(taken.moment)},"
-        told = f"{told} took effect though {below} wants the group there: {lost}{later}. {outage(stream, loss)}"
+        next_one = next((step for join in joins if (step := self.wire.answer(join, upper)) is not None), None)
+        later = f"; its next Join came at {words.seconds(next_one.moment)}" if next_one else ""
+        came = f"which came to {upper} at {words.seconds(taken.moment)},"
+        told = f"the Prune of {sent.router} for {group} on {link}, {came} took effect though {below} wants the group"
+        told = f"{told} there: {lost}{later}. {outage(stream, loss)}"
         whose = (link, group, stream.host)
         covers = lambda each: each.kind == "no join" and (each.link, each.group, each.host) == whose
         yield Cause(self.run.on_link(upper, link), told, covers)
 
     def override_interval(self, link):
-        """How long a Prune on a link waits for a Join that overrides it, in ms (RFC 7761, 4.3.3), by what is configured."""
+        """How long a Prune on a link waits for a Join that overrides it, in ms (RFC 7761, 4.3.3), by what is
+        configured."""
         ports = [(self.known[name].router, interface.number) for name, interface in self.run.ports()[link]]
         tables = [router.table["iface"][number] for router, number in ports]
         return max(each.get("propagation", 500) for each in tables) + max(each.get("override", 2500) for each in tables)

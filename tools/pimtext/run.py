@@ -8,7 +8,8 @@ from pimtext.wire import Wire
 
 
 class Run:
-    """`lines` says where moves, routers and interfaces stand; `known` and `world` have what the routers know at the end."""
+    """`lines` says where moves, routers and interfaces stand; `known` and `world` have what the routers know at the
+    end."""
 
     def __init__(self, played, printed_lines, lines, unheard=frozenset()):
         self.played, self.lines = played, lines

@@ -38,7 +38,8 @@ class Served(unittest.TestCase):
         lines, is_served = answer(Network(), HOST)
         self.assertTrue(is_served)
         self.assertEqual(lines[0], f"({SOURCE}, {GROUP}) from studio to {HOST} on home")
-        self.assertEqual(lines[1], "  1 sent since it asked, 1 came, none of them twice; the first came 0 s after the Join")
+        came = "1 sent since it asked, 1 came, none of them twice; the first came 0 s after the Join"
+        self.assertEqual(lines[1].strip(), came)
         way = [line.strip() for line in lines[2:-1]]
         self.assertEqual(way[0], f"west took it on 0 studio, TTL 16; registered it with hub ({RP})")
         self.assertEqual(way[1], "hub took it in a Register, TTL 15; sent it on hub-east")
