@@ -179,6 +179,15 @@ class Received(unittest.TestCase):
                 if host.link is not source.link and (host.wants(group, source.address) or not how):
                     with self.subTest(str(how), seed=seed):
                         self.assertEqual(bool(how), len(host.received) > count)
+                self.counted(host, source, group, seed)
+
+    def counted(self, host, source, group, seed):
+        """The trace counts what the host received."""
+        received = [each for each in host.received if (each.group, each.source) == (group, source.address)]
+        for stream in host.watch(group, source):
+            with self.subTest("counts", seed=seed):
+                arrivals = [each for each in stream.arrivals.values() if each]
+                self.assertEqual((stream.came, sum(map(len, arrivals))), (len(arrivals), len(received)))
 
 
 class Asked(unittest.TestCase):

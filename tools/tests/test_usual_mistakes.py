@@ -173,7 +173,8 @@ def numbers_came(lines, place):
     copies = (line.split(" ") for line in lines if line.startswith("copy ") and line.split(" ")[2] == place)
     contents = [bytes.fromhex(words[3]) for words in copies]
     counts = Counter((packets.dotted(data[16:20]), data[28:]) for data in contents)
-    came, twice = Counter(group for group, _ in counts), Counter(group for (group, _), count in counts.items() if count > 1)
+    came = Counter(group for group, _ in counts)
+    twice = Counter(group for (group, _), count in counts.items() if count > 1)
     return {group: (came[group], twice[group]) for group in came}
 
 
@@ -191,8 +192,9 @@ class Played:
             self.diagnosis = Diagnosis(judge, played, self.lines)
             self.told = self.diagnosis.lines()
             watch = self.diagnosis.run.watch
-            answers = [answer for host in {host for host, _ in watch.hosts.told} for answer in watch.answers(host) if answer[0]]
-            self.answers = {(verdict.stream.host, verdict.stream.group): (verdict, lines) for verdict, lines in answers}
+            answers = [answer for host in {host for host, _ in watch.hosts.told} for answer in watch.answers(host)]
+            streams = {(each[0].stream.host, each[0].stream.group): each for each in answers if each[0]}
+            self.answers = streams
 
 
 @functools.cache
