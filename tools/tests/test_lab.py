@@ -217,7 +217,7 @@ class Odd(unittest.TestCase):
 
 
 def broken(how, times=3, **host):
-    """The payloads that come to a viewer behind three routers, of which the middle one is the RP, and the network: `how` breaks it."""
+    """The payloads that come to a viewer behind three routers, the RP in the middle, and the network: `how` breaks it."""
     net = Network()
     net.line("a", "b", "c")
     net.rp("b")
@@ -285,7 +285,8 @@ class Broken(unittest.TestCase):
         self.assertIn("10.0.1.1 is the address of two interfaces", net.notes()[0])
 
     def test_loss_of_one_kind(self):
-        for kind, told in ((packets.Hello, "aren't neighbours"), (packets.JoinPrune, "Joins and Prunes"), (packets.Data, "of data")):
+        kinds = {packets.Hello: "aren't neighbours", packets.JoinPrune: "Joins and Prunes", packets.Data: "of data"}
+        for kind, told in kinds.items():
             with self.subTest(kind):
                 payloads, net = broken(lambda net: net.links["b-c"].lose(1.0, kind))
                 self.assertEqual(payloads, [])
@@ -358,9 +359,9 @@ WRONG = [
     ('net.host("x", "west", igmp=4)', "4 is no version of IGMP: it is a whole number from 2 to 3"),
     ('net.host("x", "west", igmp=2).join("239.1.1.1", camera)', "x speaks IGMPv2, by which no source can be named"),
     ('net.links["west-hub"].lose(2)', "2 is no share of the packets that are lost: it is a number from 0 to 1"),
-    ('net.links["west-hub"].lose(1, "Hello")', "'Hello' is no kind of packet: it is the class of this name, without quotes"),
+    ('net.links["west-hub"].lose(1, "Hello")', "'Hello' is no kind of packet: it is the class of this name"),
     ('net.links["west-hub"].lose(1, sender="east")', "east is not on the link west-hub"),
-    ('net.links["west-hub"].configure("hub", length=32)', "32 is no length of a subnet: it is a whole number from 1 to 31"),
+    ('net.links["west-hub"].configure("hub", length=32)', "32 is no length of a subnet: it is a whole number"),
     ('net.links["west-hub"].configure("hub", address="10.1")', "'10.1' is no address of a host or a router"),
     ('net.run(1); net.router("late")', "late: routers, links and hosts are made before the first run"),
 ]

@@ -1,4 +1,5 @@
-"""A run traced: which routers took each packet of data, what they sent of it, and what the routers knew before a step."""
+"""A run traced: which routers took each packet of data, what they sent of it, and what the routers knew before a
+step."""
 import unittest
 
 from pimtext import packets, past, printed, scenario, story, trace, watched, wire
@@ -16,14 +17,18 @@ def packets_of(network):
     return trace.traced(made, steps)
 
 
+def ways(packet):
+    """The routers by which the copies of a packet came to the host's link, each with its interface."""
+    return [[(taken.router, taken.iface) for taken in copy.by.way()] for copy in packet.on("home")]
+
+
 class Traced(unittest.TestCase):
     def test_a_packet_goes_by_a_register_and_then_by_the_tree(self):
         first, second = packets_of(Network(report(TO_EX, GROUP), data(), data()))
-        self.assertEqual((first.source, first.group, first.link, first.number, first.ttl), (SOURCE, GROUP, "studio", 1, 16))
-        (copy,) = first.on("home")
-        self.assertEqual([(taken.router, taken.iface) for taken in copy.by.way()], [("west", 0), ("hub", None), ("east", 0)])
-        (copy,) = second.on("home")
-        self.assertEqual([(taken.router, taken.iface) for taken in copy.by.way()], [("west", 0), ("hub", 0), ("east", 0)])
+        self.assertEqual((first.source, first.group, first.link, first.number), (SOURCE, GROUP, "studio", 1))
+        self.assertEqual(first.ttl, 16)
+        self.assertEqual(ways(first), [[("west", 0), ("hub", None), ("east", 0)]])
+        self.assertEqual(ways(second), [[("west", 0), ("hub", 0), ("east", 0)]])
 
     def test_a_packet_that_two_routers_of_its_link_take_is_one(self):
         network = Network(report(TO_EX, GROUP))
