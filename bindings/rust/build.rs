@@ -1,4 +1,5 @@
-//! Tells where the library is: in PIM_LIB_DIR, else where `tools/library` leaves it, else where the C compiler finds it by itself.
+//! Tells where the library is: in PIM_LIB_DIR, else where `tools/library` leaves it, else where the C compiler finds it
+//! by itself.
 use std::env;
 use std::path::{Path, PathBuf};
 use std::process::{exit, Command};
@@ -6,7 +7,8 @@ use std::process::{exit, Command};
 fn main() {
     println!("cargo:rerun-if-env-changed=PIM_LIB_DIR");
     println!("cargo:rerun-if-env-changed=CC");
-    let left = Path::new(env!("CARGO_MANIFEST_DIR")).ancestors().nth(2).map(|top| top.join("out/library")).unwrap_or_default();
+    let top = Path::new(env!("CARGO_MANIFEST_DIR")).ancestors().nth(2);
+    let left = top.map(|top| top.join("out/library")).unwrap_or_default();
     let given = env::var_os("PIM_LIB_DIR").map(PathBuf::from);
     let folder = given.clone().unwrap_or(left);
     let archive = folder.join("libpim.a");
@@ -19,7 +21,7 @@ fn main() {
         println!("cargo:rustc-link-lib=pim");
     } else {
         eprintln!("pim: there is no library {}", archive.display());
-        eprintln!("pim: `tools/library --unproved` of the repository makes it; PIM_LIB_DIR may name another folder with libpim.a");
+        eprintln!("pim: `tools/library --unproved` of the repository makes it; PIM_LIB_DIR may name another folder");
         exit(1);
     }
 }

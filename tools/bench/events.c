@@ -1,6 +1,7 @@
-/* A router that takes the events of a file, of which some are counted: `events EVENTS INTERFACES`. A line of the file is `up IFACE`,
- * `frame IFACE HEX`, `route PREFIX LENGTH NEXT_HOP IFACE`, which is kept, or `routes`, which takes those that are kept in place of the
- * router's. After a line `counted` each event but `route` goes by the function of that name. The answers to these are printed. */
+/* A router that takes the events of a file, of which some are counted: `events EVENTS INTERFACES`. A line of the file
+ * is `up IFACE`, `frame IFACE HEX`, `route PREFIX LENGTH NEXT_HOP IFACE`, which is kept, or `routes`, which takes those
+ * that are kept in place of the router's. After a line `counted` each event but `route` goes by the function of that
+ * name. The answers to these are printed, each with the nodes of tries that the event visited. */
 #include <stdio.h>
 #include <stdlib.h>
 
@@ -21,12 +22,15 @@ static uint32_t take(char kind, uint32_t iface, size_t length) {
 }
 
 /* What is counted. */
-__attribute__((noinline)) uint32_t counted(char kind, uint32_t iface, size_t length) { return take(kind, iface, length); }
+__attribute__((noinline)) uint32_t counted(char kind, uint32_t iface, size_t length) {
+    return take(kind, iface, length);
+}
 
 static size_t bytes(const char *hex) {
     size_t length = 0;
     unsigned byte;
-    for (; length < sizeof packet && sscanf(hex + 2 * length, "%2x", &byte) == 1; length++) packet[length] = (uint8_t)byte;
+    for (; length < sizeof packet && sscanf(hex + 2 * length, "%2x", &byte) == 1; length++)
+        packet[length] = (uint8_t)byte;
     return length;
 }
 
@@ -53,7 +57,7 @@ static void play(FILE *file) {
             iface = (unsigned)atoi(line + 3);
         uint32_t answer = is_counted ? counted(line[0], iface, length) : take(line[0], iface, length);
         if (line[0] == 'r') route_count = 0;
-        if (is_counted) printf("%u\n", (unsigned)answer);
+        if (is_counted) printf("%u %llu\n", (unsigned)answer, (unsigned long long)pim_probes(&router));
         if (!is_counted && answer != PIM_DONE) exit(1);
     }
 }
@@ -65,7 +69,8 @@ int main(int words, char **word) {
     FILE *file = words == 3 ? fopen(word[1], "r") : NULL;
     size_t count = words == 3 ? (size_t)atoi(word[2]) : 0;
     if (!file || count > MOST_INTERFACES) return 2;
-    for (uint32_t at = 0; at < count; at++) interfaces[at] = (struct pim_interface){0x0a000002 + (at << 8), 24, 1, 500, 2500};
+    for (uint32_t at = 0; at < count; at++)
+        interfaces[at] = (struct pim_interface){0x0a000002 + (at << 8), 24, 1, 500, 2500};
     settings.limit = 1000000;
     if (pim_new(&router, &settings, interfaces, count, routes, 0, ranges, 1) != PIM_DONE) return 1;
     play(file);

@@ -1,4 +1,5 @@
-"""Builds that are kept: each is made by one call at a time, for which others that want the same build wait, and no others."""
+"""Builds that are kept: each is made by one call at a time, for which others that want the same build wait, and no
+others."""
 import contextlib
 import fcntl
 import os
@@ -16,7 +17,8 @@ def say(text):
 
 
 class Progress:
-    """Tells on standard error what is done, and how long that has taken: each second on a terminal, else every five seconds."""
+    """Tells on standard error what is done, and how long that has taken: each second on a terminal, else every five
+    seconds."""
 
     def __init__(self, who):
         self.who, self.what, self.began = who, "", time.monotonic()
@@ -86,8 +88,8 @@ def remove_left(folder):
 
 
 def build_once(path, name, who, build):
-    """Has a build kept at a path. Builds of one name are made by one call at a time, which others wait for, until the build is there.
-    `build` is given an empty folder to work in, and a progress; it keeps what it makes."""
+    """Has a build kept at a path. Builds of one name are made by one call at a time, which others wait for, until the
+    build is there. `build` is given an empty folder to work in, and a progress; it keeps what it makes."""
     if path.exists():
         return os.utime(path)
     path.parent.mkdir(parents=True, exist_ok=True)

@@ -5,19 +5,23 @@ from dataclasses import dataclass, field
 WORD = re.compile(r"[A-Za-z_][\w-]*(?:\.[A-Za-z_][\w-]*)*")
 # A definition's signature, or a record's first line: what it is made of stands in the lines below, indented further or
 # under its name.
+NAME = r"([^\s:(){}]+)"
 HEAD = re.compile(
-    r"^( *)(?:private )?(?:(?:unfoldable |abbrev )?(?:pub )?([A-Za-z_][\w-]*) : |(?:pub )?(?:record|data|class) "
-    r"([A-Za-z_][\w-]*))")
+    rf"^( *)(?:private )?(?:(?:unfoldable |abbrev )?(?:pub )?{NAME} : |(?:pub )?(?:record|data|class) {NAME})")
+# A case of a data type, or a field of a record.
+INNER = re.compile(r"(?m)^ +(?:pub )?([A-Za-z_][\w-]*)(?: \([^)]*\))* : ")
 USE = re.compile(r"(?m)^\s*(pub )?(?:ghost )?use Rattle\.")
 
 
 @dataclass
 class Module:
-    """A file of definitions: their texts by their names, what it imports, and what it passes on."""
+    """A file of definitions: their texts by their names, of which one a case is, what it imports, and what it passes
+    on."""
 
     crate: str
     path: str
     texts: dict = field(default_factory=dict)
+    cases: dict = field(default_factory=dict)
     imports: dict = field(default_factory=dict)
     passes: dict = field(default_factory=dict)
 
@@ -98,6 +102,8 @@ def modules(top):
         text = path.read_text(encoding="utf-8")
         module = Module(folder.parent.name, ".".join(path.relative_to(folder).with_suffix("").parts), blocks(text))
         module.imports, module.passes = imported(text)
+        module.cases = {case: name for name, body in module.texts.items() for case in INNER.findall(body)
+                        if re.match(r" *(?:pub )?data ", body)}
         found[module.crate, module.path] = module
     return found
 
@@ -109,15 +115,25 @@ def place_of(path, known):
     module, name = known.get((path[0], ".".join(path[2:-1]))), path[-1]
     if module is None or name in module.texts:
         return module and (module, name)
+    if name in module.cases:
+        return module, module.cases[name]
     return place_of(module.passes[name], known) if name in module.passes else None
+
+
+def names_in(text, own, imports):
+    """The names in a text. An operator stands there as what its name has between its gaps."""
+    yield from WORD.findall(text)
+    for name in {*imports, *(own.texts if own else ())}:
+        if "◌" in name and all(part in text for part in name.split("◌")):
+            yield name
 
 
 def cited(text, own, imports, known):
     """The definitions that a text names, as pairs of a file and a name."""
-    for word in WORD.findall(text):
+    for word in names_in(text, own, imports):
         name, _, rest = word.partition(".")
-        if own and name in own.texts:
-            yield own, name
+        if own and (name in own.texts or name in own.cases):
+            yield own, name if name in own.texts else own.cases[name]
         elif name in imports:
             path = imports[name]
             # A name of a whole file goes before one of its definitions.

@@ -18,6 +18,8 @@ UNNAMED = "it names no reason in a line `refused: FUNCTION CLAUSE`"
 BY_A_NAME, BY_A_LIMIT = "only because a proof file names", "only by a limit of the prover"
 # What is said where the kit's line ends before the name of the clause: it passes on 160 letters of the prover's line.
 CUT = "a clause whose name the kit's line cuts"
+# What a goal without a clause's name may be about.
+KINDS = {"ensures", "invariant", "requires", "loop", "overflow"}
 # Here the edits are of the network of which the runs are, and a run's premise refuses them.
 OF_NETWORKS = ("pim_served_runs",)
 # Where a goal isn't met: in a proof by hand, whose path ends with the function's name, or in the code.
@@ -60,6 +62,13 @@ def clause_of(goal):
     return "ensures" if goal.startswith("returns") else re.split(r"[-_]", goal)[0]
 
 
+class AnyClause:
+    """The clauses of a trait of another crate, which aren't looked up."""
+
+    def __contains__(self, clause):
+        return True
+
+
 class Crate:
     """A crate's folder, with the functions of its source."""
 
@@ -75,6 +84,13 @@ class Crate:
     def named(self, words):
         """The functions that a name is of."""
         return [one for one in self.all() if one.function.is_named(words)]
+
+    def clauses_of(self, one):
+        """What a refusal by a function can be about: its clauses, or those of its trait, and what no clause names."""
+        trait = one.function.trait
+        above = [it for it in self.all() if trait and it.function.owner == trait
+            and it.function.name == one.function.name]
+        return KINDS.union(clauses(one), *map(clauses, above)) if above or not trait else AnyClause()
 
     def proved_in(self, path):
         """The functions whose proof stands in a folder below proofs/: its modules, its type with its trait, its
@@ -125,6 +141,8 @@ class Edit:
                 return f"`refused: {' '.join(words)}` names no function of {self.crate.name} and a clause"
             if len(found) > 1:
                 return f"`{words[0]}` may be {' or '.join(str(one.function) for one in found)}"
+            if words[1] not in self.crate.clauses_of(found[0]):
+                return f"{found[0].function} has no clause `{words[1]}`"
         return None
 
     def changes_a_contract(self):

@@ -1,4 +1,5 @@
-"""What is built before any proof, and where it is kept: in the user's cache folder, for all clones, by the sum of the sources."""
+"""What is built before any proof, and where it is kept: in the user's cache folder, for all clones, by the sum of the
+sources."""
 import hashlib
 import os
 import sys
@@ -8,14 +9,15 @@ TOP = Path(__file__).resolve().parent.parent.parent
 HERE = Path(__file__).resolve().parent
 # A module of the program's that names the library's calls, and what makes code of the kit's modules.
 CALLS, MADE_BY = HERE / "library.rt.in", [HERE / "modules.py", HERE / "unproved.py"]
-# As the kit compiles what it has proved, but for the level.
+# As the kit compiles what it has proved, but for the level, and so that a shared library can have it.
 FLAGS = [
-    "--target=x86_64-unknown-linux-gnu", "-march=x86-64", "--no-default-config", "-no-canonical-prefixes", "-Wno-override-module",
-    "-ffunction-sections", "-fdata-sections", "-fno-vectorize", "-fno-slp-vectorize", "-O2",
+    "--target=x86_64-unknown-linux-gnu", "-march=x86-64", "--no-default-config", "-no-canonical-prefixes",
+    "-Wno-override-module", "-ffunction-sections", "-fdata-sections", "-fno-vectorize", "-fno-slp-vectorize", "-fPIC",
+    "-O2",
 ]
 LLVM_FLAGS = [
-    "-no-trap-after-noreturn", "-trap-unreachable", "-no-x86-call-frame-opt", "-disable-machine-licm", "-disable-postra-machine-licm",
-    "-sink-common-insts=false",
+    "-no-trap-after-noreturn", "-trap-unreachable", "-no-x86-call-frame-opt", "-disable-machine-licm",
+    "-disable-postra-machine-licm", "-sink-common-insts=false",
 ]
 
 
@@ -36,7 +38,7 @@ def crates_of(name):
 
 
 def sum_of_sources(name, *others):
-    """A sum of what an unproved build of a crate reads: the sources, without their proofs, and how they are compiled."""
+    """A sum of what an unproved build of a crate reads: the sources, without their proofs, and how they become code."""
     total = hashlib.sha256(repr((FLAGS, LLVM_FLAGS)).encode())
     for each, below in crates_of(name).items():
         total.update(f"{each}: {' '.join(below)}\n".encode())
@@ -73,13 +75,13 @@ BROUGHT = "VIQESHOR_BUILDS"
 
 
 def brought(path, who, folder=None):
-    """A build of the same sources that was made elsewhere, in the folder that is given or that the environment names; None where there is
-    none."""
+    """A build of the same sources that was made elsewhere, in the folder that is given or that the environment names;
+    None where there is none."""
     folder = folder or os.environ.get(BROUGHT)
     if not folder:
         return None
     found = Path(folder) / path.name
     if found.is_file():
         return found
-    print(f"{who}: {folder} has no build of these sources, which would be called {path.name}", file=sys.stderr, flush=True)
+    print(f"{who}: {folder} has no build of these sources, which would be called {path.name}", file=sys.stderr)
     return None

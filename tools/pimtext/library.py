@@ -84,9 +84,11 @@ def unproved_router(folder):
     path = kept_library()
     if found := brought(path, "library", folder):
         return found
+    if not path.exists():
+        if shutil.which("rt") is None:
+            sys.exit("library: it isn't built, and there is no command `rt`, the Rattle kit's, that could build it")
+        print("library: building once, about a minute; the build isn't proved", file=sys.stderr, flush=True)
     try:
-        if not path.exists():
-            print("library: building once, about a minute; the build isn't proved", file=sys.stderr, flush=True)
         unproved.have_kept(path, "library")
     except kit.Failed as failed:
         sys.exit(f"{failed}\nlibrary: it couldn't be built")
@@ -110,7 +112,8 @@ def archiver():
 
 
 def archive(router, how):
-    """The archive, of a router's, that says how it was built. The kit's few lines of C around malloc are in it, or are put there."""
+    """The archive, of a router's, that says how it was built. The kit's few lines of C around malloc are in it, or are put
+    there."""
     made, tool = ROOM / "libpim.a", archiver()
     made.unlink(missing_ok=True)
     shutil.copyfile(router, made)
@@ -123,8 +126,8 @@ def archive(router, how):
 
 
 class Library:
-    """The library in out/library, proved unless another archive of the router is given, or the unproved one is asked for, which is taken
-    from a folder that is named if it is there."""
+    """The library in out/library, proved unless another archive of the router is given, or the unproved one is asked for,
+    which is taken from a folder that is named if it is there."""
 
     def __init__(self, given=None, is_proved=True, folder=None):
         ROOM.mkdir(parents=True, exist_ok=True)

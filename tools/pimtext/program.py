@@ -1,4 +1,5 @@
-"""Which build of the program is run: the proved binary where it is newer than its sources, else an unproved one, brought along or kept."""
+"""Which build of the program is run: the proved binary where it is newer than its sources, else an unproved one that
+was brought along or is kept."""
 import os
 import sys
 
@@ -28,7 +29,9 @@ def have_kept(path, is_sanitized):
     from pimtext import builds, kit, unproved
     try:
         if is_sanitized:
-            builds.build_once(path, path.name, "pimlab", lambda room, progress: unproved.build_sanitized(room, progress, path))
+            def build(room, progress):
+                unproved.build_sanitized(room, progress, path)
+            builds.build_once(path, path.name, "pimlab", build)
         else:
             unproved.have_kept(path, "pimlab")
     except kit.Failed as failed:
@@ -49,7 +52,9 @@ def unproved_program(is_sanitized):
     if shutil.which("rt") is None:
         sys.exit("pimlab: it isn't built, and there is no command `rt`, the Rattle kit's, that could build it")
     try:
-        print("pimlab: building once, about a minute; the build isn't proved (./test builds and proves)", file=sys.stderr, flush=True)
+        how_long = "one to two minutes" if is_sanitized else "about a minute"
+        text = f"pimlab: building once, {how_long}; the build isn't proved (./test builds and proves)"
+        print(text, file=sys.stderr, flush=True)
         have_kept(path, is_sanitized)
     except OSError as error:
         print(f"pimlab: a build can't be kept: {error}", file=sys.stderr, flush=True)

@@ -1,5 +1,6 @@
-"""What is told of a run of the kit's gate: a line for each crate that is done, with how many there are, how long it has taken, and what
-is left. All that the kit prints goes to a file; of a crate that isn't proved it is passed on too, and so is what is said of no crate."""
+"""What is told of a run of the kit's gate: a line for each crate that is done, with how many there are, how long it has
+taken, and what is left. All that the kit prints goes to a file; of a crate that isn't proved it is passed on too, and
+so is what is said of no crate."""
 import re
 import time
 
@@ -58,7 +59,8 @@ class Told:
         """A crate's line."""
         if name in self.left:
             self.left.remove(name)
-        return f"{self.count - len(self.left)} of {self.count} crates: {name} {how}; {self.so_far()}; left: {self.names_left()}"
+        place = f"{self.count - len(self.left)} of {self.count} crates"
+        return f"{place}: {name} {how}; {self.so_far()}; left: {self.names_left()}"
 
     def so_far(self):
         return f"{minutes(self.clock() - self.began)} so far"

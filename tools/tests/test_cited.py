@@ -130,6 +130,15 @@ class Walk(unittest.TestCase):
             self.assertLessEqual({("low/specs/Sums", "sum"), ("low/specs/Views", "size"), ("low/specs/Other", "unit")},
                 cited.trusted(room))
 
+    def test_operators_and_the_cases_of_a_type(self):
+        ways = ("\npub data Way : Type 0 where\n  Up : ℕ → Way\n  Down : Way\n\nabbrev pub ◌∪◌ : ℕ → ℕ → ℕ\n◌∪◌ a b = "
+                "a\n")
+        deep = FILES["crates/low/specs/Deep.antt"].replace("passed n", "Up (n ∪ n)").replace("{passed}", "{Up, ◌∪◌}")
+        deep = deep.replace("specs.Views", "specs.Other")
+        other = FILES["crates/low/specs/Other.antt"] + ways
+        with repository({**FILES, "crates/low/specs/Deep.antt": deep, "crates/low/specs/Other.antt": other}) as room:
+            self.assertLessEqual({("low/specs/Other", "Way"), ("low/specs/Other", "◌∪◌")}, cited.trusted(room))
+
     def test_what_calls_ask(self):
         with repository(FILES) as room:
             self.assertEqual(["1 public calls below the router have a `requires` (`tools/cited --requires`)",

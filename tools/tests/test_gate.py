@@ -131,7 +131,8 @@ class Gate(unittest.TestCase):
         self.assertEqual((0, ["4 passed, 0 failed"]), ended(GOOD, lines(GOOD, 4, 0)))
 
     def test_what_the_kit_prints_goes_to_a_file(self):
-        with repository({"crates.txt": "low:\n", "tools/wrong_bodies.txt": "", "crates/low/src/lib.rt": SOURCE}) as room:
+        with repository(
+            {"crates.txt": "low:\n", "tools/wrong_bodies.txt": "", "crates/low/src/lib.rt": SOURCE}) as room:
             printed = ["== low", "fn low::lower: proved", "rt: low proved", "rt: ok", "1 passed, 0 failed"]
             script = "; ".join(f"echo '{line}'" for line in printed) + "; echo 'rt: a warning' >&2"
             out = io.StringIO()
@@ -141,7 +142,8 @@ class Gate(unittest.TestCase):
             self.assertEqual([*printed, "rt: a warning"], (room / "out" / "gate.log").read_text().splitlines())
         told = out.getvalue().splitlines()
         self.assertEqual("1 crates; what the kit prints goes to out/gate.log", told[0])
-        self.assertRegex(told[1], r"1 of 1 crates: low proved, 0 functions; 0 min 0\d s so far; left: edits and programs")
+        self.assertRegex(told[1],
+            r"1 of 1 crates: low proved, 0 functions; 0 min 0\d s so far; left: edits and programs")
         self.assertEqual(["rt: ok", "rt: a warning", "1 passed, 0 failed"], told[2:])
 
     def test_three_bad_edits_of_which_the_kit_counts_none(self):
@@ -256,6 +258,19 @@ class Judged(unittest.TestCase):
     def test_a_name_that_no_function_has(self):
         self.assertIn("names no function of low",
             self.wrong(TOLD["goes_too_far"], f"refused: lowered ensures\n{TOO_FAR}"))
+
+    def test_a_clause_that_the_function_does_not_have(self):
+        self.assertIn("lib::Half::of has no clause `there`",
+            self.wrong(TOLD["keeps_the_whole"], KEEPS.replace("here", "there")))
+
+    def test_a_clause_of_a_trait(self):
+        source = SOURCE.replace("impl Half {",
+            "pub trait Halved {\n    fn of(value: u32) -> Half\n        ensures here { 0 ≤ value };\n}\n\n"
+                                "impl Halved for Half {", 1)
+        self.assertIn("may be lib::Halved::of or lib::Half::of",
+            self.wrong(TOLD["keeps_the_whole"], KEEPS.replace("Half::", ""), source))
+        other = source.replace("        ensures here { result.value + result.value ≤ value }\n", "")
+        self.assertIsNone(self.wrong(ENSURES.format("18:5", "returns-clause-here"), KEEPS, other))
 
     def test_the_requires_of_a_call(self):
         edit = f"refused: lower requires\n{TOO_FAR}"

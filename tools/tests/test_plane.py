@@ -7,6 +7,8 @@ from importlib.machinery import SourceFileLoader
 from importlib.util import module_from_spec, spec_from_loader
 from pathlib import Path
 
+from pimtext.library import Library
+
 TOOLS = Path(__file__).resolve().parent.parent
 CC = os.environ.get("CC", "cc")
 
@@ -26,7 +28,7 @@ class Planes(unittest.TestCase):
     @classmethod
     def setUpClass(cls):
         cls.tool = tool()
-        cls.library = cls.tool.refusing(cls.tool.Library(is_proved=False))
+        cls.library = cls.tool.refusing(Library(is_proved=False))
 
     def diverging(self, *forgets):
         """The first run of a plane that forgets these duties in which something differs."""

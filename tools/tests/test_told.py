@@ -35,32 +35,38 @@ class Lines(unittest.TestCase):
         return [told for line in text.splitlines() for told in self.told.of(line)]
 
     def test_a_line_a_crate(self):
-        self.assertEqual(["1 of 5 crates: pim_ip proved, 53 functions; 1 min 21 s so far; left: 4 crates"], self.of(PROVED, 81))
-        self.assertEqual(["2 of 5 crates: pim_types kept from an earlier run; 62 min 05 s so far; left: pim_known pim_wire pim_world"],
-                         self.of(KEPT, 3725))
+        first = "1 of 5 crates: pim_ip proved, 53 functions; 1 min 21 s so far; left: 4 crates"
+        self.assertEqual([first], self.of(PROVED, 81))
+        second = "2 of 5 crates: pim_types kept from an earlier run; 62 min 05 s so far; left: "
+        self.assertEqual([second + "pim_known pim_wire pim_world"], self.of(KEPT, 3725))
 
     def test_of_a_crate_that_is_not_proved_all_but_what_is_proved(self):
         _, block, note, end, *more = self.of(f"{PROVED}\n{NOT_PROVED}", 5)
         self.assertEqual(["== pim_wire", "rt: pim_wire NOT PROVED"], [block, end])
         self.assertIn("src/read.rt:13:5", note)
-        self.assertEqual(["2 of 5 crates: pim_wire NOT PROVED; 0 min 05 s so far; left: pim_known pim_types pim_world"], more)
+        last = "2 of 5 crates: pim_wire NOT PROVED; 0 min 05 s so far; left: pim_known pim_types pim_world"
+        self.assertEqual([last], more)
 
     def test_a_crate_whose_library_failed(self):
-        self.assertEqual([LIBRARY_FAILED, "1 of 5 crates: pim_world NOT PROVED; 0 min 07 s so far; left: 4 crates"], self.of(LIBRARY_FAILED, 7))
+        last = "1 of 5 crates: pim_world NOT PROVED; 0 min 07 s so far; left: 4 crates"
+        self.assertEqual([LIBRARY_FAILED, last], self.of(LIBRARY_FAILED, 7))
 
     def test_tests_and_edits(self):
         self.assertEqual(["pim_known: its tests are proved; 0 min 09 s so far"], self.of(TESTS, 9))
-        self.assertEqual(["pim_ip: 3 edits are tried; 0 min 10 s so far"], self.of("rt: pim_ip: trying its must-fail edits (3)", 10))
+        trying = self.of("rt: pim_ip: trying its must-fail edits (3)", 10)
+        self.assertEqual(["pim_ip: 3 edits are tried; 0 min 10 s so far"], trying)
         self.assertEqual([], self.of(EDITS, 11))
         self.assertEqual(["== pim_known: its tests", "rt: pim_known: its tests are NOT PROVED"],
                          self.of("== pim_known: its tests\nrt: pim_known: its tests are NOT PROVED", 12))
 
     def test_at_last_nothing_is_left_but_edits(self):
         told = [line for name in NAMES for line in self.of(f"== {name}\nrt: {name} proved", 60)]
-        self.assertEqual("5 of 5 crates: pim_world proved, 0 functions; 1 min 00 s so far; left: edits and programs", told[-1])
+        last = "5 of 5 crates: pim_world proved, 0 functions; 1 min 00 s so far; left: edits and programs"
+        self.assertEqual(last, told[-1])
 
     def test_what_is_of_no_crate_is_passed_on(self):
-        for line in ("rt: FAILED: pim_wire", "rt: waiting for another rt ci in this copy of the repository to end", "a program printed this"):
+        waits = "rt: waiting for another rt ci in this copy of the repository to end"
+        for line in ("rt: FAILED: pim_wire", waits, "a program printed this"):
             self.assertEqual([line], self.told.of(line))
 
 

@@ -133,6 +133,8 @@ class Tried(unittest.TestCase):
         status, lines, asked, _ = tried(judge + check.format(GOAL), "low")
         self.assertEqual((0, f"low/weak: refused: {GOAL}; `search` gave up"), (status, lines[0]), lines)
         self.assertIn("check --jobs 1 --only number in low", asked)
+        other = REFUSES.replace("-same", "-other").replace("for edit", '[ "$1" = must-fail ] && for edit')
+        self.assertEqual(0, tried(other + check.format(GOAL), "low")[0])
         status, lines, _, _ = tried(judge + check.format(GOAL.replace("-same", "-other")), "--whole", "low/weak")
         self.assertEqual((1, COUNTS.format(0, 0, 1, 0, 0)), (status, lines[-1]))
 
