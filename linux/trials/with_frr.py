@@ -340,7 +340,7 @@ def reroute(net):
 
 
 def limit(net):
-    """at its limit the router refreshes what it knows, where a report also names what is new"""
+    """at its limit the router refreshes what it knows, where a report also names what is new, and refuses that alone"""
     known, new = "239.2.8.1", "239.2.8.2"
     net.stop_router()
     # Three neighbours, and a group; no quota is to be met before the limit.
@@ -351,19 +351,21 @@ def limit(net):
         for group in (known, new):
             receivers.append(net.receive("hosts", group, HOST, 1, 120))
             time.sleep(1)
-        groups = lambda: {row["group"] for row in net.show("igmp")}
-        if groups() != {known}:
-            raise Failed(f"it has {groups()}")
-        until("a report was offered in parts", 60, lambda: net.counter("parts taken") > 0)
-        if groups() != {known}:
-            raise Failed(f"then it has {groups()}")
-        said = f"{net.counter('parts offered')} parts offered, {net.counter('parts taken')} taken"
+        # Longer than a group stays of which no report comes: 2 x 20 s + 2 s.
+        for _ in range(12):
+            groups = {row["group"] for row in net.show("igmp")}
+            if groups != {known}:
+                raise Failed(f"it has {groups}")
+            time.sleep(4)
+        refused = net.refused("the rest of `limit`")
+        if refused < 3:
+            raise Failed(f"{refused} were refused")
     finally:
         for receiver in receivers:
             ended(receiver)
         net.stop_router()
         net.start_router()
-    return said
+    return f"the new one was refused {refused} times"
 
 
 TRIALS = [neighbours, joins_to_frr, joins_from_frr, register_to_frr, checksum, register_from_frr, change_to_source_tree,
