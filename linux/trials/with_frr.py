@@ -190,7 +190,7 @@ def prunes(net):
 def checksum(net):
     """a sender that leaves its checksum to the card: what the router handles itself arrives with one"""
     group = "239.1.3.3"
-    receiver = net.receive("viewer", group, "10.6.0.77", 5, 15)
+    receiver = net.receive("viewer", group, "10.6.0.77", 5, 40)
     until("second is asked", 15, lambda: group in net.frr("second", "show ip igmp groups"))
     filled = net.counter("checksums filled in")
     # The first packets go in Registers, by the router.
