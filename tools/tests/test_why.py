@@ -382,7 +382,8 @@ class Odd(unittest.TestCase):
     def noted(self, text):
         judge, number = faults_of(text)
         self.assertEqual(number, 0)
-        return Diagnosis(judge, scenario.scenario_of(toml_lines.plain(toml_lines.read(text))), scenario.run_text(text)).lines()
+        played = scenario.scenario_of(toml_lines.plain(toml_lines.read(text)))
+        return Diagnosis(judge, played, scenario.run_text(text)).lines()
 
     def test_nothing_is_odd_in_a_good_run(self):
         self.assertEqual(self.noted(RUN), [])
