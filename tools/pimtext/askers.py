@@ -141,7 +141,7 @@ class Askers:
         if asked and all(each.at <= asked[0] for each in answers):
             told = f"{host} asked for {group} at {words.seconds(report.step.moment)} for the last time, and answered no"
             told = f"{told} query since, though {dr} sent {len(asked)} on {link}: {dr} has forgotten its wish"
-            yield Cause(*self.run.at_move(report.step, told), self.of_host(host, {group}))
+            yield Cause(*self.run.at_move(report.step, told), self.of_host(host, {group}), is_hint=True)
 
     # ---- what sources send
 

@@ -144,15 +144,17 @@ class Outages:
         most = self.known[name].router.table.get("limit", 65536)
         held = self.run.held(found[0][0], name)
         what = ", ".join(times(count, COUNTED[table]) for table, count in held.items()) or "none"
-        first = f"when it first refused a message, in move {found[0][1].move}"
+        first = f"when it first refused a message that needs more than there is room for, in move {found[0][1].move}"
         count = f"{times(len(found), 'message')} {'was' if len(found) == 1 else 'were'} refused 24 (Full)"
         told = f": its limit is {most}, and it held {sum(held.values())} facts ({what}) {first}; {count}"
         groups = {group for _, step in found for group in groups_of(step)}
+        greeted = {packets.dotted(step.taken()[12:16]) for _, step in found if packets.is_pim(step.taken(), packets.HELLO)}
 
         def covers(each):
             is_refused = each.kind in ("odd", "refused") and each.cause == "24"
             is_unknown = each.kind in ("unwanted", "no join") and each.group in groups
-            return each.router == name and (is_refused or is_unknown)
+            is_stranger = each.kind == "no neighbour" and each.address in greeted
+            return each.router == name and (is_refused or is_unknown or is_stranger)
 
         return Cause(*self.run.at_router(name, told + self.taken_along(found)), covers)
 

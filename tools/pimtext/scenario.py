@@ -138,12 +138,17 @@ def playing():
     return program.chosen() or PIMLAB
 
 
-def run_text(text):
+def run_text(text, words=("--tables",)):
     """The lines that the program prints of a scenario's text, with tables."""
-    ran = subprocess.run([playing(), "run", "-", "--tables"], input=text, capture_output=True, text=True)
+    ran = subprocess.run([playing(), "run", "-", *words], input=text, capture_output=True, text=True)
     if ran.returncode:
         raise Refused(ran.stderr.strip())
     return ran.stdout.splitlines()
+
+
+def run_each(text):
+    """The same, with the tables of its router after each answer, and those of all at the end."""
+    return run_text(text, ("--tables", "--tables-each"))
 
 
 def run_file(path):

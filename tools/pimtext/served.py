@@ -67,6 +67,16 @@ class World:
         names = [state.router.name for state in self.known.values() if state.router.has(address)]
         return f"{' and '.join(names)} ({address})" if names else address
 
+    def reaches(self, state, address):
+        """Whether links lead from a router to the one that has an address, over interfaces that are up."""
+        found, waiting = {}, [state]
+        while waiting:
+            here = waiting.pop()
+            if here.router.name not in found:
+                found[here.router.name] = here
+                waiting += [other for interface in here.interfaces_up() for other, _ in self.ports[interface.link]]
+        return any(here.router.has(address) for here in found.values())
+
     def link_of(self, address):
         """The link whose subnet has an address, None where none has."""
         for state in self.known.values():
@@ -161,7 +171,8 @@ def onward(world, hop, by_link):
         by_link.setdefault(link, hop)
         found += [(other, port, hop) for other, port in world.ports[link] if other is not hop.state]
     rp = None if hop.taken.rp is None else world.owner(hop.taken.rp)
-    return found if rp is None else [*found, (rp, None, hop)]
+    is_there = rp is not None and world.reaches(hop.state, hop.taken.rp)
+    return [*found, (rp, None, hop)] if is_there else found
 
 
 # ---- from the host up
@@ -328,6 +339,9 @@ def registers_end(world, dr, group, source, rp):
         return End("registers stopped", f"{told}, and no Join for it came to {name}", name, None, rp)
     if owner is None:
         return End("no owner", f"{name} registers with {rp}, which no router here has", name, None, rp)
+    if not world.reaches(dr, rp):
+        told = f"no links that are up lead from {name} to {world.named(rp)}, the RP, so its Registers are lost"
+        return End("lost", told, name, None, rp)
     if not is_rp(owner, group):
         own = trees.rp_of(owner, group)
         told = f"has {own} as its RP" if own else "has no RP for it"
