@@ -1,4 +1,4 @@
-/* A data plane: a kernel or a chip that forwards by rows that the router tells.
+/* A data plane: a kernel or a chip that forwards by rows that the router tells. DATAPLANE.md has more of it.
  *
  * A packet that a row decides is forwarded or dropped by the plane, and the router hears of it later. What no row
  * decides is the router's: it comes whole by viq_frame. What plane and router send together is then what the router

@@ -22,7 +22,7 @@
  * interface  a number, from 0, as the interfaces were given to viq_new.
  *
  * Numbers are in the machine's order, an address too: 10.0.0.1 is 0x0a000001. Packets are whole IPv4 packets, as on the
- * wire. examples/library of the repository has whole programs, USING.md says what the router expects of who feeds it,
+ * wire. examples/library of the repository has whole programs, LIBRARY.md says what the program has to do,
  * and viqeshor/plane.h describes a kernel or a chip that forwards by itself.
  *
  * Pointers: each is aligned to its type, points to as many values as the parameter after it counts, and overlaps no
@@ -84,7 +84,7 @@ static inline struct viq_draw viq_draw(uint32_t bits) {
 }
 
 /* Answers. Refusals are 1 to 39 and change nothing; reasons to ignore an event are above VIQ_IGNORED and change nothing
- * either. USING.md has each ("Refusals", "Reasons to ignore"). */
+ * either. SCENARIOS.md has each ("Refusals", "Reasons to ignore"). */
 enum {
     VIQ_DONE = 0,
 
@@ -282,7 +282,7 @@ uint64_t viq_next_moment(const struct viq_router *router);
 enum { VIQ_JOINED = 1, VIQ_PRUNE_PENDING = 2, VIQ_PRUNED = 3 };
 enum { VIQ_REGISTER_NONE = 0, VIQ_REGISTER_JOINED = 1, VIQ_REGISTER_JOIN_PENDING = 2, VIQ_REGISTER_PRUNED = 3 };
 
-/* A row of a table; USING.md describes the tables. What its kind of row doesn't have is 0, or VIQ_NEVER for a time. */
+/* A row of a table; SCENARIOS.md describes the tables. What its kind of row doesn't have is 0, or VIQ_NEVER for a time. */
 struct viq_row {
     uint32_t table; /* its letter */
     uint32_t iface;

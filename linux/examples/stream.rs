@@ -1,7 +1,10 @@
 //! Sends numbered packets to a group at a rate, or counts those that arrive.
 //!
-//!     stream send GROUP ADDRESS COUNT RATE          from the interface that has the address
-//!     stream receive GROUP ADDRESS COUNT SECONDS    until all have come, or for so long
+//!     stream send GROUP ADDRESS COUNT RATE [BYTES]          from the interface that has the address
+//!     stream receive GROUP ADDRESS COUNT SECONDS [BYTES]    until all have come, or for so long
+//!
+//! The receiver prints `joined` once it has, and at the end how many came, how many of these twice, how many ms after
+//! it had joined the first one came, and the longest time between two of them.
 use socket2::{Domain, SockAddr, Socket, Type};
 use std::io;
 use std::net::{Ipv4Addr, SocketAddrV4, UdpSocket};
@@ -9,20 +12,27 @@ use std::os::unix::io::AsRawFd;
 use std::time::{Duration, Instant};
 
 const PORT: u16 = 5004;
-const BYTES: usize = 100;
+const USUAL_BYTES: usize = 100;
+const MOST_BYTES: usize = 65_507;
 /// So many threads send, since the kernel carries a packet through all namespaces before a call returns.
 const SENDERS: usize = 8;
 const ROOM: i32 = 64 << 20;
 
 /// Sends the packets of some numbers, each when it is due at the rate of all.
-fn send_some(group: Ipv4Addr, from: Ipv4Addr, numbers: impl Iterator<Item = u64>, rate: u64) -> io::Result<()> {
+fn send_some(
+    group: Ipv4Addr,
+    from: Ipv4Addr,
+    numbers: impl Iterator<Item = u64>,
+    rate: u64,
+    bytes: usize,
+) -> io::Result<()> {
     let socket = Socket::new(Domain::IPV4, Type::DGRAM, None)?;
     socket.set_multicast_if_v4(&from)?;
     socket.set_multicast_ttl_v4(16)?;
     let socket = UdpSocket::from(socket);
     let to = SocketAddrV4::new(group, PORT);
     let began = Instant::now();
-    let mut packet = [b'.'; BYTES];
+    let mut packet = vec![b'.'; bytes];
     for number in numbers {
         let due = Duration::from_nanos(number * 1_000_000_000 / rate);
         let early = due.saturating_sub(began.elapsed());
@@ -35,10 +45,10 @@ fn send_some(group: Ipv4Addr, from: Ipv4Addr, numbers: impl Iterator<Item = u64>
     Ok(())
 }
 
-fn send(group: Ipv4Addr, from: Ipv4Addr, count: u64, rate: u64) -> io::Result<()> {
+fn send(group: Ipv4Addr, from: Ipv4Addr, count: u64, rate: u64, bytes: usize) -> io::Result<()> {
     let began = Instant::now();
     std::thread::scope(|scope| {
-        let some = |first| scope.spawn(move || send_some(group, from, (first..count).step_by(SENDERS), rate));
+        let some = |first| scope.spawn(move || send_some(group, from, (first..count).step_by(SENDERS), rate, bytes));
         let senders: Vec<_> = (0..SENDERS as u64).map(some).collect();
         senders.into_iter().try_for_each(|sender| sender.join().unwrap_or_else(|_| Err(io::ErrorKind::Other.into())))
     })?;
@@ -47,7 +57,7 @@ fn send(group: Ipv4Addr, from: Ipv4Addr, count: u64, rate: u64) -> io::Result<()
     Ok(())
 }
 
-fn receive(group: Ipv4Addr, at: Ipv4Addr, count: u64, seconds: u64) -> io::Result<()> {
+fn receive(group: Ipv4Addr, at: Ipv4Addr, count: u64, seconds: u64, bytes: usize) -> io::Result<()> {
     let socket = Socket::new(Domain::IPV4, Type::DGRAM, None)?;
     let room: *const i32 = &ROOM;
     // SAFETY: the place has the four bytes that are said. Where the right is missing the usual room has to do.
@@ -58,14 +68,20 @@ fn receive(group: Ipv4Addr, at: Ipv4Addr, count: u64, seconds: u64) -> io::Resul
     let socket = UdpSocket::from(socket);
     socket.set_read_timeout(Some(Duration::from_millis(200)))?;
     println!("joined");
-    let end = Instant::now() + Duration::from_secs(seconds);
-    let (mut seen, mut all, mut packet) = (vec![false; count as usize], 0u64, [0u8; BYTES]);
+    let joined = Instant::now();
+    let end = joined + Duration::from_secs(seconds);
+    let (mut seen, mut all, mut packet) = (vec![false; count as usize], 0u64, vec![0u8; MOST_BYTES]);
+    let (mut first, mut last, mut gap) = (None, joined, Duration::ZERO);
     let mut left = count;
     while left > 0 && Instant::now() < end {
         match socket.recv(&mut packet) {
-            Ok(BYTES) => {}
+            Ok(length) if length == bytes => {}
             _ => continue,
         }
+        let now = Instant::now();
+        gap = if first.is_some() { gap.max(now - last) } else { gap };
+        first = first.or(Some(now - joined));
+        last = now;
         let mut number = [0; 8];
         number.copy_from_slice(&packet[..8]);
         all += 1;
@@ -74,7 +90,11 @@ fn receive(group: Ipv4Addr, at: Ipv4Addr, count: u64, seconds: u64) -> io::Resul
             left -= 1;
         }
     }
-    println!("received {} of {count}, and {} twice", count - left, all - (count - left));
+    // Where the stream ended, until now.
+    gap = if left > 0 && first.is_some() { gap.max(last.elapsed()) } else { gap };
+    let first = first.map_or_else(|| "never".to_string(), |first| format!("after {} ms", first.as_millis()));
+    let (came, gap) = (count - left, gap.as_millis());
+    println!("received {came} of {count}, and {} twice, the first {first}, the longest gap {gap} ms", all - came);
     Ok(())
 }
 
@@ -82,9 +102,13 @@ fn main() -> io::Result<()> {
     let words: Vec<_> = std::env::args().skip(1).collect();
     let number = |at: usize| words.get(at).and_then(|word| word.parse().ok()).ok_or(io::ErrorKind::InvalidInput);
     let address = |at: usize| words.get(at).and_then(|word| word.parse().ok()).ok_or(io::ErrorKind::InvalidInput);
+    let bytes = number(5).map_or(USUAL_BYTES, |bytes| bytes as usize);
     match words.first().map(String::as_str) {
-        Some("send") => send(address(1)?, address(2)?, number(3)?, number(4)?),
-        Some("receive") => receive(address(1)?, address(2)?, number(3)?, number(4)?),
-        _ => Err(io::Error::new(io::ErrorKind::InvalidInput, "stream send|receive GROUP ADDRESS COUNT RATE|SECONDS")),
+        Some("send") => send(address(1)?, address(2)?, number(3)?, number(4)?, bytes),
+        Some("receive") => receive(address(1)?, address(2)?, number(3)?, number(4)?, bytes),
+        _ => Err(io::Error::new(
+            io::ErrorKind::InvalidInput,
+            "stream send|receive GROUP ADDRESS COUNT RATE|SECONDS [BYTES]",
+        )),
     }
 }

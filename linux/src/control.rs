@@ -1,18 +1,28 @@
 //! The control socket: a client writes a line, `show WHAT` or `show WHAT json`, and reads the answer to its end.
+//!
+//! An answer is worked out and written by a process of its own, which has the router's memory as it was when it was
+//! asked: the router goes on meanwhile, however long the answer is, and however slowly it is read.
+use log::debug;
 use std::io::{self, Read, Write};
 use std::os::unix::io::{AsRawFd, RawFd};
 use std::os::unix::net::{UnixListener, UnixStream};
 use std::path::{Path, PathBuf};
+use std::time::{Duration, Instant};
 
 const LONGEST_LINE: usize = 256;
+/// So many clients may be about to ask; for another one the one goes that has said nothing for the longest time.
 const MOST_CLIENTS: usize = 32;
+/// So many answers are written at a time.
+const MOST_ANSWERS: usize = 4;
+/// A client that hasn't asked after so long is let go.
+const PATIENCE: Duration = Duration::from_secs(5);
+/// An answer that isn't read to its end after so long is let go, in seconds.
+const LONGEST_ANSWER: u32 = 30;
 
 struct Client {
     stream: UnixStream,
     asked: Vec<u8>,
-    answer: Vec<u8>,
-    /// How much of the answer is written.
-    written: usize,
+    came: Instant,
 }
 
 /// What a client's turn came to.
@@ -29,33 +39,46 @@ impl Client {
             Ok(0) => Turn::Over,
             Ok(length) => {
                 self.asked.extend(&room[..length]);
-                match self.asked.iter().position(|byte| *byte == b'\n') {
-                    Some(end) => Turn::Asked(String::from_utf8_lossy(&self.asked[..end]).trim().to_string()),
-                    None if self.asked.len() > LONGEST_LINE => Turn::Over,
-                    None => Turn::Waits,
-                }
+                self.line()
             }
-            Err(error) if error.kind() == io::ErrorKind::WouldBlock => Turn::Waits,
+            Err(error) if error.kind() == io::ErrorKind::WouldBlock => self.line(),
             Err(_) => Turn::Over,
         }
     }
 
-    /// Whether all is written, or nobody reads.
-    fn is_over_after_writing(&mut self) -> bool {
-        while self.written < self.answer.len() {
-            match self.stream.write(&self.answer[self.written..]) {
-                Ok(length) if length > 0 => self.written += length,
-                Err(error) if error.kind() == io::ErrorKind::WouldBlock => return false,
-                _ => return true,
-            }
+    fn line(&self) -> Turn {
+        match self.asked.iter().position(|byte| *byte == b'\n') {
+            Some(end) => Turn::Asked(String::from_utf8_lossy(&self.asked[..end]).trim().to_string()),
+            None if self.asked.len() > LONGEST_LINE || self.came.elapsed() > PATIENCE => Turn::Over,
+            None => Turn::Waits,
         }
-        true
+    }
+}
+
+/// Writes an answer in a process of its own, which answers its number.
+fn answer_elsewhere(mut stream: UnixStream, answer: impl FnOnce() -> String) -> io::Result<libc::pid_t> {
+    // SAFETY: the router has one thread, so the child has all of its memory in order. It calls nothing but what works
+    // the answer out and writes it, and ends without running what its parent is to run at its end.
+    match unsafe { libc::fork() } {
+        -1 => Err(io::Error::last_os_error()),
+        0 => {
+            unsafe {
+                libc::signal(libc::SIGTERM, libc::SIG_DFL);
+                libc::signal(libc::SIGALRM, libc::SIG_DFL);
+                libc::alarm(LONGEST_ANSWER);
+            }
+            let written = stream.set_nonblocking(false).and_then(|()| stream.write_all(answer().as_bytes()));
+            unsafe { libc::_exit(i32::from(written.is_err())) }
+        }
+        child => Ok(child),
     }
 }
 
 pub struct Control {
     listener: UnixListener,
     clients: Vec<Client>,
+    /// The processes that write answers.
+    answers: Vec<libc::pid_t>,
     path: PathBuf,
 }
 
@@ -74,37 +97,61 @@ impl Control {
         }
         let listener = UnixListener::bind(path)?;
         listener.set_nonblocking(true)?;
-        Ok(Control { listener, clients: Vec::new(), path: path.to_path_buf() })
+        Ok(Control { listener, clients: Vec::new(), answers: Vec::new(), path: path.to_path_buf() })
     }
 
-    /// What is to be waited for: each with whether it is to be written.
-    pub fn waits(&self) -> Vec<(RawFd, bool)> {
-        let clients = self.clients.iter().map(|client| (client.stream.as_raw_fd(), !client.answer.is_empty()));
-        std::iter::once((self.listener.as_raw_fd(), false)).chain(clients).collect()
+    /// What is to be waited for.
+    pub fn waits(&self) -> Vec<RawFd> {
+        let is_free = self.answers.len() < MOST_ANSWERS;
+        let clients = self.clients.iter().filter(|_| is_free).map(|client| client.stream.as_raw_fd());
+        std::iter::once(self.listener.as_raw_fd()).chain(clients).collect()
     }
 
-    /// Takes clients that came, answers lines, and goes on with answers.
+    /// In how many ms there is something to do at the latest, where a client or an answer is under way.
+    pub fn due(&self) -> Option<u64> {
+        const SOON: u64 = 200;
+        (!self.clients.is_empty() || !self.answers.is_empty()).then_some(SOON)
+    }
+
+    /// Takes clients that came, and has lines answered.
     pub fn serve(&mut self, answer: &mut dyn FnMut(&str) -> String) {
+        self.answers.retain(|child| is_alive(*child));
         while let Ok((stream, _)) = self.listener.accept() {
-            if self.clients.len() < MOST_CLIENTS && stream.set_nonblocking(true).is_ok() {
-                self.clients.push(Client { stream, asked: Vec::new(), answer: Vec::new(), written: 0 });
+            if self.clients.len() >= MOST_CLIENTS {
+                self.clients.remove(0);
+            }
+            if stream.set_nonblocking(true).is_ok() {
+                self.clients.push(Client { stream, asked: Vec::new(), came: Instant::now() });
             }
         }
-        self.clients.retain_mut(|client| {
-            if client.answer.is_empty() {
-                match client.read() {
-                    Turn::Asked(line) => client.answer = answer(&line).into_bytes(),
-                    Turn::Waits => return true,
-                    Turn::Over => return false,
+        for mut client in std::mem::take(&mut self.clients) {
+            match client.read() {
+                Turn::Asked(line) if self.answers.len() < MOST_ANSWERS => {
+                    match answer_elsewhere(client.stream, || answer(&line)) {
+                        Ok(child) => self.answers.push(child),
+                        Err(error) => debug!("\"{line}\" can't be answered: {error}"),
+                    }
                 }
+                Turn::Over => {}
+                Turn::Asked(_) | Turn::Waits => self.clients.push(client),
             }
-            !client.is_over_after_writing()
-        });
+        }
     }
+}
+
+/// Whether a child runs; one that ended is forgotten by the kernel.
+fn is_alive(child: libc::pid_t) -> bool {
+    // SAFETY: no place for the status is passed.
+    unsafe { libc::waitpid(child, std::ptr::null_mut(), libc::WNOHANG) == 0 }
 }
 
 impl Drop for Control {
     fn drop(&mut self) {
+        // They hold the router's sockets too, which the next router wants.
+        for child in &self.answers {
+            // SAFETY: it is a child that was not waited for yet.
+            unsafe { libc::kill(*child, libc::SIGKILL) };
+        }
         let _ = std::fs::remove_file(&self.path);
     }
 }
@@ -122,20 +169,37 @@ pub fn ask(path: &Path, line: &str) -> io::Result<String> {
 mod tests {
     use super::*;
 
+    fn opened(name: &str) -> (Control, PathBuf) {
+        let path = std::env::temp_dir().join(format!("viqeshord-{name}-{}", std::process::id()));
+        (Control::open(&path).unwrap(), path)
+    }
+
+    fn asked(control: &mut Control, path: &Path, answer: &str) -> String {
+        let path = path.to_path_buf();
+        let asker = std::thread::spawn(move || ask(&path, "show rp").unwrap());
+        while !asker.is_finished() {
+            control.serve(&mut |line| format!("{line}: {answer}"));
+            std::thread::sleep(Duration::from_millis(1));
+        }
+        asker.join().unwrap()
+    }
+
     #[test]
     fn a_line_is_answered() {
-        let path = std::env::temp_dir().join(format!("viqeshord-test-{}", std::process::id()));
-        let mut control = Control::open(&path).unwrap();
+        let (mut control, path) = opened("line");
         assert!(Control::open(&path).is_err());
-        let asker = std::thread::spawn({
-            let path = path.clone();
-            move || ask(&path, "show rp").unwrap()
-        });
-        while !asker.is_finished() {
-            control.serve(&mut |line| format!("asked {line}\n").repeat(30_000));
-        }
-        assert_eq!(asker.join().unwrap(), "asked show rp\n".repeat(30_000));
+        let long = "a line of an answer\n".repeat(30_000);
+        assert_eq!(asked(&mut control, &path, &long), format!("show rp: {long}"));
         drop(control);
         assert!(!path.exists());
+    }
+
+    #[test]
+    fn silent_clients_lock_no_one_out() {
+        let (mut control, path) = opened("silent");
+        let silent: Vec<_> = (0..MOST_CLIENTS).map(|_| UnixStream::connect(&path).unwrap()).collect();
+        control.serve(&mut |_| String::new());
+        assert_eq!(control.clients.len(), silent.len());
+        assert_eq!(asked(&mut control, &path, "yes"), "show rp: yes");
     }
 }

@@ -1,56 +1,30 @@
-//! The router on the machine: events of its sockets and clocks go to the library one by one, and what it answers goes out.
+//! The router on the machine: events of its sockets and clocks go to the library one by one, and what it answers goes
+//! out.
+mod anew;
 mod forwarding;
 mod heard;
 mod machine;
 mod turns;
 
-use crate::mroute::{Key, Mroute};
-use crate::netlink::Netlink;
+use crate::core::{Answer, Core, Event};
+use crate::error::Fatal;
+use crate::kernel::Kernel;
+use crate::mroute::Key;
 use crate::packet::{is_pim, Packet};
-use crate::plane::{Plane, Row};
-use crate::ports::{made, Machine, Port};
+use crate::plane::{Placed, Plane, Row, Ways};
+use crate::policy::{Books, Gate, Policy};
+use crate::ports::{self, Machine, Port};
 use crate::routes::Counts;
 use crate::settings::Settings;
-use crate::wire::{Links, Unicasts};
-use crate::{debug, info, warn, words};
-use pim::{Error, Packet as Sent, Range, Refusal, Route, Router, Verdict, MOST_BYTES};
-use std::collections::BTreeMap;
-use std::fmt::Write;
+use crate::{stand_in, words};
+use log::{debug, info, warn};
+use viqeshor::{Route, Table};
+use std::collections::{BTreeMap, BTreeSet};
 use std::net::Ipv4Addr;
 use std::path::{Path, PathBuf};
-use std::time::Instant;
 
-/// Why the router can't go on.
-pub type Fatal = String;
-
-/// What an event came to.
-#[derive(Clone, Copy, Debug, PartialEq, Eq)]
-pub enum Answer {
-    Done,
-    Ignored,
-    Refused(Refusal),
-}
-
-/// Numbers that don't repeat (splitmix64).
-struct Draws {
-    state: u64,
-}
-
-impl Draws {
-    fn new() -> Draws {
-        let mut seed = [0u8; 8];
-        // SAFETY: the place has the eight bytes that are said. Without them the draws begin alike, and still differ.
-        unsafe { libc::getrandom(seed.as_mut_ptr().cast(), seed.len(), 0) };
-        Draws { state: u64::from_ne_bytes(seed) }
-    }
-
-    fn next(&mut self) -> u32 {
-        self.state = self.state.wrapping_add(0x9e37_79b9_7f4a_7c15);
-        let mixed = (self.state ^ (self.state >> 30)).wrapping_mul(0xbf58_476d_1ce4_e5b9);
-        let mixed = (mixed ^ (mixed >> 27)).wrapping_mul(0x94d0_49bb_1331_11eb);
-        (mixed >> 32) as u32
-    }
-}
+/// A line of a kind that may come often, at most so often, in ms.
+const SAY_EVERY: u64 = 10_000;
 
 /// What the router did since it began.
 #[derive(Clone, Debug, Default)]
@@ -62,17 +36,22 @@ pub struct Counters {
     pub split: u64,
     pub parts: u64,
     pub parts_taken: u64,
+    pub own_reports: u64,
     pub unicasts_heard: u64,
     pub unicasts_sent: u64,
     pub unicasts_not_sent: u64,
     pub no_cache: u64,
     pub strays: u64,
     pub whole: u64,
+    /// Fragments, and packets of more than 1,500 bytes.
+    pub stood_in: u64,
     pub checksums_filled: u64,
     pub entries_written: u64,
     pub entries_removed: u64,
+    pub entries_refused: u64,
     pub kept: u64,
     pub seen: u64,
+    pub made_anew: u64,
 }
 
 /// A neighbour as its last Hello has it.
@@ -85,126 +64,191 @@ pub struct Neighbour {
     pub priority: Option<u32>,
 }
 
-pub struct Daemon {
-    pub settings: Settings,
-    file: PathBuf,
-    began: Instant,
-    draws: Draws,
-    pub router: Router,
-    pub ports: Vec<Port>,
-    machine: Machine,
-    mroute: Mroute,
-    links: Links,
-    unicasts: Unicasts,
-    netlink: Netlink,
-    pub plane: Plane,
-    pub routes: Vec<Route>,
-    pub route_counts: Counts,
-    pub counters: Counters,
-    pub neighbours: BTreeMap<(u32, Ipv4Addr), Neighbour>,
+/// An interface and an address on its link.
+type Place = (u32, Ipv4Addr);
+
+/// The neighbours that the router has, for people.
+#[derive(Default)]
+pub struct Neighbours {
+    pub known: BTreeMap<Place, Neighbour>,
     /// The last Hello of each, until the router has it as a neighbour.
-    hellos: BTreeMap<(u32, Ipv4Addr), (String, Option<u32>)>,
-    routes_due: Option<u64>,
-    /// How long after a change routes are read, in ms.
-    routes_settle: u64,
-    look_due: u64,
-    /// Sources without a fact are to be asked for anew.
-    is_unknown_stale: bool,
-    are_neighbours_stale: bool,
+    hellos: BTreeMap<Place, (String, Option<u32>)>,
+    are_stale: bool,
 }
 
-fn ranges_of(settings: &Settings) -> Vec<Range> {
-    settings.rps.iter().map(|rp| Range::new(rp.groups.address, rp.groups.length.into(), rp.address)).collect()
+/// The routes as they were told to the router last.
+pub struct Routing {
+    pub told: Vec<Route>,
+    pub counts: Counts,
+    /// When they are read again, in ms.
+    due: Option<u64>,
+    /// How long after a change they are read, in ms.
+    settle: u64,
 }
 
-fn core_settings(settings: &Settings) -> pim::Settings {
-    pim::Settings {
-        limit: settings.limit,
-        robustness: settings.robustness,
-        query_interval: settings.query_interval,
-        query_response_interval: settings.query_response,
-        last_member_query_interval: settings.last_member_query,
-        stays_on_shared_tree: settings.stays_on_shared_tree,
+/// What is to be done at a moment, in ms.
+#[derive(Default)]
+struct Due {
+    look: u64,
+    /// Links and addresses are read again.
+    machine: Option<u64>,
+    /// What the kernel refused is tried again.
+    unset: Option<u64>,
+    /// The library's router is made anew.
+    anew: Option<u64>,
+    /// One that was made anew may have learned what it needs.
+    learned: Option<u64>,
+    /// What it hasn't learned by then it won't.
+    unlearned: u64,
+}
+
+/// Sources without a fact that are to be asked for anew after the turn.
+#[derive(Default)]
+struct Stale {
+    groups: BTreeSet<Ipv4Addr>,
+    keys: BTreeSet<Key>,
+}
+
+/// Says a thing at a bounded rate.
+#[derive(Clone, Copy, Debug, Default)]
+struct Rate(Option<u64>);
+
+impl Rate {
+    fn is_due(&mut self, now: u64) -> bool {
+        let is_due = self.0.map_or(true, |at| at + SAY_EVERY <= now);
+        self.0 = if is_due { Some(now) } else { self.0 };
+        is_due
     }
 }
 
-fn could_not<E: std::fmt::Display>(what: &str) -> impl Fn(E) -> Fatal + '_ {
-    move |error| format!("{what}: {error}")
+#[derive(Default)]
+struct Rates {
+    unset: Rate,
+    hearing: Rate,
+}
+
+pub struct Daemon {
+    pub settings: Settings,
+    file: PathBuf,
+    pub kernel: Box<dyn Kernel>,
+    pub core: Core,
+    pub policy: Policy,
+    pub ports: Vec<Port>,
+    machine: Machine,
+    pub plane: Plane,
+    pub routing: Routing,
+    pub neighbours: Neighbours,
+    pub counters: Counters,
+    due: Due,
+    stale: Stale,
+    rates: Rates,
+    /// The source of the data packet that the router has in hand, and where it came.
+    in_hand: Option<(Key, Option<u32>)>,
+}
+
+/// The policy's view of the router.
+struct Ledger<'a> {
+    core: &'a mut Core,
+    kernel: &'a dyn Kernel,
+}
+
+impl Books for Ledger<'_> {
+    fn rows(&mut self, table: Table) -> Vec<viqeshor::Row> {
+        // A router that failed says so at its next event.
+        self.core.rows(table).unwrap_or_default()
+    }
+
+    fn now(&self) -> u64 {
+        self.kernel.now()
+    }
 }
 
 impl Daemon {
-    /// Opens all sockets and makes the router, with every interface down.
-    pub fn new(file: &Path, settings: Settings) -> Result<Daemon, Fatal> {
-        let mut netlink = Netlink::open().map_err(could_not("netlink"))?;
-        let links = netlink.links().map_err(could_not("the kernel's links"))?;
-        let machine = Machine::new(links, netlink.addresses().map_err(could_not("the kernel's addresses"))?);
-        let (ports, left_out) = made(&settings, &machine);
-        left_out.iter().for_each(|line| warn!("{line}"));
-        for port in ports.iter().filter(|port| port.subnet.length == 32) {
-            info!("{} has {}, and is told to the router as a subnet of two addresses", port.settings.name, port.subnet);
+    /// Makes the router, with every interface down.
+    pub fn new(file: &Path, settings: Settings, mut kernel: Box<dyn Kernel>) -> Result<Daemon, Fatal> {
+        let links = kernel.links().map_err(Fatal::Netlink)?;
+        let machine = Machine::new(links, kernel.addresses().map_err(Fatal::Netlink)?);
+        let mut ports = Vec::new();
+        ports::take_settings(&mut ports, &settings.interfaces);
+        let (addresses, said) = ports::addresses(&ports, &machine);
+        said.iter().for_each(|line| warn!("{line}"));
+        ports.iter_mut().zip(addresses).for_each(|(port, subnet)| port.subnet = subnet);
+        for (port, subnet) in ports.iter().filter_map(|port| Some((port, port.subnet?))).filter(|it| it.1.length == 32)
+        {
+            info!("{} has {subnet}, and is told to the router as a subnet of two addresses", port.settings.name);
         }
         let told: Vec<_> = ports.iter().map(Port::told).collect();
-        let router =
-            Router::new(&core_settings(&settings), &told, &[], &ranges_of(&settings)).map_err(could_not("the settings"))?;
-        let mroute = Mroute::open().map_err(could_not("the kernel's multicast routing (is another router at work?)"))?;
-        Ok(Daemon {
+        let mut daemon = Daemon {
             file: file.to_path_buf(),
-            began: Instant::now(),
-            draws: Draws::new(),
-            router,
+            core: Core::new(&settings, &told)?,
+            kernel,
+            policy: Policy::default(),
             ports,
             machine,
-            mroute,
-            links: Links::open().map_err(could_not("a packet socket"))?,
-            unicasts: Unicasts::open().map_err(could_not("a raw socket"))?,
-            netlink,
             plane: Plane::default(),
-            routes: Vec::new(),
-            route_counts: Counts::default(),
+            routing: Routing { told: Vec::new(), counts: Counts::default(), due: None, settle: machine::ROUTES_SETTLE },
+            neighbours: Neighbours::default(),
             counters: Counters::default(),
-            neighbours: BTreeMap::new(),
-            hellos: BTreeMap::new(),
-            routes_due: None,
-            routes_settle: machine::ROUTES_SETTLE,
-            look_due: 0,
-            is_unknown_stale: false,
-            are_neighbours_stale: false,
+            due: Due::default(),
+            stale: Stale::default(),
+            rates: Rates::default(),
+            in_hand: None,
             settings,
-        })
+        };
+        daemon.set_policy();
+        Ok(daemon)
+    }
+
+    /// The policy goes by the settings and the addresses.
+    fn set_policy(&mut self) {
+        let gate = |port: &Port| Gate {
+            name: port.settings.name.clone(),
+            address: port.told_subnet().address,
+            policy: port.settings.policy.clone(),
+        };
+        let gates = self.ports.iter().map(|port| (port.number, gate(port))).collect();
+        self.policy.set(self.settings.policy.clone(), self.settings.limit, gates);
     }
 
     /// In ms, since the router began.
     pub fn now(&self) -> u64 {
-        self.began.elapsed().as_millis() as u64
+        self.kernel.now()
     }
 
     pub fn port_of_index(&self, index: u32) -> Option<&Port> {
         self.ports.iter().find(|port| port.index == Some(index))
     }
 
+    fn iface_of_vif(&self, vif: u16) -> Option<u32> {
+        self.ports.iter().find(|port| port.vif == Some(vif)).map(|port| port.number)
+    }
+
     pub fn name(&self, number: u32) -> &str {
         self.ports.get(number as usize).map_or("?", |port| &port.settings.name)
     }
 
-    pub(super) fn is_own(&self, address: Ipv4Addr) -> bool {
-        self.ports.iter().any(|port| port.subnet.address == address)
+    fn is_own(&self, address: Ipv4Addr) -> bool {
+        self.ports.iter().any(|port| port.address() == Some(address))
     }
 
+    // ---- events
+
     /// One event, and all that follows of it.
-    pub(super) fn take(&mut self, act: impl FnOnce(&mut Router, u32) -> Result<Verdict, Error>) -> Result<Answer, Fatal> {
-        let draw = self.draws.next();
+    fn take(&mut self, event: Event) -> Result<Answer, Fatal> {
+        self.take_for(event, None)
+    }
+
+    /// The same; where the event has a stand-in for a packet, that leaves itself.
+    fn take_for(&mut self, event: Event, packet: Option<&[u8]>) -> Result<Answer, Fatal> {
         self.counters.events += 1;
-        let answer = match act(&mut self.router, draw) {
-            Ok(Verdict::Done) => Answer::Done,
-            Ok(Verdict::Ignored(_)) => Answer::Ignored,
-            Err(Error::Refused(refusal)) => Answer::Refused(refusal),
-            Err(error) => return Err(format!("the router failed: {error}")),
-        };
+        let answer = self.core.take(event)?;
         match answer {
             Answer::Done => {
-                self.leave();
-                self.follow()?;
-                self.is_unknown_stale = true;
+                match packet {
+                    Some(packet) => self.leave_as(packet),
+                    None => self.leave(),
+                }
+                self.follow();
             }
             Answer::Ignored => self.counters.ignored += 1,
             Answer::Refused(refusal) => *self.counters.refused.entry(refusal as u32).or_default() += 1,
@@ -212,82 +256,125 @@ impl Daemon {
         Ok(answer)
     }
 
+    /// Time passes up to the present.
+    fn advance(&mut self) -> Result<(), Fatal> {
+        let now = self.now();
+        let is_due = self.core.next_moment().map_or(false, |moment| moment <= now);
+        if is_due && self.plane.is_overdue(now) {
+            self.look()?;
+        }
+        self.take(Event::Advance(now))?;
+        // Where no timer ends nothing differs but the moment.
+        if is_due {
+            self.neighbours.are_stale = true;
+            self.all_unknown_may_differ();
+        }
+        Ok(())
+    }
+
+    // ---- what leaves
+
     /// Sends what the last event named.
-    pub(super) fn leave(&mut self) {
-        let Daemon { router, ports, links, unicasts, counters, .. } = self;
-        router.each_packet(&mut [0; MOST_BYTES], |packet, bytes| {
-            debug!("sends {}{}", place(packet, ports), words::of(bytes));
-            if packet.is_unicast {
-                send_unicast(unicasts, counters, bytes);
-            } else if let Some(port) = ports.get_mut(packet.iface as usize) {
-                send_on(port, links, bytes);
+    fn leave(&mut self) {
+        let Daemon { core, kernel, ports, policy, counters, .. } = self;
+        core.each_packet(|packet, bytes| {
+            let to = packet.iface;
+            match packet.is_unicast() {
+                true => send_unicast(kernel.as_mut(), counters, bytes),
+                false => send_on(kernel.as_mut(), ports.get_mut(to as usize), policy.is_passive(to), bytes),
             }
         });
     }
 
-    /// Keeps the kernel to the rows that the last event changed.
-    pub(super) fn follow(&mut self) -> Result<(), Fatal> {
-        for name in self.router.changed() {
-            let key = Key { source: name.source(), group: name.group() };
-            match self.offload(key) {
-                Some(row) if row.is_known => self.place(key, Some(row))?,
-                _ => self.withdraw(key)?,
+    /// Sends it with a packet itself in place of its stand-in.
+    fn leave_as(&mut self, itself: &[u8]) {
+        let Daemon { core, kernel, ports, policy, counters, .. } = self;
+        counters.stood_in += 1;
+        for sent in core.packets() {
+            let to = sent.packet.iface;
+            if sent.packet.is_unicast() {
+                let bytes = stand_in::register(itself, &sent.bytes).unwrap_or(sent.bytes);
+                send_unicast(kernel.as_mut(), counters, &bytes);
+            } else {
+                let bytes = if sent.packet.is_copy() { stand_in::copy(itself, &sent.bytes) } else { sent.bytes };
+                send_on(kernel.as_mut(), ports.get_mut(to as usize), policy.is_passive(to), &bytes);
             }
         }
-        Ok(())
+    }
+
+    // ---- the kernel's forwarding cache
+
+    /// Keeps the kernel to the rows that the last event changed.
+    fn follow(&mut self) {
+        for key in self.core.changed() {
+            let from = self.in_hand.filter(|(its, _)| *its == key).and_then(|(_, iface)| iface);
+            match self.offload(key) {
+                Some(row) if row.is_known => {
+                    self.policy.began(key, from);
+                    self.place(key, Some(row), from);
+                }
+                _ => {
+                    self.policy.ended(key);
+                    self.withdraw(key);
+                }
+            }
+        }
     }
 
     /// `None` also for a source that is the router: it ignores what comes from itself.
-    pub(super) fn offload(&mut self, key: Key) -> Option<Row> {
+    fn offload(&mut self, key: Key) -> Option<Row> {
         if self.is_own(key.source) {
             return None;
         }
-        self.router.offload(key.source, key.group).map(Row::from)
+        self.core.offload(key)
     }
 
-    pub(super) fn place(&mut self, key: Key, row: Option<Row>) -> Result<(), Fatal> {
+    fn place(&mut self, key: Key, row: Option<Row>, came_on: Option<u32>) {
         let now = self.now();
-        let Daemon { plane, mroute, ports, counters, .. } = self;
+        let Daemon { plane, kernel, ports, policy, counters, .. } = self;
         counters.entries_written += 1;
-        let has_vif = |iface: u32| ports.get(iface as usize).map_or(false, |port| port.has_vif);
-        plane.place(mroute, key, row, &has_vif, now).map_err(could_not("an entry of the kernel's forwarding cache"))
+        let placed =
+            with_ways(ports, policy, |ways| plane.place(kernel.as_ref(), Placed { key, row, came_on, now }, ways));
+        if let Err(error) = placed {
+            self.is_unset(&error);
+        }
     }
 
-    pub(super) fn withdraw(&mut self, key: Key) -> Result<(), Fatal> {
+    fn place_all(&mut self) {
+        let Daemon { plane, kernel, ports, policy, .. } = self;
+        if let Err(error) = with_ways(ports, policy, |ways| plane.place_all(kernel.as_ref(), ways)) {
+            self.is_unset(&error);
+        }
+    }
+
+    /// The kernel refused an entry: it is tried again, and said at a bounded rate.
+    fn is_unset(&mut self, error: &std::io::Error) {
+        let now = self.now();
+        self.counters.entries_refused += 1;
+        self.due.unset.get_or_insert(now + forwarding::TRY_AGAIN);
+        if self.rates.unset.is_due(now) {
+            warn!("the kernel refuses an entry of its forwarding cache: {error}; it is tried again until it takes it");
+        }
+    }
+
+    fn withdraw(&mut self, key: Key) {
         self.counters.entries_removed += 1;
         // Where its interface is gone the kernel may have let it go.
-        if let Err(error) = self.plane.remove(&self.mroute, key) {
-            debug!("the entry of ({}, {}) was gone: {error}", key.source, key.group);
+        if let Err(error) = self.plane.remove(self.kernel.as_ref(), key) {
+            debug!("the entry of {key} was gone: {error}");
         }
-        Ok(())
-    }
-
-    /// Time passes up to the present.
-    pub(super) fn advance(&mut self) -> Result<(), Fatal> {
-        let now = self.now();
-        let was_stale = self.is_unknown_stale;
-        let is_due = self.router.next_moment().map_or(false, |moment| moment <= now);
-        if is_due && self.plane.is_overdue(now) {
-            self.look()?;
-        }
-        self.take(|router, draw| router.advance(draw, now))?;
-        // Where no timer ends nothing differs but the moment.
-        self.is_unknown_stale = was_stale || is_due;
-        self.are_neighbours_stale |= is_due;
-        Ok(())
     }
 }
 
-fn place(packet: &Sent, ports: &[Port]) -> String {
-    let mut place = String::new();
-    if !packet.is_unicast {
-        let _ = write!(place, "on {}: ", ports.get(packet.iface as usize).map_or("?", |port| &port.settings.name));
-    }
-    place
+fn with_ways<T>(ports: &[Port], policy: &Policy, act: impl FnOnce(&Ways) -> T) -> T {
+    let vif = |iface: u32| ports.get(iface as usize).and_then(|port| port.vif);
+    let permits = |iface: u32, key: Key| policy.may_send(iface, key);
+    act(&Ways { vif: &vif, permits: &permits })
 }
 
-fn send_unicast(unicasts: &Unicasts, counters: &mut Counters, bytes: &[u8]) {
-    match unicasts.send(bytes) {
+fn send_unicast(kernel: &mut dyn Kernel, counters: &mut Counters, bytes: &[u8]) {
+    debug!("sends {}", words::of(bytes));
+    match kernel.send_unicast(bytes) {
         Ok(()) => counters.unicasts_sent += 1,
         Err(error) => {
             counters.unicasts_not_sent += 1;
@@ -296,16 +383,20 @@ fn send_unicast(unicasts: &Unicasts, counters: &mut Counters, bytes: &[u8]) {
     }
 }
 
-fn send_on(port: &mut Port, links: &Links, bytes: &[u8]) {
-    let index = match port.index {
-        Some(index) if !port.is_loopback => index,
+fn send_on(kernel: &mut dyn Kernel, port: Option<&mut Port>, is_passive: bool, bytes: &[u8]) {
+    let (port, index) = match port.and_then(|port| port.index.map(|index| (port, index))) {
+        Some((port, index)) if !port.is_loopback => (port, index),
         _ => return,
     };
     let packet = Packet::read(bytes);
+    if is_passive && packet.map_or(false, Packet::is_pim_of_link) {
+        return;
+    }
+    debug!("sends on {}: {}", port.settings.name, words::of(bytes));
     if packet.map_or(false, |packet| is_pim(packet, 0)) {
         port.hello = Some(bytes.to_vec());
     }
-    match links.send(index, bytes) {
+    match kernel.send_on(index, bytes) {
         Ok(()) if packet.map_or(false, Packet::is_data) => port.passed.copies += 1,
         Ok(()) => port.passed.sent += 1,
         Err(error) => {
@@ -314,3 +405,6 @@ fn send_on(port: &mut Port, links: &Links, bytes: &[u8]) {
         }
     }
 }
+
+#[cfg(test)]
+mod tests;

@@ -1,21 +1,26 @@
 //! A multicast router for Linux: PIM Sparse Mode and IGMPv3, with the kernel's forwarding cache as its data plane.
 mod control;
+mod core;
 mod daemon;
-#[macro_use]
+mod error;
+mod kernel;
 mod log;
 mod mroute;
 mod netlink;
 mod packet;
 mod plane;
+mod policy;
 mod ports;
 mod routes;
 mod settings;
 mod show;
 mod split;
+mod stand_in;
 mod wire;
 mod words;
 
 use clap::{Parser, Subcommand, ValueEnum};
+use error::Fatal;
 use settings::{Settings, USUAL_SOCKET};
 use std::path::{Path, PathBuf};
 use std::process::ExitCode;
@@ -69,25 +74,53 @@ fn read(file: &Path) -> Option<Settings> {
     None
 }
 
+/// Says that the file is in order, and what an operator may want to know of it.
+fn check(file: &Path, settings: &Settings) -> ExitCode {
+    let name = file.display();
+    let (count, ranges) = (settings.interfaces.len(), settings.rps.len());
+    println!("{name}: {count} interfaces, {ranges} RP ranges; nothing is wrong");
+    let (hosts, reserve) = settings.shares();
+    let limit = u64::from(settings.limit);
+    println!("{name}: of the limit of {limit} facts {reserve} are kept for neighbours; hosts may take {hosts}");
+    if hosts + reserve > limit {
+        println!(
+            "{name}: max_groups and max_streams of all interfaces together are more than what is left of the limit: \
+             neighbours find room all the same, but hosts of some interfaces may leave those of others without"
+        );
+    }
+    match absent(settings) {
+        Ok(names) if names.is_empty() => {}
+        Ok(names) => println!("{name}: this machine has no interface {} now", names.join(", ")),
+        Err(error) => println!("{name}: this machine's interfaces can't be read: {error}"),
+    }
+    ExitCode::SUCCESS
+}
+
+/// The interfaces of the settings that the machine doesn't have.
+fn absent(settings: &Settings) -> std::io::Result<Vec<&str>> {
+    let links = netlink::Netlink::open()?.links()?;
+    let is_absent = |name: &&str| !links.iter().any(|link| link.name == *name);
+    Ok(settings.interfaces.iter().map(|interface| interface.name.as_str()).filter(is_absent).collect())
+}
+
+fn route(file: &Path, settings: Settings) -> Result<(), Fatal> {
+    let kernel = Box::new(kernel::Linux::open()?);
+    daemon::Daemon::new(file, settings, kernel)?.run()
+}
+
 fn run(file: &Path, only_check: bool) -> ExitCode {
     let settings = match read(file) {
         Some(settings) => settings,
         None => return ExitCode::from(2),
     };
     if only_check {
-        println!(
-            "{}: {} interfaces, {} RP ranges; nothing is wrong",
-            file.display(),
-            settings.interfaces.len(),
-            settings.rps.len()
-        );
-        return ExitCode::SUCCESS;
+        return check(file, &settings);
     }
-    log::set(settings.level);
-    match daemon::Daemon::new(file, settings).and_then(|mut daemon| daemon.run()) {
+    log::begin(settings.level);
+    match route(file, settings) {
         Ok(()) => ExitCode::SUCCESS,
-        Err(error) => {
-            error!("{error}");
+        Err(fatal) => {
+            ::log::error!("{fatal}");
             ExitCode::FAILURE
         }
     }

@@ -1,7 +1,8 @@
 //! The kernel's multicast forwarding: virtual interfaces, the forwarding cache, and what the kernel hands up.
 use socket2::{Domain, Protocol, Socket, Type};
+use std::fmt;
 use std::io;
-use std::mem::{size_of, MaybeUninit};
+use std::mem::MaybeUninit;
 use std::net::Ipv4Addr;
 use std::os::unix::io::{AsRawFd, RawFd};
 
@@ -28,6 +29,12 @@ const IGMPMSG_WRVIFWHOLE: i32 = 4;
 pub struct Key {
     pub source: Ipv4Addr,
     pub group: Ipv4Addr,
+}
+
+impl fmt::Display for Key {
+    fn fmt(&self, to: &mut fmt::Formatter) -> fmt::Result {
+        write!(to, "({}, {})", self.source, self.group)
+    }
 }
 
 /// What stands in the forwarding cache: packets are accepted on one virtual interface, and leave on others.
@@ -62,28 +69,29 @@ struct MfcControl {
 
 /// What the kernel hands up.
 #[derive(Clone, Debug, PartialEq, Eq)]
-pub enum Upcall<'a> {
+pub enum Upcall {
     /// There is no entry for a packet that came; the kernel keeps a few of them until there is one.
     NoCache { vif: u16, key: Key },
     /// A packet came on an interface where the entry doesn't accept it; once in three seconds for an entry.
-    Stray { vif: u16, key: Key, packet: &'a [u8] },
+    Stray { vif: u16, key: Key, packet: Vec<u8> },
     /// A packet that went to the register tunnel.
-    Whole { key: Key, packet: &'a [u8] },
+    Whole { key: Key, packet: Vec<u8> },
 }
 
-impl<'a> Upcall<'a> {
-    /// The kernel's message: an IPv4 header of its own, whose TTL, protocol and checksum say what it is, then the packet.
-    pub fn read(message: &'a [u8]) -> Option<Upcall<'a>> {
+impl Upcall {
+    /// The kernel's message: an IPv4 header of its own, whose TTL, protocol and checksum say what it is, then the
+    /// packet.
+    pub fn read(message: &[u8]) -> Option<Upcall> {
         if message.len() < 20 || message[9] != 0 {
             return None;
         }
         let vif = u16::from(message[10]) | u16::from(message[11]) << 8;
         let key = Key { source: crate::packet::address(message, 12), group: crate::packet::address(message, 16) };
-        let packet = &message[20..];
+        let packet = || message[20..].to_vec();
         match message[8] {
             IGMPMSG_NOCACHE => Some(Upcall::NoCache { vif, key }),
-            IGMPMSG_WHOLEPKT => Some(Upcall::Whole { key, packet }),
-            kind if i32::from(kind) == IGMPMSG_WRVIFWHOLE => Some(Upcall::Stray { vif, key, packet }),
+            IGMPMSG_WHOLEPKT => Some(Upcall::Whole { key, packet: packet() }),
+            kind if i32::from(kind) == IGMPMSG_WRVIFWHOLE => Some(Upcall::Stray { vif, key, packet: packet() }),
             // The same packet follows whole.
             IGMPMSG_WRONGVIF => None,
             _ => None,
@@ -116,13 +124,7 @@ impl Mroute {
     }
 
     fn set<T>(&self, option: i32, value: &T) -> io::Result<()> {
-        let length = size_of::<T>() as libc::socklen_t;
-        let place: *const T = value;
-        // SAFETY: the place has as many bytes as are said, and the kernel keeps none of it.
-        match unsafe { libc::setsockopt(self.socket.as_raw_fd(), libc::IPPROTO_IP, option, place.cast(), length) } {
-            0 => Ok(()),
-            _ => Err(io::Error::last_os_error()),
-        }
+        crate::wire::set_option(&self.socket, libc::IPPROTO_IP, option, value)
     }
 
     fn set_vif(&self, vif: u16, flags: u8, index: i32) -> io::Result<()> {
@@ -145,7 +147,16 @@ impl Mroute {
         let (packets, bytes, wrong_interface, expire) = (0, 0, 0, 0);
         self.set(
             option,
-            &MfcControl { origin, group, parent: forwarded.parent, thresholds, packets, bytes, wrong_interface, expire },
+            &MfcControl {
+                origin,
+                group,
+                parent: forwarded.parent,
+                thresholds,
+                packets,
+                bytes,
+                wrong_interface,
+                expire,
+            },
         )
     }
 
@@ -173,6 +184,7 @@ impl AsRawFd for Mroute {
 #[cfg(test)]
 mod tests {
     use super::*;
+    use std::mem::size_of;
 
     fn message(kind: u8, vif: u8) -> Vec<u8> {
         let mut bytes = vec![0x45, 0, 0, 0, 0, 0, 0, 0, kind, 0, vif, 0, 10, 1, 0, 50, 239, 1, 1, 1];
@@ -190,8 +202,8 @@ mod tests {
         let key = Key { source: Ipv4Addr::new(10, 1, 0, 50), group: Ipv4Addr::new(239, 1, 1, 1) };
         assert_eq!(Upcall::read(&message(1, 3)), Some(Upcall::NoCache { vif: 3, key }));
         assert_eq!(Upcall::read(&message(2, 3)), None);
-        assert_eq!(Upcall::read(&message(3, 31)), Some(Upcall::Whole { key, packet: b"packet" }));
-        assert_eq!(Upcall::read(&message(4, 3)), Some(Upcall::Stray { vif: 3, key, packet: b"packet" }));
+        assert_eq!(Upcall::read(&message(3, 31)), Some(Upcall::Whole { key, packet: b"packet".to_vec() }));
+        assert_eq!(Upcall::read(&message(4, 3)), Some(Upcall::Stray { vif: 3, key, packet: b"packet".to_vec() }));
         assert_eq!(Upcall::read(&message(5, 3)), None);
     }
 

@@ -3,14 +3,18 @@ use crate::mroute::Key;
 use crate::packet::address;
 use crate::routes::{Hop, KernelRoute, Kind};
 use crate::settings::Subnet;
-use netlink_packet_route::nlas::{address as address_nlas, link as link_nlas, route as route_nlas};
+use log::warn;
+use netlink_packet_route::nlas::{address as address_nlas, route as route_nlas};
+use netlink_packet_route::nlas::{DefaultNla, Nla};
 use netlink_packet_route::traits::Parseable;
 use netlink_packet_route::{
-    AddressMessage, LinkMessage, NetlinkHeader, NetlinkMessage, NetlinkPayload, RouteMessage, RtnlMessage, AF_INET, NLM_F_DUMP,
-    NLM_F_REQUEST, RTNH_F_DEAD, RTNLGRP_IPV4_IFADDR, RTNLGRP_IPV4_ROUTE, RTNLGRP_LINK, RTN_BLACKHOLE, RTN_THROW, RTN_UNICAST,
+    AddressMessage, NetlinkHeader, NetlinkMessage, NetlinkPayload, RouteMessage, RtnlMessage, AF_INET, NLM_F_DUMP,
+    NLM_F_REQUEST, RTNH_F_DEAD, RTNLGRP_IPV4_IFADDR, RTNLGRP_IPV4_ROUTE, RTNLGRP_LINK, RTN_BLACKHOLE, RTN_THROW,
+    RTN_UNICAST,
 };
 use netlink_sys::protocols::NETLINK_ROUTE;
 use netlink_sys::{Socket, SocketAddr};
+use std::collections::HashMap;
 use std::io;
 use std::os::unix::io::{AsRawFd, RawFd};
 
@@ -22,11 +26,34 @@ const IFF_RUNNING: u32 = 0x40;
 const RTNH_F_LINKDOWN: u8 = 16;
 /// The kernel tells a time in hundredths of a second.
 const MS_PER_TICK: u64 = 10;
+/// Of linux/rtnetlink.h, linux/if_link.h and linux/nexthop.h.
+const RTM_NEWLINK: u16 = 16;
+const RTM_DELLINK: u16 = 17;
+const RTM_GETLINK: u16 = 18;
+const RTM_NEWNEXTHOP: u16 = 104;
+const RTM_DELNEXTHOP: u16 = 105;
+const RTM_GETNEXTHOP: u16 = 106;
+const IFLA_IFNAME: u16 = 3;
+const IFLA_MTU: u16 = 4;
+const NHA_ID: u16 = 1;
+const NHA_GROUP: u16 = 2;
+const NHA_BLACKHOLE: u16 = 4;
+const NHA_OIF: u16 = 5;
+const NHA_GATEWAY: u16 = 6;
+const RTA_NH_ID: u16 = 30;
+const RTNLGRP_NEXTHOP: u32 = 32;
+/// The header of each message, and what is before the attributes of a link and of a next hop.
+const HEADER: usize = 16;
+const LINK_HEAD: usize = 16;
+const NEXTHOP_HEAD: usize = 8;
+const GROUP_MEMBER: usize = 8;
 
 #[derive(Clone, Debug, PartialEq, Eq)]
 pub struct Link {
     pub index: u32,
     pub name: String,
+    /// The most bytes of a packet.
+    pub mtu: u32,
     /// It is up, and has a carrier.
     pub is_running: bool,
     pub is_loopback: bool,
@@ -68,33 +95,131 @@ pub struct Netlink {
     sequence: u32,
 }
 
-fn send(socket: &Socket, message: RtnlMessage, sequence: u32) -> io::Result<()> {
-    let mut header = NetlinkHeader::default();
-    header.flags = NLM_F_DUMP | NLM_F_REQUEST;
-    header.sequence_number = sequence;
+fn serialized(message: RtnlMessage, sequence: u32) -> Vec<u8> {
+    let header =
+        NetlinkHeader { flags: NLM_F_DUMP | NLM_F_REQUEST, sequence_number: sequence, ..NetlinkHeader::default() };
     let mut packet = NetlinkMessage { header, payload: NetlinkPayload::from(message) };
     packet.finalize();
     let mut bytes = vec![0; packet.buffer_len()];
     packet.serialize(&mut bytes);
-    socket.send(&bytes, 0).map(|_| ())
+    bytes
 }
 
-/// The messages of a datagram. One that can't be read is left out, with a line.
-fn messages(bytes: &[u8]) -> Vec<NetlinkMessage<RtnlMessage>> {
+/// A request for all of a kind, whose message has a head of so many bytes that are all 0.
+fn request(kind: u16, head: usize, sequence: u32) -> Vec<u8> {
+    let mut bytes = ((HEADER + head) as u32).to_ne_bytes().to_vec();
+    bytes.extend(kind.to_ne_bytes());
+    bytes.extend((NLM_F_DUMP | NLM_F_REQUEST).to_ne_bytes());
+    bytes.extend(sequence.to_ne_bytes());
+    bytes.resize(HEADER + head, 0);
+    bytes
+}
+
+/// A message as it came, or as far as it is read here.
+enum Message {
+    Link { is_gone: bool, link: Link },
+    NextHop(Option<(u32, NextHop)>),
+    Other(RtnlMessage),
+    Failed(io::Error),
+    Done,
+}
+
+/// A next hop object (ip nexthop).
+#[derive(Clone, Debug, PartialEq, Eq)]
+enum NextHop {
+    One(Hop),
+    Group(Vec<u32>),
+    Blackhole,
+}
+
+/// The messages of a datagram, each with its sequence number. One that can't be read is left out, with a line.
+fn messages(bytes: &[u8]) -> Vec<(u32, Message)> {
     let mut rest = bytes;
     let mut found = Vec::new();
-    while rest.len() >= 16 {
-        let length = u32::from_ne_bytes([rest[0], rest[1], rest[2], rest[3]]) as usize;
-        if length < 16 || length > rest.len() {
+    while rest.len() >= HEADER {
+        let length = word(rest, 0) as usize;
+        if length < HEADER || length > rest.len() {
             break;
         }
-        match NetlinkMessage::<RtnlMessage>::deserialize(&rest[..length]) {
-            Ok(message) => found.push(message),
-            Err(error) => crate::warn!("a message of the kernel can't be read: {error}"),
-        }
+        found.extend(message(&rest[..length]).map(|read| (word(rest, 8), read)));
         rest = &rest[rest.len().min((length + 3) & !3)..];
     }
     found
+}
+
+/// Links and next hops are read here: of their many attributes few are wanted, and one that nobody knows yet costs
+/// nothing.
+fn message(bytes: &[u8]) -> Option<Message> {
+    let (kind, content) = (u16::from_ne_bytes([bytes[4], bytes[5]]), &bytes[HEADER..]);
+    match kind {
+        RTM_NEWLINK | RTM_DELLINK => link_of(content).map(|link| Message::Link { is_gone: kind == RTM_DELLINK, link }),
+        RTM_NEWNEXTHOP | RTM_DELNEXTHOP => Some(Message::NextHop(next_hop_of(content))),
+        _ => match NetlinkMessage::<RtnlMessage>::deserialize(bytes).map(|message| message.payload) {
+            Ok(NetlinkPayload::InnerMessage(inner)) => Some(Message::Other(inner)),
+            Ok(NetlinkPayload::Error(error)) => Some(Message::Failed(io::Error::from_raw_os_error(-error.code))),
+            Ok(_) => Some(Message::Done),
+            Err(error) => {
+                warn!("a message of the kernel (type {kind}) can't be read: {error}");
+                None
+            }
+        },
+    }
+}
+
+/// The attributes of a message, each with its type.
+fn attributes(bytes: &[u8]) -> Vec<(u16, &[u8])> {
+    let mut rest = bytes;
+    let mut found = Vec::new();
+    while rest.len() >= 4 {
+        let length = usize::from(u16::from_ne_bytes([rest[0], rest[1]]));
+        if length < 4 || length > rest.len() {
+            break;
+        }
+        // The highest two bits are flags.
+        found.push((u16::from_ne_bytes([rest[2], rest[3]]) & 0x3fff, &rest[4..length]));
+        rest = &rest[rest.len().min((length + 3) & !3)..];
+    }
+    found
+}
+
+fn word(bytes: &[u8], at: usize) -> u32 {
+    bytes.get(at..at + 4).map_or(0, |four| u32::from_ne_bytes([four[0], four[1], four[2], four[3]]))
+}
+
+/// `None` for what a bridge says of its ports, and for what is cut short.
+fn link_of(content: &[u8]) -> Option<Link> {
+    const AF_UNSPEC: u8 = 0;
+    let attributes = attributes(content.get(LINK_HEAD..)?);
+    let value = |kind| attributes.iter().find(|(found, _)| *found == kind).map(|(_, value)| *value);
+    let name = value(IFLA_IFNAME).unwrap_or_default();
+    let name = String::from_utf8_lossy(name).trim_end_matches('\0').to_string();
+    let (index, flags) = (word(content, 4), word(content, 8));
+    let is_running = flags & (IFF_UP | IFF_RUNNING) == IFF_UP | IFF_RUNNING;
+    let mtu = value(IFLA_MTU).map_or(0, |value| word(value, 0));
+    (content[0] == AF_UNSPEC).then_some(Link { index, name, mtu, is_running, is_loopback: flags & IFF_LOOPBACK != 0 })
+}
+
+/// A next hop object with its number.
+fn next_hop_of(content: &[u8]) -> Option<(u32, NextHop)> {
+    let is_dead = word(content, 4) as u8 & (RTNH_F_DEAD | RTNH_F_LINKDOWN) != 0;
+    let mut hop = Hop { gateway: None, index: 0, is_dead };
+    let (mut number, mut group, mut is_blackhole) = (None, None, false);
+    for (kind, value) in attributes(content.get(NEXTHOP_HEAD..)?) {
+        match kind {
+            NHA_ID => number = Some(word(value, 0)),
+            NHA_GROUP => group = Some(value.chunks_exact(GROUP_MEMBER).map(|member| word(member, 0)).collect()),
+            NHA_BLACKHOLE => is_blackhole = true,
+            NHA_OIF => hop.index = word(value, 0),
+            NHA_GATEWAY => hop.gateway = four(value),
+            _ => {}
+        }
+    }
+    let found = match group {
+        Some(members) => NextHop::Group(members),
+        None if is_blackhole => NextHop::Blackhole,
+        None => NextHop::One(hop),
+    };
+    number.map(|number| (number, found))
 }
 
 impl Netlink {
@@ -104,7 +229,7 @@ impl Netlink {
         asks.connect(&SocketAddr::new(0, 0))?;
         let mut changes = Socket::new(NETLINK_ROUTE)?;
         changes.bind_auto()?;
-        for group in [RTNLGRP_LINK, RTNLGRP_IPV4_IFADDR, RTNLGRP_IPV4_ROUTE] {
+        for group in [RTNLGRP_LINK, RTNLGRP_IPV4_IFADDR, RTNLGRP_IPV4_ROUTE, RTNLGRP_NEXTHOP] {
             changes.add_membership(group)?;
         }
         changes.set_non_blocking(true)?;
@@ -112,30 +237,27 @@ impl Netlink {
     }
 
     /// All that the kernel has of a kind.
-    fn dump(&mut self, message: RtnlMessage) -> io::Result<Vec<RtnlMessage>> {
+    fn dump(&mut self, asked: impl FnOnce(u32) -> Vec<u8>) -> io::Result<Vec<Message>> {
         self.sequence += 1;
-        send(&self.asks, message, self.sequence)?;
+        self.asks.send(&asked(self.sequence), 0)?;
         let mut found = Vec::new();
         loop {
             let (bytes, _) = self.asks.recv_from_full()?;
-            for message in messages(&bytes) {
-                if message.header.sequence_number != self.sequence {
-                    continue;
-                }
-                match message.payload {
-                    NetlinkPayload::InnerMessage(inner) => found.push(inner),
-                    NetlinkPayload::Error(error) => return Err(io::Error::from_raw_os_error(-error.code)),
-                    _ => return Ok(found),
+            for (_, message) in messages(&bytes).into_iter().filter(|(sequence, _)| *sequence == self.sequence) {
+                match message {
+                    Message::Failed(error) => return Err(error),
+                    Message::Done => return Ok(found),
+                    other => found.push(other),
                 }
             }
         }
     }
 
     pub fn links(&mut self) -> io::Result<Vec<Link>> {
-        let found = self.dump(RtnlMessage::GetLink(LinkMessage::default()))?;
+        let found = self.dump(|sequence| request(RTM_GETLINK, LINK_HEAD, sequence))?;
         Ok(found
-            .iter()
-            .filter_map(|message| if let RtnlMessage::NewLink(link) = message { Some(link_of(link)) } else { None })
+            .into_iter()
+            .filter_map(|it| if let Message::Link { link, .. } = it { Some(link) } else { None })
             .collect())
     }
 
@@ -143,39 +265,54 @@ impl Netlink {
     pub fn addresses(&mut self) -> io::Result<Vec<(u32, Subnet)>> {
         let mut asked = AddressMessage::default();
         asked.header.family = AF_INET as u8;
-        let found = self.dump(RtnlMessage::GetAddress(asked))?;
-        Ok(found
-            .iter()
-            .filter_map(|message| if let RtnlMessage::NewAddress(it) = message { subnet_of(it) } else { None })
-            .collect())
+        let found = self.dump(|sequence| serialized(RtnlMessage::GetAddress(asked), sequence))?;
+        let subnet = |it: &Message| match it {
+            Message::Other(RtnlMessage::NewAddress(it)) => subnet_of(it),
+            _ => None,
+        };
+        Ok(found.iter().filter_map(subnet).collect())
     }
 
-    /// The routes of a table.
+    fn next_hops(&mut self) -> io::Result<HashMap<u32, NextHop>> {
+        let found = self.dump(|sequence| request(RTM_GETNEXTHOP, NEXTHOP_HEAD, sequence))?;
+        Ok(found.into_iter().filter_map(|it| if let Message::NextHop(hop) = it { hop } else { None }).collect())
+    }
+
+    /// The routes of a table. Those that name a next hop object have what that says.
     pub fn routes(&mut self, table: u32) -> io::Result<Vec<KernelRoute>> {
         let mut asked = RouteMessage::default();
         asked.header.address_family = AF_INET as u8;
-        let found = self.dump(RtnlMessage::GetRoute(asked))?;
-        Ok(found
-            .iter()
-            .filter_map(|message| if let RtnlMessage::NewRoute(route) = message { route_of(route, table) } else { None })
-            .collect())
+        let found = self.dump(|sequence| serialized(RtnlMessage::GetRoute(asked), sequence))?;
+        let route = |it: &Message| match it {
+            Message::Other(RtnlMessage::NewRoute(it)) => route_of(it, table),
+            _ => None,
+        };
+        let mut routes: Vec<_> = found.iter().filter_map(route).collect();
+        if routes.iter().any(|(_, object)| object.is_some()) {
+            let objects = self.next_hops()?;
+            routes
+                .iter_mut()
+                .for_each(|(route, object)| object.iter().for_each(|number| resolve(route, *number, &objects)));
+        }
+        Ok(routes.into_iter().map(|(route, _)| route).collect())
     }
 
     /// What the entries of the forwarding cache have forwarded.
     pub fn used(&mut self) -> io::Result<Vec<Used>> {
         let mut asked = RouteMessage::default();
         asked.header.address_family = RTNL_FAMILY_IPMR;
-        let found = self.dump(RtnlMessage::GetRoute(asked))?;
-        Ok(found
-            .iter()
-            .filter_map(|message| if let RtnlMessage::NewRoute(route) = message { used_of(route) } else { None })
-            .collect())
+        let found = self.dump(|sequence| serialized(RtnlMessage::GetRoute(asked), sequence))?;
+        let used = |it: &Message| match it {
+            Message::Other(RtnlMessage::NewRoute(it)) => used_of(it),
+            _ => None,
+        };
+        Ok(found.iter().filter_map(used).collect())
     }
 
     /// The next changes, or `None` where none wait.
     pub fn hear(&mut self) -> io::Result<Option<Vec<Change>>> {
         match self.changes.recv_from_full() {
-            Ok((bytes, _)) => Ok(Some(messages(&bytes).into_iter().filter_map(change_of).collect())),
+            Ok((bytes, _)) => Ok(Some(messages(&bytes).into_iter().filter_map(|(_, it)| change_of(it)).collect())),
             Err(error) if error.kind() == io::ErrorKind::WouldBlock => Ok(None),
             Err(error) if error.raw_os_error() == Some(libc::ENOBUFS) => Ok(Some(vec![Change::Lost])),
             Err(error) => Err(error),
@@ -189,31 +326,43 @@ impl AsRawFd for Netlink {
     }
 }
 
-fn change_of(message: NetlinkMessage<RtnlMessage>) -> Option<Change> {
-    let inner = match message.payload {
-        NetlinkPayload::InnerMessage(inner) => inner,
-        _ => return None,
-    };
-    match inner {
-        RtnlMessage::NewLink(link) if link.header.interface_family == 0 => Some(Change::Link(link_of(&link))),
-        RtnlMessage::DelLink(link) if link.header.interface_family == 0 => Some(Change::LinkGone(link.header.index)),
-        RtnlMessage::NewAddress(it) => subnet_of(&it).map(|(index, subnet)| Change::Address { index, subnet }),
-        RtnlMessage::DelAddress(it) => subnet_of(&it).map(|(index, subnet)| Change::AddressGone { index, subnet }),
-        RtnlMessage::NewRoute(_) | RtnlMessage::DelRoute(_) => Some(Change::Routes),
+fn change_of(message: Message) -> Option<Change> {
+    match message {
+        Message::Link { is_gone: true, link } => Some(Change::LinkGone(link.index)),
+        Message::Link { link, .. } => Some(Change::Link(link)),
+        Message::NextHop(_) => Some(Change::Routes),
+        Message::Other(RtnlMessage::NewAddress(it)) => {
+            subnet_of(&it).map(|(index, subnet)| Change::Address { index, subnet })
+        }
+        Message::Other(RtnlMessage::DelAddress(it)) => {
+            subnet_of(&it).map(|(index, subnet)| Change::AddressGone { index, subnet })
+        }
+        Message::Other(RtnlMessage::NewRoute(_) | RtnlMessage::DelRoute(_)) => Some(Change::Routes),
         _ => None,
     }
 }
 
-fn link_of(link: &LinkMessage) -> Link {
-    let name = link.nlas.iter().find_map(|nla| if let link_nlas::Nla::IfName(name) = nla { Some(name.clone()) } else { None });
-    let (index, flags) = (link.header.index, link.header.flags);
-    let is_running = flags & (IFF_UP | IFF_RUNNING) == IFF_UP | IFF_RUNNING;
-    Link { index, name: name.unwrap_or_default(), is_running, is_loopback: flags & IFF_LOOPBACK != 0 }
+/// Gives a route the next hops of an object, or of a group of them.
+fn resolve(route: &mut KernelRoute, number: u32, objects: &HashMap<u32, NextHop>) {
+    let members = match objects.get(&number) {
+        Some(NextHop::Group(members)) => members.clone(),
+        _ => vec![number],
+    };
+    let found: Vec<_> = members.iter().filter_map(|member| objects.get(member)).collect();
+    if !found.is_empty() && found.iter().all(|object| **object == NextHop::Blackhole) {
+        route.kind = Kind::Refusing;
+    }
+    route.hops =
+        found.iter().filter_map(|object| if let NextHop::One(hop) = object { Some(*hop) } else { None }).collect();
+    if found.is_empty() {
+        warn!("a route of the kernel names the next hop object {number}, which isn't there: it leads nowhere");
+    }
 }
 
 fn subnet_of(message: &AddressMessage) -> Option<(u32, Subnet)> {
     // On a link between two `Address` is the other end.
-    let local = message.nlas.iter().find_map(|nla| if let address_nlas::Nla::Local(bytes) = nla { four(bytes) } else { None });
+    let local =
+        message.nlas.iter().find_map(|nla| if let address_nlas::Nla::Local(bytes) = nla { four(bytes) } else { None });
     let subnet = Subnet { address: local?.into(), length: message.header.prefix_len };
     Some((message.header.index, subnet))
 }
@@ -226,7 +375,8 @@ fn eight(bytes: &[u8]) -> u64 {
     bytes.get(..8).map_or(0, |eight| u64::from_ne_bytes([0, 1, 2, 3, 4, 5, 6, 7].map(|at| eight[at])))
 }
 
-fn route_of(message: &RouteMessage, table: u32) -> Option<KernelRoute> {
+/// With the number of its next hop object, where it has one.
+fn route_of(message: &RouteMessage, table: u32) -> Option<(KernelRoute, Option<u32>)> {
     let header = &message.header;
     let kind = match header.kind {
         RTN_UNICAST => Kind::Unicast,
@@ -243,7 +393,7 @@ fn route_of(message: &RouteMessage, table: u32) -> Option<KernelRoute> {
         hops: Vec::new(),
     };
     let mut own = Hop { gateway: None, index: 0, is_dead };
-    let mut in_table = u32::from(header.table);
+    let (mut in_table, mut object) = (u32::from(header.table), None);
     for nla in &message.nlas {
         match nla {
             route_nlas::Nla::Destination(bytes) => route.prefix = four(bytes)?,
@@ -252,13 +402,20 @@ fn route_of(message: &RouteMessage, table: u32) -> Option<KernelRoute> {
             route_nlas::Nla::Gateway(bytes) => own.gateway = four(bytes),
             route_nlas::Nla::Oif(index) => own.index = *index,
             route_nlas::Nla::MultiPath(bytes) => route.hops = hops_of(bytes),
+            route_nlas::Nla::Other(nla) if nla.kind() == RTA_NH_ID => object = nla_word(nla),
             _ => {}
         }
     }
     if route.hops.is_empty() {
         route.hops.push(own);
     }
-    (in_table == table && header.address_family == AF_INET as u8).then_some(route)
+    (in_table == table && header.address_family == AF_INET as u8).then_some((route, object))
+}
+
+fn nla_word(nla: &DefaultNla) -> Option<u32> {
+    let mut value = vec![0; nla.value_len()];
+    nla.emit_value(&mut value);
+    (value.len() == 4).then(|| word(&value, 0))
 }
 
 /// The next hops of a route that has several.
@@ -273,7 +430,9 @@ fn hops_of(bytes: &[u8]) -> Vec<Hop> {
         let own = &rest[..length];
         if let Ok(hop) = route_nlas::NextHop::parse(&route_nlas::NextHopBuffer::new(&own)) {
             let gateway =
-                hop.nlas.iter().find_map(|nla| if let route_nlas::Nla::Gateway(bytes) = nla { four(bytes) } else { None });
+                hop.nlas
+                    .iter()
+                    .find_map(|nla| if let route_nlas::Nla::Gateway(bytes) = nla { four(bytes) } else { None });
             let is_dead = rest[2] & (RTNH_F_DEAD | RTNH_F_LINKDOWN) != 0;
             found.push(Hop { gateway, index: hop.interface_id, is_dead });
         }
@@ -326,7 +485,8 @@ mod tests {
             several.extend([10, 0, 0, last]);
         }
         let nlas = vec![route_nlas::Nla::Destination(vec![10, 9, 0, 0]), route_nlas::Nla::MultiPath(several)];
-        let read = route_of(&route(RTN_UNICAST, nlas), 254).unwrap();
+        let (read, object) = route_of(&route(RTN_UNICAST, nlas), 254).unwrap();
+        assert_eq!(object, None);
         let hop = |last, index, is_dead| Hop { gateway: Some(Ipv4Addr::new(10, 0, 0, last).into()), index, is_dead };
         assert_eq!(read.hops, [hop(2, 3, false), hop(9, 4, true)]);
         assert_eq!((read.prefix, read.length), (Ipv4Addr::new(10, 9, 0, 0).into(), 16));
@@ -336,7 +496,7 @@ mod tests {
     fn only_the_table_is_read() {
         assert_eq!(route_of(&route(RTN_UNICAST, vec![route_nlas::Nla::Table(7)]), 254), None);
         assert!(route_of(&route(RTN_UNICAST, vec![route_nlas::Nla::Table(700)]), 700).is_some());
-        assert_eq!(route_of(&route(RTN_BLACKHOLE, Vec::new()), 254).unwrap().kind, Kind::Refusing);
+        assert_eq!(route_of(&route(RTN_BLACKHOLE, Vec::new()), 254).unwrap().0.kind, Kind::Refusing);
         assert_eq!(route_of(&route(2, Vec::new()), 254), None);
     }
 
@@ -351,5 +511,59 @@ mod tests {
         ];
         let key = Key { source: Ipv4Addr::new(10, 1, 0, 50), group: Ipv4Addr::new(239, 1, 1, 1) };
         assert_eq!(used_of(&route(RTN_UNICAST, nlas)), Some(Used { key, packets: 5, bytes: 600, stray: 2, idle: 300 }));
+    }
+
+    fn attribute(kind: u16, value: &[u8]) -> Vec<u8> {
+        let mut bytes = ((4 + value.len()) as u16).to_ne_bytes().to_vec();
+        bytes.extend(kind.to_ne_bytes());
+        bytes.extend(value);
+        bytes.resize((bytes.len() + 3) & !3, 0);
+        bytes
+    }
+
+    fn as_message(kind: u16, content: &[u8]) -> Vec<u8> {
+        let mut bytes = request(kind, 0, 7);
+        bytes[..4].copy_from_slice(&((HEADER + content.len()) as u32).to_ne_bytes());
+        bytes.extend(content);
+        bytes
+    }
+
+    #[test]
+    fn a_link_is_read_whatever_else_it_has() {
+        let mut content = vec![0, 0, 1, 0];
+        content.extend([5u32, IFF_UP | IFF_RUNNING, 0].iter().flat_map(|it| it.to_ne_bytes()));
+        // An attribute of a wrong length and one that nobody knows, before the name.
+        content
+            .extend([attribute(18, &[1, 2, 3]), attribute(999, &[4; 9]), attribute(IFLA_IFNAME, b"vxlan7\0")].concat());
+        content.extend(attribute(IFLA_MTU, &1450u32.to_ne_bytes()));
+        let found = messages(&as_message(RTM_NEWLINK, &content));
+        let wanted = Link { index: 5, name: "vxlan7".to_string(), mtu: 1450, is_running: true, is_loopback: false };
+        assert!(matches!(&found[..], [(7, Message::Link { is_gone: false, link })] if *link == wanted));
+        // What a bridge says of its port.
+        content[0] = 7;
+        assert!(messages(&as_message(RTM_NEWLINK, &content)).is_empty());
+    }
+
+    #[test]
+    fn a_route_by_a_next_hop_object_has_its_hops() {
+        let object = |number: u32, more: Vec<u8>| {
+            let content = [vec![2, 0, 0, 0, 0, 0, 0, 0], attribute(NHA_ID, &number.to_ne_bytes()), more].concat();
+            next_hop_of(&content).expect("it has a number")
+        };
+        let one =
+            |last: u8| [attribute(NHA_OIF, &3u32.to_ne_bytes()), attribute(NHA_GATEWAY, &[10, 0, 0, last])].concat();
+        let group: Vec<u8> = [1u32, 0, 2, 0].iter().flat_map(|it| it.to_ne_bytes()).collect();
+        let objects = HashMap::from([
+            object(1, one(2)),
+            object(2, one(9)),
+            object(3, attribute(NHA_GROUP, &group)),
+            object(4, attribute(NHA_BLACKHOLE, &[])),
+        ]);
+        let (mut told, _) = route_of(&route(RTN_UNICAST, Vec::new()), 254).expect("it is of the table");
+        resolve(&mut told, 3, &objects);
+        let hop = |last| Hop { gateway: Some(Ipv4Addr::new(10, 0, 0, last).into()), index: 3, is_dead: false };
+        assert_eq!((told.kind, &told.hops[..]), (Kind::Unicast, &[hop(2), hop(9)][..]));
+        resolve(&mut told, 4, &objects);
+        assert_eq!((told.kind, told.hops.len()), (Kind::Refusing, 0));
     }
 }

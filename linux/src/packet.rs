@@ -60,9 +60,14 @@ impl<'a> Packet<'a> {
         address(self.bytes, 16)
     }
 
+    /// It is PIM between the routers of a link.
+    pub fn is_pim_of_link(self) -> bool {
+        self.protocol() == PIM && self.destination() == ALL_PIM_ROUTERS
+    }
+
     /// It is neither PIM nor IGMP between routers and hosts of a link.
     pub fn is_data(self) -> bool {
-        self.protocol() != IGMP && (self.protocol() != PIM || self.destination() != ALL_PIM_ROUTERS)
+        self.protocol() != IGMP && !self.is_pim_of_link()
     }
 
     pub fn is_fragment(self) -> bool {
@@ -101,8 +106,9 @@ pub fn with_content(header: &[u8], content: &[u8]) -> Vec<u8> {
     packet
 }
 
-/// Fills in a UDP or TCP checksum that the sender left to its card. Then the place holds the sum of the pseudo header alone.
-/// A checksum that is right stays, and so does one that is wrong in another way. It tells whether one was filled in.
+/// Fills in a UDP or TCP checksum that the sender left to its card. Then the place holds the sum of the pseudo header
+/// alone. A checksum that is right stays, and so does one that is wrong in another way. It tells whether one was
+/// filled in.
 pub fn fill_checksum(packet: &mut [u8]) -> bool {
     let (header, place, pseudo) = match Packet::read(packet) {
         Some(it) if !it.is_fragment() => match (it.protocol(), it.content().len()) {
@@ -143,6 +149,21 @@ pub fn is_pim(packet: Packet, kind: u8) -> bool {
     packet.protocol() == PIM && packet.content().len() >= 4 && packet.content()[0] == 0x20 | kind
 }
 
+/// Whether a packet is a report of IGMPv3.
+pub fn is_report(bytes: &[u8]) -> bool {
+    const REPORT: u8 = 0x22;
+    Packet::read(bytes).map_or(false, |it| it.protocol() == IGMP && it.content().first() == Some(&REPORT))
+}
+
+/// The same report as of a host that has no address yet (RFC 3376, 4.2.13).
+pub fn as_of_nobody(report: &[u8]) -> Vec<u8> {
+    let mut own = report.to_vec();
+    own[12..16].fill(0);
+    let header = header_length(&own);
+    put_checksum(&mut own[..header], 10);
+    own
+}
+
 /// The options of a Hello: the kind of each, and where its value lies in the message. What isn't whole is left out.
 pub fn options(message: &[u8]) -> Vec<(usize, Range<usize>)> {
     let mut at = 4;
@@ -179,7 +200,8 @@ pub fn goodbye(hello: &[u8]) -> Option<Vec<u8>> {
     Some(with_content(packet.header(), &content))
 }
 
-/// Fills in the checksum of the packet in a Register: its source may have left it to a card, which the DR's kernel never asked.
+/// Fills in the checksum of the packet in a Register: its source may have left it to a card, which the DR's kernel
+/// never asked.
 pub fn fill_registered(bytes: &mut [u8]) -> bool {
     const REGISTER: u8 = 1;
     let register = Packet::read(bytes).filter(|packet| is_pim(*packet, REGISTER));

@@ -2,16 +2,22 @@
 //!
 //! The kernel accepts packets of a source and a group on one virtual interface. So of a row:
 //!
-//! - where packets on its incoming interface are forwarded, the entry accepts them there and sends them to the outgoing ones;
-//! - where they are the router's, the entry accepts them and sends them to the register tunnel alone: then each comes up whole;
-//! - where there is no incoming interface, the entry accepts on the register tunnel, and sends nowhere.
+//! - where packets on its incoming interface are forwarded, the entry accepts them there and sends them to the
+//!   outgoing ones;
+//! - where they are the router's, the entry accepts them and sends them to the register tunnel alone: then each comes
+//!   up
+//!   whole;
+//! - where there is no incoming interface, and packets on another one are the router's, the entry accepts those
+//!   likewise;
+//! - where nothing is to be had, the entry accepts on the register tunnel, and sends nowhere.
 //!
 //! What comes on another interface is a stray for the kernel, which drops it and hands up one in three seconds, whole.
-use crate::mroute::{Forwarded, Key, Mroute, REGISTER_VIF};
+use crate::mroute::{Forwarded, Key, REGISTER_VIF};
 use crate::netlink::Used;
-use pim::{Interfaces, PlaneRow};
-use std::collections::HashMap;
+use viqeshor::{Interfaces, PlaneRow};
+use std::collections::{BTreeSet, HashMap};
 use std::io;
+use std::net::Ipv4Addr;
 
 /// Told so long after a source's last packet that it was alive, the router would let it go.
 pub const KEEPALIVE: u64 = 210_000;
@@ -20,16 +26,6 @@ pub const KEEPALIVE: u64 = 210_000;
 pub trait Cache {
     fn put(&self, key: Key, forwarded: Forwarded) -> io::Result<()>;
     fn remove(&self, key: Key) -> io::Result<()>;
-}
-
-impl Cache for Mroute {
-    fn put(&self, key: Key, forwarded: Forwarded) -> io::Result<()> {
-        Mroute::put(self, key, forwarded)
-    }
-
-    fn remove(&self, key: Key) -> io::Result<()> {
-        Mroute::remove(self, key)
-    }
 }
 
 /// What the router tells of a source and a group.
@@ -45,30 +41,75 @@ pub struct Row {
 
 impl From<PlaneRow> for Row {
     fn from(row: PlaneRow) -> Row {
-        Row { is_known: row.is_known, incoming: row.incoming(), outgoing: row.outgoing, alive: row.alive, to_core: row.to_core }
+        Row {
+            is_known: row.is_known,
+            incoming: row.incoming(),
+            outgoing: row.outgoing,
+            alive: row.alive,
+            to_core: row.to_core,
+        }
     }
 }
 
-/// What the kernel is to do by a row. Interface i has virtual interface i, or none.
-pub fn forwarded(row: Option<&Row>, has_vif: &dyn Fn(u32) -> bool) -> Forwarded {
-    let nothing = Forwarded { parent: REGISTER_VIF, outgoing: 0 };
-    let (row, incoming) = match row.and_then(|row| Some((row, row.incoming.filter(|iface| has_vif(*iface))?))) {
-        Some(found) => found,
-        None => return nothing,
+/// What the interfaces of the router are for the kernel.
+pub struct Ways<'a> {
+    /// The virtual interface of an interface, where it has one.
+    pub vif: &'a dyn Fn(u32) -> Option<u16>,
+    /// Whether packets of a source may come on an interface.
+    pub permits: &'a dyn Fn(u32, Key) -> bool,
+}
+
+/// What the kernel is to do of the packets of a source.
+#[derive(Clone, Copy, Debug, PartialEq, Eq)]
+pub struct Way {
+    /// Where they are accepted.
+    pub accepted: Option<u32>,
+    pub forwarded: Forwarded,
+    /// They are dropped there, since the settings don't permit them.
+    pub is_refused: bool,
+}
+
+const NOWHERE: Way =
+    Way { accepted: None, forwarded: Forwarded { parent: REGISTER_VIF, outgoing: 0 }, is_refused: false };
+
+/// What the kernel is to do by a row, of a source of which packets came last on an interface.
+pub fn way(key: Key, row: Option<&Row>, came_on: Option<u32>, ways: &Ways) -> Way {
+    let row = match row {
+        Some(row) => row,
+        None => return NOWHERE,
     };
-    let parent = incoming as u16;
-    if row.to_core.contains(incoming) {
-        return Forwarded { parent, outgoing: 1 << REGISTER_VIF };
-    }
-    let leaving = row.outgoing.iter().filter(|iface| *iface != incoming && has_vif(*iface));
-    Forwarded { parent, outgoing: leaving.fold(0, |set, iface| set | 1 << iface) }
+    let has_vif = |iface: &u32| (ways.vif)(*iface).is_some();
+    let incoming = row.incoming.filter(has_vif);
+    // Else where the router waits for them, which is where they come if it waits there.
+    let at_core = || came_on.filter(|iface| row.to_core.contains(*iface) && has_vif(iface));
+    let accepted = incoming.or_else(at_core).or_else(|| row.to_core.iter().find(has_vif));
+    let (iface, parent) = match accepted.and_then(|iface| Some((iface, (ways.vif)(iface)?))) {
+        Some(found) => found,
+        None => return NOWHERE,
+    };
+    let is_refused = !(ways.permits)(iface, key);
+    let outgoing = if is_refused {
+        0
+    } else if row.to_core.contains(iface) {
+        1 << REGISTER_VIF
+    } else {
+        let leaving = row.outgoing.iter().filter(|other| *other != iface).filter_map(|other| (ways.vif)(other));
+        leaving.fold(0, |set, vif| set | 1 << vif)
+    };
+    Way { accepted, forwarded: Forwarded { parent, outgoing }, is_refused }
 }
 
 #[derive(Clone, Copy, Debug)]
 pub struct Entry {
     /// As told; `None` where all packets are the router's, and each would be refused.
     pub row: Option<Row>,
-    pub forwarded: Forwarded,
+    /// Where a packet of the source came last, as far as the router heard.
+    pub came_on: Option<u32>,
+    pub way: Way,
+    /// The kernel refused it, so it stands there as it was, or not at all.
+    pub is_unset: bool,
+    /// It stands as it did in a router that was made anew since, which learns again what it needs.
+    pub is_kept: bool,
     /// As the kernel counted last.
     pub used: Option<Used>,
     /// The moment of the last packet of which the router was told, in ms.
@@ -80,6 +121,11 @@ pub struct Entry {
 impl Entry {
     pub fn is_known(&self) -> bool {
         self.row.map_or(false, |row| row.is_known)
+    }
+
+    /// Packets leave by it.
+    pub fn flows(&self) -> bool {
+        self.way.accepted.is_some() && self.way.forwarded.outgoing & !(1 << REGISTER_VIF) != 0
     }
 
     /// How many packets were accepted since the last look, of what the kernel counts now.
@@ -106,9 +152,21 @@ pub struct Notice {
     pub is_core: bool,
 }
 
+/// A row that is told of a source.
+#[derive(Clone, Copy, Debug)]
+pub struct Placed {
+    pub key: Key,
+    pub row: Option<Row>,
+    pub came_on: Option<u32>,
+    /// In ms.
+    pub now: u64,
+}
+
 #[derive(Default)]
 pub struct Plane {
     entries: HashMap<Key, Entry>,
+    /// The groups and sources without a fact.
+    unknown: BTreeSet<(Ipv4Addr, Ipv4Addr)>,
     /// When the kernel's counts were read last, in ms.
     looked_at: u64,
 }
@@ -128,50 +186,118 @@ impl Plane {
 
     /// The sources without a fact that have an entry.
     pub fn unknown(&self) -> Vec<Key> {
-        self.entries.iter().filter(|(_, entry)| !entry.is_known()).map(|(key, _)| *key).collect()
+        self.unknown.iter().map(|(group, source)| Key { source: *source, group: *group }).collect()
     }
 
-    /// A row is told: the kernel's entry is made so.
-    pub fn place(
-        &mut self,
-        cache: &dyn Cache,
-        key: Key,
-        row: Option<Row>,
-        has_vif: &dyn Fn(u32) -> bool,
-        now: u64,
-    ) -> io::Result<()> {
-        let forwarded = forwarded(row.as_ref(), has_vif);
-        match self.entries.get_mut(&key) {
-            Some(entry) => {
-                if entry.forwarded != forwarded {
-                    cache.put(key, forwarded)?;
-                }
-                entry.row = row;
-                entry.forwarded = forwarded;
-            }
-            None => {
-                cache.put(key, forwarded)?;
-                self.entries.insert(key, Entry { row, forwarded, used: None, told: now, came_whole: false });
-            }
+    /// Those of which the router tells nothing, since it is full, or refuses them.
+    pub fn untold(&self) -> Vec<Key> {
+        let is_untold = |key: &Key| self.entries.get(key).map_or(false, |entry| entry.row.is_none());
+        self.unknown().into_iter().filter(is_untold).collect()
+    }
+
+    /// Those of a group.
+    pub fn unknown_of(&self, group: Ipv4Addr) -> Vec<Key> {
+        let places = (group, Ipv4Addr::UNSPECIFIED)..=(group, Ipv4Addr::BROADCAST);
+        self.unknown.range(places).map(|(group, source)| Key { source: *source, group: *group }).collect()
+    }
+
+    /// One of them.
+    pub fn an_unknown(&self) -> Option<Key> {
+        self.unknown.iter().next().map(|(group, source)| Key { source: *source, group: *group })
+    }
+
+    fn list(&mut self, key: Key, row: Option<&Row>) {
+        let place = (key.group, key.source);
+        if row.map_or(false, |row| row.is_known) {
+            self.unknown.remove(&place);
+        } else {
+            self.unknown.insert(place);
+        }
+    }
+
+    /// A row is told, of a source of which a packet may have come on an interface: the kernel's entry is made so.
+    pub fn place<C: Cache + ?Sized>(&mut self, cache: &C, placed: Placed, ways: &Ways) -> io::Result<()> {
+        let Placed { key, row, came_on, now } = placed;
+        self.list(key, row.as_ref());
+        let entry = self.entries.entry(key).or_insert(Entry {
+            row: None,
+            came_on: None,
+            way: NOWHERE,
+            is_unset: true,
+            is_kept: false,
+            used: None,
+            told: now,
+            came_whole: false,
+        });
+        entry.row = row;
+        entry.came_on = came_on.or(entry.came_on);
+        if entry.is_kept {
+            return Ok(());
+        }
+        let before = entry.way.forwarded;
+        entry.way = way(key, entry.row.as_ref(), entry.came_on, ways);
+        if entry.is_unset || entry.way.forwarded != before {
+            entry.is_unset = true;
+            cache.put(key, entry.way.forwarded)?;
+            entry.is_unset = false;
         }
         Ok(())
     }
 
-    pub fn remove(&mut self, cache: &dyn Cache, key: Key) -> io::Result<()> {
+    /// Tries again what the kernel refused. It answers how many it refused again.
+    pub fn set_again<C: Cache + ?Sized>(&mut self, cache: &C) -> usize {
+        let mut left = 0;
+        for (key, entry) in self.entries.iter_mut().filter(|(_, entry)| entry.is_unset) {
+            entry.is_unset = cache.put(*key, entry.way.forwarded).is_err();
+            left += usize::from(entry.is_unset);
+        }
+        left
+    }
+
+    #[cfg(test)]
+    pub fn has_unset(&self) -> bool {
+        self.entries.values().any(|entry| entry.is_unset)
+    }
+
+    pub fn remove<C: Cache + ?Sized>(&mut self, cache: &C, key: Key) -> io::Result<()> {
+        self.unknown.remove(&(key.group, key.source));
         match self.entries.remove(&key) {
             Some(_) => cache.remove(key),
             None => Ok(()),
         }
     }
 
-    /// All entries anew, after virtual interfaces came or went.
-    pub fn place_all(&mut self, cache: &dyn Cache, has_vif: &dyn Fn(u32) -> bool) -> io::Result<()> {
-        let changed = self.entries.iter_mut().map(|(key, entry)| (key, forwarded(entry.row.as_ref(), has_vif), entry));
-        for (key, forwarded, entry) in changed.filter(|(_, forwarded, entry)| entry.forwarded != *forwarded) {
-            cache.put(*key, forwarded)?;
-            entry.forwarded = forwarded;
+    /// All entries anew, after virtual interfaces came or went, or what may be sent changed. The first error is
+    /// answered.
+    pub fn place_all<C: Cache + ?Sized>(&mut self, cache: &C, ways: &Ways) -> io::Result<()> {
+        let mut answer = Ok(());
+        for (key, entry) in self.entries.iter_mut().filter(|(_, entry)| !entry.is_kept) {
+            let before = entry.way.forwarded;
+            entry.way = way(*key, entry.row.as_ref(), entry.came_on, ways);
+            if entry.way.forwarded != before {
+                let put = cache.put(*key, entry.way.forwarded);
+                entry.is_unset = put.is_err();
+                answer = answer.and(put);
+            }
         }
-        Ok(())
+        answer
+    }
+
+    /// The router is made anew, and knows no source: the entries stay as they are, until it has learned again.
+    pub fn keep_all(&mut self) {
+        self.entries.values_mut().for_each(|entry| entry.is_kept = true);
+    }
+
+    /// Those that are kept.
+    pub fn kept(&self) -> Vec<(Key, Entry)> {
+        self.entries.iter().filter(|(_, entry)| entry.is_kept).map(|(key, entry)| (*key, *entry)).collect()
+    }
+
+    /// An entry goes by its row again.
+    pub fn let_go(&mut self, key: Key) {
+        if let Some(entry) = self.entries.get_mut(&key) {
+            entry.is_kept = false;
+        }
     }
 
     /// A packet of the source came up whole, for the router to have it.
@@ -188,7 +314,8 @@ impl Plane {
         }
     }
 
-    /// Whether the router may let a source go by this moment of which the kernel has forwarded packets since the last look.
+    /// Whether the router may let a source go by this moment of which the kernel has forwarded packets since the last
+    /// look.
     pub fn is_overdue(&self, now: u64) -> bool {
         let ends = self.entries.values().filter(|entry| entry.is_known()).map(|entry| entry.told + KEEPALIVE);
         ends.into_iter().any(|end| end > self.looked_at && end <= now)
@@ -206,9 +333,8 @@ impl Plane {
             let (accepted, came_whole) = (entry.accepted_since(it), entry.came_whole);
             entry.used = Some(*it);
             entry.came_whole = false;
-            let iface = u32::from(entry.forwarded.parent);
-            let row = match entry.row {
-                Some(row) if accepted > 0 && entry.forwarded.parent != REGISTER_VIF => row,
+            let (iface, row) = match (entry.way.accepted, entry.row) {
+                (Some(iface), Some(row)) if accepted > 0 && !entry.way.is_refused && !entry.is_kept => (iface, row),
                 _ => continue,
             };
             let is_core = row.to_core.contains(iface);
@@ -226,7 +352,8 @@ impl Plane {
     }
 
     /// After a fault all rows go.
-    pub fn clear(&mut self, cache: &dyn Cache) {
+    pub fn clear<C: Cache + ?Sized>(&mut self, cache: &C) {
+        self.unknown.clear();
         for key in self.entries.drain().map(|(key, _)| key) {
             // The kernel has none where its interface went.
             let _ = cache.remove(key);
@@ -237,20 +364,26 @@ impl Plane {
 #[cfg(test)]
 mod tests {
     use super::*;
-    use std::cell::RefCell;
+    use std::cell::{Cell, RefCell};
     use std::net::Ipv4Addr;
 
     #[derive(Default)]
-    struct Written(RefCell<Vec<(Key, Option<Forwarded>)>>);
+    struct Written {
+        written: RefCell<Vec<(Key, Option<Forwarded>)>>,
+        is_full: Cell<bool>,
+    }
 
     impl Cache for Written {
         fn put(&self, key: Key, forwarded: Forwarded) -> io::Result<()> {
-            self.0.borrow_mut().push((key, Some(forwarded)));
+            if self.is_full.get() {
+                return Err(io::Error::from_raw_os_error(libc::ENOMEM));
+            }
+            self.written.borrow_mut().push((key, Some(forwarded)));
             Ok(())
         }
 
         fn remove(&self, key: Key) -> io::Result<()> {
-            self.0.borrow_mut().push((key, None));
+            self.written.borrow_mut().push((key, None));
             Ok(())
         }
     }
@@ -262,8 +395,16 @@ mod tests {
         Row { is_known: true, incoming, outgoing: set(outgoing), alive: set(alive), to_core: set(to_core) }
     }
 
-    fn all(_: u32) -> bool {
-        true
+    fn ways<'a>() -> Ways<'a> {
+        Ways { vif: &|iface| Some(iface as u16), permits: &|_, _| true }
+    }
+
+    fn to(row: Option<Row>, came_on: Option<u32>, ways: &Ways) -> Forwarded {
+        way(KEY, row.as_ref(), came_on, ways).forwarded
+    }
+
+    fn placed(row: Row, now: u64) -> Placed {
+        Placed { key: KEY, row: Some(row), came_on: None, now }
     }
 
     fn used(packets: u64, stray: u64, idle: u64) -> Used {
@@ -272,49 +413,106 @@ mod tests {
 
     #[test]
     fn copies_leave_but_where_they_came() {
-        let it = forwarded(Some(&row(Some(1), &[0, 1, 4], &[], &[])), &all);
+        let it = to(Some(row(Some(1), &[0, 1, 4], &[], &[])), None, &ways());
         assert_eq!(it, Forwarded { parent: 1, outgoing: 0b10001 });
     }
 
     #[test]
     fn what_is_the_routers_comes_up_whole() {
-        let it = forwarded(Some(&row(Some(1), &[0, 4], &[], &[1])), &all);
+        let it = to(Some(row(Some(1), &[0, 4], &[], &[1])), None, &ways());
         assert_eq!(it, Forwarded { parent: 1, outgoing: 1 << REGISTER_VIF });
-        let strays = forwarded(Some(&row(Some(1), &[0, 4], &[], &[0, 4])), &all);
+        let strays = to(Some(row(Some(1), &[0, 4], &[], &[0, 4])), None, &ways());
         assert_eq!(strays, Forwarded { parent: 1, outgoing: 0b10001 });
     }
 
     #[test]
     fn without_an_incoming_interface_nothing_leaves() {
         let nothing = Forwarded { parent: REGISTER_VIF, outgoing: 0 };
-        assert_eq!(forwarded(Some(&row(None, &[0, 4], &[], &[])), &all), nothing);
-        assert_eq!(forwarded(None, &all), nothing);
-        assert_eq!(forwarded(Some(&row(Some(1), &[0, 4], &[], &[])), &|iface| iface != 1), nothing);
+        assert_eq!(to(Some(row(None, &[0, 4], &[], &[])), Some(1), &ways()), nothing);
+        assert_eq!(to(None, Some(1), &ways()), nothing);
+        let all_but_one = Ways { vif: &|iface| (iface != 1).then_some(iface as u16), ..ways() };
+        assert_eq!(to(Some(row(Some(1), &[0, 4], &[], &[])), None, &all_but_one), nothing);
     }
 
     #[test]
-    fn no_copy_leaves_where_there_is_no_vif() {
-        let it = forwarded(Some(&row(Some(1), &[0, 4, 63], &[], &[])), &|iface| iface < 4);
-        assert_eq!(it, Forwarded { parent: 1, outgoing: 1 });
+    fn what_the_router_waits_for_is_accepted_where_it_comes() {
+        let up = |parent| Forwarded { parent, outgoing: 1 << REGISTER_VIF };
+        let it = row(None, &[], &[], &[1, 3]);
+        assert_eq!(to(Some(it), None, &ways()), up(1));
+        assert_eq!(to(Some(it), Some(3), &ways()), up(3));
+        assert_eq!(to(Some(it), Some(2), &ways()), up(1));
+        let all_but_one = Ways { vif: &|iface| (iface != 1).then_some(iface as u16), ..ways() };
+        assert_eq!(to(Some(it), None, &all_but_one), up(3));
+    }
+
+    #[test]
+    fn what_may_not_be_sent_is_dropped_where_it_comes() {
+        let none = Ways { permits: &|iface, _| iface != 1, ..ways() };
+        assert_eq!(to(Some(row(Some(1), &[0, 4], &[], &[1])), None, &none), Forwarded { parent: 1, outgoing: 0 });
+        assert_eq!(to(Some(row(Some(2), &[0, 4], &[], &[])), None, &none), Forwarded { parent: 2, outgoing: 0b10001 });
+    }
+
+    #[test]
+    fn virtual_interfaces_have_their_own_numbers() {
+        let shifted = Ways { vif: &|iface| (iface < 4).then_some(iface as u16 + 7), ..ways() };
+        let it = to(Some(row(Some(1), &[0, 4, 63], &[], &[])), None, &shifted);
+        assert_eq!(it, Forwarded { parent: 8, outgoing: 1 << 7 });
     }
 
     #[test]
     fn only_a_changed_entry_is_written() {
         let (cache, mut plane) = (Written::default(), Plane::default());
-        let first = row(Some(1), &[0], &[1], &[]);
-        plane.place(&cache, KEY, Some(first), &all, 5).unwrap();
-        plane.place(&cache, KEY, Some(row(Some(1), &[0, 1], &[], &[])), &all, 6).unwrap();
-        plane.place(&cache, KEY, Some(row(Some(1), &[0, 2], &[], &[])), &all, 7).unwrap();
+        plane.place(&cache, placed(row(Some(1), &[0], &[1], &[]), 5), &ways()).unwrap();
+        plane.place(&cache, placed(row(Some(1), &[0, 1], &[], &[]), 6), &ways()).unwrap();
+        plane.place(&cache, placed(row(Some(1), &[0, 2], &[], &[]), 7), &ways()).unwrap();
         plane.remove(&cache, KEY).unwrap();
         plane.remove(&cache, KEY).unwrap();
         let wanted = [Some(Forwarded { parent: 1, outgoing: 1 }), Some(Forwarded { parent: 1, outgoing: 5 }), None];
-        assert_eq!(*cache.0.borrow(), wanted.map(|it| (KEY, it)));
+        assert_eq!(*cache.written.borrow(), wanted.map(|it| (KEY, it)));
+    }
+
+    #[test]
+    fn what_the_kernel_refuses_is_tried_again() {
+        let (cache, mut plane) = (Written::default(), Plane::default());
+        cache.is_full.set(true);
+        assert!(plane.place(&cache, placed(row(Some(1), &[0], &[1], &[]), 5), &ways()).is_err());
+        assert_eq!((plane.has_unset(), plane.set_again(&cache)), (true, 1));
+        cache.is_full.set(false);
+        assert_eq!((plane.set_again(&cache), plane.has_unset()), (0, false));
+        assert_eq!(*cache.written.borrow(), [(KEY, Some(Forwarded { parent: 1, outgoing: 1 }))]);
+    }
+
+    #[test]
+    fn kept_entries_stay_until_they_are_let_go() {
+        let (cache, mut plane) = (Written::default(), Plane::default());
+        plane.place(&cache, placed(row(Some(1), &[0], &[1], &[]), 5), &ways()).unwrap();
+        plane.keep_all();
+        plane.place(&cache, placed(row(Some(1), &[], &[1], &[]), 6), &ways()).unwrap();
+        plane.place_all(&cache, &ways()).unwrap();
+        assert_eq!(cache.written.borrow().len(), 1);
+        plane.let_go(KEY);
+        plane.place_all(&cache, &ways()).unwrap();
+        assert_eq!(cache.written.borrow()[1], (KEY, Some(Forwarded { parent: 1, outgoing: 0 })));
+    }
+
+    #[test]
+    fn the_unknown_are_found_by_their_group() {
+        let (cache, mut plane) = (Written::default(), Plane::default());
+        let other = Key { group: Ipv4Addr::new(239, 1, 1, 2), ..KEY };
+        for key in [KEY, other] {
+            let row = Row { is_known: false, ..row(Some(1), &[0], &[], &[]) };
+            plane.place(&cache, Placed { key, ..placed(row, 5) }, &ways()).unwrap();
+        }
+        assert_eq!((plane.unknown(), plane.unknown_of(other.group)), (vec![KEY, other], vec![other]));
+        plane.place(&cache, placed(row(Some(1), &[0], &[], &[]), 6), &ways()).unwrap();
+        plane.remove(&cache, other).unwrap();
+        assert_eq!(plane.an_unknown(), None);
     }
 
     #[test]
     fn accepted_packets_are_told_with_their_moment() {
         let (cache, mut plane) = (Written::default(), Plane::default());
-        plane.place(&cache, KEY, Some(row(Some(1), &[0], &[1], &[])), &all, 0).unwrap();
+        plane.place(&cache, placed(row(Some(1), &[0], &[1], &[]), 0), &ways()).unwrap();
         let notice = Notice { key: KEY, iface: 1, moment: 9_700, is_core: false };
         assert_eq!(plane.looked(&[used(5, 1, 300)], 10_000), [notice]);
         // Only a stray came since.
@@ -326,23 +524,26 @@ mod tests {
     #[test]
     fn what_shows_nothing_alive_is_not_told() {
         let (cache, mut plane) = (Written::default(), Plane::default());
-        plane.place(&cache, KEY, Some(row(Some(1), &[0], &[2], &[])), &all, 0).unwrap();
+        plane.place(&cache, placed(row(Some(1), &[0], &[2], &[]), 0), &ways()).unwrap();
         assert!(plane.looked(&[used(5, 0, 0)], 10_000).is_empty());
     }
 
     #[test]
     fn what_came_up_whole_is_not_told_again() {
         let (cache, mut plane) = (Written::default(), Plane::default());
-        plane.place(&cache, KEY, Some(row(Some(1), &[0], &[1], &[1])), &all, 0).unwrap();
+        plane.place(&cache, placed(row(Some(1), &[0], &[1], &[1]), 0), &ways()).unwrap();
         plane.came_whole(KEY);
         assert!(plane.looked(&[used(5, 0, 0)], 10_000).is_empty());
-        assert_eq!(plane.looked(&[used(7, 0, 0)], 20_000), [Notice { key: KEY, iface: 1, moment: 20_000, is_core: true }]);
+        assert_eq!(
+            plane.looked(&[used(7, 0, 0)], 20_000),
+            [Notice { key: KEY, iface: 1, moment: 20_000, is_core: true }]
+        );
     }
 
     #[test]
     fn a_source_is_overdue_after_its_time() {
         let (cache, mut plane) = (Written::default(), Plane::default());
-        plane.place(&cache, KEY, Some(row(Some(1), &[0], &[1], &[])), &all, 1_000).unwrap();
+        plane.place(&cache, placed(row(Some(1), &[0], &[1], &[]), 1_000), &ways()).unwrap();
         assert!(!plane.is_overdue(210_999));
         assert!(plane.is_overdue(211_000));
         plane.told(KEY, 1_001);

@@ -1,7 +1,8 @@
 //! The interfaces of the router, and what the kernel has of them.
 use crate::netlink::{Change, Link};
-use crate::settings::{not_a_host, InterfaceSettings, Settings, Subnet, LOOPBACK};
+use crate::settings::{not_a_host, InterfaceSettings, Subnet};
 use std::collections::HashMap;
+use std::net::Ipv4Addr;
 
 /// Links and addresses as the kernel has them.
 #[derive(Clone, Debug, Default)]
@@ -34,7 +35,9 @@ impl Machine {
                     known.push(*subnet);
                 }
             }
-            Change::AddressGone { index, subnet } => self.addresses.entry(*index).or_default().retain(|known| known != subnet),
+            Change::AddressGone { index, subnet } => {
+                self.addresses.entry(*index).or_default().retain(|known| known != subnet)
+            }
             Change::Routes | Change::Lost => {}
         }
     }
@@ -45,6 +48,12 @@ impl Machine {
 
     pub fn addresses(&self, index: u32) -> &[Subnet] {
         self.addresses.get(&index).map_or(&[], Vec::as_slice)
+    }
+
+    /// The interface that has an address.
+    pub fn index_of(&self, address: Ipv4Addr) -> Option<u32> {
+        let has = |subnets: &[Subnet]| subnets.iter().any(|subnet| subnet.address == address);
+        self.addresses.iter().find(|(_, subnets)| has(subnets)).map(|(index, _)| *index)
     }
 
     /// The first address of an interface on which the router could be.
@@ -80,88 +89,143 @@ pub struct Passed {
     pub not_sent: u64,
 }
 
-/// An interface of the router.
+/// An interface of the router. Its number stays as long as the daemon runs.
 #[derive(Clone, Debug)]
 pub struct Port {
     pub number: u32,
     pub settings: InterfaceSettings,
-    /// With which the router was made: it stays.
-    pub subnet: Subnet,
+    /// With which the library's router was made; none where there was no address that could be taken.
+    pub subnet: Option<Subnet>,
     /// The kernel's number, where it has the interface.
     pub index: Option<u32>,
+    /// The kernel's virtual interface for multicast; the loopback interface takes none.
+    pub vif: Option<u16>,
     pub is_loopback: bool,
-    pub has_vif: bool,
+    /// The file hasn't it any more.
+    pub is_removed: bool,
     pub standing: Standing,
     /// The last Hello that left.
     pub hello: Option<Vec<u8>>,
     pub passed: Passed,
 }
 
+/// Interface number n has it in the library while it has no address: 0.1.n.0/30, which no link can have.
+fn placeholder(number: u32) -> Subnet {
+    Subnet { address: (0x0001_0001 | number << 8).into(), length: 30 }
+}
+
 impl Port {
+    fn new(number: u32, settings: &InterfaceSettings) -> Port {
+        Port {
+            number,
+            settings: settings.clone(),
+            subnet: None,
+            index: None,
+            vif: None,
+            is_loopback: false,
+            is_removed: false,
+            standing: Standing::Down("it hasn't come up yet".to_string()),
+            hello: None,
+            passed: Passed::default(),
+        }
+    }
+
+    pub fn address(&self) -> Option<Ipv4Addr> {
+        self.subnet.map(|subnet| subnet.address)
+    }
+
     /// As the router is told: it wants a subnet with room for a neighbour.
-    pub fn told(&self) -> pim::Interface {
-        pim::Interface {
-            address: self.subnet.address.into(),
-            length: u32::from(self.subnet.length.min(31)),
+    pub fn told(&self) -> viqeshor::Interface {
+        let subnet = self.told_subnet();
+        viqeshor::Interface {
+            address: subnet.address.into(),
+            length: u32::from(subnet.length),
             priority: self.settings.priority,
             propagation_delay: self.settings.propagation,
             override_interval: self.settings.override_interval,
         }
     }
 
+    pub fn told_subnet(&self) -> Subnet {
+        let subnet = self.subnet.unwrap_or_else(|| placeholder(self.number));
+        Subnet { length: subnet.length.min(31), ..subnet }
+    }
+
+    /// The address that it is to have: the file's, else the one that it has, else the first one of the kernel.
+    fn wanted(&self, machine: &Machine) -> Option<Subnet> {
+        if self.is_removed {
+            return None;
+        }
+        let has = |subnet: &Subnet| {
+            machine.link(&self.settings.name).map_or(false, |link| machine.addresses(link.index).contains(subnet))
+        };
+        let kept = self.subnet.filter(has);
+        self.settings.address.or(kept).or_else(|| machine.first_address(&self.settings.name)).or(self.subnet)
+    }
+
     /// What the kernel has of it now.
     pub fn standing_in(&self, machine: &Machine) -> (Option<u32>, Standing) {
-        let down = |why: String| Standing::Down(why);
-        match machine.link(&self.settings.name) {
-            None => (None, down("there is no such interface".to_string())),
-            Some(link) if !link.is_running && !link.is_loopback => (Some(link.index), down("the link is down".to_string())),
-            Some(link) if !machine.addresses(link.index).contains(&self.subnet) => {
-                let others: Vec<_> = machine.addresses(link.index).iter().map(Subnet::to_string).collect();
-                let others = if others.is_empty() { "none".to_string() } else { others.join(", ") };
-                let why = format!(
-                    "it hasn't the address {} any more (it has {others}); another one is taken by a restart",
-                    self.subnet
-                );
-                (Some(link.index), down(why))
+        let link = machine.link(&self.settings.name).filter(|_| !self.is_removed);
+        let why = match (link, self.subnet) {
+            _ if self.is_removed => "the file hasn't it any more".to_string(),
+            (None, _) => "there is no such interface".to_string(),
+            (Some(link), _) if !link.is_running && !link.is_loopback => "the link is down".to_string(),
+            (Some(link), Some(subnet)) if machine.addresses(link.index).contains(&subnet) => {
+                return (Some(link.index), Standing::Up);
             }
-            Some(link) => (Some(link.index), Standing::Up),
+            (Some(link), subnet) => lacking(subnet.or(self.settings.address), machine.addresses(link.index)),
+        };
+        (link.map(|link| link.index), Standing::Down(why))
+    }
+}
+
+/// What an interface lacks whose address the kernel hasn't.
+fn lacking(wanted: Option<Subnet>, has: &[Subnet]) -> String {
+    let others: Vec<_> = has.iter().map(Subnet::to_string).collect();
+    let others = if others.is_empty() { "none".to_string() } else { others.join(", ") };
+    match wanted {
+        Some(subnet) => format!("it hasn't the address {subnet} (it has {others})"),
+        None => format!("it has no IPv4 address that can be taken (it has {others})"),
+    }
+}
+
+/// Puts the interfaces of the settings into the list of those that there are: each keeps its number.
+pub fn take_settings(ports: &mut Vec<Port>, settings: &[InterfaceSettings]) {
+    for port in ports.iter_mut() {
+        let found = settings.iter().find(|interface| interface.name == port.settings.name);
+        port.is_removed = found.is_none();
+        if let Some(interface) = found {
+            port.settings = interface.clone();
+        }
+    }
+    for interface in settings {
+        if !ports.iter().any(|port| port.settings.name == interface.name) {
+            ports.push(Port::new(ports.len() as u32, interface));
         }
     }
 }
 
-/// The ports of the settings, and what is to be said of those left out.
-pub fn made(settings: &Settings, machine: &Machine) -> (Vec<Port>, Vec<String>) {
-    let (mut ports, mut left_out) = (Vec::new(), Vec::new());
-    // What has no virtual interface comes last, so that the numbers of the others are those of their virtual ones.
-    let mut ordered: Vec<_> = settings.interfaces.iter().collect();
-    ordered.sort_by_key(|interface| interface.name == LOOPBACK);
-    for interface in ordered {
-        let subnet = match interface.address.or_else(|| machine.first_address(&interface.name)) {
-            Some(subnet) => subnet,
-            None => {
-                left_out.push(format!(
-                    "{} is left out: the kernel has no IPv4 address of it, nor has the file (line {})",
-                    interface.name, interface.line
-                ));
-                continue;
-            }
+/// The address that each interface is to have in a router that is made anew, and what is to be said of overlaps.
+pub fn addresses(ports: &[Port], machine: &Machine) -> (Vec<Option<Subnet>>, Vec<String>) {
+    let (mut found, mut said): (Vec<Option<Subnet>>, Vec<String>) = (Vec::new(), Vec::new());
+    for port in ports {
+        let wanted = port.wanted(machine);
+        let overlaps = |other: &Option<Subnet>| match (wanted, other) {
+            (Some(mine), Some(theirs)) => mine.overlaps(*theirs),
+            _ => false,
         };
-        let standing = Standing::Down("it hasn't come up yet".to_string());
-        let is_loopback = machine.link(&interface.name).map_or(false, |link| link.is_loopback);
-        let number = ports.len() as u32;
-        ports.push(Port {
-            number,
-            settings: interface.clone(),
-            subnet,
-            index: None,
-            is_loopback,
-            has_vif: false,
-            standing,
-            hello: None,
-            passed: Passed::default(),
-        });
+        match found.iter().position(overlaps) {
+            Some(at) => {
+                let (name, other) = (&port.settings.name, &ports[at].settings.name);
+                said.push(format!(
+                    "the subnets of {other} and {name} overlap: {name} has no address that can be taken"
+                ));
+                found.push(None);
+            }
+            None => found.push(wanted),
+        }
     }
-    (ports, left_out)
+    (found, said)
 }
 
 #[cfg(test)]
@@ -170,7 +234,7 @@ mod tests {
     use crate::settings;
 
     fn link(index: u32, name: &str, is_running: bool) -> Link {
-        Link { index, name: name.to_string(), is_running, is_loopback: name == "lo" }
+        Link { index, name: name.to_string(), mtu: 1500, is_running, is_loopback: name == "lo" }
     }
 
     fn subnet(text: &str) -> Subnet {
@@ -184,42 +248,85 @@ mod tests {
         Machine::new(links, addresses.map(|(index, text)| (index, subnet(text))).to_vec())
     }
 
-    fn ports() -> (Vec<Port>, Vec<String>) {
-        let text = "[[interface]]\nname = \"eth0\"\n[[interface]]\nname = \"eth1\"\n[[interface]]\nname = \"lo\"\n\
-            [[interface]]\nname = \"eth7\"\naddress = \"10.7.0.1/24\"\n";
-        made(&settings::read(text).unwrap(), &machine())
+    fn settings_of(names: &[&str]) -> Vec<InterfaceSettings> {
+        let text: String = names.iter().map(|name| format!("[[interface]]\nname = \"{name}\"\n")).collect();
+        settings::read(&text).unwrap().interfaces
+    }
+
+    fn ports(names: &[&str]) -> Vec<Port> {
+        let mut ports = Vec::new();
+        take_settings(&mut ports, &settings_of(names));
+        let (found, _) = addresses(&ports, &machine());
+        ports.iter_mut().zip(found).for_each(|(port, subnet)| port.subnet = subnet);
+        ports
     }
 
     #[test]
-    fn each_has_the_first_address_or_is_left_out() {
-        let (ports, left_out) = ports();
-        let found: Vec<_> = ports
+    fn each_has_the_first_address_or_a_number_alone() {
+        let found: Vec<_> = ports(&["eth0", "eth1", "lo", "eth7"])
             .iter()
-            .map(|port| (port.number, port.settings.name.as_str(), port.subnet.to_string(), port.told().length))
+            .map(|port| (port.number, port.subnet.map(|it| it.to_string()), port.told_subnet().to_string()))
             .collect();
-        let wanted = [(0, "eth0", "10.0.0.1/24", 24), (1, "eth7", "10.7.0.1/24", 24), (2, "lo", "10.255.0.1/32", 31)];
-        assert_eq!(found, wanted.map(|(number, name, subnet, length)| (number, name, subnet.to_string(), length)));
-        assert_eq!(left_out, ["eth1 is left out: the kernel has no IPv4 address of it, nor has the file (line 4)"]);
+        let some = |text: &str| Some(text.to_string());
+        let wanted = [
+            (0, some("10.0.0.1/24"), "10.0.0.1/24"),
+            (1, None, "0.1.1.1/30"),
+            (2, some("10.255.0.1/32"), "10.255.0.1/31"),
+            (3, None, "0.1.3.1/30"),
+        ];
+        assert_eq!(found, wanted.map(|(number, subnet, told)| (number, subnet, told.to_string())));
     }
 
     #[test]
     fn a_port_follows_its_link() {
-        let (mut machine, port) = (machine(), ports().0.remove(0));
+        let (mut machine, port) = (machine(), ports(&["eth0"]).remove(0));
+        let down = |why: &str| Standing::Down(why.to_string());
         assert_eq!(port.standing_in(&machine), (Some(2), Standing::Up));
         machine.take(&Change::Link(link(2, "eth0", false)));
-        assert_eq!(port.standing_in(&machine), (Some(2), Standing::Down("the link is down".to_string())));
+        assert_eq!(port.standing_in(&machine), (Some(2), down("the link is down")));
         machine.take(&Change::LinkGone(2));
-        assert_eq!(port.standing_in(&machine), (None, Standing::Down("there is no such interface".to_string())));
+        assert_eq!(port.standing_in(&machine), (None, down("there is no such interface")));
+        assert_eq!(addresses(std::slice::from_ref(&port), &machine).0, [port.subnet]);
         machine.take(&Change::Link(link(9, "eth0", true)));
-        machine.take(&Change::Address { index: 9, subnet: port.subnet });
+        machine.take(&Change::Address { index: 9, subnet: subnet("10.0.0.1/24") });
         assert_eq!(port.standing_in(&machine), (Some(9), Standing::Up));
     }
 
     #[test]
-    fn another_address_is_down() {
-        let (mut machine, port) = (machine(), ports().0.remove(0));
-        machine.take(&Change::AddressGone { index: 2, subnet: port.subnet });
-        let why = "it hasn't the address 10.0.0.1/24 any more (it has 10.0.9.1/24); another one is taken by a restart";
+    fn another_address_is_taken_where_the_file_has_none() {
+        let (mut machine, mut port) = (machine(), ports(&["eth0"]).remove(0));
+        machine.take(&Change::AddressGone { index: 2, subnet: subnet("10.0.0.1/24") });
+        let why = "it hasn't the address 10.0.0.1/24 (it has 10.0.9.1/24)";
         assert_eq!(port.standing_in(&machine), (Some(2), Standing::Down(why.to_string())));
+        assert_eq!(addresses(std::slice::from_ref(&port), &machine).0, [Some(subnet("10.0.9.1/24"))]);
+        port.settings.address = port.subnet;
+        assert_eq!(addresses(std::slice::from_ref(&port), &machine).0, [port.subnet]);
+    }
+
+    #[test]
+    fn an_address_that_comes_late_is_taken() {
+        let (mut machine, port) = (machine(), ports(&["eth1"]).remove(0));
+        let why = "it has no IPv4 address that can be taken (it has none)";
+        assert_eq!(port.standing_in(&machine), (Some(3), Standing::Down(why.to_string())));
+        machine.take(&Change::Address { index: 3, subnet: subnet("10.3.0.1/24") });
+        assert_eq!(addresses(&[port], &machine).0, [Some(subnet("10.3.0.1/24"))]);
+    }
+
+    #[test]
+    fn an_overlap_costs_the_later_one() {
+        let mut machine = machine();
+        machine.take(&Change::Address { index: 3, subnet: subnet("10.0.0.9/25") });
+        let (found, said) = addresses(&ports(&["eth0", "eth1"]), &machine);
+        assert_eq!(found, [Some(subnet("10.0.0.1/24")), None]);
+        assert_eq!(said, ["the subnets of eth0 and eth1 overlap: eth1 has no address that can be taken"]);
+    }
+
+    #[test]
+    fn numbers_stay_when_the_file_changes() {
+        let mut ports = ports(&["eth0", "eth1"]);
+        take_settings(&mut ports, &settings_of(&["eth7", "eth1"]));
+        let found: Vec<_> =
+            ports.iter().map(|port| (port.number, port.settings.name.as_str(), port.is_removed)).collect();
+        assert_eq!(found, [(0, "eth0", true), (1, "eth1", false), (2, "eth7", false)]);
     }
 }

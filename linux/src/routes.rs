@@ -1,10 +1,10 @@
 //! Of the kernel's unicast routes those that the router is told.
 //!
-//! The router knows routes by a next hop on an interface of its own, and the subnets of its interfaces. Whatever else the kernel
-//! has for a prefix (a blackhole, an interface that isn't the router's, another subnet on a link, a next hop in IPv6) is a hole:
-//! there a shorter route has to end, so it is told as the prefixes around the hole.
+//! The router knows routes by a next hop on an interface of its own, and the subnets of its interfaces. Whatever else
+//! the kernel has for a prefix (a blackhole, an interface that isn't the router's, another subnet on a link, a next
+//! hop in IPv6) is a hole: there a shorter route has to end, so it is told as the prefixes around the hole.
 use crate::settings::{mask, RouteSettings, Subnet};
-use pim::Route;
+use viqeshor::Route;
 use std::collections::HashMap;
 
 pub const MOST_ROUTES: usize = 100_000;
@@ -96,7 +96,8 @@ pub fn taken(kernel: &[KernelRoute], ours: &Ours, settings: &RouteSettings) -> (
 /// `None` for a subnet of the router's own.
 fn entry(route: &KernelRoute, ours: &Ours, settings: &RouteSettings, counts: &mut Counts) -> Option<Entry> {
     let hole = Entry { prefix: route.prefix, length: route.length, route: None };
-    let is_own_subnet = ours.subnets.iter().any(|subnet| (subnet.prefix(), subnet.length) == (route.prefix, route.length));
+    let is_own_subnet =
+        ours.subnets.iter().any(|subnet| (subnet.prefix(), subnet.length) == (route.prefix, route.length));
     let is_on_link = |hop: &Hop| hop.gateway.is_none() && ours.numbers.contains_key(&hop.index);
     if is_own_subnet && route.kind == Kind::Unicast && route.hops.iter().all(is_on_link) {
         counts.own_subnets += 1;
@@ -121,8 +122,14 @@ fn entry(route: &KernelRoute, ours: &Ours, settings: &RouteSettings, counts: &mu
             counts.by_next_hop += 1;
             counts.multipath += usize::from(route.hops.len() > 1);
             let preference = settings.preference_of(route.protocol);
-            let told =
-                Route { prefix: route.prefix, length: route.length.into(), next_hop, iface, preference, metric: route.metric };
+            let told = Route {
+                prefix: route.prefix.into(),
+                length: route.length.into(),
+                next_hop: next_hop.into(),
+                iface,
+                preference,
+                metric: route.metric,
+            };
             Some(Entry { route: Some(told), ..hole })
         }
     }
@@ -134,7 +141,7 @@ fn around(prefix: u32, length: u8, covering: Option<Route>, entries: &[Entry], t
         Some((first, rest)) if (first.prefix, first.length) == (prefix, length) => (first.route, rest),
         _ => (covering, entries),
     };
-    let here = covering.map(|route| Route { prefix, length: length.into(), ..route });
+    let here = covering.map(|route| Route { prefix: prefix.into(), length: length.into(), ..route });
     if here.is_none() || !inner.iter().any(Entry::is_hole) {
         told.extend(here);
         match here {
@@ -162,8 +169,8 @@ fn each_alone(entries: &[Entry], told: &mut Vec<Route>) {
 
 /// The longest match among told routes, as (next hop, interface).
 pub fn longest(routes: &[Route], address: u32) -> Option<(u32, u32)> {
-    let fits = |route: &&Route| address & mask(route.length as u8) == route.prefix;
-    routes.iter().filter(fits).max_by_key(|route| route.length).map(|route| (route.next_hop, route.iface))
+    let fits = |route: &&Route| address & mask(route.length as u8) == u32::from(route.prefix);
+    routes.iter().filter(fits).max_by_key(|route| route.length).map(|route| (u32::from(route.next_hop), route.iface))
 }
 
 #[cfg(test)]
@@ -178,7 +185,10 @@ mod tests {
 
     fn ours() -> Ours {
         let subnet = |address: &str| Subnet { address: address.parse().unwrap(), length: 24 };
-        Ours { numbers: [(11, 0), (12, 1)].into_iter().collect(), subnets: vec![subnet("10.0.0.1"), subnet("10.0.1.1")] }
+        Ours {
+            numbers: [(11, 0), (12, 1)].into_iter().collect(),
+            subnets: vec![subnet("10.0.0.1"), subnet("10.0.1.1")],
+        }
     }
 
     fn settings() -> RouteSettings {
@@ -209,7 +219,13 @@ mod tests {
 
     fn told(routes: &[KernelRoute]) -> Vec<String> {
         let words = |route: Route| {
-            format!("{}/{} {} {}", Ipv4Addr::from(route.prefix), route.length, Ipv4Addr::from(route.next_hop), route.iface)
+            format!(
+                "{}/{} {} {}",
+                Ipv4Addr::from(route.prefix),
+                route.length,
+                Ipv4Addr::from(route.next_hop),
+                route.iface
+            )
         };
         taken(routes, &ours(), &settings()).0.into_iter().map(words).collect()
     }
@@ -219,8 +235,14 @@ mod tests {
         let mut fixed = kernel("10.9.0.0/16", &[("10.0.1.2", 12)]);
         fixed.protocol = 4;
         let (routes, counts) = taken(&[fixed], &ours(), &settings());
-        let wanted =
-            Route { prefix: number("10.9.0.0"), length: 16, next_hop: number("10.0.1.2"), iface: 1, preference: 1, metric: 20 };
+        let wanted = Route {
+            prefix: number("10.9.0.0").into(),
+            length: 16,
+            next_hop: number("10.0.1.2").into(),
+            iface: 1,
+            preference: 1,
+            metric: 20,
+        };
         assert_eq!((routes, counts), (vec![wanted], Counts { by_next_hop: 1, ..Counts::default() }));
     }
 
@@ -240,12 +262,13 @@ mod tests {
     fn the_lowest_metric_is_taken() {
         let worse = KernelRoute { metric: 30, ..kernel("10.9.0.0/16", &[("10.0.0.9", 11)]) };
         let (routes, counts) = taken(&[worse, kernel("10.9.0.0/16", &[("10.0.0.2", 11)])], &ours(), &settings());
-        assert_eq!((routes[0].next_hop, routes.len(), counts.higher_metric), (number("10.0.0.2"), 1, 1));
+        assert_eq!((u32::from(routes[0].next_hop), routes.len(), counts.higher_metric), (number("10.0.0.2"), 1, 1));
     }
 
     #[test]
     fn of_several_the_highest_living_hop_of_ours() {
-        let mut several = kernel("10.9.0.0/16", &[("10.0.0.2", 11), ("10.0.0.7", 11), ("10.0.1.9", 12), ("10.8.0.1", 99)]);
+        let mut several =
+            kernel("10.9.0.0/16", &[("10.0.0.2", 11), ("10.0.0.7", 11), ("10.0.1.9", 12), ("10.8.0.1", 99)]);
         several.hops[2].is_dead = true;
         assert_eq!(told(&[several]), ["10.9.0.0/16 10.0.0.7 0"]);
     }
@@ -260,15 +283,21 @@ mod tests {
 
     #[test]
     fn a_route_within_a_hole_stands() {
-        let routes =
-            [kernel("10.8.0.0/15", &[("10.0.0.2", 11)]), hole("10.8.0.0/16"), kernel("10.8.1.0/24", &[("10.0.1.2", 12)])];
+        let routes = [
+            kernel("10.8.0.0/15", &[("10.0.0.2", 11)]),
+            hole("10.8.0.0/16"),
+            kernel("10.8.1.0/24", &[("10.0.1.2", 12)]),
+        ];
         assert_eq!(told(&routes), ["10.8.1.0/24 10.0.1.2 1", "10.9.0.0/16 10.0.0.2 0"]);
     }
 
     #[test]
     fn a_hole_within_a_route_that_nothing_covers() {
-        let routes =
-            [kernel("10.8.0.0/16", &[("10.0.0.2", 11)]), hole("10.8.0.0/17"), kernel("172.16.0.0/12", &[("10.0.0.3", 11)])];
+        let routes = [
+            kernel("10.8.0.0/16", &[("10.0.0.2", 11)]),
+            hole("10.8.0.0/17"),
+            kernel("172.16.0.0/12", &[("10.0.0.3", 11)]),
+        ];
         assert_eq!(told(&routes), ["10.8.128.0/17 10.0.0.2 0", "172.16.0.0/12 10.0.0.3 0"]);
     }
 
@@ -291,13 +320,18 @@ mod tests {
                     is_dead: false,
                 };
                 let kind = if draw(3) == 0 { Kind::Refusing } else { Kind::Unicast };
-                routes.insert((prefix, length), KernelRoute { prefix, length, kind, metric: 1, protocol: 4, hops: vec![hop] });
+                routes.insert(
+                    (prefix, length),
+                    KernelRoute { prefix, length, kind, metric: 1, protocol: 4, hops: vec![hop] },
+                );
             }
             let all: Vec<_> = routes.values().cloned().collect();
             let told = taken(&all, &Ours { subnets: Vec::new(), ..ours() }, &settings()).0;
             for top in 0..256u32 {
-                let best =
-                    all.iter().filter(|route| (top << 24) & mask(route.length) == route.prefix).max_by_key(|route| route.length);
+                let best = all
+                    .iter()
+                    .filter(|route| (top << 24) & mask(route.length) == route.prefix)
+                    .max_by_key(|route| route.length);
                 let wanted = best
                     .filter(|route| route.kind == Kind::Unicast && route.hops[0].index == 11)
                     .map(|route| (route.hops[0].gateway.unwrap(), 0));

@@ -1,5 +1,9 @@
 //! The file of settings, read and checked: each problem has its line and a reason.
-use crate::log::Level;
+use crate::log::LEVELS;
+use crate::policy::lists::{
+    reserve, InterfacePolicy, List, PolicySettings, Rule, UsualQuotas, MOST_NEIGHBOURS, USUAL_NEIGHBOURS, USUAL_SOURCES,
+};
+use log::LevelFilter;
 use serde::Deserialize;
 use std::collections::{BTreeMap, HashSet};
 use std::fmt;
@@ -12,6 +16,7 @@ pub const MOST_INTERFACES: usize = 31;
 /// It takes no virtual interface.
 pub const LOOPBACK: &str = "lo";
 const MOST_RANGES: usize = 256;
+const ALL_GROUPS: Ipv4Addr = Ipv4Addr::new(224, 0, 0, 0);
 pub const USUAL_SOCKET: &str = "/run/viqeshord/control";
 /// By the names of the kernel's route protocols; `static` is also FRR's.
 const PROTOCOLS: [(&str, &[u8]); 12] = [
@@ -88,6 +93,7 @@ pub struct InterfaceSettings {
     pub propagation: u32,
     /// In ms.
     pub override_interval: u32,
+    pub policy: InterfacePolicy,
     /// Where it stands in the file.
     pub line: usize,
 }
@@ -126,8 +132,9 @@ pub struct Settings {
     pub last_member_query: u32,
     pub interfaces: Vec<InterfaceSettings>,
     pub rps: Vec<RpSettings>,
+    pub policy: PolicySettings,
     pub routes: RouteSettings,
-    pub level: Level,
+    pub level: LevelFilter,
     pub socket: PathBuf,
 }
 
@@ -146,6 +153,8 @@ struct File {
     #[serde(default)]
     igmp: IgmpTable,
     #[serde(default)]
+    policy: PolicyTable,
+    #[serde(default)]
     routes: RoutesTable,
     #[serde(default)]
     interface: Vec<InterfaceTable>,
@@ -160,6 +169,30 @@ struct IgmpTable {
     query_interval: Whole,
     query_response: Option<Spanned<f64>>,
     last_member_query: Option<Spanned<f64>>,
+}
+
+/// A rule of a list.
+#[derive(Deserialize, Clone)]
+#[serde(deny_unknown_fields)]
+struct RuleTable {
+    groups: Text,
+    sources: Text,
+    permit: Option<bool>,
+}
+
+/// What is usual on the interfaces, and what is of none.
+#[derive(Deserialize, Default)]
+#[serde(deny_unknown_fields)]
+struct PolicyTable {
+    join: Option<Vec<RuleTable>>,
+    send: Option<Vec<RuleTable>>,
+    register: Option<Vec<RuleTable>>,
+    max_neighbors: Whole,
+    max_groups: Whole,
+    max_sources: Whole,
+    max_joins: Whole,
+    max_streams: Whole,
+    max_registered: Whole,
 }
 
 #[derive(Deserialize, Default)]
@@ -180,6 +213,15 @@ struct InterfaceTable {
     propagation: Whole,
     #[serde(rename = "override")]
     override_interval: Whole,
+    passive: Option<bool>,
+    neighbors: Option<Vec<Spanned<String>>>,
+    join: Option<Vec<RuleTable>>,
+    send: Option<Vec<RuleTable>>,
+    max_neighbors: Whole,
+    max_groups: Whole,
+    max_sources: Whole,
+    max_joins: Whole,
+    max_streams: Whole,
 }
 
 #[derive(Deserialize)]
@@ -244,7 +286,10 @@ impl Check<'_> {
             Some((_, choice)) => *choice,
             None => {
                 let words: Vec<_> = choices.iter().map(|(word, _)| format!("\"{word}\"")).collect();
-                self.wrong(value.start(), format!("{name} is \"{}\"; it is to be {}", value.get_ref(), words.join(" or ")));
+                self.wrong(
+                    value.start(),
+                    format!("{name} is \"{}\"; it is to be {}", value.get_ref(), words.join(" or ")),
+                );
                 choices[0].1
             }
         }
@@ -258,7 +303,10 @@ impl Check<'_> {
             _ => {
                 self.wrong(
                     given.start(),
-                    format!("{what} \"{}\" isn't an IPv4 address with a prefix length, as 10.0.0.1/24", given.get_ref()),
+                    format!(
+                        "{what} \"{}\" isn't an IPv4 address with a prefix length, as 10.0.0.1/24",
+                        given.get_ref()
+                    ),
                 );
                 None
             }
@@ -273,7 +321,80 @@ impl Check<'_> {
         read
     }
 
-    fn interface(&mut self, table: &InterfaceTable) -> InterfaceSettings {
+    fn rule(&mut self, table: &RuleTable) -> Option<Rule> {
+        let all = Subnet { address: ALL_GROUPS, length: 4 };
+        let groups = match &table.groups {
+            Some(given) => self.subnet(given, "the groups").filter(|groups| self.are_groups(given, *groups))?,
+            None => all,
+        };
+        let sources = match &table.sources {
+            Some(given) => Some(self.subnet(given, "the sources")?),
+            None => None,
+        };
+        Some(Rule { permits: table.permit.unwrap_or(true), groups, sources })
+    }
+
+    /// The interface's own list, or the one of all.
+    fn list(&mut self, own: &Option<Vec<RuleTable>>, usual: &Option<Vec<RuleTable>>) -> List {
+        let given = own.as_ref().or(usual.as_ref());
+        List(given.map(|tables| tables.iter().filter_map(|table| self.rule(table)).collect()))
+    }
+
+    fn quota(&mut self, name: &str, own: &Whole, of_all: &Whole, usual: u32, most: u32) -> u32 {
+        let of_all = self.within(name, of_all, usual, 0, most);
+        self.within(name, own, of_all, 0, most)
+    }
+
+    fn policy(&mut self, own: &InterfaceTable, of_all: &PolicyTable, usual: &UsualQuotas) -> InterfacePolicy {
+        let neighbours = own.neighbors.as_ref().map(|list| {
+            let subnets = list.iter().map(|given| match given.get_ref().contains('/') {
+                true => self.subnet(given, "the neighbors"),
+                false => self.host(given, "the neighbor").map(|address| Subnet { address, length: 32 }),
+            });
+            subnets.flatten().collect()
+        });
+        const MOST: u32 = 1_000_000;
+        InterfacePolicy {
+            is_passive: own.passive.unwrap_or(false),
+            neighbours,
+            join: self.list(&own.join, &of_all.join),
+            send: self.list(&own.send, &of_all.send),
+            max_neighbours: self.max_neighbours(own, of_all),
+            max_groups: self.quota("max_groups", &own.max_groups, &of_all.max_groups, usual.max_groups, MOST),
+            max_sources: self.quota("max_sources", &own.max_sources, &of_all.max_sources, USUAL_SOURCES, MOST),
+            max_joins: self.quota("max_joins", &own.max_joins, &of_all.max_joins, usual.max_joins, MOST),
+            max_streams: self.quota("max_streams", &own.max_streams, &of_all.max_streams, usual.max_streams, MOST),
+        }
+    }
+
+    fn max_neighbours(&mut self, own: &InterfaceTable, of_all: &PolicyTable) -> u32 {
+        self.quota("max_neighbors", &own.max_neighbors, &of_all.max_neighbors, USUAL_NEIGHBOURS, MOST_NEIGHBOURS)
+    }
+
+    /// What the quotas are where the file has none: of the limit, the room for neighbours, and how many interfaces
+    /// there are.
+    fn usual_quotas(&mut self, limit: u32, file: &File) -> UsualQuotas {
+        let mut quiet = Check { text: self.text, problems: Vec::new() };
+        let policies: Vec<_> = file
+            .interface
+            .iter()
+            .map(|table| InterfacePolicy {
+                is_passive: table.passive.unwrap_or(false),
+                max_neighbours: quiet.max_neighbours(table, &file.policy),
+                ..InterfacePolicy::default()
+            })
+            .collect();
+        UsualQuotas::of(limit, reserve(limit as usize, policies.iter()) as u32, policies.len() as u32)
+    }
+
+    fn policy_of_none(&mut self, table: &PolicyTable, usual: &UsualQuotas) -> PolicySettings {
+        PolicySettings {
+            register: self.list(&table.register, &None),
+            max_registered: self.within("max_registered", &table.max_registered, usual.max_registered, 0, 1_000_000),
+        }
+    }
+
+    fn interface(&mut self, table: &InterfaceTable, of_all: &PolicyTable, usual: &UsualQuotas) -> InterfaceSettings {
         let address = table.address.as_ref().and_then(|given| {
             let subnet = self.subnet(given, "the address")?;
             if let Some(reason) = not_a_host(subnet) {
@@ -287,20 +408,23 @@ impl Check<'_> {
             priority: table.priority.unwrap_or(1),
             propagation: self.within("propagation", &table.propagation, 500, 0, 32767),
             override_interval: self.within("override", &table.override_interval, 2500, 0, 65535),
+            policy: self.policy(table, of_all, usual),
             line: self.line(table.name.start()),
         }
     }
 
-    fn interfaces(&mut self, tables: &[InterfaceTable]) -> Vec<InterfaceSettings> {
-        let found: Vec<_> = tables.iter().map(|table| self.interface(table)).collect();
+    fn interfaces(&mut self, file: &File, usual: &UsualQuotas) -> Vec<InterfaceSettings> {
+        let tables = &file.interface;
+        let found: Vec<_> = tables.iter().map(|table| self.interface(table, &file.policy, usual)).collect();
         if found.is_empty() {
             self.problems.push(Problem { line: 0, reason: "there is no [[interface]]".to_string() });
         }
-        let with_vifs = tables.iter().filter(|table| table.name.get_ref() != LOOPBACK);
-        let past = with_vifs.skip(MOST_INTERFACES).next().map(|table| table.name.start());
+        let mut with_vifs = tables.iter().filter(|table| table.name.get_ref() != LOOPBACK);
+        let past = with_vifs.nth(MOST_INTERFACES).map(|table| table.name.start());
         if let Some(at) = past {
-            let reason =
-                format!("at most {MOST_INTERFACES}: Linux has 32 virtual interfaces, of which the register tunnel is one");
+            let reason = format!(
+                "at most {MOST_INTERFACES}: Linux has 32 virtual interfaces, of which the register tunnel is one"
+            );
             self.wrong(at, reason);
         }
         let mut names = HashSet::new();
@@ -331,12 +455,18 @@ impl Check<'_> {
         if let Some(reason) = not_a_host(Subnet { address, length: 32 }) {
             self.wrong(table.address.start(), format!("the RP {address}: {reason}"));
         }
-        if !groups.address.is_multicast() || groups.length < 4 {
-            self.wrong(table.groups.start(), format!("the groups {groups} aren't within 224.0.0.0/4"));
-        } else if u32::from(groups.address) != groups.prefix() {
-            self.wrong(table.groups.start(), format!("the groups {groups} have bits behind their prefix"));
-        }
+        self.are_groups(&table.groups, groups);
         Some(RpSettings { groups, address })
+    }
+
+    fn are_groups(&mut self, given: &Spanned<String>, groups: Subnet) -> bool {
+        let reason = match groups {
+            it if !it.address.is_multicast() || it.length < 4 => "aren't within 224.0.0.0/4",
+            it if u32::from(it.address) != it.prefix() => "have bits behind their prefix",
+            _ => return true,
+        };
+        self.wrong(given.start(), format!("the groups {groups} {reason}"));
+        false
     }
 
     fn rps(&mut self, tables: &[RpTable]) -> Vec<RpSettings> {
@@ -365,7 +495,10 @@ impl Check<'_> {
                 Some((_, numbers)) => of_protocol.extend(numbers.iter().map(|number| (*number, given))),
                 None => {
                     let words: Vec<_> = PROTOCOLS.iter().map(|(word, _)| *word).collect();
-                    self.wrong(value.start(), format!("no protocol is named {}; there are {}", name.get_ref(), words.join(", ")));
+                    self.wrong(
+                        value.start(),
+                        format!("no protocol is named {}; there are {}", name.get_ref(), words.join(", ")),
+                    );
                 }
             }
         }
@@ -381,17 +514,20 @@ impl Check<'_> {
             let at = at.or_else(|| igmp.query_interval.as_ref().map(Spanned::start)).unwrap_or(0);
             self.wrong(at, "query_response is to be below query_interval".to_string());
         }
+        let limit = self.within("limit", &file.limit, 65536, 1, 1_000_000);
+        let usual = self.usual_quotas(limit, file);
         Settings {
-            limit: self.within("limit", &file.limit, 65536, 1, 1_000_000),
+            limit,
             stays_on_shared_tree: self.one_of("spt", &file.spt, &[("always", false), ("never", true)]),
             robustness: self.within("robustness", &igmp.robustness, 2, 2, 7),
             query_interval,
             query_response,
             last_member_query: self.tenths("last_member_query", &igmp.last_member_query, 10, 255),
-            interfaces: self.interfaces(&file.interface),
+            interfaces: self.interfaces(file, &usual),
             rps: self.rps(&file.rp),
+            policy: self.policy_of_none(&file.policy, &usual),
             routes: self.routes(&file.routes),
-            level: self.one_of("log", &file.log, &Level::CHOICES),
+            level: self.one_of("log", &file.log, &LEVELS),
             socket: file.socket.clone().unwrap_or_else(|| USUAL_SOCKET.into()),
         }
     }
@@ -406,7 +542,8 @@ pub fn not_a_host(subnet: Subnet) -> Option<&'static str> {
     (subnet.length == 0).then_some("its subnet is everything")
 }
 
-/// What TOML's reader says. Of a key that it doesn't know it tells the line of the table, so the key is looked for from there on.
+/// What TOML's reader says. Of a key that it doesn't know it tells the line of the table, so the key is looked for
+/// from there on.
 fn not_read(text: &str, error: &toml::de::Error) -> Problem {
     let reason = error.to_string();
     let reason = reason.split(" at line ").next().unwrap_or(&reason).to_string();
@@ -429,22 +566,29 @@ pub fn read(text: &str) -> Result<Settings, Vec<Problem>> {
     Err(check.problems)
 }
 
-/// What differs that a running router can't take.
-pub fn needs_restart(old: &Settings, new: &Settings) -> Vec<&'static str> {
-    let same_interfaces =
-        old.interfaces.len() == new.interfaces.len()
-            && old.interfaces.iter().zip(&new.interfaces).all(|(one, other)| {
-                InterfaceSettings { line: 0, ..one.clone() } == InterfaceSettings { line: 0, ..other.clone() }
-            });
-    let igmp = |it: &Settings| (it.robustness, it.query_interval, it.query_response, it.last_member_query);
-    let parts = [
-        ("limit", old.limit == new.limit),
-        ("spt", old.stays_on_shared_tree == new.stays_on_shared_tree),
-        ("[igmp]", igmp(old) == igmp(new)),
-        ("[[interface]]", same_interfaces),
-        ("socket", old.socket == new.socket),
-    ];
-    parts.into_iter().filter(|(_, is_same)| !is_same).map(|(name, _)| name).collect()
+impl Settings {
+    /// What is of the library's router, which is made anew where it differs: all but the lists, the quotas and the
+    /// lines.
+    pub fn differs_in_router(&self, other: &Settings) -> bool {
+        let own = |it: &Settings| {
+            let interface = |one: &InterfaceSettings| {
+                (one.name.clone(), one.address, one.priority, one.propagation, one.override_interval)
+            };
+            (
+                (it.limit, it.stays_on_shared_tree, it.robustness),
+                (it.query_interval, it.query_response, it.last_member_query),
+                it.interfaces.iter().map(interface).collect::<Vec<_>>(),
+            )
+        };
+        own(self) != own(other)
+    }
+
+    /// What hosts may take of the limit together, and what is kept for neighbours.
+    pub fn shares(&self) -> (u64, u64) {
+        let policies = || self.interfaces.iter().map(|interface| &interface.policy);
+        let hosts = policies().map(|policy| u64::from(policy.max_groups) + u64::from(policy.max_streams)).sum();
+        (hosts, reserve(self.limit as usize, policies()) as u64)
+    }
 }
 
 #[cfg(test)]
@@ -472,19 +616,25 @@ mod tests {
         );
         assert!(!it.stays_on_shared_tree);
         let eth0 = &it.interfaces[0];
-        assert_eq!((eth0.priority, eth0.propagation, eth0.override_interval, eth0.address, eth0.line), (1, 500, 2500, None, 2));
+        assert_eq!(
+            (eth0.priority, eth0.propagation, eth0.override_interval, eth0.address, eth0.line),
+            (1, 500, 2500, None, 2)
+        );
         assert_eq!((it.routes.table, it.routes.preference_of(188)), (254, 110));
     }
 
     #[test]
     fn all_that_can_be_said_is_taken() {
-        let text =
-            "limit = 9\nspt = \"never\"\nlog = \"debug\"\nsocket = \"/run/x\"\n[igmp]\nrobustness = 3\nquery_interval = 20\n\
-            query_response = 1.5\nlast_member_query = 2\n[routes]\ntable = 7\npreference = 5\n[routes.preferences]\nstatic = 1\n\
+        let text = "limit = 9\nspt = \"never\"\nlog = \"debug\"\nsocket = \"/run/x\"\n[igmp]\nrobustness = 3\n\
+            query_interval = 20\nquery_response = 1.5\nlast_member_query = 2\n\
+            [routes]\ntable = 7\npreference = 5\n[routes.preferences]\nstatic = 1\n\
             [[interface]]\nname = \"a\"\naddress = \"10.0.0.1/24\"\npriority = 7\npropagation = 1\noverride = 2\n\
             [[rp]]\ngroups = \"239.0.0.0/8\"\naddress = \"10.0.0.1\"\n";
         let it = read(text).unwrap();
-        assert_eq!((it.limit, it.stays_on_shared_tree, it.level, it.socket), (9, true, Level::Debug, "/run/x".into()));
+        assert_eq!(
+            (it.limit, it.stays_on_shared_tree, it.level, it.socket),
+            (9, true, LevelFilter::Debug, "/run/x".into())
+        );
         assert_eq!((it.robustness, it.query_interval, it.query_response, it.last_member_query), (3, 20, 15, 20));
         let subnet = Subnet { address: Ipv4Addr::new(10, 0, 0, 1), length: 24 };
         let a = InterfaceSettings {
@@ -493,16 +643,23 @@ mod tests {
             priority: 7,
             propagation: 1,
             override_interval: 2,
+            policy: it.interfaces[0].policy.clone(),
             line: 16,
         };
         assert_eq!(it.interfaces, [a]);
         assert_eq!((it.routes.table, it.routes.preference_of(196), it.routes.preference_of(188)), (7, 1, 5));
-        assert_eq!((it.rps[0].groups.to_string(), it.rps[0].address), ("239.0.0.0/8".to_string(), Ipv4Addr::new(10, 0, 0, 1)));
+        assert_eq!(
+            (it.rps[0].groups.to_string(), it.rps[0].address),
+            ("239.0.0.0/8".to_string(), Ipv4Addr::new(10, 0, 0, 1))
+        );
     }
 
     #[test]
     fn a_problem_has_its_line() {
-        assert_eq!(only(&format!("# none\nlimit = 0\n{SMALL}")), (2, "limit is 0; it is to be 1 to 1000000".to_string()));
+        assert_eq!(
+            only(&format!("# none\nlimit = 0\n{SMALL}")),
+            (2, "limit is 0; it is to be 1 to 1000000".to_string())
+        );
         assert_eq!(only(&format!("{SMALL}address = \"10.0.0.1\"\n")).0, 3);
         assert_eq!(only(&format!("{SMALL}propagation = 32768\n")).0, 3);
         assert_eq!(only(&format!("{SMALL}[[rp]]\ngroups = \"239.0.0.1/8\"\naddress = \"10.0.0.1\"\n")).0, 4);
@@ -540,14 +697,51 @@ mod tests {
     }
 
     #[test]
-    fn what_a_running_router_cannot_take_is_named() {
+    fn what_makes_the_router_anew_is_told_apart() {
         let old = read(SMALL).unwrap();
-        assert!(needs_restart(&old, &read(&format!("# a line\n{SMALL}")).unwrap()).is_empty());
-        assert!(needs_restart(
-            &old,
-            &read(&format!("log = \"debug\"\n{SMALL}[[rp]]\ngroups = \"239.0.0.0/8\"\naddress = \"10.0.0.1\"\n")).unwrap()
-        )
-        .is_empty());
-        assert_eq!(needs_restart(&old, &read(&format!("limit = 7\n{SMALL}priority = 2\n")).unwrap()), ["limit", "[[interface]]"]);
+        let differs = |text: &str| old.differs_in_router(&read(text).unwrap());
+        assert!(!differs(&format!("# a line\n{SMALL}")));
+        assert!(!differs(&format!(
+            "log = \"debug\"\n{SMALL}passive = true\n[[rp]]\ngroups = \"239.0.0.0/8\"\naddress = \"10.0.0.1\"\n"
+        )));
+        assert!(differs(&format!("limit = 7\n{SMALL}")) && differs(&format!("{SMALL}priority = 2\n")));
+        assert!(differs(&format!("{SMALL}[[interface]]\nname = \"eth1\"\n")));
+    }
+
+    #[test]
+    fn lists_and_quotas_are_read() {
+        let text = "[policy]\nmax_groups = 9\njoin = [{ groups = \"239.1.0.0/16\", permit = false }, {}]\n\
+            register = [{ sources = \"10.1.0.0/16\" }]\nmax_registered = 5\n\
+            [[interface]]\nname = \"a\"\npassive = true\n\
+            [[interface]]\nname = \"b\"\nneighbors = [\"10.0.0.2\", \"10.0.0.8/29\"]\n\
+            max_groups = 3\njoin = []\nsend = [{ sources = \"10.2.0.0/16\", groups = \"239.2.0.0/16\" }]\n";
+        let it = read(text).unwrap();
+        let (a, b) = (&it.interfaces[0].policy, &it.interfaces[1].policy);
+        let permits = |list: &List, group: [u8; 4]| list.permits(Some([10, 2, 0, 1].into()), group.into());
+        assert_eq!(
+            (a.is_passive, a.max_groups, b.max_groups, b.max_neighbours, it.policy.max_registered),
+            (true, 9, 3, 32, 5)
+        );
+        assert!(
+            !permits(&a.join, [239, 1, 0, 1]) && permits(&a.join, [239, 2, 0, 1]) && !permits(&b.join, [239, 2, 0, 1])
+        );
+        assert!(
+            permits(&b.send, [239, 2, 0, 1]) && !permits(&b.send, [239, 3, 0, 1]) && permits(&a.send, [239, 3, 0, 1])
+        );
+        assert!(!permits(&it.policy.register, [239, 2, 0, 1]));
+        let believed: Vec<_> = b.neighbours.iter().flatten().map(Subnet::to_string).collect();
+        assert_eq!(believed, ["10.0.0.2/32", "10.0.0.8/29"]);
+        assert_eq!(only(&format!("{SMALL}join = [{{ groups = \"10.0.0.0/8\" }}]\n")).0, 3);
+        assert_eq!(only(&format!("{SMALL}max_neighbors = 65\n")).0, 3);
+        assert_eq!(only(&format!("{SMALL}neighbors = [\"10.0.0\"]\n")).0, 3);
+    }
+
+    #[test]
+    fn usual_quotas_keep_room_for_neighbours() {
+        let text: String = (0..4).map(|number| format!("[[interface]]\nname = \"eth{number}\"\n")).collect();
+        let (hosts, kept) = read(&text).unwrap().shares();
+        assert_eq!((hosts, kept), (65_408, 128));
+        let (hosts, kept) = read(&format!("{text}max_groups = 70000\n")).unwrap().shares();
+        assert!(hosts + kept > 65_536);
     }
 }

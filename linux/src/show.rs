@@ -1,13 +1,15 @@
 //! What the router says of itself over the control socket, as tables of text and as JSON.
 use crate::daemon::Daemon;
-use crate::mroute::REGISTER_VIF;
+use crate::error::Fatal;
+use crate::mroute::{Key, REGISTER_VIF};
+use crate::netlink::{Netlink, Used};
 use crate::plane::Entry;
 use crate::ports::{Port, Standing};
 use crate::routes::{longest, Counts};
 use crate::settings::{mask, RpSettings};
-use pim::{Interfaces, Row, Table};
+use viqeshor::{Interfaces, Row, Table};
 use serde_json::{json, Map, Value};
-use std::collections::{BTreeMap, BTreeSet};
+use std::collections::{BTreeMap, BTreeSet, HashMap};
 use std::net::Ipv4Addr;
 
 pub const TOPICS: [&str; 6] = ["mroute", "neighbors", "igmp", "rp", "interfaces", "counters"];
@@ -16,8 +18,9 @@ const SSM: (u32, u8) = (0xe800_0000, 8);
 const PRUNED: u32 = 3;
 const REGISTER_STATES: [&str; 4] = ["none", "join", "join pending", "prune"];
 
-/// Rows of named values, in the order in which a table of text has them.
-type Rows = Vec<Vec<(&'static str, Value)>>;
+/// Named values, in the order in which a table of text has them.
+type Cells = Vec<(&'static str, Value)>;
+type Rows = Vec<Cells>;
 
 /// The answer to a line of a client.
 pub fn answer(daemon: &mut Daemon, line: &str) -> String {
@@ -44,9 +47,9 @@ pub fn answer(daemon: &mut Daemon, line: &str) -> String {
 }
 
 fn as_json(topic: &str, rows: Rows) -> String {
-    let objects = rows
-        .into_iter()
-        .map(|row| Value::Object(row.into_iter().map(|(name, value)| (name.to_string(), value)).collect::<Map<_, _>>()));
+    let objects = rows.into_iter().map(|row| {
+        Value::Object(row.into_iter().map(|(name, value)| (name.to_string(), value)).collect::<Map<_, _>>())
+    });
     let whole = json!({ topic: objects.collect::<Vec<_>>() });
     format!("{whole:#}\n")
 }
@@ -63,11 +66,13 @@ fn cell(value: &Value) -> String {
 
 /// Columns as wide as what stands in them.
 fn as_text(rows: &Rows) -> String {
-    let names: Vec<_> = rows.first().map_or(Vec::new(), |row| row.iter().map(|(name, _)| name.replace('_', " ")).collect());
+    let names: Vec<_> =
+        rows.first().map_or(Vec::new(), |row| row.iter().map(|(name, _)| name.replace('_', " ")).collect());
     let cells = rows.iter().map(|row| row.iter().map(|(_, value)| cell(value)).collect::<Vec<_>>());
     let lines: Vec<_> = std::iter::once(names).chain(cells).collect();
     let count = lines[0].len();
-    let widths: Vec<_> = (0..count).map(|column| lines.iter().map(|line| line[column].len()).max().unwrap_or(0)).collect();
+    let widths: Vec<_> =
+        (0..count).map(|column| lines.iter().map(|line| line[column].len()).max().unwrap_or(0)).collect();
     let padded = |line: &Vec<String>| {
         line.iter().zip(&widths).map(|(cell, width)| format!("{cell:width$}")).collect::<Vec<_>>().join("  ")
     };
@@ -92,8 +97,8 @@ fn until(end: u64, now: u64) -> Value {
     }
 }
 
-fn rows_of(daemon: &mut Daemon, table: Table) -> Result<Vec<Row>, String> {
-    daemon.router.rows(table).map_err(|error| error.to_string())
+fn rows_of(daemon: &mut Daemon, table: Table) -> Result<Vec<Row>, Fatal> {
+    daemon.core.rows(table)
 }
 
 fn address(number: u32) -> Value {
@@ -102,7 +107,8 @@ fn address(number: u32) -> Value {
 
 // ---- RPs and ways
 
-fn rp_of(ranges: &[RpSettings], group: u32) -> Option<Ipv4Addr> {
+/// The RP of a group.
+pub fn rp_of(ranges: &[RpSettings], group: u32) -> Option<Ipv4Addr> {
     let is_ssm = group & mask(SSM.1) == SSM.0;
     let fits = ranges.iter().filter(|range| !is_ssm && range.groups.contains(group));
     fits.max_by_key(|range| range.groups.length).map(|range| range.address)
@@ -111,19 +117,20 @@ fn rp_of(ranges: &[RpSettings], group: u32) -> Option<Ipv4Addr> {
 /// The interface towards an address, and the next hop, or the address itself on a link of the router.
 fn way(daemon: &Daemon, to: Ipv4Addr) -> Option<(u32, Ipv4Addr)> {
     let number = u32::from(to);
-    let own = daemon.ports.iter().find(|port| port.standing.is_up() && port.subnet.contains(number));
+    let is_there = |port: &&Port| port.standing.is_up() && port.told_subnet().contains(number);
+    let own = daemon.ports.iter().find(is_there);
     if let Some(port) = own {
         return Some((port.number, to));
     }
-    longest(&daemon.routes, number).map(|(next_hop, iface)| (iface, next_hop.into()))
+    longest(&daemon.routing.told, number).map(|(next_hop, iface)| (iface, next_hop.into()))
 }
 
-fn rp(daemon: &mut Daemon) -> Result<Rows, String> {
-    let mut groups: BTreeSet<u32> = rows_of(daemon, Table::Upstream)?.iter().map(|row| row.group).collect();
-    groups.extend(rows_of(daemon, Table::Groups)?.iter().map(|row| row.group));
+fn rp(daemon: &mut Daemon) -> Result<Rows, Fatal> {
+    let mut groups: BTreeSet<u32> = rows_of(daemon, Table::Upstream)?.iter().map(|row| u32::from(row.group)).collect();
+    groups.extend(rows_of(daemon, Table::Groups)?.iter().map(|row| u32::from(row.group)));
     let ranges = &daemon.settings.rps;
     let row = |range: &RpSettings| {
-        let is_here = daemon.ports.iter().any(|port| port.subnet.address == range.address);
+        let is_here = daemon.ports.iter().any(|port| port.address() == Some(range.address));
         let way = way(daemon, range.address).filter(|_| !is_here);
         let used: Vec<_> = groups
             .iter()
@@ -143,14 +150,14 @@ fn rp(daemon: &mut Daemon) -> Result<Rows, String> {
 
 // ---- neighbours, interfaces, IGMP
 
-fn neighbours(daemon: &mut Daemon) -> Result<Rows, String> {
+fn neighbours(daemon: &mut Daemon) -> Result<Rows, Fatal> {
     let rows = rows_of(daemon, Table::Neighbours)?;
     let now = daemon.now();
     let row = |row: &Row| {
-        let known = daemon.neighbours.get(&(row.iface, row.source.into()));
+        let known = daemon.neighbours.known.get(&(row.iface, row.source));
         vec![
             ("interface", json!(daemon.name(row.iface))),
-            ("address", address(row.source)),
+            ("address", address(u32::from(row.source))),
             ("up_seconds", known.map_or(Value::Null, |known| seconds(now.saturating_sub(known.since)))),
             ("expires_seconds", until(row.end, now)),
             ("priority", known.map_or(Value::Null, |known| json!(known.priority))),
@@ -162,25 +169,25 @@ fn neighbours(daemon: &mut Daemon) -> Result<Rows, String> {
 
 /// By RFC 7761, 4.3.2: the priorities count where all announce one.
 fn designated(daemon: &Daemon, port: &Port) -> Ipv4Addr {
-    let here = daemon.neighbours.iter().filter(|((iface, _), _)| *iface == port.number);
+    let here = daemon.neighbours.known.iter().filter(|((iface, _), _)| *iface == port.number);
     let others: Vec<_> = here.map(|((_, address), known)| (known.priority, *address)).collect();
     let all_announce = others.iter().all(|(priority, _)| priority.is_some());
     let weight = |priority: Option<u32>| if all_announce { priority } else { None };
-    let own = (weight(Some(port.settings.priority)), port.subnet.address);
+    let own = (weight(Some(port.settings.priority)), port.told_subnet().address);
     others.into_iter().map(|(priority, address)| (weight(priority), address)).fold(own, Ord::max).1
 }
 
-fn interfaces(daemon: &mut Daemon) -> Result<Rows, String> {
+fn interfaces(daemon: &mut Daemon) -> Result<Rows, Fatal> {
     let row = |port: &Port| {
         let (is_up, why) = match &port.standing {
             Standing::Up => (true, Value::Null),
             Standing::Down(why) => (false, json!(why)),
         };
-        let neighbours = daemon.neighbours.keys().filter(|(iface, _)| *iface == port.number).count();
+        let neighbours = daemon.neighbours.known.keys().filter(|(iface, _)| *iface == port.number).count();
         vec![
             ("interface", json!(port.settings.name)),
-            ("address", json!(port.subnet.to_string())),
-            ("vif", if port.has_vif { json!(port.number) } else { Value::Null }),
+            ("address", port.subnet.map_or(Value::Null, |subnet| json!(subnet.to_string()))),
+            ("vif", json!(port.vif)),
             ("is_up", json!(is_up)),
             ("dr", if is_up { json!(designated(daemon, port).to_string()) } else { Value::Null }),
             ("neighbors", json!(neighbours)),
@@ -192,17 +199,17 @@ fn interfaces(daemon: &mut Daemon) -> Result<Rows, String> {
             ("why_down", why),
         ]
     };
-    Ok(daemon.ports.iter().map(row).collect())
+    Ok(daemon.ports.iter().filter(|port| !port.is_removed).map(row).collect())
 }
 
-fn igmp(daemon: &mut Daemon) -> Result<Rows, String> {
+fn igmp(daemon: &mut Daemon) -> Result<Rows, Fatal> {
     let now = daemon.now();
     let (groups, sources) = (rows_of(daemon, Table::Groups)?, rows_of(daemon, Table::Sources)?);
     let of_group = |row: &Row| {
         let mode = if row.is_set { "exclude" } else { "include" };
         vec![
             ("interface", json!(daemon.name(row.iface))),
-            ("group", address(row.group)),
+            ("group", address(u32::from(row.group))),
             ("source", json!("*")),
             ("mode", json!(mode)),
             ("expires_seconds", until(row.end, now)),
@@ -213,14 +220,14 @@ fn igmp(daemon: &mut Daemon) -> Result<Rows, String> {
         let mode = if row.end == u64::MAX { "excluded" } else { "included" };
         vec![
             ("interface", json!(daemon.name(row.iface))),
-            ("group", address(row.group)),
-            ("source", address(row.source)),
+            ("group", address(u32::from(row.group))),
+            ("source", address(u32::from(row.source))),
             ("mode", json!(mode)),
             ("expires_seconds", until(row.end, now)),
         ]
     };
-    let key = |row: &Row| (row.iface, row.group, row.source);
-    let mut all: BTreeMap<_, _> = groups.iter().map(|row| ((row.iface, row.group, 0), of_group(row))).collect();
+    let key = |row: &Row| (row.iface, u32::from(row.group), u32::from(row.source));
+    let mut all: BTreeMap<_, _> = groups.iter().map(|row| ((row.iface, u32::from(row.group), 0), of_group(row))).collect();
     all.extend(sources.iter().map(|row| (key(row), of_source(row))));
     Ok(all.into_values().collect())
 }
@@ -232,23 +239,23 @@ fn names(daemon: &Daemon, set: Interfaces) -> Vec<String> {
 }
 
 /// The shared trees: each group that a host or a router asked for.
-fn shared_trees(daemon: &mut Daemon) -> Result<BTreeMap<(u32, u32), Vec<(&'static str, Value)>>, String> {
+fn shared_trees(daemon: &mut Daemon) -> Result<BTreeMap<(u32, u32), Cells>, Fatal> {
     let mut wanted: BTreeMap<u32, BTreeSet<String>> = BTreeMap::new();
-    for row in rows_of(daemon, Table::Downstream)?.iter().filter(|row| row.source == 0 && row.state != PRUNED) {
-        wanted.entry(row.group).or_default().insert(daemon.name(row.iface).to_string());
+    for row in rows_of(daemon, Table::Downstream)?.iter().filter(|row| u32::from(row.source) == 0 && row.state != PRUNED) {
+        wanted.entry(u32::from(row.group)).or_default().insert(daemon.name(row.iface).to_string());
     }
     let joined: BTreeSet<_> = wanted.keys().copied().collect();
     let mut hosts = BTreeSet::new();
     for row in rows_of(daemon, Table::Groups)?.iter().filter(|row| row.is_set) {
-        hosts.insert(row.group);
+        hosts.insert(u32::from(row.group));
         let port = &daemon.ports[row.iface as usize];
-        if designated(daemon, port) == port.subnet.address {
-            wanted.entry(row.group).or_default().insert(port.settings.name.clone());
+        if Some(designated(daemon, port)) == port.address() {
+            wanted.entry(u32::from(row.group)).or_default().insert(port.settings.name.clone());
         }
     }
     let row = |(group, outgoing): (&u32, &BTreeSet<String>)| {
         let rp = rp_of(&daemon.settings.rps, *group);
-        let is_here = daemon.ports.iter().any(|port| Some(port.subnet.address) == rp);
+        let is_here = daemon.ports.iter().any(|port| port.address() == rp);
         let way = rp.filter(|_| !is_here).and_then(|rp| way(daemon, rp));
         let hosts = if hosts.contains(group) { "C" } else { "" };
         let routers = if joined.contains(group) { "J" } else { "" };
@@ -270,45 +277,57 @@ fn shared_trees(daemon: &mut Daemon) -> Result<BTreeMap<(u32, u32), Vec<(&'stati
 
 /// Who forwards packets of an entry.
 fn forwarding(entry: &Entry) -> &'static str {
-    let is_register = entry.forwarded.parent == REGISTER_VIF;
-    match (entry.row, entry.forwarded.outgoing) {
-        (None, _) => "nobody: the router is full, or is the source",
+    match (entry.row, entry.way.forwarded.outgoing) {
+        _ if entry.is_unset => "nobody: the kernel refused the entry, which is tried again",
+        _ if entry.is_kept => "kernel, as before the router was made anew",
+        _ if entry.way.is_refused => "nobody: the settings refuse it",
+        (None, _) => "nobody: the router is full, refuses it, or is the source",
         (Some(_), outgoing) if outgoing == 1 << REGISTER_VIF => "router",
-        (Some(_), 0) if is_register => "nobody: it has no incoming interface",
+        (Some(_), 0) if entry.way.accepted.is_none() => "nobody: it has no incoming interface",
         (Some(_), 0) => "nobody asks",
         (Some(_), _) => "kernel",
     }
 }
 
-fn mroute(daemon: &mut Daemon) -> Result<Rows, String> {
-    daemon.look()?;
+/// What the kernel counts now; where it can't be asked, what it counted last.
+fn used(daemon: &Daemon) -> HashMap<Key, Used> {
+    let before = || daemon.plane.entries().filter_map(|(key, entry)| Some((*key, entry.used?))).collect();
+    // A socket of its own, since the router goes on to ask by the other one.
+    let read = Netlink::open().and_then(|mut netlink| netlink.used());
+    read.map_or_else(|_| before(), |used| used.into_iter().map(|it| (it.key, it)).collect())
+}
+
+fn mroute(daemon: &mut Daemon) -> Result<Rows, Fatal> {
+    let used = used(daemon);
     let active = rows_of(daemon, Table::Active)?;
-    let states: BTreeMap<_, _> = active.iter().map(|row| ((row.group, row.source), row)).collect();
+    let states: BTreeMap<_, _> = active.iter().map(|row| ((u32::from(row.group), u32::from(row.source)), row)).collect();
     let mut all = shared_trees(daemon)?;
     for (key, entry) in daemon.plane.entries() {
         let place = (u32::from(key.group), u32::from(key.source));
         let state = states.get(&place);
         let flag = |letter: char, is_set: bool| if is_set { letter.to_string() } else { String::new() };
         let register = state.map_or("none", |row| REGISTER_STATES.get(row.state as usize).copied().unwrap_or("?"));
-        let flags =
-            flag('T', state.map_or(false, |row| row.is_set)) + &flag('F', register == "join") + &flag('U', !entry.is_known());
-        let row = entry.row.filter(|_| entry.forwarded.parent != REGISTER_VIF);
+        let flags = flag('T', state.map_or(false, |row| row.is_set))
+            + &flag('F', register == "join")
+            + &flag('U', !entry.is_known());
+        let row = entry.row.filter(|_| entry.way.accepted.is_some());
+        let used = used.get(key);
         let outgoing = row.map_or(Vec::new(), |row| {
             names(daemon, row.outgoing)
                 .into_iter()
-                .filter(|name| Some(name.as_str()) != row.incoming.map(|iface| daemon.name(iface)))
+                .filter(|name| Some(name.as_str()) != entry.way.accepted.map(|iface| daemon.name(iface)))
                 .collect()
         });
         let cells = vec![
             ("source", address(place.1)),
             ("group", address(place.0)),
             ("flags", json!(flags)),
-            ("incoming", row.and_then(|row| row.incoming).map_or(Value::Null, |iface| json!(daemon.name(iface)))),
+            ("incoming", entry.way.accepted.map_or(Value::Null, |iface| json!(daemon.name(iface)))),
             ("outgoing", json!(outgoing)),
             ("forwarding", json!(forwarding(entry))),
-            ("packets", entry.used.map_or(Value::Null, |used| json!(used.packets))),
-            ("bytes", entry.used.map_or(Value::Null, |used| json!(used.bytes))),
-            ("stray", entry.used.map_or(Value::Null, |used| json!(used.stray))),
+            ("packets", used.map_or(Value::Null, |used| json!(used.packets))),
+            ("bytes", used.map_or(Value::Null, |used| json!(used.bytes))),
+            ("stray", used.map_or(Value::Null, |used| json!(used.stray))),
         ];
         all.insert(place, cells);
     }
@@ -317,35 +336,42 @@ fn mroute(daemon: &mut Daemon) -> Result<Rows, String> {
 
 // ---- counters
 
-fn counters(daemon: &mut Daemon) -> Result<Rows, String> {
+fn counters(daemon: &mut Daemon) -> Result<Rows, Fatal> {
     let it = daemon.counters.clone();
     let refused: u64 = it.refused.values().sum();
-    let routes = daemon.route_counts;
+    let routes = daemon.routing.counts;
     let mut found = vec![
         ("seconds since the router began", daemon.now() / 1000),
         ("events given to the router", it.events),
         ("events that it ignored", it.ignored),
         ("events that it refused", refused),
     ];
-    let reasons: Vec<_> =
-        it.refused.iter().map(|(number, count)| (format!("  of these: {}", pim::answer_text(*number)), *count)).collect();
+    let reasons: Vec<_> = it
+        .refused
+        .iter()
+        .map(|(number, count)| (format!("  of these: {}", viqeshor::answer_text(*number)), *count))
+        .collect();
     let more = [
         ("messages that a full router was offered in parts", it.split),
         ("parts offered", it.parts),
         ("parts taken", it.parts_taken),
+        ("reports of programs on the router", it.own_reports),
         ("unicasts heard", it.unicasts_heard),
         ("unicasts sent", it.unicasts_sent),
         ("unicasts that couldn't be sent", it.unicasts_not_sent),
         ("packets for which the kernel had no entry", it.no_cache),
         ("strays that the kernel told", it.strays),
         ("packets that the kernel handed up whole", it.whole),
+        ("fragments and long packets that a short one stood for", it.stood_in),
         ("checksums filled in", it.checksums_filled),
         ("entries in the kernel's forwarding cache", daemon.plane.len() as u64),
         ("rows told to the kernel", it.entries_written),
         ("rows withdrawn from the kernel", it.entries_removed),
+        ("rows that the kernel refused", it.entries_refused),
+        ("times that the router was made anew", it.made_anew),
         ("sources of which the kernel's counts told", it.kept),
         ("packets of which the router was told that they were seen", it.seen),
-        ("routes told to the router", daemon.routes.len() as u64),
+        ("routes told to the router", daemon.routing.told.len() as u64),
         ("kernel routes taken by their next hop", routes.by_next_hop as u64),
         ("  of these with several next hops", routes.multipath as u64),
         ("kernel routes left out for a lower metric", routes.higher_metric as u64),
@@ -353,7 +379,8 @@ fn counters(daemon: &mut Daemon) -> Result<Rows, String> {
         ("kernel routes elsewhere", routes.elsewhere as u64),
     ];
     let first = found.drain(..).map(|(name, count)| (name.to_string(), count));
-    let all = first.chain(reasons).chain(more.into_iter().map(|(name, count)| (name.to_string(), count)));
+    let more = more.into_iter().map(|(name, count)| (name.to_string(), count));
+    let all = first.chain(reasons).chain(more).chain(daemon.policy.refusals.counts());
     Ok(all.map(|(name, count)| vec![("counter", json!(name)), ("count", json!(count))]).collect())
 }
 
@@ -361,10 +388,10 @@ fn counters(daemon: &mut Daemon) -> Result<Rows, String> {
 pub fn routes_said(counts: &Counts, told: usize) -> String {
     let Counts { by_next_hop, multipath, higher_metric, refusing, elsewhere, .. } = counts;
     format!(
-        "the kernel's routes: {by_next_hop} are taken by their next hop ({multipath} of several, the highest on an interface of the \
-         router); {higher_metric} are left out for another one of their prefix with a lower metric; {refusing} that refuse \
-         (blackhole, unreachable, prohibit, throw) and {elsewhere} that lead elsewhere (another interface, another subnet, IPv6) are \
-         holes; told to the router are {told}"
+        "the kernel's routes: {by_next_hop} are taken by their next hop ({multipath} of several, the highest on an \
+         interface of the router); {higher_metric} are left out for another one of their prefix with a lower metric; \
+         {refusing} that refuse (blackhole, unreachable, prohibit, throw) and {elsewhere} that lead elsewhere (another \
+         interface, another subnet, IPv6) are holes; told to the router are {told}"
     )
 }
 

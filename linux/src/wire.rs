@@ -1,13 +1,20 @@
 //! The sockets by which packets come and leave.
-use crate::packet::{Packet, PIM};
+use crate::packet::{Packet, IGMP, PIM};
 use socket2::{Domain, Protocol, SockAddr, Socket, Type};
+use std::collections::HashMap;
 use std::io;
 use std::mem::{size_of, zeroed, MaybeUninit};
-use std::net::SocketAddrV4;
+use std::net::{Ipv4Addr, SocketAddrV4};
 use std::os::unix::io::{AsRawFd, RawFd};
 
 const ROOM: usize = 16 << 20;
+// linux/if_packet.h
 const PACKET_OTHERHOST: u32 = 3;
+const PACKET_LOOPBACK: u32 = 5;
+const PACKET_FANOUT: i32 = 18;
+const FANOUT_DEFRAG_UNIQUE: u32 = (0x8000 | 0x2000) << 16;
+/// Where hosts report their groups (RFC 3376, 4.2.14).
+const ALL_IGMP_ROUTERS: Ipv4Addr = Ipv4Addr::new(224, 0, 0, 22);
 const SKF_AD_PKTTYPE: u32 = (-0x1000i32 + 4) as u32;
 const ETH_P_IP: u16 = 0x0800;
 
@@ -25,12 +32,19 @@ const RETURN: u16 = 0x06;
 
 /// As much room as the kernel gives; what doesn't fit is lost, and nothing else.
 pub fn room_for_bursts(socket: &Socket) {
-    let room = ROOM as i32;
-    let place: *const i32 = &room;
-    // SAFETY: the place has the four bytes that are said.
-    let forced = unsafe { libc::setsockopt(socket.as_raw_fd(), libc::SOL_SOCKET, libc::SO_RCVBUFFORCE, place.cast(), 4) };
-    if forced != 0 {
+    if set_option(socket, libc::SOL_SOCKET, libc::SO_RCVBUFFORCE, &(ROOM as i32)).is_err() {
         let _ = socket.set_recv_buffer_size(ROOM);
+    }
+}
+
+/// Sets an option of a socket that its crate doesn't have.
+pub fn set_option<T>(socket: &Socket, level: i32, option: i32, value: &T) -> io::Result<()> {
+    let length = size_of::<T>() as libc::socklen_t;
+    let place: *const T = value;
+    // SAFETY: the place has as many bytes as are said, and the kernel keeps none of it.
+    match unsafe { libc::setsockopt(socket.as_raw_fd(), level, option, place.cast(), length) } {
+        0 => Ok(()),
+        _ => Err(io::Error::last_os_error()),
     }
 }
 
@@ -47,6 +61,8 @@ pub fn waiting(received: io::Result<usize>, room: &[MaybeUninit<u8>]) -> io::Res
 /// Hears PIM and IGMP to groups on all interfaces, and sends packets on links as they are.
 pub struct Links {
     socket: Socket,
+    /// Sends what the machine's own programs are to hear too.
+    shared: Socket,
 }
 
 fn link_address(index: u32, hardware: [u8; 6]) -> SockAddr {
@@ -77,7 +93,7 @@ impl Links {
             instruction(IF_AT_LEAST, 7, 0, PACKET_OTHERHOST),
             instruction(LOAD_BYTE, 0, 0, 9),
             instruction(IF_EQUAL, 1, 0, u32::from(PIM)),
-            instruction(IF_EQUAL, 0, 4, u32::from(crate::packet::IGMP)),
+            instruction(IF_EQUAL, 0, 4, u32::from(IGMP)),
             instruction(LOAD_BYTE, 0, 0, 16),
             instruction(AND, 0, 0, 0xf0),
             instruction(IF_EQUAL, 0, 1, 0xe0),
@@ -88,7 +104,16 @@ impl Links {
         room_for_bursts(&socket);
         // Bound only now, so that nothing comes past the filter.
         socket.bind(&link_address(0, [0; 6]))?;
-        Ok(Links { socket })
+        // A group of one, so that the kernel reassembles fragments before they come here.
+        set_option(&socket, libc::SOL_PACKET, PACKET_FANOUT, &FANOUT_DEFRAG_UNIQUE)?;
+        Ok(Links { socket, shared: Links::shared()? })
+    }
+
+    fn shared() -> io::Result<Socket> {
+        let shared = Socket::new(Domain::IPV4, Type::RAW, Some(Protocol::from(libc::IPPROTO_RAW)))?;
+        shared.set_nonblocking(true)?;
+        shared.set_multicast_loop_v4(true)?;
+        Ok(shared)
     }
 
     /// The next packet, with the kernel's number of its interface.
@@ -106,6 +131,63 @@ impl Links {
 
     pub fn send(&self, index: u32, packet: &[u8]) -> io::Result<()> {
         self.socket.send_to(packet, &link_address(index, group_hardware(packet))).map(|_| ())
+    }
+
+    /// Sends a packet to a group so that the machine hears it too.
+    pub fn send_shared(&self, index: u32, packet: &[u8]) -> io::Result<()> {
+        set_option(&self.shared, libc::IPPROTO_IP, libc::IP_MULTICAST_IF, &by_index(Ipv4Addr::UNSPECIFIED, index))?;
+        let to = Packet::read(packet).ok_or(io::ErrorKind::InvalidInput)?.destination();
+        self.shared.send_to(packet, &SockAddr::from(SocketAddrV4::new(to, 0))).map(|_| ())
+    }
+}
+
+/// Hears the reports of the machine's own programs, which the kernel shows to members of their group alone.
+pub struct OwnReports {
+    socket: Socket,
+    /// A member of ALL-IGMP-ROUTERS on each interface, by the kernel's number: a socket has few memberships.
+    members: HashMap<u32, Socket>,
+}
+
+impl OwnReports {
+    pub fn open() -> io::Result<OwnReports> {
+        let socket = Socket::new(Domain::IPV4, Type::RAW, Some(Protocol::from(i32::from(IGMP))))?;
+        // What the machine sent itself, and no message of its multicast routing, which has the protocol 0.
+        socket.attach_filter(&[
+            instruction(LOAD_WORD, 0, 0, SKF_AD_PKTTYPE),
+            instruction(IF_EQUAL, 0, 3, PACKET_LOOPBACK),
+            instruction(LOAD_BYTE, 0, 0, 9),
+            instruction(IF_EQUAL, 0, 1, u32::from(IGMP)),
+            instruction(RETURN, 0, 0, u32::MAX),
+            instruction(RETURN, 0, 0, 0),
+        ])?;
+        socket.set_nonblocking(true)?;
+        Ok(OwnReports { socket, members: HashMap::new() })
+    }
+
+    /// An interface from which they are to be heard.
+    pub fn hear_from(&mut self, index: u32) -> io::Result<()> {
+        let member = Socket::new(Domain::IPV4, Type::DGRAM, None)?;
+        set_option(&member, libc::IPPROTO_IP, libc::IP_ADD_MEMBERSHIP, &by_index(ALL_IGMP_ROUTERS, index))?;
+        self.members.insert(index, member);
+        Ok(())
+    }
+
+    pub fn hear<'a>(&self, room: &'a mut [MaybeUninit<u8>]) -> io::Result<Option<&'a [u8]>> {
+        waiting(self.socket.recv(room), room)
+    }
+}
+
+impl AsRawFd for OwnReports {
+    fn as_raw_fd(&self) -> RawFd {
+        self.socket.as_raw_fd()
+    }
+}
+
+fn by_index(group: Ipv4Addr, index: u32) -> libc::ip_mreqn {
+    libc::ip_mreqn {
+        imr_multiaddr: libc::in_addr { s_addr: u32::from(group).to_be() },
+        imr_address: libc::in_addr { s_addr: 0 },
+        imr_ifindex: index as i32,
     }
 }
 
@@ -142,7 +224,8 @@ impl Unicasts {
         waiting(self.heard.recv(room), room)
     }
 
-    /// A packet that is longer than its link takes leaves in fragments, by a header that the kernel makes of the same values.
+    /// A packet that is longer than its link takes leaves in fragments, by a header that the kernel makes of the same
+    /// values.
     pub fn send(&self, packet: &[u8]) -> io::Result<()> {
         let whole = Packet::read(packet).ok_or(io::ErrorKind::InvalidInput)?;
         let to = SockAddr::from(SocketAddrV4::new(whole.destination(), 0));
@@ -160,10 +243,7 @@ fn send_in_fragments(packet: Packet, to: &SockAddr) -> io::Result<()> {
     socket.bind(&SockAddr::from(SocketAddrV4::new(packet.source(), 0)))?;
     socket.set_ttl(u32::from(packet.ttl()))?;
     socket.set_tos(u32::from(packet.header()[1]))?;
-    let never = libc::IP_PMTUDISC_DONT;
-    let place: *const i32 = &never;
-    // SAFETY: the place has the four bytes that are said.
-    unsafe { libc::setsockopt(socket.as_raw_fd(), libc::IPPROTO_IP, libc::IP_MTU_DISCOVER, place.cast(), 4) };
+    set_option(&socket, libc::IPPROTO_IP, libc::IP_MTU_DISCOVER, &libc::IP_PMTUDISC_DONT)?;
     socket.send_to(packet.content(), to).map(|_| ())
 }
 

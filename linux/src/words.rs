@@ -25,7 +25,8 @@ fn content(packet: Packet) -> String {
 
 fn udp(packet: Packet) -> Option<String> {
     let bytes = packet.content();
-    (bytes.len() >= 8).then(|| format!("data, UDP to port {}, {} bytes, TTL {}", two(bytes, 2), bytes.len() - 8, packet.ttl()))
+    (bytes.len() >= 8)
+        .then(|| format!("data, UDP to port {}, {} bytes, TTL {}", two(bytes, 2), bytes.len() - 8, packet.ttl()))
 }
 
 fn listed(names: Vec<String>) -> String {
@@ -42,7 +43,9 @@ fn pim(bytes: &[u8]) -> Option<String> {
     match bytes.first()? {
         0x20 => Some(format!("PIM Hello{}", hello(bytes))),
         0x21 => register(bytes),
-        0x22 if bytes.len() >= 18 => Some(format!("PIM Register-Stop of ({}, {})", star(address(bytes, 14)), address(bytes, 8))),
+        0x22 if bytes.len() >= 18 => {
+            Some(format!("PIM Register-Stop of ({}, {})", star(address(bytes, 14)), address(bytes, 8)))
+        }
         0x23 => join_prune(bytes),
         0x25 => assert(bytes),
         other => Some(format!("PIM version {}, type {}", other >> 4, other & 15)),
@@ -63,7 +66,9 @@ fn hello(bytes: &[u8]) -> String {
         match (kind, value.len()) {
             (1, 2) if value == [0, 0] => " that says goodbye".to_string(),
             (1, 2) => format!(" for {} s", two(value, 0)),
-            (2, 4) => format!(", propagation delay {} ms, override interval {} ms", two(value, 0) & 0x7fff, two(value, 2)),
+            (2, 4) => {
+                format!(", propagation delay {} ms, override interval {} ms", two(value, 0) & 0x7fff, two(value, 2))
+            }
             (19, 4) => format!(", DR priority {}", u32::from(address(value, 0))),
             (20, 4) => format!(", generation {}", u32::from(address(value, 0))),
             _ => String::new(),
@@ -116,7 +121,13 @@ fn join_prune(bytes: &[u8]) -> Option<String> {
         joins.append(&mut entries);
         at += 12 + 8 * (joined + pruned);
     }
-    let part = |word: &str, names: Vec<String>| if names.is_empty() { None } else { Some(format!("{word} {}", listed(names))) };
+    let part = |word: &str, names: Vec<String>| {
+        if names.is_empty() {
+            None
+        } else {
+            Some(format!("{word} {}", listed(names)))
+        }
+    };
     let parts: Vec<_> = [part("join", joins), part("prune", prunes)].into_iter().flatten().collect();
     Some(format!("PIM Join/Prune to {} for {} s: {}", address(bytes, 6), two(bytes, 12), parts.join(", ")))
 }
@@ -187,13 +198,16 @@ mod tests {
     #[test]
     fn pim_is_said() {
         let hello = [0x20, 0, 0, 0, 0, 1, 0, 2, 0, 105, 0, 19, 0, 4, 0, 0, 0, 1, 0, 2, 0, 4, 1, 0xf4, 9, 0xc4];
-        assert_eq!(said(PIM, &hello), "PIM Hello for 105 s, DR priority 1, propagation delay 500 ms, override interval 2500 ms");
+        assert_eq!(
+            said(PIM, &hello),
+            "PIM Hello for 105 s, DR priority 1, propagation delay 500 ms, override interval 2500 ms"
+        );
         assert_eq!(said(PIM, &[0x20, 0, 0, 0, 0, 1, 0, 2, 0, 0]), "PIM Hello that says goodbye");
         let stop = [0x22, 0, 0, 0, 1, 0, 0, 32, 239, 1, 1, 1, 1, 0, 10, 1, 0, 50];
         assert_eq!(said(PIM, &stop), "PIM Register-Stop of (10.1.0.50, 239.1.1.1)");
         let join = [
-            0x23, 0, 0, 0, 1, 0, 10, 0, 0, 1, 0, 1, 0, 210, 1, 0, 0, 32, 239, 1, 1, 1, 0, 1, 0, 1, 1, 0, 7, 32, 10, 9, 9, 9, 1,
-            0, 5, 32, 10, 1, 0, 50,
+            0x23, 0, 0, 0, 1, 0, 10, 0, 0, 1, 0, 1, 0, 210, 1, 0, 0, 32, 239, 1, 1, 1, 0, 1, 0, 1, 1, 0, 7, 32, 10, 9,
+            9, 9, 1, 0, 5, 32, 10, 1, 0, 50,
         ];
         assert_eq!(
             said(PIM, &join),

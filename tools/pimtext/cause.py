@@ -5,8 +5,9 @@ from dataclasses import dataclass, field
 
 @dataclass(frozen=True)
 class Symptom:
-    """Something that a reader sees: `kind` is one of pimtext.ends, or "odd" for a refused or ignored packet, or "unheard" for packets
-    that nobody took. What it concerns is None where it concerns nothing of the kind; `cause` is a refusal's number or reason."""
+    """Something that a reader sees: `kind` is one of pimtext.ends, or "odd" for a refused or ignored packet, or
+    "unheard" for packets that nobody took. What it concerns is None where it concerns nothing of the kind; `cause` is a
+    refusal's number or reason."""
     kind: str
     line: object
     text: str
@@ -38,8 +39,9 @@ class Cause:
 
     def lines(self):
         """The cause, and below it each of its symptoms once, with how often it is there."""
-        counts = Counter(self.told(symptom) for symptom in sorted(self.symptoms, key=lambda symptom: symptom.kind == "odd"))
-        told = [f"    {text}" + (f" ({count} times)" if count > 1 else "") for text, count in counts.items() if text not in self.text]
+        counts = Counter(map(self.told, sorted(self.symptoms, key=lambda symptom: symptom.kind == "odd")))
+        new = [(text, count) for text, count in counts.items() if text not in self.text]
+        told = [f"    {text}" + (f" ({count} times)" if count > 1 else "") for text, count in new]
         return [f"{self.line}: {self.text}", *told]
 
     def told(self, symptom):

@@ -1,11 +1,12 @@
-"""One diagnosis of a run: causes, each with the symptoms that follow from it, and symptoms for which no cause was found.
+"""One diagnosis of a run: causes, each with the symptoms that follow from it, and symptoms for which no cause was
+found.
 
-A symptom is what a reader sees: a host that misses packets or has them twice, a tree whose Joins reach nobody, packets that were
-refused or that nobody took. Each is told under the first cause that explains it, equal ones once.
-"""
+A symptom is what a reader sees: a host that misses packets or has them twice, a tree whose Joins reach nobody, packets
+that were refused or that nobody took. Each is told under the first cause that explains it, equal ones once. """
 from pimtext import printed, reasons, served, trees, words
 from pimtext.askers import Askers
 from pimtext.cause import Cause, Symptom, attached, grouped
+from pimtext.interfaces import Interfaces
 from pimtext.mistakes import Mistakes
 from pimtext.notes import Lines, Notes
 from pimtext.outages import Outages
@@ -37,9 +38,11 @@ class Symptoms:
             yield self.of_end(loss.end, stream, told, loss.packets[0].at)
         if verdict.end is not None and not verdict.losses:
             yield self.of_end(verdict.end, stream, f"{stream.host} would get nothing of {whole}", len(self.run.steps))
-        if not stream.packets and stream.source not in {packet.source for packet in self.run.packets if packet.group == stream.group}:
+        senders = {packet.source for packet in self.run.packets if packet.group == stream.group}
+        if not stream.packets and stream.source not in senders:
             told = f"{stream.host} asked for {whole}, and nobody has sent it"
-            yield Symptom("silent", self.run.lines.router(next(iter(self.known))), told, group=stream.group, source=stream.source)
+            line = self.run.lines.router(next(iter(self.known)))
+            yield Symptom("silent", line, told, group=stream.group, source=stream.source)
 
     def of_end(self, end, stream, told, at):
         name = end.router or next(iter(self.known))
@@ -49,7 +52,8 @@ class Symptoms:
         return Symptom(end.kind, line, told, **where, **whose, alone=end.text, at=at)
 
     def twice(self, stream):
-        told = f"{stream.host} got {times(stream.twice, 'packet')} of {words.tree(stream.group, stream.source)} twice"
+        whole = words.tree(stream.group, stream.source)
+        told = f"{stream.host} got {times(stream.twice, 'packet')} of {whole} {stream.how_often()}"
         line = self.run.on_link(stream.senders()[0], stream.link)
         return Symptom("twice", line, f"{told}: {'; '.join(stream.doubled())}", stream.senders()[0], stream.link,
                        group=stream.group, source=stream.source, host=stream.host)
@@ -73,12 +77,14 @@ class Symptoms:
         place = len(self.run.steps)
         source = None if row.source == ANY else row.source
         where = {"router": end.router, "link": end.link, "address": end.address}
-        return Symptom(end.kind, self.run.on_link(end.router, end.link), told, **where, group=row.group, source=source, alone=end.text, at=place)
+        line, whose = self.run.on_link(end.router, end.link), {"group": row.group, "source": source}
+        return Symptom(end.kind, line, told, **where, **whose, alone=end.text, at=place)
 
     def senders(self):
         """The DR of a source registers with an RP that it can reach."""
         said = [each for each in self.run.said if each.is_data()]
-        for name, iface, source, group in dict.fromkeys((each.router, each.iface, each.packet.source, each.packet.destination) for each in said):
+        keys = [(each.router, each.iface, each.packet.source, each.packet.destination) for each in said]
+        for name, iface, source, group in dict.fromkeys(keys):
             state = self.known[name]
             is_here = trees.rpf_interface(state, source) == iface and trees.is_connected(state, source)
             if not trees.is_source_specific(group) and is_here and trees.is_dr(state, iface):
@@ -112,17 +118,20 @@ def of_odd(run, symptom):
     if symptom.kind == "unheard":
         covers = lambda each: run.wire.last == 0 and each.kind in ("no neighbour", "lost")
         return Cause(symptom.line, symptom.text, covers)
-    covers = lambda each: each.kind == "refused" and (each.router, each.link, each.cause) == (symptom.router, symptom.link, symptom.cause)
+    where = symptom.router, symptom.link, symptom.cause
+    covers = lambda each: each.kind == "refused" and (each.router, each.link, each.cause) == where
     return Cause(symptom.line, symptom.alone or symptom.text, covers)
 
 
 class Diagnosis:
-    """`judge` read the file of a run; `places` says the lines of a network of tools/lab, whose packets may be lost on purpose."""
+    """`judge` read the file of a run; `places` says the lines of a network of tools/lab, whose packets may be lost on
+    purpose."""
 
     def __init__(self, judge, played, lines, places=None, unheard=frozenset()):
         self.run = run = Run(played, lines, places or Lines(judge), unheard)
-        notes, outages = Notes(judge, run), Outages(run)
-        self.causes = [*outages.interfaces(), *outages.clocks(), *Mistakes(run).causes(), *Askers(run).causes(), *outages.rest()]
+        notes, interfaces = Notes(judge, run), Interfaces(run)
+        self.causes = [*interfaces.causes(), *Mistakes(run).causes(), *Askers(run).causes()]
+        self.causes += [*interfaces.gaps(), *Outages(run).causes()]
         odd = attached(self.causes, [*notes.odd(), *([] if places else notes.undelivered())])
         self.causes += [of_odd(run, symptom) for symptom in odd]
         left = attached(self.causes, list(Symptoms(run).all()))
@@ -140,4 +149,5 @@ class Diagnosis:
     def of(self, stream):
         """The causes of what a stream misses."""
         key = stream.host, stream.group, stream.source
-        return [cause for cause in self.causes if any((each.host, each.group, each.source) == key for each in cause.symptoms)]
+        whose = [(cause, [(each.host, each.group, each.source) for each in cause.symptoms]) for cause in self.causes]
+        return [cause for cause, keys in whose if key in keys]

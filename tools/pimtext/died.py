@@ -1,8 +1,7 @@
 """Where a packet that was really sent went no further on its way to a host, and why.
 
-What routers took and sent is that of the run, as pimtext.trace has it. Which way it should have come, and why a router that
-took it sent it not on, follows from what the routers knew just before.
-"""
+What routers took and sent is that of the run, as pimtext.trace has it. Which way it should have come, and why a router
+that took it sent it not on, follows from what the routers knew just before. """
 from pimtext import served, trace, trees, words
 from pimtext.ends import End
 from pimtext.printed import ANY
@@ -90,8 +89,8 @@ class Death:
 
     def stranger(self, state, iface):
         name, link = state.router.name, state.router.interfaces[iface].link
-        told = f"to {name} the source {self.source} isn't on {link}, nor on any other link of it, so {name} doesn't register it"
-        return End("stranger", told, name, link, self.source)
+        told = f"to {name} the source {self.source} isn't on {link}, nor on any other link of it"
+        return End("stranger", f"{told}, so {name} doesn't register it", name, link, self.source)
 
     def register_end(self, copy):
         """What became of a Register."""
@@ -126,15 +125,16 @@ class Death:
 
     def used_up(self, taken):
         where = "in a Register" if taken.iface is None else f"on {self.world.known[taken.router].link(taken.iface)}"
-        told = f"packets of {self.source} with TTL {self.packet.ttl} come to {taken.router} {where} with TTL {ttl_of(taken)}"
-        return End("ttl", f"{told}, with which no copy leaves", taken.router)
+        told = f"packets of {self.source} with TTL {self.packet.ttl} come to {taken.router} {where} with"
+        return End("ttl", f"{told} TTL {ttl_of(taken)}, with which no copy leaves", taken.router)
 
     def unheard(self, copy, below, link):
         """Why the router below had nothing of a copy on the link between."""
         name = below.router.name if below else "the host"
         here = [taken for taken in copy.taken if taken.router == name]
         if not here:
-            return End("lost", f"the copy that {copy.by.router} sent on {link} was lost before {name}", copy.by.router, link, name)
+            told = f"the copy that {copy.by.router} sent on {link} was lost before {name}"
+            return End("lost", told, copy.by.router, link, name)
         if not here[0].is_done():
             return refused(self.world, here[0])
         return self.other_way(here[0])
@@ -142,15 +142,17 @@ class Death:
     def other_way(self, taken):
         """It came on an interface on which the router doesn't take it."""
         state = self.past.known(taken.at)[taken.router]
-        told = f"{taken.router} takes no packet of {self.source} on {state.link(taken.iface)}: it has its trees from elsewhere"
-        return End("rpf", told, taken.router, state.link(taken.iface))
+        name, link = taken.router, state.link(taken.iface)
+        told = f"{name} takes no packet of {self.source} on {link}: it has its trees from elsewhere"
+        return End("rpf", told, name, link)
 
 
 # ---- in words
 
 
 def place_words(world, taken):
-    return "in a Register" if taken.iface is None else f"on {words.place(world.known[taken.router].router, taken.iface)}"
+    router = world.known[taken.router].router
+    return "in a Register" if taken.iface is None else f"on {words.place(router, taken.iface)}"
 
 
 def hop_line(world, taken):
@@ -158,7 +160,8 @@ def hop_line(world, taken):
     head = f"  {taken.router} took it {place_words(world, taken)}, TTL {ttl_of(taken)}; "
     if not taken.is_done():
         return f"{head}{words.answer(taken.step.verdict, taken.step.cause)}"
-    links = [copy.sent.where + ("" if copy.taken or is_last(world, copy) else " (lost)") for copy in taken.copies if not copy.is_register()]
+    copies = [copy for copy in taken.copies if not copy.is_register()]
+    links = [copy.sent.where + ("" if copy.taken or is_last(world, copy) else " (lost)") for copy in copies]
     registers = [f"registered it with {world.named(copy.sent.where)}{'' if copy.taken else ' (lost)'}"
                  for copy in taken.copies if copy.is_register()]
     sent = [f"sent it on {', '.join(links)}"] if links else []

@@ -29,8 +29,8 @@ KINDS = {
 
 @dataclass(frozen=True)
 class End:
-    """`kind` is one of KINDS; `router` where it is, `link` on which link, `address` of whom (an RP, a source, a next hop, a DR), and
-    `cause` the number or reason of a refusal."""
+    """`kind` is one of KINDS; `router` where it is, `link` on which link, `address` of whom (an RP, a source, a next
+    hop, a DR), and `cause` the number or reason of a refusal."""
     kind: str
     text: str
     router: str | None = None

@@ -1,4 +1,5 @@
-"""What moves of a run were refused or ignored, in words, and which packets nobody took: each a symptom with its line in the file."""
+"""What moves of a run were refused or ignored, in words, and which packets nobody took: each a symptom with its line in
+the file."""
 from collections import Counter
 
 from pimtext import packets, story, trace, wishes, words
@@ -107,13 +108,16 @@ class Notes:
         first, number = steps[0], steps[0].move
         link = self.link(first)
         meaning = self.meaning(number, first.router, first.cause)
-        many = f"{len(steps)} {self.what(first)} were" if len(steps) > 1 else "a delivery was" if first.is_settle() else "it was"
+        one = "a delivery was" if first.is_settle() else "it was"
+        many = f"{len(steps)} {self.what(first)} were" if len(steps) > 1 else one
         last = f", up to move {steps[-1].move}" if steps[-1].move != number else ""
-        line, told = self.at_move(number, f", router {first.router}: {many} {words.answer(first.verdict, first.cause)}{last}")
+        answer = words.answer(first.verdict, first.cause)
+        line, told = self.at_move(number, f", router {first.router}: {many} {answer}{last}")
         data = first.taken()
         host = packets.dotted(data[12:16]) if data and len(data) >= 20 else None
         at = self.steps.index(first)
-        return Symptom("odd", line, told, first.router, link, None, first.cause, host=host, alone=f"{told}: {meaning}", at=at)
+        more = {"host": host, "alone": f"{told}: {meaning}", "at": at}
+        return Symptom("odd", line, told, first.router, link, None, first.cause, **more)
 
     def link(self, step):
         interfaces = self.played.router(step.router).interfaces

@@ -1,8 +1,8 @@
 """IPv4, PIM version 2 and IGMP version 3 packets, read and written.
 
 Readings are strict, by the formats of RFC 791, RFC 7761 (4.9) and RFC 3376 (4): the first test that fails is raised as
-`Refused` with the number of the refusal, as docs/USING.md lists them. They stand on no code of the router. Addresses are
-dotted text.
+`Refused` with the number of the refusal, as docs/SCENARIOS.md lists them. They stand on no code of the router. Addresses
+are dotted text.
 """
 from dataclasses import dataclass
 
@@ -350,8 +350,8 @@ def read(data, limit=MOST_IN_A_UNICAST):
 
 
 def read_on_link(data):
-    """The same as a router takes it on a link: what claims to be PIM and goes to another group than that of all PIM routers is
-    data."""
+    """The same as a router takes it on a link: what claims to be PIM and goes to another group than that of all PIM
+    routers is data."""
     is_data = data[9:10] == bytes([PIM]) and data[16:20] != ALL_PIM_ROUTERS
     return read_data(data) if is_data else read(data, MOST_IN_A_FRAME)
 

@@ -1,27 +1,46 @@
 """What the routers knew before a step of a run, also in the midst of a settle."""
+from bisect import bisect_right
+from dataclasses import replace
+
 from pimtext import scenario, story, trees
 
 
-def delivered(step):
-    """A delivery of a settle as a move of its own."""
-    did = {"router": step.router, "frame": step.brought.number, "draw": step.did.get("draw", 0)}
-    return {"do": "carry", **did} if step.iface is None else {"do": "deliver", "iface": step.iface, **did}
+def copied(state):
+    """A router's knowledge as it stands, whatever is followed later."""
+    return replace(state, up=set(state.up), hellos=dict(state.hellos), queriers=dict(state.queriers),
+                   asserts=dict(state.asserts))
 
 
 class Past:
-    """A run of a scenario. The program plays the moves before a step again, a settle's deliveries one by one."""
+    """A run of a scenario. It is played once, with the tables of each answer; `each` are these lines where they are
+    there already."""
 
-    def __init__(self, played, steps):
-        self.played, self.steps, self.kept = played, steps, {}
-
-    def moves_before(self, at):
-        number = self.steps[at].move
-        first = next(place for place, step in enumerate(self.steps) if step.move == number)
-        return self.played.moves[:number - 1] + [delivered(step) for step in self.steps[first:at]]
+    def __init__(self, played, steps, each=None):
+        self.played, self.steps, self.each = played, steps, each
+        self.times, self.states = None, None
 
     def known(self, at):
         """What each router knew before step `at`, counted from 0."""
-        if at not in self.kept:
-            cut = scenario.Scenario(self.played.routers, self.moves_before(at))
-            self.kept[at] = trees.known(cut, *story.played(cut, scenario.run_text(cut.text())))
-        return self.kept[at]
+        if self.times is None:
+            self.follow()
+        return {name: states[bisect_right(self.times[name], at) - 1] for name, states in self.states.items()}
+
+    def follow(self):
+        """Keeps what each router knew from each step on."""
+        known = trees.known(self.played, [], {})
+        self.times, self.states = {name: [0] for name in known}, {name: [copied(state)] for name,
+                                                                  state in known.items()}
+        waiting, at = None, 0
+        for part in story.Teller(self.played).tell(self.each or scenario.run_each(self.played.text())):
+            if isinstance(part, story.Step):
+                waiting, at = part, at + 1
+            elif waiting is not None:
+                self.keep(known[waiting.router], waiting, part, at)
+                waiting = None
+
+    def keep(self, state, step, tables, at):
+        if step.verdict == "done":
+            trees.follow(state, step)
+        state.rows, state.moment = tables.rows, tables.moment
+        self.times[step.router].append(at)
+        self.states[step.router].append(copied(state))

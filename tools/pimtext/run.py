@@ -8,7 +8,8 @@ from pimtext.wire import Wire
 
 
 class Run:
-    """`lines` says where moves, routers and interfaces stand; what the routers know in `known` and `world` is that of the end."""
+    """`lines` says where moves, routers and interfaces stand; `known` and `world` have what the routers know at the
+    end."""
 
     def __init__(self, played, printed_lines, lines, unheard=frozenset()):
         self.played, self.lines = played, lines
@@ -39,11 +40,8 @@ class Run:
 
     def ports(self):
         """The interfaces of each link, with their routers' names."""
-        found = {}
-        for router in self.played.routers:
-            for interface in router.interfaces:
-                found.setdefault(interface.link, []).append((router.name, interface))
-        return found
+        interfaces = ((router.name, each) for router in self.played.routers for each in router.interfaces)
+        return gathered((interface.link, (name, interface)) for name, interface in interfaces)
 
     def wished(self):
         """Pairs of a group and a source that somebody asked for, ANY where it asked for every source."""
@@ -82,6 +80,14 @@ def is_ruled_out(group):
 
 def is_local(group):
     return group.startswith("224.0.0.")
+
+
+def gathered(pairs):
+    """The values of each key, in their order."""
+    found = {}
+    for key, value in pairs:
+        found.setdefault(key, []).append(value)
+    return found
 
 
 def some(names, count=3):

@@ -1,4 +1,4 @@
-"""The scenario file as plain objects, read and written; docs/USING.md says what its keys mean.
+"""The scenario file as plain objects, read and written; docs/SCENARIOS.md says what its keys mean.
 
 What the program would refuse isn't looked for here: these are the scenarios that it has played.
 """
@@ -138,12 +138,17 @@ def playing():
     return program.chosen() or PIMLAB
 
 
-def run_text(text):
+def run_text(text, words=("--tables",)):
     """The lines that the program prints of a scenario's text, with tables."""
-    ran = subprocess.run([playing(), "run", "-", "--tables"], input=text, capture_output=True, text=True)
+    ran = subprocess.run([playing(), "run", "-", *words], input=text, capture_output=True, text=True)
     if ran.returncode:
         raise Refused(ran.stderr.strip())
     return ran.stdout.splitlines()
+
+
+def run_each(text):
+    """The same, with the tables of its router after each answer, and those of all at the end."""
+    return run_text(text, ("--tables", "--tables-each"))
 
 
 def run_file(path):

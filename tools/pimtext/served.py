@@ -1,7 +1,7 @@
 """The way of a source's packets to a host by what the routers know: hop by hop, where it ends, and why.
 
-It is what the macros of RFC 7761 make of the routers' tables. What really came of packets that were sent is in pimtext.died.
-"""
+It is what the macros of RFC 7761 make of the routers' tables. What really came of packets that were sent is in
+pimtext.died. """
 from collections import defaultdict
 from dataclasses import dataclass
 from ipaddress import ip_address
@@ -17,7 +17,8 @@ MOST_SHOWN = 12
 
 @dataclass(frozen=True)
 class Taken:
-    """What a router does with a packet that comes: where it leaves, the RP that it is registered with, and by which tree."""
+    """What a router does with a packet that comes: where it leaves, the RP that it is registered with, and by which
+    tree."""
     out: frozenset
     by: str
     rp: str | None = None
@@ -65,6 +66,16 @@ class World:
         """The same of a router that may have gone, or of several that have the address."""
         names = [state.router.name for state in self.known.values() if state.router.has(address)]
         return f"{' and '.join(names)} ({address})" if names else address
+
+    def reaches(self, state, address):
+        """Whether links lead from a router to the one that has an address, over interfaces that are up."""
+        found, waiting = {}, [state]
+        while waiting:
+            here = waiting.pop()
+            if here.router.name not in found:
+                found[here.router.name] = here
+                waiting += [other for interface in here.interfaces_up() for other, _ in self.ports[interface.link]]
+        return any(here.router.has(address) for here in found.values())
 
     def link_of(self, address):
         """The link whose subnet has an address, None where none has."""
@@ -135,7 +146,8 @@ def registered(state, group, source):
 
 
 def flow(world, group, source, link):
-    """Each hop of the packets from their link on, in the order in which they come, and the hop that brings them to each link."""
+    """Each hop of the packets from their link on, in the order in which they come, and the hop that brings them to each
+    link."""
     hops, by_link = [], {link: None}
     waiting = [(state, number, None) for state, number in world.ports[link]]
     seen = set()
@@ -159,7 +171,8 @@ def onward(world, hop, by_link):
         by_link.setdefault(link, hop)
         found += [(other, port, hop) for other, port in world.ports[link] if other is not hop.state]
     rp = None if hop.taken.rp is None else world.owner(hop.taken.rp)
-    return found if rp is None else [*found, (rp, None, hop)]
+    is_there = rp is not None and world.reaches(hop.state, hop.taken.rp)
+    return [*found, (rp, None, hop)] if is_there else found
 
 
 # ---- from the host up
@@ -180,8 +193,9 @@ def serving(world, group, source, link):
     for state, number in drs:
         lost = reasons.lost(state, group, source, number)
         if lost and reasons.causes(state, group, source, number):
-            told = f"{state.router.name}, the DR of {link}, lost the assert of ({lost[0].source}, {group}) to {lost[0].winner}"
-            return None, End("assert", told, state.router.name, link, lost[0].winner)
+            name, row = state.router.name, lost[0]
+            told = f"{name}, the DR of {link}, lost the assert of ({row.source}, {group}) to {row.winner}"
+            return None, End("assert", told, name, link, row.winner)
     return None, unwanted(drs, group, source, link)
 
 
@@ -190,24 +204,29 @@ def absent_dr(world, here, link):
     state, number = here[0]
     address = trees.dr_of(state, number)
     if any(other.router.interfaces[port].address == address for other, port in here):
-        told = f"each router on {link} takes another one for its DR: {state.router.name} takes {world.every(address)} for it"
-        return End("dead dr", told, state.router.name, link, address)
+        name = state.router.name
+        told = f"each router on {link} takes another one for its DR: {name} takes {world.every(address)} for it"
+        return End("dead dr", told, name, link, address)
     until = state.of(printed.Neighbour, iface=number, address=address)[0].end
-    gone = f"{world.every(address)}, which is gone from {link}, and takes it for a neighbour until {words.seconds(until)}"
-    return End("dead dr", f"{state.router.name} isn't the DR of {link}: it takes that to be {gone}", state.router.name, link, address)
+    where = f"which is gone from {link}" if world.owner(address) else "which no router here has"
+    gone = f"{world.every(address)}, {where}, and takes it for a neighbour until {words.seconds(until)}"
+    name = state.router.name
+    return End("dead dr", f"{name} isn't the DR of {link}: it takes that to be {gone}", name, link, address)
 
 
 def unwanted(drs, group, source, link):
     """Why the DR of a link doesn't take it that hosts there want the packets."""
     state, number = drs[0]
     name, wants = state.router.name, f"to {state.router.name}, the DR of {link}, hosts there want {group}"
-    named = sorted({row.source for row in state.of(printed.SourceRecord, iface=number, group=group) if row.end is not None})
+    rows = state.of(printed.SourceRecord, iface=number, group=group)
+    named = sorted({row.source for row in rows if row.end is not None})
     if state.of(printed.GroupRecord, iface=number, group=group, mode="include") and named:
         return End("unwanted", f"{wants} of {', '.join(named)} alone", name, link)
     if number in trees.excluded(state, group, source):
         return End("excluded", f"{wants}, but not of {source}", name, link)
     if trees.is_source_specific(group) and state.of(printed.GroupRecord, iface=number, group=group):
-        return End("unwanted", f"{wants} without a source, and an SSM group has no tree but those of its sources", name, link)
+        told = f"{wants} without a source, and an SSM group has no tree but those of its sources"
+        return End("unwanted", told, name, link)
     return End("unwanted", f"{name}, the DR of {link}, knows of no host that wants {group}", name, link)
 
 
@@ -242,7 +261,8 @@ def next_up(world, state, group, tree):
         return None, End("no neighbour", told, name, link, path.next_hop)
     above = world.owner(hop.address)
     if above is None:
-        return None, End("no owner", f"{name} sends its Joins to {hop.address}, which no router here has", name, link, hop.address)
+        told = f"{name} sends its Joins to {hop.address}, which no router here has"
+        return None, End("no owner", told, name, link, hop.address)
     told = dropped(state, above, group) if tree == ANY else None
     return (None, told) if told else (above, link)
 
@@ -269,7 +289,8 @@ def no_route(world, state, root, whom, is_rp_wanted):
 
 
 def climb(world, group, source, state, link):
-    """The rungs from a host's router up to the root, the source's router or the RP; and why they end before it, or None."""
+    """The rungs from a host's router up to the root, the source's router or the RP; and why they end before it, or
+    None."""
     rungs, tree = [], tree_at(state, group, source)
     while all(rung.state is not state or rung.source != tree for rung in rungs):
         rungs.append(Rung(state, link, tree))
@@ -283,7 +304,8 @@ def climb(world, group, source, state, link):
     names = [rung.state.router.name for rung in rungs]
     round_ = " to ".join([*names[names.index(state.router.name):], state.router.name])
     root = trees.root_of(state, group, tree)
-    return rungs, End("circle", f"the Joins towards {root} run in a circle, from {round_}", state.router.name, link, root)
+    told = f"the Joins towards {root} run in a circle, from {round_}"
+    return rungs, End("circle", told, state.router.name, link, root)
 
 
 def parted(group, source, rungs):
@@ -313,10 +335,13 @@ def registers_end(world, dr, group, source, rp):
     """Why nothing comes of what a DR registers."""
     name, owner = dr.router.name, world.owner(rp)
     if dr.router.has(rp):
-        told = f"{name} is the RP of {group} to itself, by its address {rp}, so it registers nothing, and no Join for it came to {name}"
-        return End("registers stopped", told, name, None, rp)
+        told = f"{name} is the RP of {group} to itself, by its address {rp}, so it registers nothing"
+        return End("registers stopped", f"{told}, and no Join for it came to {name}", name, None, rp)
     if owner is None:
         return End("no owner", f"{name} registers with {rp}, which no router here has", name, None, rp)
+    if not world.reaches(dr, rp):
+        told = f"no links that are up lead from {name} to {world.named(rp)}, the RP, so its Registers are lost"
+        return End("lost", told, name, None, rp)
     if not is_rp(owner, group):
         own = trees.rp_of(owner, group)
         told = f"has {own} as its RP" if own else "has no RP for it"
@@ -324,15 +349,16 @@ def registers_end(world, dr, group, source, rp):
         return End("rp disagrees", told, owner.router.name, None, rp)
     rows = dr.of(printed.Active, group=group, source=source)
     if any(row.register in ("prune", "pending") for row in rows):
-        told = f"the Registers of {name} are stopped, and {world.named(rp)} has no packets of ({source}, {group}) by its own tree"
-        return End("registers stopped", told, name, None, rp)
-    return End("registers stopped", f"{name} sends no Registers of ({source}, {group}) to {world.named(rp)}", name, None, rp)
+        told = f"the Registers of {name} are stopped, and {world.named(rp)} has no packets of ({source}, {group})"
+        return End("registers stopped", f"{told} by its own tree", name, None, rp)
+    told = f"{name} sends no Registers of ({source}, {group}) to {world.named(rp)}"
+    return End("registers stopped", told, name, None, rp)
 
 
 def stopped(state, group, source, link, below):
     """Why a router that has the packets doesn't send them on a link, to the router below or to hosts."""
-    numbers = [each.number for each in state.router.on(link)]
-    name = state.router.name
+    numbers, name = [each.number for each in state.router.on(link)], state.router.name
+    where = f"{name}, on {words.place(state.router, numbers[0])}" if numbers else name
     if not set(numbers) & state.up:
         return End("interface down", f"{name} has no interface on {link} that is up", name, link)
     for number in numbers:
@@ -341,11 +367,11 @@ def stopped(state, group, source, link, below):
             kind = "assert" if "assert" in against[0] else "pruned" if "Prune" in against[0] else "unwanted"
             return End(kind, f"{name}, on {words.place(state.router, number)}: {'; '.join(against)}", name, link)
     if any(reasons.causes(state, group, source, number) for number in numbers):
-        return End("rpf", f"{name}, on {words.place(state.router, numbers[0])}: the packets come from there", name, link)
+        return End("rpf", f"{where}: the packets come from there", name, link)
     if below is None:
-        return End("unwanted", f"{name}, on {words.place(state.router, numbers[0])}: no wish of a host is there", name, link)
-    told = f"{name}, on {words.place(state.router, numbers[0])}: no Join for {group} of {below.router.name} is there"
-    return End("no join", told, name, link, below.router.name)
+        return End("unwanted", f"{where}: no wish of a host is there", name, link)
+    other = below.router.name
+    return End("no join", f"{where}: no Join for {group} of {other} is there", name, link, other)
 
 
 # ---- in words
@@ -368,7 +394,8 @@ def waiting_line(rung, group):
 
 
 def expected(world, group, source, origin, link):
-    """By what the routers know: whether packets would come to a host's link, the lines of their way, and the end where they don't."""
+    """By what the routers know: whether packets would come to a host's link, the lines of their way, and the end where
+    they don't."""
     hops, by_link = flow(world, group, source, origin)
     state, end = serving(world, group, source, link)
     if link in by_link and state is not None:

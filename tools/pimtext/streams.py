@@ -8,7 +8,8 @@ from pimtext.printed import ANY
 
 @dataclass(frozen=True)
 class Arrival:
-    """A packet came to a host: by the copy, None where the source is on the host's link; `moment` is the clock of who sent it."""
+    """A packet came to a host: by the copy, None where the source is on the host's link; `moment` is the clock of who
+    sent it."""
     packet: object
     copy: object
     moment: int
@@ -16,8 +17,8 @@ class Arrival:
 
 @dataclass(eq=False)
 class Stream:
-    """The packets of a source to a group that were sent while the host wanted them. `asked` is the step of its first Join, None
-    where it never asked, and `clock` gives the moment of a router at a step."""
+    """The packets of a source to a group that were sent while the host wanted them. `asked` is the step of its first
+    Join, None where it never asked, and `clock` gives the moment of a router at a step."""
     host: str
     link: str
     group: str
@@ -42,7 +43,8 @@ class Stream:
 
     def first_arrivals(self):
         """The first arrival of each packet that came, in the order of the packets."""
-        return [min(self.arrivals[packet], key=lambda each: each.moment) for packet in self.packets if self.arrivals[packet]]
+        came = [self.arrivals[packet] for packet in self.packets if self.arrivals[packet]]
+        return [min(arrivals, key=lambda each: each.moment) for arrivals in came]
 
     @property
     def longest_gap(self):
@@ -64,6 +66,11 @@ class Stream:
         runs = groupby(self.packets, key=lambda packet: bool(self.arrivals[packet]))
         return [list(run) for is_there, run in runs if not is_there]
 
+    def how_often(self):
+        """How often a packet came that came more than once, in words."""
+        most = max((len(arrivals) for arrivals in self.arrivals.values()), default=0)
+        return "twice" if most <= 2 else "more than once"
+
     def senders(self):
         """The routers that sent the host packets which came more than once."""
         return list(dict.fromkeys(each.copy.sent.router for each in self.repeated() if each.copy))
@@ -73,8 +80,10 @@ class Stream:
         return [each for packet in self.packets if len(self.arrivals[packet]) > 1 for each in self.arrivals[packet]]
 
     def doubled(self):
-        """Who sent what came more than once, and where it had come from, in words; each way once with how often it was."""
-        ways = Counter(each.copy.words() if each.copy else "by its source, on the same link" for each in self.repeated())
+        """Who sent what came more than once, and where it had come from, in words; each way once with how often it
+        was."""
+        here = "by its source, on the same link"
+        ways = Counter(each.copy.words() if each.copy else here for each in self.repeated())
         return [f"{way} ({count})" if count > 1 else way for way, count in ways.items()]
 
 
@@ -91,8 +100,9 @@ class Clocks:
 
 
 def streams(hosts, packets, clock, unheard=frozenset()):
-    """The stream of each host, group and source, in the order of the hosts. `unheard` has what a link lost on the way to a host:
-    the host's address with the number of a copy, or with the bytes and the moment of a source's own packet."""
+    """The stream of each host, group and source, in the order of the hosts. `unheard` has what a link lost on the way
+    to a host: the host's address with the number of a copy, or with the bytes and the moment of a source's own
+    packet."""
     for host, group in hosts.told:
         for source in sources_of(hosts, packets, host, group):
             yield stream(hosts, packets, clock, (host, group, source), unheard)
@@ -118,6 +128,7 @@ def stream(hosts, packets, clock, key, unheard=frozenset()):
 
 def arrivals(packet, host, link, unheard):
     """How a packet came to a host."""
-    own = [Arrival(packet, None, packet.moment)] if packet.link == link and (host, packet.content, packet.moment) not in unheard else []
+    is_here = packet.link == link and (host, packet.content, packet.moment) not in unheard
+    own = [Arrival(packet, None, packet.moment)] if is_here else []
     copies = [copy for copy in packet.on(link) if (host, copy.sent.number) not in unheard]
     return own + [Arrival(packet, copy, copy.sent.moment) for copy in copies]

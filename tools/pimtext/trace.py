@@ -1,20 +1,21 @@
-"""A run traced: each packet of data from its source on, with every router that took it and every copy that was made of it.
+"""A run traced: each packet of data from its source on, with every router that took it and every copy that was made of
+it.
 
-It follows what the run really did, as the printed lines and their scenario say it; no macro is evaluated here.
-"""
+It follows what the run really did, as the printed lines and their scenario say it; no macro is evaluated here. """
 from collections import defaultdict
 from dataclasses import dataclass, field
 
 from pimtext import packets, story
 
-# Moves after which a packet of the same bytes is another one.
-PAUSES = ("advance", "settle", "deliver", "carry", "up", "down")
+# A packet comes to the routers of its link by such moves, one directly after the other.
+AT_ONCE = ("frame", "unicast")
 
 
 @dataclass(eq=False)
 class Taken:
-    """A packet came to a router, which may have refused or ignored it: `at` is the number of the step among all steps. `iface` is
-    None where it came in a Register; `before` is the copy that came, None where the source's own packet did."""
+    """A packet came to a router, which may have refused or ignored it: `at` is the number of the step among all steps.
+    `iface` is None where it came in a Register; `before` is the copy that came, None where the source's own packet
+    did."""
     at: int
     step: story.Step
     before: "Copy | None" = None
@@ -35,6 +36,9 @@ class Taken:
     def is_done(self):
         return self.step.verdict == "done"
 
+    def words(self):
+        return self.router if self.before is None or self.iface is not None else f"a Register to {self.router}"
+
     def way(self):
         """The routers that the packet came by, as what they took of it, up to this one."""
         return [*(self.before.by.way() if self.before else []), self]
@@ -52,14 +56,13 @@ class Copy:
 
     def words(self):
         """The routers that it came by."""
-        names = [taken.router if taken.before is None or taken.iface is not None else f"a Register to {taken.router}" for taken in self.by.way()]
-        return f"by {', '.join(names)}"
+        return f"by {', '.join(taken.words() for taken in self.by.way())}"
 
 
 @dataclass(eq=False)
 class Packet:
-    """A packet of data as its source sent it. `link` is None where it came in a Register from outside the scenario; `number` counts
-    those of its source and group from 1; `ttl` is the TTL that it began with."""
+    """A packet of data as its source sent it. `link` is None where it came in a Register from outside the scenario;
+    `number` counts those of its source and group from 1; `ttl` is the TTL that it began with."""
     source: str
     group: str
     link: str | None
@@ -137,41 +140,42 @@ class Tracer:
     def __init__(self, played):
         self.played, self.packets = played, []
         self.copies, self.counts = {}, defaultdict(int)
-        self.open = []
 
     def follow(self, at, step):
         kind = step.did["do"]
-        if kind in PAUSES:
-            self.open = []
-        if kind in ("frame", "unicast"):
+        if kind in AT_ONCE:
             self.give(at, step, step.taken(), kind == "unicast")
         elif step.brought is not None and step.cause != "27" and step.brought.number in self.copies:
             copy = self.copies[step.brought.number]
             self.take(Taken(at, step, copy), copy.taken)
 
     def give(self, at, step, data, is_unicast):
-        """A source's packet came to a router; all moves that bring the same bytes to routers of one link bring one packet."""
+        """A source's packet came to a router; all moves that bring the same bytes to routers of one link bring one
+        packet."""
         data = registered(data) if is_unicast else data
         named = names(data) if data else None
         if named is None:
             return
         link = None if is_unicast else self.link(step)
-        same = [packet for packet in self.open if packet.link == link and packet.content == data and self.is_new(packet, step)]
+        alike = [each for each in self.packets if (each.link, each.content) == (link, data)]
+        same = [each for each in alike if self.is_at_once(each, step)]
         self.take(Taken(at, step), (same[0] if same else self.packet(*named, link, data)).began)
 
     def link(self, step):
         interfaces = self.played.router(step.router).interfaces
         return interfaces[step.iface].link if step.iface < len(interfaces) else None
 
-    @staticmethod
-    def is_new(packet, step):
-        return all((taken.router, taken.iface) != (step.router, step.iface) for taken in packet.began)
+    def is_at_once(self, packet, step):
+        """Whether a packet comes to another router of its link with this step, and nothing happened since it came to
+        the last one."""
+        between = self.played.moves[packet.began[-1].step.move:step.move - 1]
+        is_other = all((taken.router, taken.iface) != (step.router, step.iface) for taken in packet.began)
+        return is_other and all(move["do"] in AT_ONCE for move in between)
 
     def packet(self, source, group, link, data):
         self.counts[source, group] += 1
         packet = Packet(source, group, link, data, self.counts[source, group])
         self.packets.append(packet)
-        self.open.append(packet)
         return packet
 
     def take(self, taken, among):

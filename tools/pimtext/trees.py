@@ -3,13 +3,16 @@
 This is computed from the printed tables, the routes, the RP ranges and the Hellos that came, as RFC 7761 has it in 4.1.5, 4.1.6
 and 4.3.2, by code of its own. A set of interfaces is a set of their numbers; the register tunnel is in none.
 """
+import functools
+import ipaddress
 from dataclasses import dataclass, field
-from ipaddress import ip_address, ip_network
+from ipaddress import ip_network
 
 from pimtext import packets, printed, scenario
 from pimtext.addresses import ranges_of, routes_of
 from pimtext.printed import ANY
 
+ip_address = functools.cache(ipaddress.ip_address)
 SOURCE_SPECIFIC = ip_network("232.0.0.0/8")
 # The assert metric of a router without a route.
 UNREACHABLE = (0x7FFFFFFF, 0xFFFFFFFE)
@@ -38,6 +41,30 @@ class Known:
 
     def link(self, number):
         return self.router.interfaces[number].link
+
+
+@dataclass
+class Still(Known):
+    """What a router knows at one moment, to be asked much: answers are kept, so nothing of it may change any more."""
+    kept: dict = field(default_factory=dict)
+
+    def of(self, table, /, **values):
+        key = (table, *values.items())
+        if key not in self.kept:
+            self.kept[key] = super().of(table, **values)
+        return self.kept[key]
+
+
+def kept(ask):
+    """Has the answers kept of a router that stays as it is."""
+    @functools.wraps(ask)
+    def asked(state, *key):
+        if not isinstance(state, Still):
+            return ask(state, *key)
+        if (ask, key) not in state.kept:
+            state.kept[ask, key] = ask(state, *key)
+        return state.kept[ask, key]
+    return asked
 
 
 @dataclass(frozen=True)
@@ -143,11 +170,13 @@ def is_source_specific(group):
     return ip_address(group) in SOURCE_SPECIFIC
 
 
+@kept
 def rp_of(state, group):
     """The RP of a group, None where it has none."""
     return None if is_source_specific(group) else longest(state.rps, ip_address(group))
 
 
+@kept
 def route(state, address):
     """The route to an address: none to an own one, else over a link, else the longest route where its interface is up."""
     if address is None or state.router.has(address):
@@ -201,6 +230,7 @@ def neighbours_on(state, number):
     return {row.address: state.hellos.get((number, row.address), packets.Hello()) for row in rows}
 
 
+@kept
 def dr_of(state, number):
     """The address of an interface's DR: the highest priority, where all neighbours tell one, then the highest address."""
     own, others = state.router.interfaces[number], neighbours_on(state, number)
@@ -257,6 +287,7 @@ def is_beaten(state, row):
     return theirs < (False, *mine, -int(ip_address(own)))
 
 
+@kept
 def served(state, group, source):
     """The interfaces whose hosts are the router's: it is the DR and hasn't lost, or it won the assert."""
     lost = lost_shared(state, group) if source == ANY else lost_source(state, group, source)

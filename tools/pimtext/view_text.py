@@ -74,17 +74,22 @@ def rp_row(entry):
     return [entry["range"], entry["rp"], "itself" if entry["is_own"] else at(entry["rpf"]), ", ".join(entry["groups"]) or None]
 
 
+def tables(view):
+    """What a router knows as tables: a title, headings and rows of each."""
+    yield "show ip mroute", ["Source", "Group", "Flags", "Incoming", "From", "Outgoing"], list(mroute_rows(view["mroute"]))
+    heads = ["Source", "Group", "RPF", "RPF'", "State", "Join", "Kept alive until", "(S,G,rpt)"]
+    yield "show ip pim upstream", heads, list(map(upstream_row, view["upstream"]))
+    heads = ["Interface", "Address", "State", "DR", "IGMP querier"]
+    yield "show ip pim interface", heads, list(map(interface_row, view["interfaces"]))
+    heads = ["Interface", "Neighbour", "DR", "Until", "Priority", "Generation", "Propagation", "Override"]
+    yield "show ip pim neighbor", heads, list(map(neighbour_row, view["neighbours"]))
+    heads = ["Interface", "Group", "Mode", "Until", "Sources", "Querier", "Served here"]
+    yield "show ip igmp groups", heads, list(map(group_row, view["groups"]))
+    yield "show ip pim rp-info", ["Range", "RP", "Towards", "Groups"], list(map(rp_row, view["rps"]))
+
+
 def text(view):
     """The lines of a router."""
     yield f"router {view['router']} at {words.seconds(view['moment'])}"
-    heads = ["Source", "Group", "Flags", "Incoming", "From", "Outgoing"]
-    yield from table("show ip mroute", heads, list(mroute_rows(view["mroute"])))
-    heads = ["Source", "Group", "RPF", "RPF'", "State", "Join", "Kept alive until", "(S,G,rpt)"]
-    yield from table("show ip pim upstream", heads, list(map(upstream_row, view["upstream"])))
-    heads = ["Interface", "Address", "State", "DR", "IGMP querier"]
-    yield from table("show ip pim interface", heads, list(map(interface_row, view["interfaces"])))
-    heads = ["Interface", "Neighbour", "DR", "Until", "Priority", "Generation", "Propagation", "Override"]
-    yield from table("show ip pim neighbor", heads, list(map(neighbour_row, view["neighbours"])))
-    heads = ["Interface", "Group", "Mode", "Until", "Sources", "Querier", "Served here"]
-    yield from table("show ip igmp groups", heads, list(map(group_row, view["groups"])))
-    yield from table("show ip pim rp-info", ["Range", "RP", "Towards", "Groups"], list(map(rp_row, view["rps"])))
+    for each in tables(view):
+        yield from table(*each)

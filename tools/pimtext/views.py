@@ -164,7 +164,8 @@ def wanted_of(row, sources):
 def rp_range(state, prefix, rp):
     ranges = [(each, (each, address)) for each, address in state.rps]
     groups = {group for group, _ in keys(state) if trees.rp_of(state, group) is not None}
-    used = sorted((group for group in groups if trees.longest(ranges, ip_address(group)) == (prefix, rp)), key=ip_address)
+    here = [group for group in groups if trees.longest(ranges, ip_address(group)) == (prefix, rp)]
+    used = sorted(here, key=ip_address)
     towards = place(state, trees.rpf_interface(state, rp))
     return {"range": str(prefix), "rp": rp, "is_own": state.router.has(rp), "rpf": towards, "groups": used}
 

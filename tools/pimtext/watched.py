@@ -8,7 +8,8 @@ from pimtext.past import Past
 
 @dataclass(frozen=True)
 class Loss:
-    """Packets one after the other that didn't come to a host, all for one reason; `waiting` are the rungs that waited for them."""
+    """Packets one after the other that didn't come to a host, all for one reason; `waiting` are the rungs that waited
+    for them."""
     packets: list
     end: End
     waiting: list
@@ -53,7 +54,8 @@ class Watch:
         return [loss for run in stream.missing() for loss in self.split(stream, run)]
 
     def split(self, stream, run):
-        """A run of packets that didn't come as losses of one reason each; what is between two of one reason has it too."""
+        """A run of packets that didn't come as losses of one reason each; what is between two of one reason has it
+        too."""
         one, other = self.loss(stream, run[:1]), self.loss(stream, run[-1:])
         if one.key() == other.key():
             return [Loss(run, other.end, other.waiting)]
@@ -91,8 +93,11 @@ class Watch:
         """By what the routers know: the lines of the way, and the end where packets wouldn't come."""
         origin = self.origin(stream)
         if origin is None:
-            return [], End("stranger", f"{stream.source} is in the subnet of no link that is up", None, None, stream.source)
-        return ([], None) if origin == stream.link else served.expected(world, stream.group, stream.source, origin, stream.link)
+            told = f"{stream.source} is in the subnet of no link that is up"
+            return [], End("stranger", told, None, None, stream.source)
+        if origin == stream.link:
+            return [], None
+        return served.expected(world, stream.group, stream.source, origin, stream.link)
 
     def is_as_then(self, stream, end):
         """Whether the routers know of a stream what they knew before its last packet: whether it would come."""
@@ -136,7 +141,8 @@ class Watch:
             yield each, [self.stream(host, each, whom) for whom in found]
 
     def answers(self, host, group=None, source=None):
-        """Whether a host is served of what it asked for, or of a group or a source of one: the verdict of each stream, or lines."""
+        """Whether a host is served of what it asked for, or of a group or a source of one: the verdict of each stream,
+        or lines."""
         asked = list(self.asked(host, group, source))
         if not asked:
             yield None, [f"{host} has asked for no group in this run"]
@@ -162,7 +168,8 @@ class Watch:
 
 
 def head(stream, origin):
-    return f"({stream.source}, {stream.group}) from {origin or 'nowhere'} to {stream.host} on {stream.link or 'no link'}"
+    where = f"from {origin or 'nowhere'} to {stream.host} on {stream.link or 'no link'}"
+    return f"({stream.source}, {stream.group}) {where}"
 
 
 def seconds(number):
@@ -176,14 +183,16 @@ def numbers(stream):
     if not stream.packets:
         yield "  nobody has sent since it asked"
         return
-    told = f"  {stream.sent} sent since it asked, {stream.came} came" + (f", {stream.twice or 'none'} of them twice" if stream.came else "")
+    told = f"  {stream.sent} sent since it asked, {stream.came} came"
+    if stream.came:
+        told += f", {stream.twice or 'none'} of them {stream.how_often()}"
     if stream.longest_gap is not None:
         told += f"; the longest gap {seconds(stream.longest_gap)}"
     if stream.first_after is not None:
         told += f"; the first came {seconds(stream.first_after)} after the Join"
     yield told
     if stream.twice:
-        yield f"  twice: {'; '.join(stream.doubled())}"
+        yield f"  {stream.how_often()}: {'; '.join(stream.doubled())}"
 
 
 def loss_line(loss):
@@ -197,6 +206,6 @@ def unwanted_line(stream):
 
 
 def expected_lines(stream, way, end):
-    since = "since the network changed; by what the routers know now" if stream.packets else "yet; by what the routers know"
+    since = "since the network changed; by what the routers know now" if stream.packets else "yet; by what routers know"
     lines = [f"  nobody has sent {since}:", *way]
     return [*lines, f"{stream.host} would be served" if end is None else f"{stream.host} isn't served: {end.text}"]

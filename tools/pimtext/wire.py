@@ -1,5 +1,5 @@
-"""What was lost between routers in a run: of each packet that one sent, which others on its link, or at its destination, it never
-came to though their interface was up."""
+"""What was lost between routers in a run: of each packet that one sent, which others on its link, or at its
+destination, it never came to though their interface was up."""
 from collections import defaultdict
 from dataclasses import dataclass, field
 
@@ -7,7 +7,9 @@ from pimtext import packets, story
 
 HELLO, JOIN, DATA, REGISTER, OTHER = "Hello", "Join/Prune", "data", "Register", "other"
 KINDS = {packets.HELLO: HELLO, packets.JOIN_PRUNE: JOIN}
-PLURALS = {HELLO: "Hellos", JOIN: "Joins and Prunes", DATA: "packets of data", REGISTER: "Registers", OTHER: "other packets"}
+PLURALS = {
+    HELLO: "Hellos", JOIN: "Joins and Prunes", DATA: "packets of data", REGISTER: "Registers", OTHER: "other packets",
+}
 
 
 @dataclass(eq=False)

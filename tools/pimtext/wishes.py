@@ -1,4 +1,5 @@
-"""What hosts asked for in a run, and when: by all reports that they gave, also by those that routers refused, and by IGMPv2."""
+"""What hosts asked for in a run, and when: by all reports that they gave, also by those that routers refused, and by
+IGMPv2."""
 from collections import defaultdict
 from dataclasses import dataclass
 
@@ -38,7 +39,8 @@ def after(wish, record):
 
 @dataclass(frozen=True)
 class Heard:
-    """A host's report as a router took or refused it: pairs of a group and what the host wants of it after the report."""
+    """A host's report as a router took or refused it: pairs of a group and what the host wants of it after the
+    report."""
     at: int
     step: object
     host: str

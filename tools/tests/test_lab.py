@@ -216,6 +216,100 @@ class Odd(unittest.TestCase):
         self.assertIn("it has not asked for 239.1.1.2 of", str(how))
 
 
+def broken(how, times=3, **host):
+    """The payloads that come to a viewer behind three routers, the RP in the middle, and the network: `how` breaks it."""
+    net = Network()
+    net.line("a", "b", "c")
+    net.rp("b")
+    camera, viewer = net.host("camera", "a"), net.host("viewer", "c", **host)
+    how(net)
+    net.run(10)
+    viewer.join(GROUP)
+    net.run(5)
+    camera.stream(GROUP, times=times)
+    net.run(10)
+    return viewer.payloads(), net
+
+
+class Broken(unittest.TestCase):
+    """What people get wrong, made on purpose."""
+
+    def test_a_host_that_speaks_igmpv2(self):
+        payloads, net = broken(lambda net: None, igmp=2)
+        self.assertEqual(payloads, [])
+        self.assertTrue(any("refused 7" in trouble for trouble in net.troubles()))
+        self.assertIn("speaks IGMPv2", net.notes()[0])
+
+    def test_a_host_that_answers_no_query(self):
+        net = Network()
+        net.line("a", "b")
+        net.rp("a")
+        camera, viewer = net.host("camera", "a"), net.host("viewer", "b", answers=False)
+        net.run(10)
+        viewer.join(GROUP)
+        net.run(300)
+        camera.send(GROUP, b"late")
+        net.run(5)
+        self.assertEqual((viewer.payloads(), net.routers["b"].rows(GroupRecord)), ([], []))
+
+    def test_one_interface_that_is_down(self):
+        payloads, net = broken(lambda net: net.links["b-c"].port("c").down())
+        self.assertEqual((payloads, net.routers["c"].neighbours()), ([], set()))
+        self.assertIn("interface 0 (link b-c) never goes up", net.notes()[0])
+
+    def test_an_interface_that_is_down_for_a_while(self):
+        net, camera, viewer = small()
+        port = net.links["r1-r2"].port("r2")
+        camera.stream(GROUP, times=6)
+        net.run(2)
+        port.down()
+        net.run(2)
+        port.up()
+        net.run(10)
+        (stream,) = viewer.watch(GROUP)
+        missed = [packet.number for run in stream.missing() for packet in run]
+        self.assertEqual(viewer.payloads(), [str(number).encode() for number in range(1, 7) if number not in missed])
+        self.assertEqual((stream.sent, stream.came, stream.twice), (6, 6 - len(missed), 0))
+        self.assertEqual(stream.longest_gap, 1.0 + len(missed))
+        self.assertTrue(missed)
+        self.assertIn("was down from 17.000 s to 19.000 s", net.notes()[0])
+
+    def test_a_wrong_mask(self):
+        payloads, net = broken(lambda net: net.links["a-b"].configure("b", length=28))
+        self.assertEqual(len(payloads), 3)
+        self.assertIn("two masks on one link", net.notes()[0])
+
+    def test_an_address_twice(self):
+        _, net = broken(lambda net: net.links["a-b"].configure("b", address="10.0.1.1"))
+        self.assertEqual(net.routers["a"].neighbours(), set())
+        self.assertIn("10.0.1.1 is the address of two interfaces", net.notes()[0])
+
+    def test_loss_of_one_kind(self):
+        kinds = {packets.Hello: "aren't neighbours", packets.JoinPrune: "Joins and Prunes", packets.Data: "of data"}
+        for kind, told in kinds.items():
+            with self.subTest(kind):
+                payloads, net = broken(lambda net: net.links["b-c"].lose(1.0, kind))
+                self.assertEqual(payloads, [])
+                self.assertEqual(net.routers["c"].neighbours(), set() if kind is packets.Hello else {"b"})
+                self.assertIn(told, net.notes()[0])
+
+    def test_loss_one_way(self):
+        payloads, net = broken(lambda net: net.links["b-c"].lose(1.0, sender="c"))
+        self.assertEqual((payloads, net.routers["b"].neighbours(), net.routers["c"].neighbours()), ([], {"a"}, {"b"}))
+        self.assertIn("nothing that c sent on b-c came to b", net.notes()[0])
+
+    def test_loss_that_ends(self):
+        net, camera, viewer = small()
+        link = net.links["r1-r2"]
+        link.lose(1.0, packets.Data)
+        camera.send(GROUP, b"lost")
+        net.run(2)
+        link.lose(0, packets.Data)
+        camera.send(GROUP, b"comes")
+        net.run(2)
+        self.assertEqual(viewer.payloads()[-1:], [b"comes"])
+
+
 # What somebody gets wrong in a file, and the sentence.
 WRONG = [
     ('net.rp("hubb")', "there is no router hubb; is hub meant?"),
@@ -262,6 +356,13 @@ WRONG = [
     ('camera.send("239.1.1.1", bytes(1473))', "a payload of 1473 bytes is too long: a packet takes 1472"),
     ('camera.send("239.1.1.1", b"one", ttl=256)', "256 is no TTL: it is a whole number from 0 to 255"),
     ('camera.stream("239.1.1.1", every=-1)', "-1 is no number of seconds"),
+    ('net.host("x", "west", igmp=4)', "4 is no version of IGMP: it is a whole number from 2 to 3"),
+    ('net.host("x", "west", igmp=2).join("239.1.1.1", camera)', "x speaks IGMPv2, by which no source can be named"),
+    ('net.links["west-hub"].lose(2)', "2 is no share of the packets that are lost: it is a number from 0 to 1"),
+    ('net.links["west-hub"].lose(1, "Hello")', "'Hello' is no kind of packet: it is the class of this name"),
+    ('net.links["west-hub"].lose(1, sender="east")', "east is not on the link west-hub"),
+    ('net.links["west-hub"].configure("hub", length=32)', "32 is no length of a subnet: it is a whole number"),
+    ('net.links["west-hub"].configure("hub", address="10.1")', "'10.1' is no address of a host or a router"),
     ('net.run(1); net.router("late")', "late: routers, links and hosts are made before the first run"),
 ]
 BEFORE = """\

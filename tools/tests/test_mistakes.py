@@ -68,7 +68,7 @@ class Mistakes(unittest.TestCase):
 
     def test_ssm_data_of_another_source(self):
         network = Network(report(ALLOW, SSM, "10.7.0.51"), data(SSM))
-        self.told(network, network.said_line(0), f"{HOST} asks for {SSM} of 10.7.0.51, which has sent nothing in this run")
+        self.told(network, network.said_line(0), f"{HOST} asks for {SSM} of 10.7.0.51, which has sent nothing")
 
     def test_an_ssm_group_without_a_source(self):
         network = Network(report(TO_EX, SSM))

@@ -65,6 +65,13 @@ class Shown(unittest.TestCase):
         (rp,) = self.view("hub")["rps"]
         self.assertEqual((rp["range"], rp["rp"], rp["is_own"], rp["groups"]), ("239.0.0.0/8", RP, True, [GROUP]))
 
+    def test_a_group_is_at_its_longest_range_alone(self):
+        network = Network()
+        network.router("hub")["rps"] = [f"239.0.0.0/8 {RP}", f"239.1.0.0/16 {RP}"]
+        self.path.write_text(network.text())
+        groups = {each["range"]: each["groups"] for each in self.view("hub")["rps"]}
+        self.assertEqual(groups, {"239.0.0.0/8": [], "239.1.0.0/16": [GROUP]})
+
     def test_after_a_move(self):
         self.assertEqual(self.view("east", "--at", 0)["neighbours"], [])
         self.assertEqual(len(self.view("east", "--at", 10)["neighbours"]), 1)

@@ -38,7 +38,8 @@ class Served(unittest.TestCase):
         lines, is_served = answer(Network(), HOST)
         self.assertTrue(is_served)
         self.assertEqual(lines[0], f"({SOURCE}, {GROUP}) from studio to {HOST} on home")
-        self.assertEqual(lines[1], "  1 sent since it asked, 1 came, none of them twice; the first came 0 s after the Join")
+        came = "1 sent since it asked, 1 came, none of them twice; the first came 0 s after the Join"
+        self.assertEqual(lines[1].strip(), came)
         way = [line.strip() for line in lines[2:-1]]
         self.assertEqual(way[0], f"west took it on 0 studio, TTL 16; registered it with hub ({RP})")
         self.assertEqual(way[1], "hub took it in a Register, TTL 15; sent it on hub-east")
@@ -178,6 +179,15 @@ class Received(unittest.TestCase):
                 if host.link is not source.link and (host.wants(group, source.address) or not how):
                     with self.subTest(str(how), seed=seed):
                         self.assertEqual(bool(how), len(host.received) > count)
+                self.counted(host, source, group, seed)
+
+    def counted(self, host, source, group, seed):
+        """The trace counts what the host received."""
+        received = [each for each in host.received if (each.group, each.source) == (group, source.address)]
+        for stream in host.watch(group, source):
+            with self.subTest("counts", seed=seed):
+                arrivals = [each for each in stream.arrivals.values() if each]
+                self.assertEqual((stream.came, sum(map(len, arrivals))), (len(arrivals), len(received)))
 
 
 class Asked(unittest.TestCase):

@@ -382,7 +382,8 @@ class Odd(unittest.TestCase):
     def noted(self, text):
         judge, number = faults_of(text)
         self.assertEqual(number, 0)
-        return Diagnosis(judge, scenario.scenario_of(toml_lines.plain(toml_lines.read(text))), scenario.run_text(text)).lines()
+        played = scenario.scenario_of(toml_lines.plain(toml_lines.read(text)))
+        return Diagnosis(judge, played, scenario.run_text(text)).lines()
 
     def test_nothing_is_odd_in_a_good_run(self):
         self.assertEqual(self.noted(RUN), [])
@@ -425,10 +426,10 @@ class Odd(unittest.TestCase):
 
 class Words(unittest.TestCase):
     def test_every_refusal_and_reason_of_a_move_has_its_meaning(self):
-        using = (stored.TOOLS.parent / "docs" / "USING.md").read_text()
-        refusals = using.partition("## Refusals")[2].partition("## Reasons")[0]
+        scenarios = (stored.TOOLS.parent / "docs" / "SCENARIOS.md").read_text()
+        refusals = scenarios.partition("## Refusals")[2].partition("## Reasons")[0]
         numbers = {number for number in re.findall(r"^\| (\d+) \|", refusals, re.M) if int(number) < 25}
-        reasons = set(re.findall(r"^\| `([A-Z]\w+)` \| ", using.partition("## Reasons to ignore")[2].partition("##")[0], re.M))
+        reasons = set(re.findall(r"^\| `([A-Z]\w+)` \| ", scenarios.partition("## Reasons to ignore")[2].partition("##")[0], re.M))
         self.assertEqual(set(notes.MEANINGS), numbers | reasons)
 
 

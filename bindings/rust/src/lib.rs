@@ -183,7 +183,7 @@ macro_rules! numbered {
 }
 
 numbered! {
-    /// A refusal, which changed nothing. `docs/USING.md` has each.
+    /// A refusal, which changed nothing. `docs/SCENARIOS.md` has each.
     Refusal {
         Short = 1,
         BadVersion = 2,

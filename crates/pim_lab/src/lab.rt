@@ -35,11 +35,18 @@ pub(crate) struct Lab<W> {
     stations: Vec<Station>,
     net: Net<W>,
     frames: Frames,
+    tables_each: bool,
 }
 
 impl<W: Wire> Lab<W> {
-    /// The network of a scenario. The first test that its routers fail is told.
-    pub(crate) fn open(alloc: Global, texts: Series<RouterText>, wire: W) -> Result<Lab<W>, Trouble>
+    /// The network of a scenario, which prints a router's tables after each of its answers where `tables_each` says so.
+    /// The first test that its routers fail is told.
+    pub(crate) fn open(
+        alloc: Global,
+        texts: Series<RouterText>,
+        wire: W,
+        tables_each: bool,
+    ) -> Result<Lab<W>, Trouble>
         ensures accepted { OnOk result (routers_test texts ≡ Ok tt) }
         ensures trouble { IfErr result (λ t. IsTroubleOf (routers_test texts) t) }
     {
@@ -50,6 +57,7 @@ impl<W: Wire> Lab<W> {
             stations,
             net,
             frames: Frames::new(alloc),
+            tables_each,
         })
     }
 
@@ -112,7 +120,7 @@ impl<W: Wire> Lab<W> {
         Ok(())
     }
 
-    // What became of a move, and the packets that left.
+    // What became of a move, and the packets that left; then the router's tables, where they are asked for.
     fn print(
         &mut self,
         number: usize,
@@ -132,6 +140,9 @@ impl<W: Wire> Lab<W> {
         for (place, emission) in emissions.iter().enumerate() {
             let frame = self.frames.send(router, emission)?;
             lines.push(station.packet_line(frame, emission, place >= first))?;
+        }
+        if self.tables_each {
+            self.print_tables_of(router, station, lines)?;
         }
         Ok(())
     }
@@ -156,13 +167,26 @@ impl<W: Wire> Lab<W> {
         ensures { IfErr result (λ t. IsFault t) }
     {
         for (place, station) in self.stations.iter().enumerate() {
-            let name = station.name();
-            lines.push(format_args!("router {name}"))?;
-            if let Some(router) = self.net.router(place) {
-                print_router(router, lines)?;
-            }
+            self.print_tables_of(place, station, lines)?;
         }
         Ok(())
+    }
+
+    // Prints the tables of the router at a place, whose station this is.
+    fn print_tables_of(
+        &self,
+        place: usize,
+        station: &Station,
+        lines: &mut Lines,
+    ) -> Result<(), Trouble>
+        ensures { IfErr result (λ t. IsFault t) }
+    {
+        let name = station.name();
+        lines.push(format_args!("router {name}"))?;
+        match self.net.router(place) {
+            Some(router) => print_router(router, lines),
+            None => Ok(()),
+        }
     }
 }
 

@@ -12,7 +12,7 @@ mod trouble;
 
 pub use pim_net::{MemoryWire, Move, Net, NetLog, Node, UdpWire, Wire};
 pub use pim_scenario::{
-    Answer, Command, Complaint, Link, RouterText, Scenario, ScenarioMove, WireKind, Words, fault,
-    load, read_scenario, read_words, refused,
+    Answer, Command, Complaint, Link, RouterText, Scenario, ScenarioMove, Tables, WireKind, Words,
+    fault, load, read_scenario, read_words, refused,
 };
-pub use playing::{check_text, play};
+pub use playing::{check_text, play, play_with};

@@ -12,7 +12,7 @@ use crate::lab::Lab;
 use crate::lines::Lines;
 use crate::trouble::Trouble;
 use pim_net::{MemoryWire, Wire};
-use pim_scenario::{Scenario, ScenarioMove, fault, read_scenario};
+use pim_scenario::{Scenario, ScenarioMove, Tables, fault, read_scenario};
 use pim_types::{Fault, Series};
 use std::alloc::Global;
 use std::io::{self, Write};
@@ -37,11 +37,36 @@ pub fn play<W: Wire, O: Write, E: Write>(
         → Appends (E.contents err.old) (E.contents err.new) (line_of (Complaint.Fault Fault.Memory)) }
     ensures silent { (IsAccepted text.now → ⊥) → out.new ≡ out.old }
 {
-    let Opened { lab, moves } = match open_scenario(alloc, text, wire) {
+    let tables = Tables {
+        after_each: false,
+        at_end: tables,
+    };
+    play_with(alloc, text, wire, tables, out, err)
+}
+
+/// As [`play`], with these tables: those of the router that answered after each answer and its packets, those of all
+/// routers at the end, both or none.
+pub fn play_with<W: Wire, O: Write, E: Write>(
+    alloc: Global,
+    text: &str,
+    wire: W,
+    tables: Tables,
+    out: &mut O,
+    err: &mut E,
+) -> u8
+    ensures status { (result ≡ 0) ⊎ (result ≡ 2) ⊎ (result ≡ 3) ⊎ (result ≡ 4) }
+    ensures done { result ≡ 0 → IsAccepted text.now × (err.new ≡ err.old) }
+    ensures refused { result ≡ 2 → (r : Refusal) × IsRefused text.now r
+        × Appends (E.contents err.old) (E.contents err.new) (line_of (Complaint.Scenario r)) }
+    ensures memory { result ≡ 4
+        → Appends (E.contents err.old) (E.contents err.new) (line_of (Complaint.Fault Fault.Memory)) }
+    ensures silent { (IsAccepted text.now → ⊥) → out.new ≡ out.old }
+{
+    let Opened { lab, moves } = match open_scenario(alloc, text, wire, tables.after_each) {
         Ok(opened) => opened,
         Err(trouble) => return trouble.tell(err),
     };
-    match run(alloc, lab, moves, tables, out) {
+    match run(alloc, lab, moves, tables.at_end, out) {
         Ok(()) => 0,
         Err(trouble) => trouble.tell(err),
     }
@@ -80,7 +105,7 @@ fn check(alloc: Global, text: &str) -> Result<(), Trouble>
     ensures accepted { OnOk result (IsAccepted text.now) }
     ensures trouble { IfErr result (λ t. Stops text.now t) }
 {
-    open_scenario(alloc, text, MemoryWire::new(alloc))?;
+    open_scenario(alloc, text, MemoryWire::new(alloc), false)?;
     Ok(())
 }
 
@@ -91,12 +116,17 @@ struct Opened<W> {
     moves: Series<ScenarioMove>,
 }
 
-fn open_scenario<W: Wire>(alloc: Global, text: &str, wire: W) -> Result<Opened<W>, Trouble>
+fn open_scenario<W: Wire>(
+    alloc: Global,
+    text: &str,
+    wire: W,
+    tables_each: bool,
+) -> Result<Opened<W>, Trouble>
     ensures accepted { OnOk result (IsAccepted text.now) }
     ensures trouble { IfErr result (λ t. Stops text.now t) }
 {
     let Scenario { routers, moves } = read(alloc, text)?;
-    let lab = Lab::open(alloc, routers, wire)?;
+    let lab = Lab::open(alloc, routers, wire, tables_each)?;
     Ok(Opened { lab, moves })
 }
 

@@ -9,6 +9,7 @@ use Rattle.pim_scenario.specs.declared.command_line.Answer.{Answer}
 use Rattle.pim_scenario.specs.declared.command_line.Answer.TheVariants.{Accepted, Refused, Help}
 use Rattle.pim_scenario.specs.declared.command_line.Command.{Command}
 use Rattle.pim_scenario.specs.declared.command_line.Command.TheVariants.{Run, Check}
+use Rattle.pim_scenario.specs.declared.command_line.Tables.{Tables}
 use Rattle.pim_scenario.specs.declared.command_line.Words.{Words}
 use Rattle.pim_scenario.specs.declared.command_line.WireKind.{WireKind}
 use Rattle.pim_scenario.specs.declared.command_line.WireKind.TheVariants.{Memory, Udp}
@@ -31,8 +32,16 @@ tables_rule = record (new_rule (codes "tables")) {
   action = Some SetTrue;
 }
 
+abbrev pub tables_each_rule : Rule
+tables_each_rule = record (new_rule (codes "tables-each")) {
+  long = Some (codes "tables-each");
+  action = Some SetTrue;
+}
+
 abbrev pub run_app : App
-run_app = with_rule (with_rule (with_rule (new_app (codes "run")) file_rule) wire_rule) tables_rule
+run_app =
+    with_rule (with_rule (with_rule (with_rule (new_app (codes "run")) file_rule) wire_rule) tables_rule)
+    tables_each_rule
 
 abbrev pub check_app : App
 check_app = with_rule (new_app (codes "check")) file_rule
@@ -42,7 +51,7 @@ top_app =
     let a = new_app (codes "pimlab") in
     record a { top = record a.top { subcommand_required = true } }
 
--- `pimlab run FILE [--wire memory|udp] [--tables]` and `pimlab check FILE`
+-- `pimlab run FILE [--wire memory|udp] [--tables] [--tables-each]` and `pimlab check FILE`
 abbrev pub pimlab_app : App
 pimlab_app = with_subcommand (with_subcommand top_app run_app.top) check_app.top
 
@@ -52,7 +61,7 @@ pub record Meaning : Type 0 where
   pub command : Command
   pub file : Text
   pub wire : WireKind
-  pub tables : Bool
+  pub tables : Tables
 
 abbrev pub command_named : Text → Option Command
 command_named name =
@@ -66,6 +75,10 @@ wire_named (Some name) =
     if bytes_eq name (codes "memory") then Some Memory
     else (if bytes_eq name (codes "udp") then Some Udp else None)
 
+-- an option that takes no value is given
+abbrev pub is_set : Text → List Row → Bool
+is_set id rows = option_map_or (λ t. bytes_eq t (codes "true")) (first_of id rows) false
+
 -- what the rows of a subcommand say
 abbrev pub meant_in : Text → List Row → Option Meaning
 meant_in name rows =
@@ -75,7 +88,10 @@ meant_in name rows =
       command = command;
       file = file;
       wire = wire;
-      tables = option_map_or (λ t. bytes_eq t (codes "true")) (first_of (codes "tables") rows) false;
+      tables = record {
+        after_each = is_set (codes "tables-each") rows;
+        at_end = is_set (codes "tables") rows;
+      };
     }) (first_of (codes "FILE") rows))
     (wire_named (first_of (codes "wire") rows)))
     (command_named name)

@@ -1,11 +1,11 @@
-//! The command line: `pimlab run FILE [--wire memory|udp] [--tables]` and `pimlab check FILE`.
+//! The command line: `pimlab run FILE [--wire memory|udp] [--tables] [--tables-each]` and `pimlab check FILE`.
 ghost use Rattle.std.specs.Prelude.{◌≡◌, ◌≢◌, [], map, option_map, None, IfOk, IfErr, false};
 ghost use Rattle.clap.specs.Words.{app_of, fault_of, rule_of, subcommand_rows_of, HasKind, Kinds};
 ghost use Rattle.clap.specs.Words.{first_of, found_of, new_app, rows_of, with_rule, with_subcommand};
 ghost use Rattle.clap.specs.declared.builder.command.Command.TheViews.{out-Command};
-ghost use Rattle.pim_scenario.specs.CommandLine.{pimlab_app, top_app, run_app, check_app, file_rule, wire_rule, tables_rule};
+ghost use Rattle.pim_scenario.specs.CommandLine.{pimlab_app, top_app, run_app, check_app, file_rule, wire_rule, tables_rule, tables_each_rule};
 ghost use Rattle.pim_scenario.specs.CommandLine.{words_in, meaning_in, meaning_of, meant_by, meant_in, CanAnswer};
-ghost use Rattle.pim_scenario.specs.CommandLine.{command_named, wire_named};
+ghost use Rattle.pim_scenario.specs.CommandLine.{command_named, wire_named, is_set};
 
 use clap::error::ErrorKind;
 use clap::{Arg, ArgAction, ArgMatches};
@@ -29,6 +29,15 @@ pub enum WireKind {
     Udp,
 }
 
+/// Which tables are printed.
+#[derive(Clone, Copy)]
+pub struct Tables {
+    /// After each answer and its packets those of the router that answered.
+    pub after_each: bool,
+    /// Those of all routers at the end.
+    pub at_end: bool,
+}
+
 /// The words of a command line that was accepted.
 #[derive(Clone, Copy)]
 pub struct Words<'a> {
@@ -36,8 +45,7 @@ pub struct Words<'a> {
     /// The scenario's file; `-` is standard input.
     pub file: &'a str,
     pub wire: WireKind,
-    /// The tables of all routers are printed at the end.
-    pub tables: bool,
+    pub tables: Tables,
 }
 
 /// What a command line comes to.
@@ -94,7 +102,8 @@ fn run_command<'a>(alloc: Global) -> Result<clap::Command<'a>, AllocError>
         "Does the moves of a scenario and prints what they bring",
     )?
     .arg(wire_argument(alloc))?
-    .arg(tables_argument(alloc))
+    .arg(tables_argument(alloc))?
+    .arg(tables_each_argument(alloc))
 }
 
 fn check_command<'a>(alloc: Global) -> Result<clap::Command<'a>, AllocError>
@@ -148,6 +157,16 @@ fn tables_argument<'a>(alloc: Global) -> Arg<'a>
         .help("Prints the tables of all routers at the end")
 }
 
+fn tables_each_argument<'a>(alloc: Global) -> Arg<'a>
+    ensures rule { rule_of result ≡ tables_each_rule }
+    ensures local { result.global ≡ false }
+{
+    Arg::new(alloc, "tables-each")
+        .long("tables-each")
+        .action(ArgAction::SetTrue)
+        .help("Prints after each answer the tables of its router")
+}
+
 /// What the matches say. An option's value that clap doesn't judge is refused here.
 fn accepted<'a>(matches: &ArgMatches<'a>) -> Answer<'a>
     ensures meant { words_in result ≡ meant_by (subcommand_rows_of matches.now) }
@@ -168,13 +187,23 @@ fn words_of<'a>(name: &str, matches: &ArgMatches<'a>) -> Option<Words<'a>>
     let command = command_named(name)?;
     let wire = wire_named(value_of(matches, "wire"))?;
     let file = value_of(matches, "FILE")?;
-    let tables = value_of(matches, "tables") == Some("true");
+    let tables = Tables {
+        after_each: is_set(matches, "tables-each"),
+        at_end: is_set(matches, "tables"),
+    };
     Some(Words {
         command,
         file,
         wire,
         tables,
     })
+}
+
+/// Whether an option that takes no value is given.
+fn is_set(matches: &ArgMatches<'_>, id: &str) -> bool
+    ensures { result ≡ is_set id.now (rows_of (found_of matches.now)) }
+{
+    value_of(matches, id) == Some("true")
 }
 
 /// The first value of an argument.

@@ -7,7 +7,7 @@ pub mod complaint;
 pub mod file;
 pub mod scenario;
 
-pub use command_line::{Answer, Command, WireKind, Words, read_words};
+pub use command_line::{Answer, Command, Tables, WireKind, Words, read_words};
 pub use complaint::{Complaint, fault, refused};
 pub use file::load;
 pub use scenario::{Link, RouterText, Scenario, ScenarioMove, read_scenario};

@@ -3,8 +3,8 @@
 #![tactic(auto)]
 
 use pim_lab::{
-    Answer, Command, Complaint, MemoryWire, UdpWire, Wire, WireKind, Words, check_text, load, play,
-    read_words,
+    Answer, Command, Complaint, MemoryWire, UdpWire, Wire, WireKind, Words, check_text, load,
+    play_with, read_words,
 };
 use pim_types::Fault;
 use std::env;
@@ -92,7 +92,7 @@ fn run(rt: &HostRuntime, words: &Words<'_>, text: &str) -> u8 {
 }
 
 fn run_over<W: Wire>(rt: &HostRuntime, wire: W, words: &Words<'_>, text: &str) -> u8 {
-    play(
+    play_with(
         rt.alloc(),
         text,
         wire,

@@ -1,14 +1,14 @@
 //! The loop: what waits at the sockets, what is due by the clock, and what signals ask for.
-use super::{could_not, ranges_of, Answer, Daemon, Fatal};
+use super::{Answer, Daemon, Event, Fatal};
 use crate::control::Control;
-use crate::mroute::Upcall;
+use crate::core::ranges_of;
+use crate::kernel::{self, Source};
 use crate::packet::goodbye;
-use crate::settings;
-use crate::{debug, error, info, log, show, warn, words};
+use crate::{settings, show, words};
+use log::{debug, error, info, warn};
 use nix::poll::{poll, PollFd, PollFlags};
 use signal_hook::consts::{SIGHUP, SIGINT, SIGTERM};
-use std::mem::MaybeUninit;
-use std::os::unix::io::{AsRawFd, RawFd};
+use std::os::unix::io::AsRawFd;
 use std::os::unix::net::UnixStream;
 use std::sync::atomic::{AtomicBool, Ordering};
 use std::sync::Arc;
@@ -19,7 +19,6 @@ const LOOK_EVERY: u64 = 10_000;
 const IDLE: u64 = 60_000;
 /// So many messages of a socket are taken before the others have their turn.
 const TURN: usize = 256;
-const ROOM: usize = 65_536;
 
 /// What a signal asked for.
 struct Asked {
@@ -47,63 +46,72 @@ impl Asked {
 }
 
 impl Daemon {
-    /// The settings anew: what the router can take while it runs is taken, and the rest said.
+    /// The settings anew. A file with a problem changes nothing.
     fn reload(&mut self) -> Result<(), Fatal> {
-        let read = std::fs::read_to_string(&self.file).map_err(|error| error.to_string());
-        let new = match read.map(|text| settings::read(&text)) {
-            Ok(Ok(new)) => new,
-            Ok(Err(problems)) => {
+        let read = std::fs::read_to_string(&self.file).map_err(|error| vec![error.to_string()]);
+        let said = |problems: Vec<settings::Problem>| problems.iter().map(|problem| problem.to_string()).collect();
+        match read.and_then(|text| settings::read(&text).map_err(said)) {
+            Ok(new) => self.take_settings(new),
+            Err(problems) => {
                 problems.iter().for_each(|problem| error!("{}: {problem}", self.file.display()));
                 error!("the settings stay as they were");
-                return Ok(());
-            }
-            Err(error) => {
-                error!("{}: {error}; the settings stay as they were", self.file.display());
-                return Ok(());
-            }
-        };
-        for name in settings::needs_restart(&self.settings, &new) {
-            warn!("{name} differs in the file: it is taken by a restart");
-        }
-        log::set(new.level);
-        let are_rps_new = new.rps != self.settings.rps;
-        self.settings.level = new.level;
-        self.settings.routes = new.routes;
-        self.settings.rps = new.rps;
-        if are_rps_new {
-            self.advance()?;
-            let ranges = ranges_of(&self.settings);
-            let answer = self.take(|router, draw| router.set_ranges(draw, &ranges))?;
-            if let Answer::Refused(refusal) = answer {
-                error!("the RP ranges are refused: {}", pim::Error::Refused(refusal));
+                Ok(())
             }
         }
+    }
+
+    pub(super) fn take_settings(&mut self, mut new: settings::Settings) -> Result<(), Fatal> {
+        if new.socket != self.settings.socket {
+            warn!("socket differs in the file: it is taken by a restart");
+            new.socket = self.settings.socket.clone();
+        }
+        log::set_max_level(new.level);
+        let (are_rps_new, is_router_new) = (new.rps != self.settings.rps, self.settings.differs_in_router(&new));
+        self.settings = new;
+        crate::ports::take_settings(&mut self.ports, &self.settings.interfaces);
+        self.set_policy();
+        if is_router_new {
+            self.make_anew("the settings differ")?;
+        } else if are_rps_new {
+            self.set_ranges()?;
+        }
+        self.place_all();
+        // What was refused may be permitted now: the next packet asks.
+        self.plane.unknown().into_iter().for_each(|key| self.withdraw(key));
         self.read_routes()?;
         info!("the settings are read anew: {} RP ranges", self.settings.rps.len());
         Ok(())
     }
 
+    fn set_ranges(&mut self) -> Result<(), Fatal> {
+        self.advance()?;
+        let ranges = ranges_of(&self.settings.rps);
+        if let Answer::Refused(refusal) = self.take(Event::Ranges(&ranges))? {
+            error!("the RP ranges are refused: {}", viqeshor::Error::Refused(refusal));
+        }
+        self.all_unknown_may_differ();
+        Ok(())
+    }
+
     /// Until it is asked to end, or can't go on.
     pub fn run(&mut self) -> Result<(), Fatal> {
-        let asked = Asked::new().map_err(could_not("signals"))?;
-        let socket = self.settings.socket.clone();
-        let mut control = Control::open(&socket).map_err(could_not(&socket.display().to_string()))?;
+        let asked = Asked::new().map_err(Fatal::Signals)?;
+        let path = self.settings.socket.clone();
+        let mut control = Control::open(&path).map_err(|error| Fatal::Control { path, error })?;
         info!(
             "the router begins: {} interfaces, {} RP ranges, the library {}",
             self.ports.len(),
             self.settings.rps.len(),
-            pim::version()
+            viqeshor::version()
         );
-        self.settle_ports()?;
-        self.read_routes()?;
-        let mut room = vec![MaybeUninit::uninit(); ROOM];
+        self.begin()?;
         while !asked.end.load(Ordering::Relaxed) {
             self.wait(&asked, &control)?;
             asked.forget_wakes();
             if asked.reload.swap(false, Ordering::Relaxed) {
                 self.reload()?;
             }
-            self.turn(&mut room)?;
+            self.turn()?;
             self.house_keeping()?;
             control.serve(&mut |line| show::answer(self, line));
         }
@@ -111,71 +119,104 @@ impl Daemon {
         Ok(())
     }
 
+    pub(super) fn begin(&mut self) -> Result<(), Fatal> {
+        self.settle_ports()?;
+        if !self.ports.iter().any(|port| port.standing.is_up()) {
+            warn!("no interface is up: the router waits for one");
+        }
+        self.read_routes()?;
+        self.watch_addresses();
+        Ok(())
+    }
+
     fn wait(&mut self, asked: &Asked, control: &Control) -> Result<(), Fatal> {
-        let own: [RawFd; 5] = [
-            self.mroute.as_raw_fd(),
-            self.links.as_raw_fd(),
-            self.unicasts.as_raw_fd(),
-            self.netlink.as_raw_fd(),
-            asked.wakes.as_raw_fd(),
+        let own = self.kernel.waits().into_iter().chain([asked.wakes.as_raw_fd()]);
+        let mut waits: Vec<_> = own.map(|fd| PollFd::new(fd, PollFlags::POLLIN)).collect();
+        waits.extend(control.waits().into_iter().map(|fd| PollFd::new(fd, PollFlags::POLLIN)));
+        let due = &self.due;
+        let times = [
+            self.core.next_moment(),
+            self.routing.due,
+            due.machine,
+            due.unset,
+            due.anew,
+            due.learned,
+            control.due().map(|left| self.kernel.now() + left),
         ];
-        let mut waits: Vec<_> = own.iter().map(|fd| PollFd::new(*fd, PollFlags::POLLIN)).collect();
-        let flags = |is_written| if is_written { PollFlags::POLLOUT } else { PollFlags::POLLIN };
-        waits.extend(control.waits().into_iter().map(|(fd, is_written)| PollFd::new(fd, flags(is_written))));
-        let due = [self.router.next_moment(), self.routes_due].into_iter().flatten().fold(self.look_due, u64::min);
-        match poll(&mut waits, due.saturating_sub(self.now()) as i32) {
-            Err(error) if error != nix::errno::Errno::EINTR => Err(format!("poll: {error}")),
+        let next = times.into_iter().flatten().fold(due.look, u64::min);
+        match poll(&mut waits, next.saturating_sub(self.now()).min(LOOK_EVERY) as i32) {
+            Err(error) if error != nix::errno::Errno::EINTR => Err(error.into()),
             _ => Ok(()),
         }
     }
 
     /// What waits at each socket, in turn.
-    fn turn(&mut self, room: &mut [MaybeUninit<u8>]) -> Result<(), Fatal> {
-        while let Some(changes) = self.netlink.hear().map_err(could_not("netlink"))? {
-            self.changed(changes)?;
-        }
-        for _ in 0..TURN {
-            match self.mroute.hear(room).map_err(could_not("the kernel's multicast routing"))? {
-                Some(message) => Upcall::read(message).map_or(Ok(()), |upcall| self.upcall(upcall))?,
-                None => break,
-            }
-        }
-        for _ in 0..TURN {
-            match self.unicasts.hear(room) {
-                Ok(Some(packet)) => self.heard_unicast(packet)?,
-                Ok(None) => break,
-                Err(error) => debug!("a raw socket: {error}"),
-            }
-        }
-        for _ in 0..TURN {
-            match self.links.hear(room) {
-                Ok(Some((index, packet))) => self.heard(index, packet)?,
-                Ok(None) => break,
-                // A link that went is told so once.
-                Err(error) => debug!("a packet socket: {error}"),
+    pub(super) fn turn(&mut self) -> Result<(), Fatal> {
+        for (source, most) in [
+            (Source::Changes, usize::MAX),
+            (Source::Upcalls, TURN),
+            (Source::Unicasts, TURN),
+            (Source::OwnReports, TURN),
+            (Source::Frames, TURN),
+        ] {
+            for _ in 0..most {
+                match self.kernel.hear(source) {
+                    Ok(Some(event)) => self.happens(event)?,
+                    Ok(None) => break,
+                    // A link that went is told so once, and what didn't fit is lost.
+                    Err(error) => {
+                        let now = self.now();
+                        if self.rates.hearing.is_due(now) {
+                            warn!("what waits at a socket ({source:?}) can't be read: {error}");
+                        }
+                        break;
+                    }
+                }
             }
         }
         Ok(())
     }
 
+    fn happens(&mut self, event: kernel::Event) -> Result<(), Fatal> {
+        match event {
+            kernel::Event::Changes(changes) => self.changed(changes),
+            kernel::Event::Upcall(upcall) => self.upcall(upcall),
+            kernel::Event::Unicast(packet) => self.heard_unicast(&packet),
+            kernel::Event::OwnReport(packet) => self.heard_own(&packet),
+            kernel::Event::Frame { index, packet } => self.heard(index, &packet),
+            kernel::Event::Nothing => Ok(()),
+        }
+    }
+
     /// What is due by the clock, and what the events of this turn left to do.
-    fn house_keeping(&mut self) -> Result<(), Fatal> {
+    pub(super) fn house_keeping(&mut self) -> Result<(), Fatal> {
         self.advance()?;
         let now = self.now();
-        if self.routes_due.map_or(false, |due| due <= now) {
+        let is_due = |due: Option<u64>| due.map_or(false, |due| due <= now);
+        if is_due(self.due.machine) {
+            self.read_machine()?;
+        }
+        if is_due(self.due.anew) {
+            self.take_addresses()?;
+        }
+        if is_due(self.due.learned) {
+            self.has_learned()?;
+        }
+        if is_due(self.routing.due) {
             self.read_routes()?;
         }
-        if self.look_due <= now {
-            self.look_due = now + LOOK_EVERY;
+        if self.due.look <= now {
+            self.due.look = now + LOOK_EVERY;
             self.look()?;
-            for key in self.plane.idle(IDLE) {
-                self.withdraw(key)?;
-            }
+            self.plane.idle(IDLE).into_iter().for_each(|key| self.withdraw(key));
+            // There may be room for it by now: its next packet asks again.
+            self.plane.untold().into_iter().for_each(|key| self.withdraw(key));
         }
-        if self.is_unknown_stale {
-            self.refresh_unknown()?;
+        self.refresh_unknown();
+        if is_due(self.due.unset) {
+            self.set_again();
         }
-        if self.are_neighbours_stale {
+        if self.neighbours.are_stale {
             self.watch_neighbours()?;
         }
         Ok(())
@@ -186,10 +227,10 @@ impl Daemon {
         for port in self.ports.iter().filter(|port| port.standing.is_up()) {
             if let (Some(said), Some(index)) = (port.hello.as_deref().and_then(goodbye), port.index) {
                 debug!("sends on {}: {}", port.settings.name, words::of(&said));
-                let _ = self.links.send(index, &said);
+                let _ = self.kernel.send_on(index, &said);
             }
         }
-        self.plane.clear(&self.mroute);
+        self.plane.clear(self.kernel.as_ref());
         info!("the router ends");
     }
 }

@@ -14,7 +14,8 @@ IS_IN, IS_EX, TO_IN, TO_EX, ALLOW, BLOCK = packets.RECORD_KINDS
 
 @dataclass(frozen=True)
 class Received:
-    """A packet of data that a host received: `path` are the names of the routers that it came by, from the first hop on."""
+    """A packet of data that a host received: `path` are the names of the routers that it came by, from the first hop
+    on."""
     moment: int
     group: str
     source: str
@@ -110,12 +111,13 @@ class Host:
         return [record(told[0], group, told[1]) for group, told in answers if told]
 
     def served(self, group, source):
-        """Whether it is served of a source, a host or an address, at the present; as a text, hop by hop how, or why not."""
+        """Whether it is served of a source, a host or an address, at the present; as a text, hop by hop how, or why
+        not."""
         return self.net.served(self, group, source)
 
     def watch(self, group, source=None):
-        """What came of a group so far, of each source that sent to it or of one: a `Stream` each, with `sent`, `came`, `twice`,
-        `longest_gap` and `first_after` in seconds, and `missing()`."""
+        """What came of a group so far, of each source that sent to it or of one: a `Stream` each, with `sent`, `came`,
+        `twice`, `longest_gap` and `first_after` in seconds, and `missing()`."""
         return self.net.watch(self, group, source)
 
     def send(self, group, payload=b"", ttl=16, after=0.0):
@@ -143,7 +145,8 @@ class Host:
 
 
 class Speech(Action):
-    """A host's packet comes to all routers on its link, but for those to which it is lost; so do its data to other hosts."""
+    """A host's packet comes to all routers on its link, but for those to which it is lost; so do its data to other
+    hosts."""
 
     def __init__(self, host, data):
         super().__init__()

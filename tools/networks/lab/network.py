@@ -8,8 +8,8 @@ from pathlib import Path
 from lab.hosts import Host
 from lab.lines import Lines, calling
 from lab.mistakes import (
-    Mistake, Named, address_given, delay_given, group_given, host_given, is_known_key, kind_given, ms_given, near, number_given,
-    share_given, shown, source_given, subnet_given,
+    Mistake, Named, address_given, delay_given, group_given, host_given, is_known_key, kind_given, ms_given, near,
+    number_given, share_given, shown, source_given, subnet_given,
 )
 from lab.playing import Action, Player
 from lab.topology import Link, Port, Router, routes
@@ -44,9 +44,10 @@ class Served:
 
 
 class Network:
-    """`loss` is the share of packets that each link between routers loses, for each receiver by itself; `delay` the least and
-    the most seconds that one takes; `reorder` the share of those that later ones overtake. `step` is the seconds between two
-    moments at which time passes for all routers: what a router sends in between leaves at the next of them."""
+    """`loss` is the share of packets that each link between routers loses, for each receiver by itself; `delay` the
+    least and the most seconds that one takes; `reorder` the share of those that later ones overtake. `step` is the
+    seconds between two moments at which time passes for all routers: what a router sends in between leaves at the next
+    of them."""
 
     def __init__(self, seed=0, loss=0.0, delay=(0.0, 0.0), reorder=0.0, step=1.0):
         self.chance = random.Random(seed)
@@ -100,8 +101,9 @@ class Network:
         return self.line(*routers, *routers[:1] * (len(routers) > 1))
 
     def host(self, name, at, address=None, igmp=3, answers=True):
-        """A host on a link, or at a router: then it has a link of its own there, which loses nothing. `address` is another one than
-        the network would give it, `igmp` the version that it speaks, 3 or 2, and `answers` whether it answers queries."""
+        """A host on a link, or at a router: then it has a link of its own there, which loses nothing. `address` is
+        another one than the network would give it, `igmp` the version that it speaks, 3 or 2, and `answers` whether it
+        answers queries."""
         self.is_new(name, self.hosts)
         number_given(igmp, "version of IGMP", 2, 3, is_whole=True)
         link = self.links.get(at) if isinstance(at, str) else at
@@ -114,7 +116,8 @@ class Network:
         return host
 
     def rp(self, router, groups="224.0.0.0/4", address=None):
-        """The RP of a range of groups. Where no address of it is given, it is that of a link of its own, which never fails."""
+        """The RP of a range of groups. Where no address of it is given, it is that of a link of its own, which never
+        fails."""
         router = self.known_router(router)
         if not isinstance(groups, str) or prefix_in(groups) is None:
             raise Mistake(f"{groups!r} is no range of groups: it is one as \"239.0.0.0/8\"")
@@ -327,7 +330,8 @@ class Network:
         return trees.known(self.player.played, self.player.told, tables)
 
     def served(self, host, group, source):
-        """Whether a host is served of a source, a host or an address, at the present; as a text, hop by hop how, or why not."""
+        """Whether a host is served of a source, a host or an address, at the present; as a text, hop by hop how, or why
+        not."""
         diagnosis, address = self.diagnosis(), source_given(source)
         watch = diagnosis.run.watch
         stream = watch.stream(host.address, group_given(group), address)
@@ -355,7 +359,8 @@ class Network:
         return self.diagnosed[1]
 
     def notes(self):
-        """What a reader would wonder about in the run, as `tools/why --run` has it, with the lines of the file that made it."""
+        """What a reader would wonder about in the run, as `tools/why --run` has it, with the lines of the file that
+        made it."""
         return self.diagnosis().lines()
 
     def packets(self, kind=None):

@@ -1,12 +1,11 @@
 """Time: what happens at a moment, and how it is played by `./pimlab`.
 
-The program plays a scenario from its beginning, so the moves of all coming moments are planned and played at once. Where
-what they bring isn't what the plan was made for, as where a host answers a query, or a packet has to be delivered, the moves
-up to then are kept and the rest is planned anew. Of the kept moves those that did nothing are dropped: time that only passed.
-What is kept is neither written nor read again. The program plays it again at each call, since it judges a scenario whole before
-it plays any of it. But it is called once for a plan and not for each step of time: a ring of 20 routers for 75 s takes 8
-calls, and 60 ms of the program in all.
-"""
+The program plays a scenario from its beginning, so the moves of all coming moments are planned and played at once.
+Where what they bring isn't what the plan was made for, as where a host answers a query, or a packet has to be
+delivered, the moves up to then are kept and the rest is planned anew. Of the kept moves those that did nothing are
+dropped: time that only passed. What is kept is neither written nor read again. The program plays it again at each call,
+since it judges a scenario whole before it plays any of it. But it is called once for a plan and not for each step of
+time: a ring of 20 routers for 75 s takes 8 calls, and 60 ms of the program in all. """
 from dataclasses import dataclass, field, replace
 
 from pimtext import scenario, story
@@ -41,7 +40,8 @@ class Due:
 
 @dataclass
 class Batch:
-    """All that happens at one moment. `is_step` where time passes for all routers; `before` counts the moves played before it."""
+    """All that happens at one moment. `is_step` where time passes for all routers; `before` counts the moves played
+    before it."""
     moment: int
     dues: list
     is_step: bool
@@ -66,7 +66,8 @@ class Batch:
             self.moves.append({"do": "settle", "draw": settle})
 
     def busy(self):
-        """The places of the moves that did anything: time that passed did where its router sent, or took something after it."""
+        """The places of the moves that did anything: time that passed did where its router sent, or took something
+        after it."""
         routers = {step.router for step in self.steps if step.sent or step.did["do"] != "advance"}
         settled = any(step.is_settle() for step in self.steps)
         for place, move in enumerate(self.moves):
@@ -76,8 +77,8 @@ class Batch:
 
 @dataclass
 class Player:
-    """The routers' tables in the scenario file, the draw of each for time that passes, and the moves that are kept: as the file has
-    them in `texts`, with their steps, and with how many lines these print. `teller` stands behind them."""
+    """The routers' tables in the scenario file, the draw of each for time that passes, and the moves that are kept: as
+    the file has them in `texts`, with their steps, and with how many lines these print. `teller` stands behind them."""
     routers: list
     draws: dict
     moves: list = field(default_factory=list)
@@ -123,20 +124,37 @@ class Player:
         self.told = self.steps + steps
 
     def keep(self, batch):
-        """Keeps the moves of a batch that did anything. Answers its packets, which have the numbers of the kept moves."""
-        numbers = {}
+        """Keeps the moves of a batch that did anything. Answers its packets, which have the numbers of the kept
+        moves."""
+        numbers, late = {}, []
         for place in batch.busy():
             move = batch.moves[place]
-            self.moves.append(move)
-            self.texts.append(scenario.line_of(move))
+            late += self.caught_up(move, batch.moment)
+            self.add(move, batch.moment)
             numbers[batch.before + place + 1] = len(self.moves)
-            if move["do"] == "advance":
-                self.clocks[move["router"]] = batch.moment
-        steps = [replace(step, move=numbers[step.move], sent=numbered(step.sent, numbers)) for step in batch.steps if step.move in numbers]
+        done = [step for step in batch.steps if step.move in numbers]
+        kept = [replace(step, move=numbers[step.move], sent=numbered(step.sent, numbers)) for step in done]
+        steps = sorted([*late, *kept], key=lambda step: step.move)
         self.steps += steps
         self.lines += sum(1 + len(step.sent) for step in steps)
         self.teller.follow(steps, len(self.moves))
         return [sent for step in steps for sent in step.sent]
+
+    def add(self, move, moment):
+        self.moves.append(move)
+        self.texts.append(scenario.line_of(move))
+        if move["do"] == "advance":
+            self.clocks[move["router"]] = moment
+
+    def caught_up(self, move, moment):
+        """Time that passed for a router in an earlier batch, and did nothing there, is kept where the router does
+        something now."""
+        name = move.get("router")
+        if name is None or move["do"] == "advance" or self.clocks[name] >= moment:
+            return []
+        late = {"do": "advance", "router": name, "moment": moment, "draw": self.draws[name]}
+        self.add(late, moment)
+        return [story.Step(len(self.moves), name, "done", None, moment, late)]
 
     def grow(self, is_whole):
         """The next plan is larger after one that was kept whole."""

@@ -71,12 +71,14 @@ class Port:
         self.link.net.change_port(self, True)
 
     def table(self):
-        return {"link": self.link.name, "address": f"{self.address}/{self.length or self.link.subnet.prefixlen}", **self.options}
+        length = self.length or self.link.subnet.prefixlen
+        return {"link": self.link.name, "address": f"{self.address}/{length}", **self.options}
 
 
 @dataclass(frozen=True)
 class Loss:
-    """A share of the packets of one kind that are lost on a link, None for all kinds, from one router to another; None for any."""
+    """A share of the packets of one kind that are lost on a link, None for all kinds, from one router to another; None
+    for any."""
     share: float
     kind: type | None
     sender: str | None
@@ -89,7 +91,8 @@ class Loss:
 
 @dataclass(eq=False)
 class Link:
-    """`loss` is the share of packets that are lost on it, for each receiver by itself; `losses` are those of one kind or way."""
+    """`loss` is the share of packets that are lost on it, for each receiver by itself; `losses` are those of one kind
+    or way."""
     name: str
     subnet: IPv4Network
     cost: int
@@ -101,8 +104,9 @@ class Link:
     losses: list = field(default_factory=list, repr=False)
 
     def lose(self, share, kind=None, sender=None, receiver=None):
-        """From the present on it loses this share of the packets between routers: of one kind, a class of pimtext.packets, as `Hello`,
-        `JoinPrune` or `Data`, and from one router or to one, by their names. Another call of the same kind and way replaces it."""
+        """From the present on it loses this share of the packets between routers: of one kind, a class of
+        pimtext.packets, as `Hello`, `JoinPrune` or `Data`, and from one router or to one, by their names. Another call
+        of the same kind and way replaces it."""
         kind_given(kind)
         names = [router and self.net.known_router(router).name for router in (sender, receiver)]
         for router in (sender, receiver):
@@ -130,8 +134,9 @@ class Link:
         self.net.change_link(self, True)
 
     def configure(self, router, **options):
-        """Sets keys of a router's interface on this link, as `priority`, before the first `run`; `address` is another address than
-        the network would give it, as one that is there already, and `length` another length of its subnet: a wrong mask."""
+        """Sets keys of a router's interface on this link, as `priority`, before the first `run`; `address` is another
+        address than the network would give it, as one that is there already, and `length` another length of its subnet:
+        a wrong mask."""
         for key in options:
             is_known_key(key, [*IFACE_OPTIONS, "address", "length"], "an interface")
         port = self.net.known_router(router).port(self)
@@ -160,7 +165,8 @@ class Way:
 
 
 def ways(origin):
-    """The shortest way to each router that can be reached; of equal ones the one found first, by ports in their order."""
+    """The shortest way to each router that can be reached; of equal ones the one found first, by ports in their
+    order."""
     found, order = {}, count()
     waiting = [(0, next(order), origin, Way(0, ()))]
     while waiting:
@@ -183,7 +189,8 @@ def onwards(router, way):
 
 
 def routes(origin):
-    """A router's routes as the scenario file has them: to each link that isn't its own. None leads to an address of itself."""
+    """A router's routes as the scenario file has them: to each link that isn't its own. None leads to an address of
+    itself."""
     best = {}
     for router, way in ways(origin).items():
         for port in router.ports:

@@ -1,9 +1,8 @@
 """What is due: what hosts do, and packets on their way between routers, where no settle delivers them.
 
-Whether a packet is lost, how long it takes and whether it is overtaken follows from a seed, its number and its receiver. So
-a plan can guess the packets that routers will send, and what becomes of them: data go on as those before them did. A wrong
-guess costs a play; it never decides anything.
-"""
+Whether a packet is lost, how long it takes and whether it is overtaken follows from a seed, its number and its
+receiver. So a plan can guess the packets that routers will send, and what becomes of them: data go on as those before
+them did. A wrong guess costs a play; it never decides anything. """
 import math
 import random
 from dataclasses import dataclass, field
@@ -40,9 +39,9 @@ def delivery(number, router, iface, draw):
 
 @dataclass
 class Traffic:
-    """`read` is the scenario without its moves. `latest` is when the last packet of each way comes, which the next ones don't
-    overtake, `content` what each packet was by its number; `habits` is on which links each router sent the last data that came
-    on an interface from a source to a group."""
+    """`read` is the scenario without its moves. `latest` is when the last packet of each way comes, which the next ones
+    don't overtake, `content` what each packet was by its number; `habits` is on which links each router sent the last
+    data that came on an interface from a source to a group."""
     net: object
     read: object
     chances: Chances

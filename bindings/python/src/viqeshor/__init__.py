@@ -43,7 +43,7 @@ JOINED, REGISTERS = ["", "join", "pending", "prune"], ["-", "join", "pending", "
 
 
 class Answer(enum.IntEnum):
-    """What became of an event. `docs/USING.md` has the refusals, 1 to 39, and the reasons to ignore, from 101. Those of 40 to 51 and
+    """What became of an event. `docs/SCENARIOS.md` has the refusals, 1 to 39, and the reasons to ignore, from 101. Those of 40 to 51 and
     of 53 are raised as an `Error`."""
     DONE = 0
     SHORT = 1
@@ -224,7 +224,7 @@ class Row(NamedTuple):
     pending: int | None
 
     def __str__(self) -> str:
-        """As docs/USING.md describes its line ("Tables")."""
+        """As docs/SCENARIOS.md describes its line ("Tables")."""
         source = self.source or "*"
         kind = "g" if source == "*" else "rpt" if self.is_rpt else "sg"
         words: dict[str, list[Any]] = {

@@ -3,9 +3,9 @@
 
     asker.py INTERFACE ADDRESS SOURCE GROUP ROUTER OTHER SECONDS [RP]
 
-With an RP it asks the first router for the group too. At the end it prints, as JSON, how many Asserts each of the two sent, how
-many packets of the source each brought in all, and how many in the last three seconds. Who brought a packet is told by its
-Ethernet address, as the Hellos have it.
+With an RP it asks the first router for the group too. At the end it prints, as JSON, how many Asserts each of the two
+sent, how many packets of the source each brought in all, and how many in the last three seconds. Who brought a packet
+is told by its Ethernet address, as the Hellos have it.
 """
 import json
 import select

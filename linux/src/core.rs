@@ -1,0 +1,129 @@
+//! The library's router, with the random numbers that it draws: what of the daemon calls the library is here.
+use crate::error::Fatal;
+use crate::mroute::Key;
+use crate::plane::Row;
+use crate::settings::{RpSettings, Settings};
+use viqeshor::{Error, Packet, Range, Refusal, Route, Router, Sent, Table, Verdict, MOST_BYTES};
+use rand::rngs::{OsRng, StdRng};
+use rand::{RngCore, SeedableRng};
+use std::net::Ipv4Addr;
+
+/// What happens to the router.
+#[derive(Clone, Copy, Debug)]
+pub enum Event<'a> {
+    /// Time passes up to a moment, in ms.
+    Advance(u64),
+    /// A packet to a group came on an interface.
+    Frame(u32, &'a [u8]),
+    /// PIM to an address of the router came.
+    Unicast(&'a [u8]),
+    Up(u32),
+    Down(u32),
+    Routes(&'a [Route]),
+    Ranges(&'a [Range]),
+    /// The kernel saw a packet of a source on an interface.
+    Seen(u32, Key),
+}
+
+/// What an event came to.
+#[derive(Clone, Copy, Debug, PartialEq, Eq)]
+pub enum Answer {
+    Done,
+    Ignored,
+    Refused(Refusal),
+}
+
+pub struct Core {
+    router: Router,
+    draws: StdRng,
+}
+
+pub fn ranges_of(rps: &[RpSettings]) -> Vec<Range> {
+    rps.iter().map(|rp| Range::new(rp.groups.address, rp.groups.length.into(), rp.address)).collect()
+}
+
+fn settings_of(settings: &Settings) -> viqeshor::Settings {
+    viqeshor::Settings {
+        limit: settings.limit,
+        robustness: settings.robustness,
+        query_interval: settings.query_interval,
+        query_response_interval: settings.query_response,
+        last_member_query_interval: settings.last_member_query,
+        stays_on_shared_tree: settings.stays_on_shared_tree,
+    }
+}
+
+impl Core {
+    /// A router without routes, at moment 0 and with every interface down.
+    pub fn new(settings: &Settings, interfaces: &[viqeshor::Interface]) -> Result<Core, Fatal> {
+        let router = Router::new(&settings_of(settings), interfaces, &[], &ranges_of(&settings.rps));
+        Ok(Core { router: router.map_err(Fatal::Settings)?, draws: StdRng::from_rng(OsRng)? })
+    }
+
+    /// An event, by a number of its own.
+    pub fn take(&mut self, event: Event) -> Result<Answer, Fatal> {
+        let draw = self.draws.next_u32();
+        let router = &mut self.router;
+        let verdict = match event {
+            Event::Advance(moment) => router.advance(moment, draw),
+            Event::Frame(iface, packet) => router.frame(iface, packet, draw),
+            Event::Unicast(packet) => router.unicast(packet, draw),
+            Event::Up(iface) => router.up(iface, draw),
+            Event::Down(iface) => router.down(iface, draw),
+            Event::Routes(routes) => router.set_routes(routes, draw),
+            Event::Ranges(ranges) => router.set_ranges(ranges, draw),
+            Event::Seen(iface, key) => router.seen(iface, key.source, key.group, draw),
+        };
+        match verdict {
+            Ok(Verdict::Done) => Ok(Answer::Done),
+            Ok(Verdict::Ignored(_)) => Ok(Answer::Ignored),
+            Err(Error::Refused(refusal)) => Ok(Answer::Refused(refusal)),
+            Err(error) => Err(Fatal::Router(error)),
+        }
+    }
+
+    /// In ms; `None` where no timer runs.
+    pub fn next_moment(&mut self) -> Option<u64> {
+        self.router.next_moment()
+    }
+
+    /// Hands on each packet that the last event sent, in the order in which they are to leave.
+    pub fn each_packet(&mut self, take: impl FnMut(&Packet, &[u8])) {
+        self.router.each_packet(&mut [0; MOST_BYTES], take);
+    }
+
+    /// The same, each with whether it is a copy of data.
+    pub fn packets(&mut self) -> Vec<Sent> {
+        self.router.packets()
+    }
+
+    /// The sources whose rows the last event changed.
+    pub fn changed(&mut self) -> Vec<Key> {
+        self.router.changed().iter().map(|name| Key { source: name.source(), group: name.group() }).collect()
+    }
+
+    /// What the kernel may do of a source's packets; `None` where all are the router's.
+    pub fn offload(&mut self, key: Key) -> Option<Row> {
+        self.router.offload(key.source, key.group).map(Row::from)
+    }
+
+    /// Whether that may have changed at the last event.
+    pub fn may_differ(&mut self, key: Key) -> bool {
+        self.router.may_differ(key.source, key.group)
+    }
+
+    /// The kernel forwarded a packet of a source at a moment, in ms. It tells whether the source's keepalive timer
+    /// runs.
+    pub fn keep(&mut self, key: Key, moment: u64) -> Result<bool, Fatal> {
+        Ok(self.router.keep(key.source, key.group, moment)?)
+    }
+
+    pub fn rows(&mut self, table: Table) -> Result<Vec<viqeshor::Row>, Fatal> {
+        Ok(self.router.rows(table)?)
+    }
+
+    /// Each neighbour with its interface.
+    pub fn neighbours(&mut self) -> Result<Vec<(u32, Ipv4Addr)>, Fatal> {
+        Ok(self.rows(Table::Neighbours)?.iter().map(|row| (row.iface, row.source.into())).collect())
+    }
+}

@@ -1,0 +1,403 @@
+//! The daemon with the library and a machine that is none: what its kernel is told, and what leaves, after some events.
+use super::*;
+use crate::kernel::{self, Source};
+use crate::mroute::{Forwarded, Upcall, REGISTER_VIF};
+use crate::netlink::{Change, Link, Used};
+use crate::packet::{put_checksum, with_content, IGMP, PIM, UDP};
+use crate::plane::Cache;
+use crate::routes::{Hop, KernelRoute, Kind};
+use crate::settings::{self, Subnet};
+use std::cell::{Cell, RefCell};
+use std::collections::VecDeque;
+use std::io;
+use std::os::unix::io::RawFd;
+use std::rc::Rc;
+
+/// What a machine has, and what was asked of it.
+#[derive(Default)]
+struct Fake {
+    now: Cell<u64>,
+    waiting: RefCell<VecDeque<(Source, kernel::Event)>>,
+    addresses: RefCell<Vec<(u32, Subnet)>>,
+    entries: RefCell<BTreeMap<Key, Forwarded>>,
+    used: RefCell<Vec<Used>>,
+    has_no_memory: Cell<bool>,
+    sent: RefCell<Vec<(u32, Vec<u8>)>>,
+    unicasts: RefCell<Vec<Vec<u8>>>,
+}
+
+struct Handle(Rc<Fake>);
+
+impl Cache for Handle {
+    fn put(&self, key: Key, forwarded: Forwarded) -> io::Result<()> {
+        if self.0.has_no_memory.get() {
+            return Err(io::Error::from_raw_os_error(libc::ENOMEM));
+        }
+        self.0.entries.borrow_mut().insert(key, forwarded);
+        Ok(())
+    }
+
+    fn remove(&self, key: Key) -> io::Result<()> {
+        self.0.entries.borrow_mut().remove(&key);
+        Ok(())
+    }
+}
+
+const ETH0: u32 = 2;
+const ETH1: u32 = 3;
+
+impl Kernel for Handle {
+    fn now(&self) -> u64 {
+        self.0.now.get()
+    }
+
+    fn hear(&mut self, from: Source) -> io::Result<Option<kernel::Event>> {
+        let mut waiting = self.0.waiting.borrow_mut();
+        let at = waiting.iter().position(|(source, _)| *source == from);
+        Ok(at.and_then(|at| waiting.remove(at)).map(|(_, event)| event))
+    }
+
+    fn waits(&self) -> Vec<RawFd> {
+        Vec::new()
+    }
+
+    fn links(&mut self) -> io::Result<Vec<Link>> {
+        let link =
+            |index, name: &str| Link { index, name: name.to_string(), mtu: 1500, is_running: true, is_loopback: false };
+        Ok(vec![link(ETH0, "eth0"), link(ETH1, "eth1")])
+    }
+
+    fn addresses(&mut self) -> io::Result<Vec<(u32, Subnet)>> {
+        Ok(self.0.addresses.borrow().clone())
+    }
+
+    fn routes(&mut self, _: u32) -> io::Result<Vec<KernelRoute>> {
+        let hop = Hop { gateway: Some(Ipv4Addr::new(10, 1, 0, 2).into()), index: ETH0, is_dead: false };
+        let prefix = Ipv4Addr::new(10, 9, 0, 0).into();
+        Ok(vec![KernelRoute { prefix, length: 16, kind: Kind::Unicast, metric: 1, protocol: 4, hops: vec![hop] }])
+    }
+
+    fn is_filter_strict(&self, _: &str) -> bool {
+        false
+    }
+
+    fn add_vif(&mut self, _: u16, _: u32) -> io::Result<()> {
+        Ok(())
+    }
+
+    fn remove_vif(&mut self, _: u16) -> io::Result<()> {
+        Ok(())
+    }
+
+    fn used(&mut self) -> io::Result<Vec<Used>> {
+        Ok(self.0.used.borrow().clone())
+    }
+
+    fn send_on(&mut self, index: u32, packet: &[u8]) -> io::Result<()> {
+        self.0.sent.borrow_mut().push((index, packet.to_vec()));
+        Ok(())
+    }
+
+    fn send_unicast(&mut self, packet: &[u8]) -> io::Result<()> {
+        self.0.unicasts.borrow_mut().push(packet.to_vec());
+        Ok(())
+    }
+}
+
+const TWO: &str = "[[interface]]\nname = \"eth0\"\n[[interface]]\nname = \"eth1\"\n\
+    [[rp]]\ngroups = \"239.1.0.0/16\"\naddress = \"10.1.0.1\"\n\
+    [[rp]]\ngroups = \"239.2.0.0/16\"\naddress = \"10.9.0.1\"\n";
+const FAR: Ipv4Addr = Ipv4Addr::new(10, 9, 0, 50);
+const NEAR: Ipv4Addr = Ipv4Addr::new(10, 5, 0, 50);
+
+fn subnet(address: [u8; 4]) -> Subnet {
+    Subnet { address: address.into(), length: 24 }
+}
+
+/// A router of these settings, which has begun, with a neighbour behind which FAR is.
+fn begun(settings: &str, addresses: &[(u32, [u8; 4])]) -> (Daemon, Rc<Fake>) {
+    let fake = Rc::new(Fake::default());
+    *fake.addresses.borrow_mut() = addresses.iter().map(|(index, address)| (*index, subnet(*address))).collect();
+    let settings = settings::read(settings).expect("they are in order");
+    let mut daemon = Daemon::new(Path::new("none"), settings, Box::new(Handle(Rc::clone(&fake)))).expect("it is made");
+    daemon.begin().expect("it begins");
+    happens(&mut daemon, &fake, hello());
+    (daemon, fake)
+}
+
+fn both() -> [(u32, [u8; 4]); 2] {
+    [(ETH0, [10, 1, 0, 1]), (ETH1, [10, 5, 0, 1])]
+}
+
+fn happens(daemon: &mut Daemon, fake: &Fake, event: (Source, kernel::Event)) {
+    fake.waiting.borrow_mut().push_back(event);
+    daemon.turn().expect("it goes on");
+    daemon.house_keeping().expect("it goes on");
+}
+
+fn passes(daemon: &mut Daemon, fake: &Fake, milliseconds: u64) {
+    for _ in 0..milliseconds / 100 {
+        fake.now.set(fake.now.get() + 100);
+        daemon.house_keeping().expect("it goes on");
+    }
+}
+
+fn packet(protocol: u8, from: Ipv4Addr, to: Ipv4Addr, content: &[u8]) -> Vec<u8> {
+    let mut header = [0x45, 0, 0, 0, 0, 7, 0, 0, 16, protocol, 0, 0, 0, 0, 0, 0, 0, 0, 0, 0];
+    header[12..16].copy_from_slice(&from.octets());
+    header[16..].copy_from_slice(&to.octets());
+    with_content(&header, content)
+}
+
+fn summed(content: &[u8]) -> Vec<u8> {
+    let mut content = content.to_vec();
+    put_checksum(&mut content, 2);
+    content
+}
+
+fn frame(index: u32, packet: Vec<u8>) -> (Source, kernel::Event) {
+    (Source::Frames, kernel::Event::Frame { index, packet })
+}
+
+/// Of a neighbour that isn't to be the designated router.
+fn hello() -> (Source, kernel::Event) {
+    let content = summed(&[0x20, 0, 0, 0, 0, 1, 0, 2, 0, 105, 0, 19, 0, 4, 0, 0, 0, 0]);
+    frame(ETH0, packet(PIM, [10, 1, 0, 2].into(), [224, 0, 0, 13].into(), &content))
+}
+
+fn report(index: u32, from: [u8; 4], group: Ipv4Addr) -> (Source, kernel::Event) {
+    let mut content = vec![0x22, 0, 0, 0, 0, 0, 0, 1, 4, 0, 0, 0];
+    content.extend(group.octets());
+    frame(index, packet(IGMP, from.into(), [224, 0, 0, 22].into(), &summed(&content)))
+}
+
+/// A fragment where there are flags.
+fn data(from: Ipv4Addr, group: Ipv4Addr, flags: u16, length: usize) -> Vec<u8> {
+    let mut whole = packet(UDP, from, group, &vec![9; length]);
+    whole[6..8].copy_from_slice(&flags.to_be_bytes());
+    put_checksum(&mut whole[..20], 10);
+    whole
+}
+
+fn register(inner: &[u8]) -> (Source, kernel::Event) {
+    let content = [summed(&[0x21, 0, 0, 0, 0, 0, 0, 0]), inner.to_vec()].concat();
+    (Source::Unicasts, kernel::Event::Unicast(packet(PIM, [10, 1, 0, 2].into(), [10, 1, 0, 1].into(), &content)))
+}
+
+fn no_cache(vif: u16, key: Key) -> (Source, kernel::Event) {
+    (Source::Upcalls, kernel::Event::Upcall(Upcall::NoCache { vif, key }))
+}
+
+fn whole(key: Key, packet: Vec<u8>) -> (Source, kernel::Event) {
+    (Source::Upcalls, kernel::Event::Upcall(Upcall::Whole { key, packet }))
+}
+
+fn key(source: Ipv4Addr, group: [u8; 4]) -> Key {
+    Key { source, group: group.into() }
+}
+
+impl Fake {
+    fn entry(&self, key: Key) -> Option<Forwarded> {
+        self.entries.borrow().get(&key).copied()
+    }
+
+    /// What left of data, by the kernel's number of the interface.
+    fn copies(&self) -> Vec<(u32, Vec<u8>)> {
+        let is_data = |(_, bytes): &&(u32, Vec<u8>)| Packet::read(bytes).map_or(false, Packet::is_data);
+        self.sent.borrow().iter().filter(is_data).cloned().collect()
+    }
+}
+
+const UP: u32 = 1 << REGISTER_VIF;
+
+#[test]
+fn a_join_to_a_running_stream_has_its_first_packet() {
+    let (mut daemon, fake) = begun(TWO, &both());
+    let stream = key(FAR, [239, 1, 1, 1]);
+    happens(&mut daemon, &fake, register(&data(FAR, stream.group, 0, 40)));
+    happens(&mut daemon, &fake, report(ETH1, [10, 5, 0, 77], stream.group));
+    assert_eq!(fake.entry(stream), Some(Forwarded { parent: 0, outgoing: UP }));
+    happens(&mut daemon, &fake, whole(stream, data(FAR, stream.group, 0, 40)));
+    assert_eq!(fake.entry(stream), Some(Forwarded { parent: 0, outgoing: 0b10 }));
+    assert_eq!(fake.copies().len(), 1);
+    assert_eq!(fake.copies()[0].0, ETH1);
+}
+
+#[test]
+fn memory_that_the_kernel_lacks_costs_its_entry_alone() {
+    let (mut daemon, fake) = begun(TWO, &both());
+    let stream = key(NEAR, [239, 1, 1, 1]);
+    happens(&mut daemon, &fake, report(ETH0, [10, 1, 0, 77], stream.group));
+    fake.has_no_memory.set(true);
+    happens(&mut daemon, &fake, no_cache(1, stream));
+    passes(&mut daemon, &fake, 3_000);
+    assert_eq!(fake.entry(stream), None);
+    assert!(daemon.counters.entries_refused > 0);
+    fake.has_no_memory.set(false);
+    passes(&mut daemon, &fake, 1_000);
+    assert_eq!(fake.entry(stream), Some(Forwarded { parent: 1, outgoing: 0b01 }));
+}
+
+#[test]
+fn an_address_that_comes_late_is_taken() {
+    let (mut daemon, fake) = begun(TWO, &both()[..1]);
+    assert_eq!((daemon.ports[1].subnet, daemon.ports[1].standing.is_up()), (None, false));
+    let stream = key(FAR, [239, 1, 1, 1]);
+    happens(&mut daemon, &fake, report(ETH0, [10, 1, 0, 77], stream.group));
+    let late = subnet([10, 5, 0, 1]);
+    fake.addresses.borrow_mut().push((ETH1, late));
+    happens(
+        &mut daemon,
+        &fake,
+        (Source::Changes, kernel::Event::Changes(vec![Change::Address { index: ETH1, subnet: late }])),
+    );
+    passes(&mut daemon, &fake, 1_100);
+    assert_eq!((daemon.ports[1].subnet, daemon.ports[1].standing.is_up()), (Some(late), true));
+    assert_eq!(daemon.counters.made_anew, 1);
+    happens(&mut daemon, &fake, hello());
+    assert_eq!(daemon.neighbours.known.len(), 1);
+}
+
+#[test]
+fn entries_stay_while_a_router_that_was_made_anew_learns() {
+    let (mut daemon, fake) = begun(TWO, &both());
+    let stream = key(NEAR, [239, 1, 1, 1]);
+    happens(&mut daemon, &fake, report(ETH0, [10, 1, 0, 77], stream.group));
+    happens(&mut daemon, &fake, no_cache(1, stream));
+    let flows = Some(Forwarded { parent: 1, outgoing: 0b01 });
+    assert_eq!(fake.entry(stream), flows);
+    *fake.used.borrow_mut() = vec![Used { key: stream, packets: 9, bytes: 0, stray: 0, idle: 0 }];
+    daemon
+        .take_settings(settings::read(&format!("limit = 1000\n{TWO}")).expect("they are in order"))
+        .expect("it goes on");
+    assert_eq!((daemon.counters.made_anew, fake.entry(stream)), (1, flows));
+    passes(&mut daemon, &fake, 3_000);
+    assert_eq!(fake.entry(stream), flows);
+    happens(&mut daemon, &fake, report(ETH0, [10, 1, 0, 77], stream.group));
+    passes(&mut daemon, &fake, 12_000);
+    assert_eq!(fake.entry(stream), flows);
+    assert!(daemon.plane.kept().is_empty());
+}
+
+#[test]
+fn an_rp_that_was_made_anew_waits_for_the_next_register() {
+    let (mut daemon, fake) = begun(TWO, &both());
+    let stream = key(FAR, [239, 1, 1, 1]);
+    let asks = || report(ETH1, [10, 5, 0, 77], stream.group);
+    happens(&mut daemon, &fake, register(&data(FAR, stream.group, 0, 40)));
+    happens(&mut daemon, &fake, asks());
+    happens(&mut daemon, &fake, whole(stream, data(FAR, stream.group, 0, 40)));
+    let flows = Some(Forwarded { parent: 0, outgoing: 0b10 });
+    assert_eq!(fake.entry(stream), flows);
+    *fake.used.borrow_mut() = vec![Used { key: stream, packets: 9, bytes: 0, stray: 0, idle: 0 }];
+    daemon.make_anew("a test").expect("it goes on");
+    happens(&mut daemon, &fake, hello());
+    happens(&mut daemon, &fake, asks());
+    passes(&mut daemon, &fake, 60_000);
+    assert_eq!((fake.entry(stream), daemon.plane.kept().len()), (flows, 1));
+    happens(&mut daemon, &fake, register(&data(FAR, stream.group, 0, 40)));
+    passes(&mut daemon, &fake, 6_000);
+    assert_eq!((fake.entry(stream), daemon.plane.kept().len()), (flows, 0));
+}
+
+#[test]
+fn what_nobody_asks_for_again_ends_after_the_router_has_learned() {
+    let (mut daemon, fake) = begun(TWO, &both());
+    let stream = key(NEAR, [239, 1, 1, 1]);
+    happens(&mut daemon, &fake, report(ETH0, [10, 1, 0, 77], stream.group));
+    happens(&mut daemon, &fake, no_cache(1, stream));
+    daemon
+        .take_settings(settings::read(&format!("limit = 1000\n{TWO}")).expect("they are in order"))
+        .expect("it goes on");
+    passes(&mut daemon, &fake, 15_000);
+    assert_eq!(fake.entry(stream).map_or(0, |entry| entry.outgoing & 0b01), 0);
+}
+
+#[test]
+fn a_fragment_of_a_near_source_is_registered_and_copied_as_it_is() {
+    let (mut daemon, fake) = begun(TWO, &both());
+    // Its RP is behind the neighbour.
+    let stream = key(NEAR, [239, 2, 1, 1]);
+    happens(&mut daemon, &fake, report(ETH0, [10, 1, 0, 77], stream.group));
+    happens(&mut daemon, &fake, no_cache(1, stream));
+    assert_eq!(fake.entry(stream), Some(Forwarded { parent: 1, outgoing: UP }));
+    let fragment = data(NEAR, stream.group, 0x2000, 1480);
+    happens(&mut daemon, &fake, whole(stream, fragment.clone()));
+    let registers = fake.unicasts.borrow().clone();
+    assert_eq!(registers.len(), 1);
+    let inner = &registers[0][28..];
+    assert_eq!((&inner[20..], &inner[4..8], inner.len()), (&fragment[20..], &fragment[4..8], fragment.len()));
+}
+
+#[test]
+fn a_register_of_a_long_packet_and_of_a_fragment_is_sent_on_as_it_is() {
+    let (mut daemon, fake) = begun(TWO, &both());
+    let stream = key(FAR, [239, 1, 1, 1]);
+    happens(&mut daemon, &fake, report(ETH1, [10, 5, 0, 77], stream.group));
+    for packet in [data(FAR, stream.group, 0, 3000), data(FAR, stream.group, 0x00b9, 700)] {
+        fake.sent.borrow_mut().clear();
+        happens(&mut daemon, &fake, register(&packet));
+        let copies = fake.copies();
+        assert_eq!(copies.len(), 1);
+        let (index, left) = &copies[0];
+        assert_eq!((*index, &left[20..], &left[4..8], left[8]), (ETH1, &packet[20..], &packet[4..8], 15));
+    }
+}
+
+#[test]
+fn a_program_on_the_router_is_heard() {
+    let (mut daemon, fake) = begun(TWO, &both());
+    let own = match report(ETH1, [10, 5, 0, 1], [239, 1, 1, 1].into()) {
+        (_, kernel::Event::Frame { packet, .. }) => packet,
+        other => panic!("{other:?} is no report"),
+    };
+    happens(&mut daemon, &fake, (Source::OwnReports, kernel::Event::OwnReport(own)));
+    let groups = daemon.core.rows(Table::Groups).expect("it tells");
+    assert_eq!(groups.iter().map(|row| (row.iface, row.group)).collect::<Vec<_>>(), [(1, Ipv4Addr::new(239, 1, 1, 1))]);
+    assert_eq!(daemon.counters.own_reports, 1);
+}
+
+#[test]
+fn a_passive_interface_neither_hears_nor_sends_pim() {
+    let passive = TWO.replace("name = \"eth0\"\n", "name = \"eth0\"\npassive = true\n");
+    let (mut daemon, fake) = begun(&passive, &both());
+    passes(&mut daemon, &fake, 10_000);
+    assert!(daemon.neighbours.known.is_empty());
+    let is_pim = |bytes: &[u8]| Packet::read(bytes).map_or(false, Packet::is_pim_of_link);
+    let on: BTreeSet<u32> =
+        fake.sent.borrow().iter().filter(|(_, bytes)| is_pim(bytes)).map(|(index, _)| *index).collect();
+    assert_eq!(on, BTreeSet::from([ETH1]));
+}
+
+#[test]
+fn what_may_not_be_sent_is_dropped_by_the_kernel() {
+    let listed = TWO.replace("name = \"eth1\"\n", "name = \"eth1\"\nsend = [{ sources = \"10.5.0.77/32\" }]\n");
+    let (mut daemon, fake) = begun(&listed, &both());
+    let stream = key(NEAR, [239, 1, 1, 1]);
+    happens(&mut daemon, &fake, report(ETH0, [10, 1, 0, 77], stream.group));
+    happens(&mut daemon, &fake, no_cache(1, stream));
+    assert_eq!(fake.entry(stream), Some(Forwarded { parent: REGISTER_VIF, outgoing: 0 }));
+    assert!(daemon.core.rows(Table::Active).expect("it tells").is_empty());
+    let other = key([10, 5, 0, 77].into(), [239, 1, 1, 1]);
+    happens(&mut daemon, &fake, no_cache(1, other));
+    assert_eq!(fake.entry(other), Some(Forwarded { parent: 1, outgoing: 0b01 }));
+    // Once it is permitted its next packet is asked about.
+    daemon.take_settings(settings::read(TWO).expect("they are in order")).expect("it goes on");
+    assert_eq!(fake.entry(stream), None);
+    happens(&mut daemon, &fake, no_cache(1, stream));
+    assert_eq!(fake.entry(stream), Some(Forwarded { parent: 1, outgoing: 0b01 }));
+}
+
+#[test]
+fn the_unknown_are_asked_for_anew_where_their_group_moves() {
+    let (mut daemon, fake) = begun(TWO, &both());
+    // Its RP is the neighbour's, so a source behind it has no fact here.
+    let (one, other) = (key(FAR, [239, 2, 1, 1]), key(FAR, [239, 2, 1, 2]));
+    happens(&mut daemon, &fake, no_cache(0, one));
+    happens(&mut daemon, &fake, no_cache(0, other));
+    let before = daemon.counters.entries_written;
+    happens(&mut daemon, &fake, report(ETH1, [10, 5, 0, 77], [239, 2, 9, 9].into()));
+    assert_eq!(daemon.counters.entries_written, before);
+    happens(&mut daemon, &fake, report(ETH1, [10, 5, 0, 77], one.group));
+    assert!(fake.entry(one) != fake.entry(other));
+}

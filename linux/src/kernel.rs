@@ -1,0 +1,211 @@
+//! What the router asks of the machine that it runs on. It is a trait, so that the router has tests without a machine.
+use crate::error::Fatal;
+use crate::mroute::{Forwarded, Key, Mroute, Upcall};
+use crate::netlink::{Change, Link, Netlink, Used};
+use crate::packet::{Packet, IGMP};
+use crate::plane::Cache;
+use crate::routes::KernelRoute;
+use crate::settings::Subnet;
+use crate::stand_in::fragments;
+use crate::wire::{Links, OwnReports, Unicasts};
+use std::collections::HashMap;
+use std::io;
+use std::mem::MaybeUninit;
+use std::os::unix::io::{AsRawFd, RawFd};
+use std::time::Instant;
+
+const ROOM: usize = 65_536;
+const IGMP_QUERY: u8 = 0x11;
+
+/// Where something can wait.
+#[derive(Clone, Copy, Debug, PartialEq, Eq, Hash)]
+pub enum Source {
+    Changes,
+    Upcalls,
+    Unicasts,
+    OwnReports,
+    Frames,
+}
+
+/// What happened.
+#[derive(Clone, Debug, PartialEq, Eq)]
+pub enum Event {
+    Changes(Vec<Change>),
+    Upcall(Upcall),
+    /// PIM to an address of the machine.
+    Unicast(Vec<u8>),
+    /// IGMP of a program on the machine itself.
+    OwnReport(Vec<u8>),
+    /// PIM or IGMP to a group, with the kernel's number of the interface.
+    Frame {
+        index: u32,
+        packet: Vec<u8>,
+    },
+    /// What waited is nothing for the router.
+    Nothing,
+}
+
+pub trait Kernel: Cache {
+    /// In ms, since the router began.
+    fn now(&self) -> u64;
+    /// The next of what waits at a place, or `None`.
+    fn hear(&mut self, from: Source) -> io::Result<Option<Event>>;
+    /// What becomes readable where something waits.
+    fn waits(&self) -> Vec<RawFd>;
+
+    fn links(&mut self) -> io::Result<Vec<Link>>;
+    /// Each with the kernel's number of its interface.
+    fn addresses(&mut self) -> io::Result<Vec<(u32, Subnet)>>;
+    fn routes(&mut self, table: u32) -> io::Result<Vec<KernelRoute>>;
+    /// Whether packets are dropped whose route back leads elsewhere.
+    fn is_filter_strict(&self, name: &str) -> bool;
+
+    fn add_vif(&mut self, vif: u16, index: u32) -> io::Result<()>;
+    fn remove_vif(&mut self, vif: u16) -> io::Result<()>;
+    /// What the entries of the forwarding cache have forwarded.
+    fn used(&mut self) -> io::Result<Vec<Used>>;
+
+    /// A packet to a group leaves by an interface.
+    fn send_on(&mut self, index: u32, packet: &[u8]) -> io::Result<()>;
+    fn send_unicast(&mut self, packet: &[u8]) -> io::Result<()>;
+}
+
+/// Linux.
+pub struct Linux {
+    began: Instant,
+    mroute: Mroute,
+    links: Links,
+    unicasts: Unicasts,
+    own_reports: OwnReports,
+    netlink: Netlink,
+    /// The most bytes of a packet, by the kernel's number of an interface.
+    mtus: HashMap<u32, usize>,
+    room: Vec<MaybeUninit<u8>>,
+}
+
+impl Linux {
+    pub fn open() -> Result<Linux, Fatal> {
+        Ok(Linux {
+            began: Instant::now(),
+            mroute: Mroute::open().map_err(Fatal::MulticastRouting)?,
+            links: Links::open().map_err(Fatal::Socket)?,
+            unicasts: Unicasts::open().map_err(Fatal::Socket)?,
+            own_reports: OwnReports::open().map_err(Fatal::Socket)?,
+            netlink: Netlink::open().map_err(Fatal::Netlink)?,
+            mtus: HashMap::new(),
+            room: vec![MaybeUninit::uninit(); ROOM],
+        })
+    }
+
+    fn changes(&mut self) -> io::Result<Option<Event>> {
+        let changes = self.netlink.hear()?;
+        for change in changes.iter().flatten() {
+            if let Change::Link(link) = change {
+                self.mtus.insert(link.index, link.mtu as usize);
+            }
+        }
+        Ok(changes.map(Event::Changes))
+    }
+
+    fn send_in_fragments(&self, index: u32, packet: &[u8], error: io::Error) -> io::Result<()> {
+        let mtu = self.mtus.get(&index).copied().unwrap_or(0);
+        match Packet::read(packet).and_then(|whole| fragments(whole, mtu)) {
+            Some(parts) => parts.iter().try_for_each(|part| self.links.send(index, part)),
+            None => Err(error),
+        }
+    }
+}
+
+fn is_query(packet: &[u8]) -> bool {
+    Packet::read(packet).map_or(false, |it| it.protocol() == IGMP && it.content().first() == Some(&IGMP_QUERY))
+}
+
+impl Cache for Linux {
+    fn put(&self, key: Key, forwarded: Forwarded) -> io::Result<()> {
+        self.mroute.put(key, forwarded)
+    }
+
+    fn remove(&self, key: Key) -> io::Result<()> {
+        self.mroute.remove(key)
+    }
+}
+
+impl Kernel for Linux {
+    fn now(&self) -> u64 {
+        self.began.elapsed().as_millis() as u64
+    }
+
+    fn hear(&mut self, from: Source) -> io::Result<Option<Event>> {
+        let room = &mut self.room;
+        match from {
+            Source::Changes => self.changes(),
+            Source::Upcalls => {
+                let message = self.mroute.hear(room)?;
+                Ok(message.map(|message| Upcall::read(message).map_or(Event::Nothing, Event::Upcall)))
+            }
+            Source::Unicasts => Ok(self.unicasts.hear(room)?.map(|packet| Event::Unicast(packet.to_vec()))),
+            Source::OwnReports => Ok(self.own_reports.hear(room)?.map(|packet| Event::OwnReport(packet.to_vec()))),
+            Source::Frames => {
+                Ok(self.links.hear(room)?.map(|(index, packet)| Event::Frame { index, packet: packet.to_vec() }))
+            }
+        }
+    }
+
+    fn waits(&self) -> Vec<RawFd> {
+        vec![
+            self.netlink.as_raw_fd(),
+            self.mroute.as_raw_fd(),
+            self.unicasts.as_raw_fd(),
+            self.own_reports.as_raw_fd(),
+            self.links.as_raw_fd(),
+        ]
+    }
+
+    fn links(&mut self) -> io::Result<Vec<Link>> {
+        let links = self.netlink.links()?;
+        self.mtus = links.iter().map(|link| (link.index, link.mtu as usize)).collect();
+        Ok(links)
+    }
+
+    fn addresses(&mut self) -> io::Result<Vec<(u32, Subnet)>> {
+        self.netlink.addresses()
+    }
+
+    fn routes(&mut self, table: u32) -> io::Result<Vec<KernelRoute>> {
+        self.netlink.routes(table)
+    }
+
+    fn is_filter_strict(&self, name: &str) -> bool {
+        let filter = |of: &str| {
+            let text = std::fs::read_to_string(format!("/proc/sys/net/ipv4/conf/{of}/rp_filter"));
+            text.map_or(0, |text| text.trim().parse().unwrap_or(0))
+        };
+        filter("all").max(filter(name)) == 1
+    }
+
+    fn add_vif(&mut self, vif: u16, index: u32) -> io::Result<()> {
+        self.mroute.add_vif(vif, index)?;
+        self.own_reports.hear_from(index)
+    }
+
+    fn remove_vif(&mut self, vif: u16) -> io::Result<()> {
+        self.mroute.remove_vif(vif)
+    }
+
+    fn used(&mut self) -> io::Result<Vec<Used>> {
+        self.netlink.used()
+    }
+
+    fn send_on(&mut self, index: u32, packet: &[u8]) -> io::Result<()> {
+        let sent =
+            if is_query(packet) { self.links.send_shared(index, packet) } else { self.links.send(index, packet) };
+        match sent {
+            Err(error) if error.raw_os_error() == Some(libc::EMSGSIZE) => self.send_in_fragments(index, packet, error),
+            other => other,
+        }
+    }
+
+    fn send_unicast(&mut self, packet: &[u8]) -> io::Result<()> {
+        self.unicasts.send(packet)
+    }
+}

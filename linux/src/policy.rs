@@ -1,0 +1,479 @@
+//! What is let through to the router: lists of groups, sources and neighbours, and quotas of what an interface may
+//! bring.
+//!
+//! It stands in front of the library: what it refuses never gets there. What is known is never refused by a quota, so a
+//! refresh goes through. Each refusal is counted, and said at a bounded rate.
+use crate::mroute::Key;
+use crate::packet::{address, is_pim, Packet, IGMP};
+use crate::split;
+use log::warn;
+use viqeshor::{Row, Table};
+use std::collections::{BTreeMap, HashMap, HashSet};
+use std::fmt;
+use std::net::Ipv4Addr;
+
+pub mod lists;
+mod refusals;
+pub use refusals::{Cause, Refusals};
+
+use lists::{InterfacePolicy, PolicySettings};
+
+/// What the router holds is read anew at most so often, in ms; where reading takes long, for a part of the time.
+const READ_EVERY: u64 = 1_000;
+const PART_OF_TIME: u64 = 10;
+const HELLO: u8 = 0;
+const JOIN_PRUNE: u8 = 3;
+const ASSERT: u8 = 5;
+/// Where the group and the source of an Assert stand, and how long one is.
+const ASSERTED_GROUP_AT: usize = 8;
+const ASSERTED_SOURCE_AT: usize = 14;
+const ASSERT_LENGTH: usize = 26;
+const REPORT: u8 = 0x22;
+/// Reports of IGMPv1 and IGMPv2, and the leave.
+const OLD: [u8; 3] = [0x12, 0x16, 0x17];
+/// So many hosts of old versions are told apart.
+const MOST_OLD_HOSTS: usize = 1_024;
+
+/// Where the policy reads what the router holds.
+pub trait Books {
+    fn rows(&mut self, table: Table) -> Vec<Row>;
+    /// In ms.
+    fn now(&self) -> u64;
+}
+
+/// An interface, for the policy.
+#[derive(Clone, Debug)]
+pub struct Gate {
+    pub name: String,
+    pub address: Ipv4Addr,
+    pub policy: InterfacePolicy,
+}
+
+/// What the router holds of an interface, or would hold after what was let through. What has ended may still stand
+/// here.
+#[derive(Clone, Debug, Default)]
+struct Held {
+    neighbours: HashSet<Ipv4Addr>,
+    /// The sources that hosts named, by their groups, and how many these are together.
+    groups: HashMap<Ipv4Addr, HashSet<Ipv4Addr>>,
+    sources: usize,
+    joins: HashSet<split::JoinKey>,
+    /// Groups and sources of asserts.
+    asserts: HashSet<(Ipv4Addr, Ipv4Addr)>,
+}
+
+impl Held {
+    fn of_hosts(&self) -> usize {
+        self.groups.len() + self.sources
+    }
+
+    fn of_neighbours(&self) -> usize {
+        self.joins.len() + self.asserts.len()
+    }
+
+    fn facts(&self) -> usize {
+        self.neighbours.len() + self.of_hosts() + self.of_neighbours()
+    }
+
+    fn add_source(&mut self, group: Ipv4Addr, source: Ipv4Addr) {
+        self.sources += usize::from(self.groups.entry(group).or_default().insert(source));
+    }
+
+    /// How many facts a record needs that aren't held.
+    fn needed(&self, record: &split::Record) -> usize {
+        let known = self.groups.get(&record.group);
+        let is_new = |source: &&Ipv4Addr| known.map_or(true, |known| !known.contains(source));
+        match record.asks_for_nothing() {
+            true => 0,
+            false => record.sources.iter().filter(is_new).count() + usize::from(known.is_none()),
+        }
+    }
+
+    fn add(&mut self, record: &split::Record) {
+        self.groups.entry(record.group).or_default();
+        record.sources.iter().for_each(|source| self.add_source(record.group, *source));
+    }
+}
+
+#[derive(Debug, Default)]
+pub struct Policy {
+    settings: PolicySettings,
+    limit: usize,
+    gates: BTreeMap<u32, Gate>,
+    held: BTreeMap<u32, Held>,
+    /// The sources of groups that the router knows, with the interface on which they came first; none of a Register.
+    streams: HashMap<Key, Option<u32>>,
+    stream_counts: HashMap<Option<u32>, usize>,
+    old_hosts: HashSet<(u32, Ipv4Addr)>,
+    read_due: u64,
+    pub refusals: Refusals,
+}
+
+impl Policy {
+    /// Takes settings. What is held stays.
+    pub fn set(&mut self, settings: PolicySettings, limit: u32, gates: BTreeMap<u32, Gate>) {
+        self.settings = settings;
+        self.limit = limit as usize;
+        self.gates = gates;
+    }
+
+    /// The router was made anew, and holds nothing.
+    pub fn forget(&mut self) {
+        self.held.clear();
+        self.streams.clear();
+        self.stream_counts.clear();
+    }
+
+    pub fn is_passive(&self, iface: u32) -> bool {
+        self.gates.get(&iface).map_or(false, |gate| gate.policy.is_passive)
+    }
+
+    fn name(&self, iface: u32) -> String {
+        self.gates.get(&iface).map_or_else(|| "?".to_string(), |gate| gate.name.clone())
+    }
+
+    fn refuse(&mut self, now: u64, cause: Cause, iface: u32, what: &dyn fmt::Display) {
+        let name = self.name(iface);
+        self.refusals.note(now, cause, &name, what);
+    }
+
+    // ---- what is held
+
+    fn held(&mut self, iface: u32) -> &mut Held {
+        self.held.entry(iface).or_default()
+    }
+
+    /// Reads what the router holds, where that was long enough ago.
+    fn read(&mut self, books: &mut dyn Books) {
+        let began = books.now();
+        if began < self.read_due {
+            return;
+        }
+        let mut held: BTreeMap<u32, Held> = BTreeMap::new();
+        for row in books.rows(Table::Neighbours) {
+            held.entry(row.iface).or_default().neighbours.insert(row.source.into());
+        }
+        for row in books.rows(Table::Groups) {
+            held.entry(row.iface).or_default().groups.entry(row.group.into()).or_default();
+        }
+        for row in books.rows(Table::Sources) {
+            held.entry(row.iface).or_default().add_source(row.group.into(), row.source.into());
+        }
+        for row in books.rows(Table::Downstream) {
+            held.entry(row.iface).or_default().joins.insert(split::JoinKey::of_row(&row));
+        }
+        for row in books.rows(Table::Asserts) {
+            held.entry(row.iface).or_default().asserts.insert((row.group.into(), row.source.into()));
+        }
+        self.held = held;
+        self.read_due = books.now() + READ_EVERY.max(PART_OF_TIME * books.now().saturating_sub(began));
+    }
+
+    /// How many facts may come without those that are kept for neighbours.
+    fn room(&self) -> usize {
+        let reserve = lists::reserve(self.limit, self.gates.values().map(|gate| &gate.policy));
+        let neighbours: usize = self.held.values().map(|held| held.neighbours.len()).sum();
+        let facts: usize = self.held.values().map(Held::facts).sum();
+        self.limit.saturating_sub(reserve.saturating_sub(neighbours) + facts + self.streams.len())
+    }
+
+    // ---- PIM and IGMP of a link
+
+    /// What of a packet to a group goes to the router: all of it, a part, or `None`.
+    pub fn frame(&mut self, books: &mut dyn Books, iface: u32, bytes: &[u8]) -> Option<Vec<u8>> {
+        let packet = match Packet::read(bytes) {
+            Some(packet) => packet,
+            // The library says what is wrong with it.
+            None => return Some(bytes.to_vec()),
+        };
+        if packet.is_pim_of_link() {
+            self.believed(books.now(), iface, packet)?;
+        }
+        if is_pim(packet, HELLO) {
+            self.hello(books, iface, packet)?;
+        }
+        if is_pim(packet, JOIN_PRUNE) {
+            return self.join_prune(books, iface, packet);
+        }
+        if is_pim(packet, ASSERT) {
+            self.assert(books, iface, packet)?;
+        }
+        match packet.content().first() {
+            Some(&REPORT) if packet.protocol() == IGMP => self.report(books, iface, packet),
+            Some(kind) if packet.protocol() == IGMP && OLD.contains(kind) => self.old_host(iface, packet),
+            _ => Some(bytes.to_vec()),
+        }
+    }
+
+    fn believed(&mut self, now: u64, iface: u32, packet: Packet) -> Option<()> {
+        let policy = &self.gates.get(&iface)?.policy;
+        let source = packet.source();
+        let cause = match &policy.neighbours {
+            _ if policy.is_passive => Cause::Passive,
+            Some(list) if !list.iter().any(|subnet| subnet.contains(source.into())) => Cause::NotBelieved,
+            _ => return Some(()),
+        };
+        self.refuse(now, cause, iface, &source);
+        None
+    }
+
+    fn hello(&mut self, books: &mut dyn Books, iface: u32, packet: Packet) -> Option<()> {
+        let (source, most) = (packet.source(), self.gates.get(&iface)?.policy.max_neighbours as usize);
+        let passes = |held: &Held| held.neighbours.contains(&source) || held.neighbours.len() < most;
+        if !passes(self.held(iface)) {
+            self.read(books);
+        }
+        if !passes(self.held(iface)) {
+            self.refuse(books.now(), Cause::Neighbours, iface, &source);
+            return None;
+        }
+        self.held(iface).neighbours.insert(source);
+        Some(())
+    }
+
+    fn old_host(&mut self, iface: u32, packet: Packet) -> Option<Vec<u8>> {
+        let (host, name) = (packet.source(), self.name(iface));
+        self.refusals.count(Cause::OldHost, &name);
+        if self.old_hosts.len() < MOST_OLD_HOSTS && self.old_hosts.insert((iface, host)) {
+            warn!("the host {host} on {name} speaks IGMPv1 or IGMPv2, which the router doesn't serve: it gets nothing");
+        }
+        None
+    }
+
+    fn report(&mut self, books: &mut dyn Books, iface: u32, packet: Packet) -> Option<Vec<u8>> {
+        let records = match split::records(packet) {
+            Some(records) => records,
+            None => return Some(packet.bytes().to_vec()),
+        };
+        self.read_for_report(books, iface, &records);
+        let count = records.len();
+        let mut kept = Vec::new();
+        for record in records {
+            match self.record(iface, &record) {
+                Ok(()) => kept.push(record),
+                Err(cause) => {
+                    self.refuse(books.now(), cause, iface, &format_args!("{} of {}", record.group, packet.source()));
+                }
+            }
+        }
+        match kept.len() {
+            left if left == count => Some(packet.bytes().to_vec()),
+            0 => None,
+            _ => Some(split::with_records(packet, &kept)),
+        }
+    }
+
+    /// Has what is held read anew, where not each of the records may pass by what the books say.
+    fn read_for_report(&mut self, books: &mut dyn Books, iface: u32, records: &[split::Record]) {
+        let room = self.room();
+        let (max_groups, max_sources) = match self.gates.get(&iface) {
+            Some(gate) => (gate.policy.max_groups as usize, gate.policy.max_sources as usize),
+            None => return,
+        };
+        let held = self.held(iface);
+        let needed: usize = records.iter().map(|record| held.needed(record)).sum();
+        let are_many = |record: &split::Record| {
+            held.groups.get(&record.group).map_or(0, HashSet::len) + record.sources.len() > max_sources
+        };
+        let is_tight = needed > room || held.of_hosts() + needed > max_groups;
+        if needed > 0 && (is_tight || records.iter().any(are_many)) {
+            self.read(books);
+        }
+    }
+
+    fn record(&mut self, iface: u32, record: &split::Record) -> Result<(), Cause> {
+        let room = self.room();
+        let policy = match self.gates.get(&iface) {
+            Some(gate) if !record.asks_for_nothing() => &gate.policy,
+            _ => return Ok(()),
+        };
+        let (max_sources, max_groups) = (policy.max_sources as usize, policy.max_groups as usize);
+        let is_permitted = match record.included() {
+            Some(sources) => sources.iter().all(|source| policy.join.permits(Some(*source), record.group)),
+            None => policy.join.permits(None, record.group),
+        };
+        if !is_permitted {
+            return Err(Cause::JoinList);
+        }
+        let held = self.held(iface);
+        let known = held.groups.get(&record.group);
+        let sources = held.needed(record) - usize::from(known.is_none());
+        match sources + usize::from(known.is_none()) {
+            0 => return Ok(()),
+            _ if sources > 0 && known.map_or(0, HashSet::len) + sources > max_sources => return Err(Cause::Sources),
+            more if held.of_hosts() + more > max_groups => return Err(Cause::Groups),
+            more if more > room => return Err(Cause::Reserve),
+            _ => held.add(record),
+        }
+        Ok(())
+    }
+
+    fn join_prune(&mut self, books: &mut dyn Books, iface: u32, packet: Packet) -> Option<Vec<u8>> {
+        let own = self.gates.get(&iface).map(|gate| gate.address);
+        let message = match split::join_prune(packet) {
+            // What goes to another router, or ends at once, makes nothing here.
+            Some(message) if Some(message.to) == own && message.holdtime > 0 => message,
+            _ => return Some(packet.bytes().to_vec()),
+        };
+        self.read_for_joins(books, iface, &message.entries);
+        let count = message.entries.len();
+        let mut kept = Vec::new();
+        for entry in message.entries {
+            match self.join(iface, &entry) {
+                Ok(()) => kept.push(entry),
+                Err(cause) => {
+                    self.refuse(books.now(), cause, iface, &format_args!("{} of {}", entry.key, packet.source()))
+                }
+            }
+        }
+        match kept.len() {
+            left if left == count => Some(packet.bytes().to_vec()),
+            0 => None,
+            _ => Some(split::with_entries(packet, &kept)),
+        }
+    }
+
+    fn read_for_joins(&mut self, books: &mut dyn Books, iface: u32, entries: &[split::Entry]) {
+        let room = self.room();
+        let max_joins = self.gates.get(&iface).map_or(usize::MAX, |gate| gate.policy.max_joins as usize);
+        let held = self.held(iface);
+        let is_new = |entry: &&split::Entry| entry.makes_state() && !held.joins.contains(&entry.key);
+        let needed = entries.iter().filter(is_new).count();
+        if needed > room || (needed > 0 && held.of_neighbours() + needed > max_joins) {
+            self.read(books);
+        }
+    }
+
+    fn join(&mut self, iface: u32, entry: &split::Entry) -> Result<(), Cause> {
+        let room = self.room();
+        let policy = match self.gates.get(&iface) {
+            Some(gate) => &gate.policy,
+            None => return Ok(()),
+        };
+        if entry.is_join && !policy.join.permits(entry.key.source, entry.key.group) {
+            return Err(Cause::JoinList);
+        }
+        let max_joins = policy.max_joins as usize;
+        let held = self.held(iface);
+        match held.of_neighbours() {
+            _ if !entry.makes_state() || held.joins.contains(&entry.key) => return Ok(()),
+            count if count >= max_joins => return Err(Cause::Joins),
+            _ if room == 0 => return Err(Cause::Reserve),
+            _ => held.joins.insert(entry.key),
+        };
+        Ok(())
+    }
+
+    fn assert(&mut self, books: &mut dyn Books, iface: u32, packet: Packet) -> Option<()> {
+        let content = packet.content();
+        if content.len() < ASSERT_LENGTH {
+            return Some(());
+        }
+        let key = (address(content, ASSERTED_GROUP_AT), address(content, ASSERTED_SOURCE_AT));
+        let max_joins = self.gates.get(&iface)?.policy.max_joins as usize;
+        let passes = |held: &Held, room: usize| match held.of_neighbours() {
+            _ if held.asserts.contains(&key) => Ok(()),
+            count if count >= max_joins => Err(Cause::Joins),
+            _ if room == 0 => Err(Cause::Reserve),
+            _ => Ok(()),
+        };
+        let mut room = self.room();
+        if passes(self.held(iface), room).is_err() {
+            self.read(books);
+            room = self.room();
+        }
+        if let Err(cause) = passes(self.held(iface), room) {
+            let what = format!("the Assert of ({}, {}) of {}", key.1, key.0, packet.source());
+            self.refuse(books.now(), cause, iface, &what);
+            return None;
+        }
+        self.held(iface).asserts.insert(key);
+        Some(())
+    }
+
+    // ---- data
+
+    /// Whether the list of an interface permits a source of a group.
+    pub fn may_send(&self, iface: u32, key: Key) -> bool {
+        self.gates.get(&iface).map_or(true, |gate| gate.policy.send.permits(Some(key.source), key.group))
+    }
+
+    /// Whether packets of a source that come on an interface go to the router.
+    pub fn stream(&mut self, books: &mut dyn Books, iface: u32, key: Key) -> bool {
+        let most = self.gates.get(&iface).map_or(u32::MAX, |gate| gate.policy.max_streams);
+        let passes = match self.may_send(iface, key) {
+            true => self.has_room(books, Some(iface), most, Cause::Streams, key),
+            false => Err(Cause::SendList),
+        };
+        if let Err(cause) = passes {
+            self.refuse(books.now(), cause, iface, &key);
+        }
+        passes.is_ok()
+    }
+
+    /// Whether a packet to an address of the router goes to it: a Register may be one too many.
+    pub fn unicast(&mut self, books: &mut dyn Books, bytes: &[u8]) -> bool {
+        let key = match registered(bytes) {
+            Some(key) => key,
+            None => return true,
+        };
+        let passes = match self.settings.register.permits(Some(key.source), key.group) {
+            true => self.has_room(books, None, self.settings.max_registered, Cause::Registered, key),
+            false => Err(Cause::RegisterList),
+        };
+        if let Err(cause) = passes {
+            self.refusals.note(books.now(), cause, "Registers", &format_args!("{key} of {}", address(bytes, 12)));
+        }
+        passes.is_ok()
+    }
+
+    fn has_room(
+        &mut self,
+        books: &mut dyn Books,
+        from: Option<u32>,
+        most: u32,
+        over: Cause,
+        key: Key,
+    ) -> Result<(), Cause> {
+        if self.streams.contains_key(&key) {
+            return Ok(());
+        }
+        if self.stream_counts.get(&from).copied().unwrap_or(0) >= most as usize {
+            return Err(over);
+        }
+        if self.room() == 0 {
+            self.read(books);
+        }
+        match self.room() {
+            0 => Err(Cause::Reserve),
+            _ => Ok(()),
+        }
+    }
+
+    /// The router has a fact of a source.
+    pub fn began(&mut self, key: Key, from: Option<u32>) {
+        if let std::collections::hash_map::Entry::Vacant(place) = self.streams.entry(key) {
+            place.insert(from);
+            *self.stream_counts.entry(from).or_default() += 1;
+        }
+    }
+
+    /// The router has none of it any more.
+    pub fn ended(&mut self, key: Key) {
+        if let Some(count) = self.streams.remove(&key).and_then(|from| self.stream_counts.get_mut(&from)) {
+            *count -= 1;
+        }
+    }
+}
+
+/// The source and the group of the packet in a Register.
+pub fn registered(bytes: &[u8]) -> Option<Key> {
+    const REGISTER: u8 = 1;
+    const INNER: usize = 8;
+    let packet = Packet::read(bytes).filter(|packet| is_pim(*packet, REGISTER))?;
+    let inner = packet.content().get(INNER..).filter(|inner| inner.len() >= 20)?;
+    Some(Key { source: address(inner, 12), group: address(inner, 16) })
+}
+
+#[cfg(test)]
+mod tests;

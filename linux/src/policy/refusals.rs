@@ -1,0 +1,104 @@
+//! What the policy refused, counted, and said at a bounded rate.
+use log::warn;
+use std::collections::BTreeMap;
+use std::fmt;
+
+/// A line of a kind at most so often, in ms.
+const SAY_EVERY: u64 = 10_000;
+
+/// Why something was refused.
+#[derive(Clone, Copy, Debug, PartialEq, Eq, PartialOrd, Ord, Hash)]
+pub enum Cause {
+    Passive,
+    NotBelieved,
+    Neighbours,
+    JoinList,
+    Groups,
+    Sources,
+    Joins,
+    SendList,
+    Streams,
+    RegisterList,
+    Registered,
+    Reserve,
+    OldHost,
+}
+
+impl fmt::Display for Cause {
+    fn fmt(&self, to: &mut fmt::Formatter) -> fmt::Result {
+        to.write_str(match self {
+            Cause::Passive => "PIM on a passive interface",
+            Cause::NotBelieved => "PIM of a router that isn't among `neighbors`",
+            Cause::Neighbours => "a neighbour above `max_neighbors`",
+            Cause::JoinList => "a group or source that `join` doesn't permit",
+            Cause::Groups => "a group of hosts above `max_groups`",
+            Cause::Sources => "sources of a group above `max_sources`",
+            Cause::Joins => "a join or an Assert of neighbours above `max_joins`",
+            Cause::SendList => "a source or group that `send` doesn't permit",
+            Cause::Streams => "a source above `max_streams`",
+            Cause::RegisterList => "a Register of a source or group that `register` doesn't permit",
+            Cause::Registered => "a source of a Register above `max_registered`",
+            Cause::Reserve => "the rest of `limit` is kept for neighbours",
+            Cause::OldHost => "a report of IGMPv1 or IGMPv2",
+        })
+    }
+}
+
+#[derive(Clone, Copy, Debug, Default)]
+struct Refused {
+    count: u64,
+    /// As many as the last line counted, and when it was said, in ms.
+    said: u64,
+    said_at: Option<u64>,
+}
+
+/// By the cause and the interface, or where else it was.
+#[derive(Debug, Default)]
+pub struct Refusals(BTreeMap<(Cause, String), Refused>);
+
+impl Refusals {
+    /// Counts one without a line.
+    pub fn count(&mut self, cause: Cause, place: &str) {
+        self.0.entry((cause, place.to_string())).or_default().count += 1;
+    }
+
+    /// Counts one, and says it where no line was said of its kind for a time. It tells whether it did.
+    pub fn note(&mut self, now: u64, cause: Cause, place: &str, what: &dyn fmt::Display) -> bool {
+        self.count(cause, place);
+        let it = self.0.entry((cause, place.to_string())).or_default();
+        let is_due = it.said_at.map_or(true, |at| at + SAY_EVERY <= now);
+        if is_due {
+            match it.count - it.said - 1 {
+                0 => warn!("refused on {place}: {cause}: {what}"),
+                more => warn!("refused on {place}: {cause}: {what}, and {more} more since the last line"),
+            }
+            *it = Refused { said: it.count, said_at: Some(now), ..*it };
+        }
+        is_due
+    }
+
+    /// Each with what it is called, and its count.
+    pub fn counts(&self) -> impl Iterator<Item = (String, u64)> + '_ {
+        self.0.iter().map(|((cause, place), it)| (format!("refused on {place}: {cause}"), it.count))
+    }
+
+    #[cfg(test)]
+    pub fn of(&self, cause: Cause) -> u64 {
+        self.0.iter().filter(|((its, _), _)| *its == cause).map(|(_, it)| it.count).sum()
+    }
+}
+
+#[cfg(test)]
+mod tests {
+    use super::*;
+
+    #[test]
+    fn lines_come_at_a_bounded_rate() {
+        let mut it = Refusals::default();
+        let said: Vec<_> =
+            [0, 1, 9_999, 10_000, 10_001].iter().map(|now| it.note(*now, Cause::Groups, "eth0", &"x")).collect();
+        assert_eq!(said, [true, false, false, true, false]);
+        assert!(it.note(10_002, Cause::Groups, "eth1", &"x"));
+        assert_eq!(it.of(Cause::Groups), 6);
+    }
+}

@@ -1,0 +1,234 @@
+use super::lists::{List, Rule};
+use super::*;
+use crate::packet::{put_checksum, with_content, PIM};
+use crate::settings::Subnet;
+use std::cell::Cell;
+
+/// A router that holds some rows.
+#[derive(Default)]
+struct Holds {
+    rows: Vec<(Table, Row)>,
+    now: Cell<u64>,
+}
+
+impl Books for Holds {
+    fn rows(&mut self, table: Table) -> Vec<Row> {
+        self.rows.iter().filter(|(its, _)| *its == table).map(|(_, row)| *row).collect()
+    }
+
+    fn now(&self) -> u64 {
+        self.now.get()
+    }
+}
+
+const OWN: [u8; 4] = [10, 5, 0, 1];
+
+fn policy(limit: u32, of_one: InterfacePolicy) -> Policy {
+    let gate = |name: &str, policy| Gate { name: name.to_string(), address: OWN.into(), policy };
+    let mut policy = Policy::default();
+    let gates = [(0, gate("eth0", of_one)), (1, gate("eth1", InterfacePolicy::default()))].into_iter().collect();
+    policy.set(PolicySettings::default(), limit, gates);
+    policy
+}
+
+fn packet(protocol: u8, from: u8, to: [u8; 4], content: &[u8]) -> Vec<u8> {
+    let mut header = [0x45, 0, 0, 0, 0, 0, 0, 0, 1, protocol, 0, 0, 10, 5, 0, from, 0, 0, 0, 0];
+    header[16..].copy_from_slice(&to);
+    let mut content = content.to_vec();
+    put_checksum(&mut content, 2);
+    with_content(&header, &content)
+}
+
+/// Of TO_EX without sources, or of ALLOW with them, for group 239.1.x.y each.
+fn report(records: &[([u8; 2], &[u8])]) -> Vec<u8> {
+    let mut content = vec![0x22, 0, 0, 0, 0, 0, 0, records.len() as u8];
+    for (group, sources) in records {
+        let kind = if sources.is_empty() { 4 } else { 5 };
+        content.extend([kind, 0, 0, sources.len() as u8, 239, 1, group[0], group[1]]);
+        sources.iter().for_each(|last| content.extend([10, 1, 0, *last]));
+    }
+    packet(IGMP, 77, [224, 0, 0, 22], &content)
+}
+
+fn hello(from: u8) -> Vec<u8> {
+    packet(PIM, from, [224, 0, 0, 13], &[0x20, 0, 0, 0, 0, 1, 0, 2, 0, 105])
+}
+
+/// Joins of (*,G) for groups 239.1.1.x.
+fn join(from: u8, groups: &[u8]) -> Vec<u8> {
+    let mut content = vec![0x23, 0, 0, 0, 1, 0];
+    content.extend(OWN);
+    content.extend([0, groups.len() as u8, 0, 210]);
+    for last in groups {
+        content.extend([1, 0, 0, 32, 239, 1, 1, *last, 0, 1, 0, 0, 1, 0, 7, 32, 10, 9, 9, 9]);
+    }
+    packet(PIM, from, [224, 0, 0, 13], &content)
+}
+
+fn row(table: Table, source: [u8; 4], group: [u8; 4]) -> (Table, Row) {
+    (table, Row { source: source.into(), group: group.into(), ..Row::default() })
+}
+
+#[test]
+fn a_quota_of_groups_takes_what_is_known_and_cuts_the_rest() {
+    let mut it = policy(1_000, InterfacePolicy { max_groups: 2, ..InterfacePolicy::default() });
+    let mut books = Holds::default();
+    let known = report(&[([1, 1], &[]), ([1, 2], &[])]);
+    assert_eq!(it.frame(&mut books, 0, &known), Some(known.clone()));
+    books.rows = vec![row(Table::Groups, [0; 4], [239, 1, 1, 1]), row(Table::Groups, [0; 4], [239, 1, 1, 2])];
+    assert_eq!(it.frame(&mut books, 0, &report(&[([1, 3], &[])])), None);
+    let mixed = report(&[([1, 1], &[]), ([1, 3], &[]), ([1, 2], &[])]);
+    assert_eq!(it.frame(&mut books, 0, &mixed), Some(known.clone()));
+    assert_eq!(it.refusals.of(Cause::Groups), 2);
+    // Another interface has its own.
+    let other = report(&[([1, 3], &[])]);
+    assert_eq!(it.frame(&mut books, 1, &other), Some(other.clone()));
+    // What ended makes room, once the router is asked again.
+    books.rows.pop();
+    books.now.set(2_000);
+    assert_eq!(it.frame(&mut books, 0, &other), Some(other));
+}
+
+#[test]
+fn a_quota_of_sources_is_of_one_group() {
+    let mut it = policy(1_000, InterfacePolicy { max_sources: 2, ..InterfacePolicy::default() });
+    let mut books = Holds::default();
+    let two = report(&[([1, 1], &[1, 2])]);
+    assert_eq!(it.frame(&mut books, 0, &two), Some(two.clone()));
+    books.rows = [1, 2].map(|last| row(Table::Sources, [10, 1, 0, last], [239, 1, 1, 1])).to_vec();
+    assert_eq!(it.frame(&mut books, 0, &report(&[([1, 1], &[3])])), None);
+    let other = report(&[([1, 2], &[3])]);
+    assert_eq!(it.frame(&mut books, 0, &other), Some(other));
+    assert_eq!(it.frame(&mut books, 0, &two), Some(two));
+}
+
+#[test]
+fn room_stays_for_neighbours() {
+    // An eighth of the limit, which is 2.
+    let mut it = policy(16, InterfacePolicy::default());
+    let mut books = Holds::default();
+    for last in 0..20 {
+        if it.frame(&mut books, 0, &report(&[([7, last], &[])])).is_some() {
+            books.rows.push(row(Table::Groups, [0; 4], [239, 1, 7, last]));
+        }
+    }
+    assert_eq!((books.rows.len(), it.refusals.of(Cause::Reserve)), (14, 6));
+    assert!(it.frame(&mut books, 0, &hello(2)).is_some());
+    assert!(!it.stream(&mut books, 1, Key { source: [10, 1, 0, 50].into(), group: [239, 1, 1, 1].into() }));
+}
+
+#[test]
+fn what_asks_for_nothing_passes() {
+    let mut it = policy(1_000, InterfacePolicy { max_groups: 0, ..InterfacePolicy::default() });
+    let mut leave = report(&[([1, 1], &[])]);
+    leave[28] = 3;
+    put_checksum(&mut leave[20..], 2);
+    assert_eq!(it.frame(&mut Holds::default(), 0, &leave), Some(leave.clone()));
+    assert_eq!(it.frame(&mut Holds::default(), 0, &report(&[([1, 1], &[])])), None);
+}
+
+#[test]
+fn neighbours_are_counted_and_told_apart() {
+    let list = vec![Subnet { address: [10, 5, 0, 2].into(), length: 31 }];
+    let believed = InterfacePolicy { neighbours: Some(list), ..InterfacePolicy::default() };
+    let mut it = policy(1_000, believed);
+    let mut books = Holds::default();
+    assert!(it.frame(&mut books, 0, &hello(3)).is_some());
+    assert_eq!((it.frame(&mut books, 0, &hello(4)), it.frame(&mut books, 0, &join(4, &[1]))), (None, None));
+    assert_eq!(it.refusals.of(Cause::NotBelieved), 2);
+    let mut few = policy(1_000, InterfacePolicy { max_neighbours: 1, ..InterfacePolicy::default() });
+    assert!(few.frame(&mut books, 0, &hello(3)).is_some());
+    books.rows = vec![row(Table::Neighbours, [10, 5, 0, 3], [0; 4])];
+    assert_eq!(few.frame(&mut books, 0, &hello(4)), None);
+    assert!(few.frame(&mut books, 0, &hello(3)).is_some());
+    assert_eq!(few.refusals.of(Cause::Neighbours), 1);
+}
+
+#[test]
+fn pim_on_a_passive_interface_is_refused_and_igmp_is_not() {
+    let mut it = policy(1_000, InterfacePolicy { is_passive: true, ..InterfacePolicy::default() });
+    let asked = report(&[([1, 1], &[])]);
+    assert_eq!(it.frame(&mut Holds::default(), 0, &hello(2)), None);
+    assert_eq!(it.frame(&mut Holds::default(), 0, &asked), Some(asked.clone()));
+    assert_eq!(it.refusals.of(Cause::Passive), 1);
+}
+
+#[test]
+fn a_list_cuts_groups_out_of_joins_and_reports() {
+    let groups = Subnet { address: [239, 1, 1, 2].into(), length: 32 };
+    let all = Subnet { address: [224, 0, 0, 0].into(), length: 4 };
+    let rule = |permits, groups| Rule { permits, groups, sources: None };
+    let list = List(Some(vec![rule(false, groups), rule(true, all)]));
+    let mut it = policy(1_000, InterfacePolicy { join: list, ..InterfacePolicy::default() });
+    let mut books = Holds::default();
+    assert_eq!(it.frame(&mut books, 0, &join(2, &[1, 2, 3])), Some(join(2, &[1, 3])));
+    assert_eq!(it.frame(&mut books, 0, &join(2, &[2])), None);
+    let asked = report(&[([1, 1], &[]), ([1, 2], &[])]);
+    assert_eq!(it.frame(&mut books, 0, &asked), Some(report(&[([1, 1], &[])])));
+    assert_eq!(it.refusals.of(Cause::JoinList), 3);
+}
+
+#[test]
+fn a_quota_of_joins_takes_what_is_known() {
+    let mut it = policy(1_000, InterfacePolicy { max_joins: 2, ..InterfacePolicy::default() });
+    let mut books = Holds::default();
+    assert_eq!(it.frame(&mut books, 0, &join(2, &[1, 2])), Some(join(2, &[1, 2])));
+    books.rows = [1, 2].map(|last| row(Table::Downstream, [0; 4], [239, 1, 1, last])).to_vec();
+    assert_eq!(it.frame(&mut books, 0, &join(2, &[1, 3, 2])), Some(join(2, &[1, 2])));
+    // What goes to another router, or ends, is none of it.
+    let mut to_another = join(2, &[4]);
+    to_another[29] = 9;
+    put_checksum(&mut to_another[20..], 2);
+    assert_eq!(it.frame(&mut books, 0, &to_another), Some(to_another.clone()));
+}
+
+#[test]
+fn asserts_share_the_quota_of_joins() {
+    let mut it = policy(1_000, InterfacePolicy { max_joins: 2, ..InterfacePolicy::default() });
+    let mut books = Holds::default();
+    let assert = |last: u8| {
+        let content = [0x25, 0, 0, 0, 1, 0, 0, 32, 239, 1, 1, last, 1, 0, 10, 1, 0, 50, 0, 0, 0, 110, 0, 0, 0, 20];
+        packet(PIM, 2, [224, 0, 0, 13], &content)
+    };
+    assert!(it.frame(&mut books, 0, &join(2, &[1])).is_some());
+    assert_eq!(it.frame(&mut books, 0, &assert(1)), Some(assert(1)));
+    books.rows =
+        vec![row(Table::Downstream, [0; 4], [239, 1, 1, 1]), row(Table::Asserts, [10, 1, 0, 50], [239, 1, 1, 1])];
+    assert_eq!((it.frame(&mut books, 0, &assert(2)), it.frame(&mut books, 0, &join(2, &[2]))), (None, None));
+    assert_eq!(it.frame(&mut books, 0, &assert(1)), Some(assert(1)));
+    assert_eq!(it.refusals.of(Cause::Joins), 2);
+}
+
+#[test]
+fn streams_and_registers_have_lists_and_quotas() {
+    let key = |last| Key { source: [10, 1, 0, last].into(), group: [239, 1, 1, 1].into() };
+    let one = Subnet { address: [10, 1, 0, 0].into(), length: 28 };
+    let all = Subnet { address: [224, 0, 0, 0].into(), length: 4 };
+    let list = || List(Some(vec![Rule { permits: true, groups: all, sources: Some(one) }]));
+    let mut it = policy(1_000, InterfacePolicy { send: list(), max_streams: 1, ..InterfacePolicy::default() });
+    let mut books = Holds::default();
+    assert!(!it.stream(&mut books, 0, key(16)) && it.stream(&mut books, 0, key(1)));
+    it.began(key(1), Some(0));
+    assert!(it.stream(&mut books, 0, key(1)) && !it.stream(&mut books, 0, key(2)) && it.stream(&mut books, 1, key(2)));
+    it.ended(key(1));
+    assert!(it.stream(&mut books, 0, key(2)));
+
+    it.settings = PolicySettings { register: list(), max_registered: 1 };
+    let registered = |last: u8| {
+        let inner = with_content(&[0x45, 0, 0, 0, 0, 0, 0, 0, 9, 17, 0, 0, 10, 1, 0, last, 239, 1, 1, 1], &[0; 8]);
+        packet(PIM, 9, [10, 4, 0, 2], &[vec![0x21, 0, 0, 0, 0, 0, 0, 0], inner].concat())
+    };
+    assert!(!it.unicast(&mut books, &registered(16)) && it.unicast(&mut books, &registered(1)));
+    it.began(key(1), None);
+    assert!(it.unicast(&mut books, &registered(1)) && !it.unicast(&mut books, &registered(2)));
+    let causes = [Cause::SendList, Cause::Streams, Cause::RegisterList, Cause::Registered];
+    assert_eq!(causes.map(|cause| it.refusals.of(cause)), [1; 4]);
+}
+
+#[test]
+fn an_old_host_is_counted() {
+    let mut it = policy(1_000, InterfacePolicy::default());
+    let asked = packet(IGMP, 9, [239, 1, 1, 1], &[0x16, 0, 0, 0, 239, 1, 1, 1]);
+    assert_eq!((it.frame(&mut Holds::default(), 0, &asked), it.frame(&mut Holds::default(), 0, &asked)), (None, None));
+    assert_eq!((it.refusals.of(Cause::OldHost), it.old_hosts.len()), (2, 1));
+}

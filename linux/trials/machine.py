@@ -1,0 +1,230 @@
+"""What the machine does to the router: interfaces and addresses that come and go, want of memory, links of each kind."""
+import socket
+import subprocess
+import sys
+import threading
+import time
+
+from trials.network import HOST, SENDER, SOURCE, Failed, ended, first_after, goes_on, inside, ip, received, run, until
+
+
+# The neighbours that FRR is.
+THREE = {"10.2.0.1", "10.3.0.1", "10.7.0.2"}
+
+
+def standing(net, name):
+    return next((row for row in net.show("interfaces") if row["interface"] == name), {"is_up": False, "address": None})
+
+
+def no_address_at_start(net):
+    """it begins where no interface has an address, says so, and takes each as it comes"""
+    net.stop_router()
+    ports = [("to-first", "10.2.0.2/24"), ("to-second", "10.3.0.2/24"), ("to-hosts", "10.5.0.1/24"),
+             ("to-lan", "10.7.0.3/24")]
+    for port, address in ports:
+        ip("router", "address", "delete", address, "dev", port)
+    net.start_router()
+    if "no interface is up" not in net.log():
+        raise Failed("it isn't said")
+    for port, address in ports:
+        ip("router", "address", "add", address, "dev", port)
+        time.sleep(0.5)
+    for route in ("10.1.0.0/24 via 10.2.0.1", "10.4.0.0/24 via 10.3.0.1", "10.6.0.0/24 via 10.3.0.1"):
+        ip("router", "route", "replace", *route.split())
+    ip("hosts", "route", "replace", "default", "via", "10.5.0.1")
+    for port, address in ports:
+        until(f"{port} is up", 15, lambda: standing(net, port)["is_up"] and standing(net, port)["address"] == address)
+    until("the router knows three neighbours", 40, lambda: net.neighbours() >= THREE)
+
+
+def late_address(net):
+    """an address that comes late is taken, and a stream of 100 packets a second through other interfaces loses none"""
+    net.stop_router()
+    ip("router", "address", "delete", "10.7.0.3/24", "dev", "to-lan")
+    net.start_router()
+    group = "239.1.11.1"
+    until("the router knows two neighbours", 40, lambda: net.neighbours() >= {"10.2.0.1", "10.3.0.1"})
+    warm = net.receive("hosts", group, HOST, 30, 20)
+    time.sleep(2)
+    net.send("source", group, SOURCE, 30, 10).wait()
+    receiver = net.receive("hosts", group, HOST, 2500, 60)
+    ended(warm)
+    sender = net.send("source", group, SOURCE, 2500, 100)
+    until("the kernel forwards", 15, lambda: net.entry(SOURCE, group)["outgoing"] == ["to-hosts"])
+    ip("router", "address", "add", "10.7.0.3/24", "dev", "to-lan")
+    until("to-lan is up", 10, lambda: standing(net, "to-lan")["is_up"])
+    until("the router has learned", 30, lambda: net.entry(SOURCE, group)["forwarding"] == "kernel")
+    until("first is a neighbour there", 40, lambda: "10.7.0.2" in net.neighbours())
+    sender.wait()
+    came, of, twice = received(receiver)
+    if came < of:
+        raise Failed(f"{came} of {of} came, {twice} twice")
+    return f"{came} of {of} came, {twice} twice"
+
+
+def interface_that_comes(net):
+    """one that the file doesn't name yet comes with SIGHUP, and one that it names comes when the machine has it"""
+    more = '[[interface]]\nname = "to-nobody"\n'
+    net.reload(net.settings + more)
+    if standing(net, "to-nobody")["is_up"]:
+        raise Failed("it is up before it is there")
+    ip("router", "link", "add", "to-nobody", "type", "veth", "peer", "name", "nobody")
+    for port in ("to-nobody", "nobody"):
+        ip("router", "link", "set", port, "up")
+    ip("router", "address", "add", "10.8.0.1/24", "dev", "to-nobody")
+    until("it is up", 15, lambda: standing(net, "to-nobody")["is_up"])
+    ip("router", "link", "delete", "to-nobody")
+    until("it is down", 10, lambda: not standing(net, "to-nobody")["is_up"])
+    net.reload(net.settings)
+    if standing(net, "to-nobody")["address"]:
+        raise Failed("it is shown though the file hasn't it")
+    until("the router knows three neighbours", 40, lambda: net.neighbours() >= THREE)
+
+
+def settings_under_a_stream(net):
+    """SIGHUP takes another limit and other times of IGMP, and a stream of 100 packets a second loses nothing"""
+    group = "239.1.11.2"
+    warm = net.receive("hosts", group, HOST, 30, 20)
+    time.sleep(2)
+    net.send("source", group, SOURCE, 30, 10).wait()
+    receiver = net.receive("hosts", group, HOST, 2500, 60)
+    ended(warm)
+    sender = net.send("source", group, SOURCE, 2500, 100)
+    until("the kernel forwards", 15, lambda: net.entry(SOURCE, group)["outgoing"] == ["to-hosts"])
+    net.reload("limit = 30000\n" + net.settings.replace("query_interval = 20", "query_interval = 30"))
+    until("the router has learned", 30, lambda: net.entry(SOURCE, group)["forwarding"] == "kernel")
+    sender.wait()
+    came, of, twice = received(receiver)
+    net.reload(net.settings)
+    until("the router has learned again", 30, lambda: net.neighbours() >= THREE)
+    if came < of:
+        raise Failed(f"{came} of {of} came, {twice} twice")
+    return f"{came} of {of} came, {twice} twice"
+
+
+def settings_at_the_rp(net):
+    """nor does one of which the router is the RP: the kernel's entry stays until the DR registers the source again"""
+    group = "239.2.11.4"
+    warm = net.receive("hosts", group, HOST, 30, 20)
+    time.sleep(2)
+    net.send("source", group, SOURCE, 30, 10).wait()
+    receiver = net.receive("hosts", group, HOST, 2600, 150)
+    ended(warm)
+    sender = net.send("source", group, SOURCE, 2600, 20)
+    until("the kernel forwards", 15, lambda: net.entry(SOURCE, group)["outgoing"] == ["to-hosts"])
+    net.reload("limit = 30000\n" + net.settings)
+    until("the router has learned", 110, lambda: net.entry(SOURCE, group)["forwarding"] == "kernel")
+    sender.wait()
+    came, of, twice = received(receiver)
+    net.reload(net.settings)
+    if came < of:
+        raise Failed(f"{came} of {of} came, {twice} twice")
+    return f"{came} of {of} came, {twice} twice"
+
+
+def kernel_without_memory(net):
+    """where the kernel has no memory for an entry the router says so, goes on, and sets it once there is some"""
+    shim, lacks = net.room / "no_memory.so", net.room / "no-memory"
+    run("cc", "-shared", "-fPIC", "-o", shim, SENDER.parent / "no_memory.c", "-ldl")
+    net.stop_router()
+    net.start_router(environment=(f"LD_PRELOAD={shim}", f"NO_MEMORY={lacks}"))
+    until("the router knows three neighbours", 40, lambda: net.neighbours() >= THREE)
+    group = "239.2.11.3"
+    lacks.touch()
+    receiver = net.receive("hosts", group, HOST, 1000, 60)
+    sender = net.send("source", group, SOURCE, 400, 10)
+    said = "the kernel refuses an entry of its forwarding cache: Cannot allocate memory"
+    until("it is said", 20, lambda: said in net.log())
+    time.sleep(2)
+    if "nobody: the kernel refused" not in net.entry(SOURCE, group)["forwarding"]:
+        raise Failed(f"the entry is {net.entry(SOURCE, group)}")
+    lacks.unlink()
+    goes_on(net, group, "once there is memory")
+    lines = net.log().count("forwarding cache: Cannot allocate memory")
+    ended(sender)
+    ended(receiver)
+    net.stop_router()
+    net.start_router()
+    if lines > 3:
+        raise Failed(f"{lines} lines say it")
+    return f"{lines} lines said it"
+
+
+def vxlan_and_next_hop_objects(net):
+    """a vxlan link is an interface like another; routes by next hop objects are read, without compatibility too"""
+    ip("router", *"link add vx7 type vxlan id 7 local 10.2.0.2 remote 10.2.0.1 dstport 4789".split())
+    ip("router", "address", "add", "10.8.1.1/24", "dev", "vx7")
+    ip("router", "link", "set", "vx7", "up")
+    ranges = [f'[[rp]]\ngroups = "239.{number}.0.0/16"\naddress = "10.{number}.0.1"\n' for number in (70, 71, 72)]
+    net.reload(net.settings + '[[interface]]\nname = "vx7"\n' + "".join(ranges))
+    until("it is up", 15, lambda: standing(net, "vx7")["is_up"])
+    if "can't be read" in net.log():
+        raise Failed([line for line in net.log().splitlines() if "can't be read" in line][0])
+    run(*inside("router", "sysctl", "-qw", "net.ipv4.nexthop_compat_mode=0"))
+    ip("router", "nexthop", "add", "id", "1", "via", "10.2.0.1", "dev", "to-first")
+    ip("router", "nexthop", "add", "id", "2", "via", "10.3.0.1", "dev", "to-second")
+    ip("router", "nexthop", "add", "id", "3", "group", "1/2")
+    ip("router", "nexthop", "add", "id", "4", "blackhole")
+    for prefix, number in (("10.70.0.0/16", 1), ("10.71.0.0/16", 3), ("10.72.0.0/16", 4)):
+        ip("router", "route", "add", prefix, "nhid", str(number))
+    hops = lambda: [row["next_hop"] for row in net.show("rp") if row["rp"] in ("10.70.0.1", "10.71.0.1", "10.72.0.1")]
+    until("the next hops are known", 5, lambda: hops() == ["10.2.0.1", "10.3.0.1", None])
+    ip("router", "nexthop", "replace", "id", "1", "via", "10.3.0.1", "dev", "to-second")
+    until("a next hop that changes is taken", 5, lambda: hops()[0] == "10.3.0.1")
+    for number in (3, 1, 2, 4):
+        ip("router", "nexthop", "delete", "id", str(number))
+    run(*inside("router", "sysctl", "-qw", "net.ipv4.nexthop_compat_mode=1"))
+    ip("router", "link", "delete", "vx7")
+    net.reload(net.settings)
+    until("the router knows three neighbours", 40, lambda: net.neighbours() >= THREE)
+
+
+def show_while_the_router_works(net):
+    """with 65,536 groups `show` keeps no join waiting, and 32 silent clients of the control socket lock no one out"""
+    net.stop_router()
+    net.start_router("limit = 200000\n", "max_groups = 100000\n")
+    until("the router knows three neighbours", 40, lambda: net.neighbours() >= THREE)
+    group = "239.2.12.1"
+    sender = net.send("source", group, SOURCE, 6000, 100)
+    time.sleep(2)
+    words = [sys.executable, SENDER, "to-router", "10.5.0.50", "reports", 65_536, 0.002]
+    subprocess.run(inside("hosts", *words), check=True, stdout=subprocess.DEVNULL)
+    until("the groups are known", 30, lambda: next(
+        row["count"] for row in net.show("counters") if row["counter"] == "events given to the router") > 300)
+    path = str(net.room / "router" / "control")
+    silent = []
+    for _ in range(32):
+        client = socket.socket(socket.AF_UNIX)
+        client.connect(path)
+        silent.append(client)
+    asking = threading.Event()
+    rows = []
+
+    def ask():
+        while not asking.is_set():
+            rows.append(len(net.show("igmp") or []))
+
+    asker = threading.Thread(target=ask)
+    asker.start()
+    time.sleep(1)
+    times = []
+    for _ in range(4):
+        receiver = net.receive("hosts", group, HOST, 1, 8)
+        times.append(first_after(receiver))
+        time.sleep(4)
+    asking.set()
+    asker.join()
+    for client in silent:
+        client.close()
+    ended(sender)
+    net.stop_router()
+    net.start_router()
+    if not rows or max(rows) < 65_000:
+        raise Failed(f"show said {rows} groups")
+    if any(it is None or it > 600 for it in times):
+        raise Failed(f"the joins had their first packets after {times} ms")
+    return f"{len(rows)} answers of {max(rows)} groups; joins had their first packets after {times} ms"
+
+
+TRIALS = [late_address, no_address_at_start, interface_that_comes, settings_under_a_stream, settings_at_the_rp,
+          kernel_without_memory, vxlan_and_next_hop_objects, show_while_the_router_works]

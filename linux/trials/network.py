@@ -1,0 +1,271 @@
+"""A network of namespaces with the router and FRR in it, for the trials."""
+import json
+import os
+import shutil
+import signal
+import subprocess
+import sys
+import time
+from pathlib import Path
+
+HERE = Path(__file__).resolve().parent.parent
+FRR = Path("/usr/lib/frr")
+PLACES = ("source", "first", "second", "router", "hosts", "viewer", "lan", "asker")
+NAMES = {place: f"vq-{place}-{os.getpid()}" for place in PLACES}
+LINKS = [
+    ("source", "10.1.0.50/24", "first", "10.1.0.1/24"),
+    ("first", "10.2.0.1/24", "router", "10.2.0.2/24"),
+    ("second", "10.3.0.1/24", "router", "10.3.0.2/24"),
+    ("first", "10.4.0.1/24", "second", "10.4.0.2/24"),
+    ("hosts", "10.5.0.77/24", "router", "10.5.0.1/24"),
+    ("second", "10.6.0.1/24", "viewer", "10.6.0.77/24"),
+    ("router", "10.7.0.3/24", "lan", None),
+    ("first", "10.7.0.2/24", "lan", None),
+    ("asker", "10.7.0.77/24", "lan", None),
+]
+ROUTES = {
+    "source": ["default via 10.1.0.1"],
+    "first": ["10.3.0.0/24 via 10.2.0.2", "10.5.0.0/24 via 10.2.0.2", "10.6.0.0/24 via 10.4.0.2"],
+    "second": ["10.1.0.0/24 via 10.4.0.1", "10.2.0.0/24 via 10.4.0.1", "10.5.0.0/24 via 10.3.0.2",
+               "10.7.0.0/24 via 10.3.0.2"],
+    "router": ["10.1.0.0/24 via 10.2.0.1", "10.4.0.0/24 via 10.3.0.1", "10.6.0.0/24 via 10.3.0.1"],
+    "hosts": ["default via 10.5.0.1"],
+    "viewer": ["default via 10.6.0.1"],
+    "asker": ["default via 10.7.0.3"],
+}
+RPS = [("239.1.0.0/16", "10.4.0.2"), ("239.2.0.0/16", "10.5.0.1"), ("239.4.0.0/16", "10.4.0.1")]
+WITH_PIM = {"first": ("source", "router", "second", "lan"), "second": ("first", "router")}
+PIMD = {place: "".join(f"interface to-{port}\n ip pim\n ip pim hello 5\n" for port in ports)
+        for place, ports in WITH_PIM.items()}
+PIMD["second"] += "interface to-viewer\n ip pim\n ip igmp\n"
+SETTINGS = """log = "debug"
+socket = "{room}/router/control"
+
+[igmp]
+query_interval = 20
+query_response = 2.0
+
+""" + "".join(f'[[interface]]\nname = "to-{port}"\n\n' for port in ("first", "second", "hosts", "lan")) + "".join(
+    f'[[rp]]\ngroups = "{groups}"\naddress = "{address}"\n\n' for groups, address in RPS)
+SOURCE, HOST = "10.1.0.50", "10.5.0.77"
+# With the rights of the unit file alone.
+NOBODY, RIGHTS = 65534, "-all,+net_raw,+net_admin"
+AS_SERVICE = ["setpriv", f"--reuid={NOBODY}", f"--regid={NOBODY}", "--clear-groups", "--no-new-privs",
+              f"--inh-caps={RIGHTS}", f"--ambient-caps={RIGHTS}", f"--bounding-set={RIGHTS}"]
+# A router on the LAN.
+ASKER = HERE / "trials" / "asker.py"
+# A host that sends what others wouldn't.
+SENDER = HERE / "trials" / "sender.py"
+
+
+class Failed(Exception):
+    pass
+
+
+def run(*words, **how):
+    return subprocess.run([str(word) for word in words], check=True, **how)
+
+
+def inside(place, *words):
+    return ["ip", "netns", "exec", NAMES[place], *map(str, words)]
+
+
+def ip(place, *words):
+    run("ip", "-n", NAMES[place], *words)
+
+
+def until(what, seconds, holds):
+    """Waits until something holds; it fails with what was to be."""
+    end = time.monotonic() + seconds
+    while not holds():
+        if time.monotonic() > end:
+            raise Failed(f"{what}, after {seconds} s not yet")
+        time.sleep(0.2)
+
+
+class Network:
+    """The namespaces, and what runs in them."""
+
+    def __init__(self, built, room, is_logged):
+        self.built, self.room, self.is_logged = built, room, is_logged
+        self.running, self.router, self.pimd = [], None, {}
+
+    # ---- namespaces
+
+    def connect(self, left, left_address, right, right_address):
+        ends = [(left, f"to-{right}", left_address), (right, f"to-{left}", right_address)]
+        run("ip", "link", "add", ends[0][1], "netns", NAMES[left], "type", "veth",
+            "peer", "name", ends[1][1], "netns", NAMES[right])
+        for place, port, address in ends:
+            if address:
+                ip(place, "address", "add", address, "dev", port)
+            else:
+                ip(place, "link", "set", port, "master", "bridge")
+            ip(place, "link", "set", port, "up")
+
+    def lay_out(self):
+        for name in NAMES.values():
+            run("ip", "netns", "add", name)
+            run("ip", "-n", name, "link", "set", "lo", "up")
+        ip("lan", "link", "add", "bridge", "type", "bridge", "mcast_snooping", "0")
+        ip("lan", "link", "set", "bridge", "up")
+        for link in LINKS:
+            self.connect(*link)
+        for place, routes in ROUTES.items():
+            for route in routes:
+                ip(place, "route", "add", *route.split())
+        for place in ("first", "second", "router"):
+            run(*inside(place, "sysctl", "-qw", "net.ipv4.ip_forward=1"))
+        ip("hosts", "address", "add", "10.5.0.50/24", "dev", "to-router")
+        run(*inside("hosts", "sysctl", "-qw", "net.ipv4.conf.all.force_igmp_version=3"))
+        run(*inside("viewer", "sysctl", "-qw", "net.ipv4.conf.all.force_igmp_version=3"))
+
+    def clear(self):
+        for one in reversed(self.running):
+            if one.poll() is None:
+                one.terminate()
+        for one in self.running:
+            one.wait()
+        for name in NAMES.values():
+            subprocess.run(["ip", "netns", "delete", name], stderr=subprocess.DEVNULL)
+
+    def start(self, place, *words, **how):
+        started = subprocess.Popen(inside(place, *words), text=True, **how)
+        self.running.append(started)
+        return started
+
+    # ---- routers
+
+    def start_frr(self, place):
+        room = self.room / place
+        room.mkdir(exist_ok=True)
+        rps = "".join(f"ip pim rp {address} {groups}\n" for groups, address in RPS)
+        logs = f"log file {room / 'pimd.log'}\ndebug pim packets\ndebug pim events\ndebug mroute\ndebug pim trace\n"
+        (room / "pimd.conf").write_text(PIMD[place] + rps + (logs if self.is_logged else ""))
+        (room / "zebra.conf").write_text("")
+        # FRR's daemons give up root for their own user.
+        for path in [room, *room.iterdir()]:
+            shutil.chown(path, "frr", "frr")
+        self.start_frr_daemon(place, "zebra")
+        until(f"{place}'s zebra listens", 20, (room / "zserv").exists)
+        self.start_pimd(place)
+
+    def start_pimd(self, place):
+        self.pimd[place] = self.start_frr_daemon(place, "pimd")
+
+    def start_frr_daemon(self, place, daemon):
+        room = self.room / place
+        words = ["-z", room / "zserv", "--vty_socket", room, "-f", room / f"{daemon}.conf",
+                 "-i", room / f"{daemon}.pid"]
+        return self.start(place, FRR / daemon, *words, stdout=subprocess.DEVNULL, stderr=subprocess.DEVNULL)
+
+    def frr(self, place, command):
+        words = inside(place, "vtysh", "--vty_socket", self.room / place, "-c", command)
+        return subprocess.run(words, capture_output=True, text=True).stdout
+
+    def start_router(self, more="", policy="", environment=()):
+        self.settings = more + SETTINGS.format(room=self.room)
+        self.settings = self.with_policy(policy)
+        (self.room / "router.toml").write_text(self.settings)
+        own = self.room / "router"
+        own.mkdir(exist_ok=True)
+        os.chown(own, NOBODY, NOBODY)
+        shutil.copy(self.built / "viqeshord", self.room)
+        with open(self.room / "router.log", "a") as log:
+            words = ["env", *environment, self.room / "viqeshord", "run", self.room / "router.toml"]
+            self.router = self.start("router", *AS_SERVICE, *words, stderr=log)
+        until("the router answers", 10, lambda: self.show("interfaces") is not None)
+
+    def stop_router(self):
+        self.router.send_signal(signal.SIGTERM)
+        self.router.wait(10)
+
+    def reload(self, settings):
+        """Other settings, by SIGHUP, once the router has taken them."""
+        before = self.log().count("the settings are read anew")
+        (self.room / "router.toml").write_text(settings)
+        self.router.send_signal(signal.SIGHUP)
+        until("the settings are taken", 10, lambda: self.log().count("the settings are read anew") > before)
+
+    def with_policy(self, lines):
+        """The settings that the router started with, and some lines of `[policy]`."""
+        return self.settings.replace("[igmp]\n", f"[policy]\n{lines}\n[igmp]\n") if lines else self.settings
+
+    def reload_interface(self, name, lines):
+        """The settings that the router started with, and some lines for an interface."""
+        line = f'name = "{name}"\n'
+        assert line in self.settings
+        self.reload(self.settings.replace(line, line + lines))
+
+    def show(self, topic):
+        words = [self.built / "viqeshord", "show", topic, "--json", "--socket", self.room / "router" / "control"]
+        said = subprocess.run(list(map(str, words)), capture_output=True, text=True)
+        return json.loads(said.stdout)[topic] if said.returncode == 0 else None
+
+    def entry(self, source, group):
+        """The router's entry, or an empty one."""
+        found = [row for row in self.show("mroute") or [] if (row["source"], row["group"]) == (source, group)]
+        return found[0] if found else {"incoming": None, "outgoing": [], "flags": "", "forwarding": "", "packets": 0}
+
+    def neighbours(self):
+        return {row["address"] for row in self.show("neighbors") or []}
+
+    def counter(self, name):
+        return next((row["count"] for row in self.show("counters") if row["counter"] == name), 0)
+
+    def refused(self, words):
+        """How much the settings refused, of what the counters say in these words."""
+        rows = [row for row in self.show("counters") if row["counter"].startswith("refused on")]
+        return sum(row["count"] for row in rows if words in row["counter"])
+
+    def log(self):
+        return (self.room / "router.log").read_text()
+
+    # ---- hosts
+
+    def receive(self, place, group, address, count, seconds, size=100):
+        words = [self.built / "examples" / "stream", "receive", group, address, count, seconds, size]
+        started = self.start(place, *words, stdout=subprocess.PIPE)
+        if started.stdout.readline().strip() != "joined":
+            raise Failed(f"{place} can't join {group}")
+        return started
+
+    def send(self, place, group, address, count, rate, size=100):
+        words = [self.built / "examples" / "stream", "send", group, address, count, rate, size]
+        return self.start(place, *words, stdout=subprocess.PIPE)
+
+
+def received(receiver):
+    """How many came, of how many, and how many came twice."""
+    words = receiver.communicate()[0].split()
+    return int(words[1]), int(words[3].rstrip(",")), int(words[5])
+
+
+def first_after(receiver):
+    """After how many ms the first packet came; None where none did."""
+    words = receiver.communicate()[0].split()
+    at = words.index("first") + 1
+    return None if words[at].startswith("never") else int(words[at + 1])
+
+
+def longest_gap(receiver):
+    """In ms, between two packets that came one after the other."""
+    words = receiver.communicate()[0].split()
+    return int(words[words.index("gap") + 1])
+
+
+def goes_on(net, group, when):
+    """The kernel's counts of a stream rise."""
+    def packets():
+        words = inside("router", "ip", "-j", "-s", "mroute", "show")
+        said = subprocess.run(words, capture_output=True, text=True).stdout
+        return sum(row.get("packets", 0) for row in json.loads(said or "[]") if row["dst"] == group)
+
+    before = packets()
+    until(f"the stream goes on {when}", 5, lambda: packets() > before + 5)
+
+
+def ended(process):
+    if process.poll() is None:
+        process.terminate()
+    process.communicate()

@@ -1,0 +1,215 @@
+"""What hosts and strangers can't do: each is refused in front of the router, counted, and said."""
+import subprocess
+import sys
+import time
+
+from trials.network import HOST, SENDER, SOURCE, Failed, ended, goes_on, inside, received, until
+
+FEW_LINES = 4
+
+
+def send(net, place, interface, address, *words):
+    said = subprocess.DEVNULL
+    subprocess.run(inside(place, sys.executable, SENDER, interface, address, *words), check=True, stdout=said)
+
+
+def lines(net, words):
+    return [line for line in net.log().splitlines() if words in line]
+
+
+def is_refused(net, cause, by):
+    """Some were refused for a cause, and few lines say it."""
+    count = net.refused(cause)
+    said = lines(net, cause)
+    if not count or not said:
+        raise Failed(f"{by}: {count} refused for {cause}, {len(said)} lines")
+    return f"{count} refused, {len(said)} lines"
+
+
+def flood_of_groups(net):
+    """of 65,536 groups of a host the quota of its interface is held: elsewhere a host and a neighbour are served"""
+    send(net, "hosts", "to-router", HOST, "reports", 65_536)
+    until("the flood is refused", 15, lambda: net.refused("max_groups") > 0)
+    before = len(lines(net, "max_groups"))
+    # A neighbour that comes anew, and a host on another link.
+    send(net, "asker", "to-lan", "10.7.0.99", "hello", 1)
+    until("the new neighbour is known", 5, lambda: "10.7.0.99" in net.neighbours())
+    send(net, "asker", "to-lan", "10.7.0.78", "report", "239.4.9.9")
+    until("its group is known", 5, lambda: any(row["group"] == "239.4.9.9" for row in net.show("igmp")))
+    groups = len([row for row in net.show("igmp") if row["interface"] == "to-hosts"])
+    if before > FEW_LINES:
+        raise Failed(f"{before} lines say it")
+    said = is_refused(net, "max_groups", "the flood")
+    net.stop_router()
+    net.start_router()
+    return f"{groups} groups of the flood are held; {said}"
+
+
+def flood_of_sources(net):
+    """one that sends to 40,000 groups, too: a stream of another interface goes on, and a new one begins"""
+    group = "239.2.7.1"
+    receiver = net.receive("hosts", group, HOST, 10_000, 120)
+    sender = net.send("source", group, SOURCE, 10_000, 50)
+    until("the kernel forwards", 20, lambda: net.entry(SOURCE, group)["outgoing"] == ["to-hosts"])
+    send(net, "hosts", "to-router", "10.5.0.50", "sources", 40_000)
+    until("the flood is refused", 30, lambda: net.refused("max_streams") > 0)
+    goes_on(net, group, "under the flood")
+    another = net.receive("hosts", "239.2.7.2", HOST, 40, 20)
+    time.sleep(2)
+    net.send("source", "239.2.7.2", SOURCE, 40, 10).wait()
+    came, of, _ = received(another)
+    if came < of - 3:
+        raise Failed(f"the new stream: {came} of {of} came")
+    ended(sender)
+    ended(receiver)
+    said = is_refused(net, "max_streams", "the flood")
+    net.stop_router()
+    net.start_router()
+    return f"the new stream: {came} of {of} came; {said}"
+
+
+def flood_of_registers(net):
+    """and Registers of 40,000 sources at the RP take their quota, and no more"""
+    send(net, "source", "to-first", SOURCE, "registers", "10.5.0.1", "239.2.7.3", 40_000)
+    until("they are refused", 20, lambda: net.refused("max_registered") > 0)
+    said = is_refused(net, "max_registered", "the Registers")
+    net.stop_router()
+    net.start_router()
+    return said
+
+
+def flood_of_neighbours(net):
+    """Hellos of 60 addresses on a link take its quota of neighbours"""
+    net.reload_interface("to-lan", "max_neighbors = 8\n")
+    send(net, "asker", "to-lan", "10.7.0.100", "hellos", 60)
+    until("they are refused", 10, lambda: net.refused("max_neighbors") > 0)
+    there = len([it for it in net.neighbours() if it.startswith("10.7.0.")])
+    if there != 8:
+        raise Failed(f"{there} neighbours are there")
+    said = is_refused(net, "max_neighbors", "the Hellos")
+    net.stop_router()
+    net.start_router()
+    return f"8 are there; {said}"
+
+
+def hello_of_a_host(net):
+    """on a passive interface a host's Hello doesn't take the designated router's part, and the stream to it goes on"""
+    group = "239.2.7.4"
+    net.reload_interface("to-hosts", "passive = true\n")
+    receiver = net.receive("hosts", group, HOST, 1000, 60)
+    sender = net.send("source", group, SOURCE, 400, 10)
+    until("the kernel forwards", 20, lambda: net.entry(SOURCE, group)["outgoing"] == ["to-hosts"])
+    send(net, "hosts", "to-router", "10.5.0.250", "hello", 3)
+    if "10.5.0.250" in net.neighbours():
+        raise Failed("it is a neighbour")
+    goes_on(net, group, "after the Hellos")
+    ended(sender)
+    ended(receiver)
+    said = is_refused(net, "PIM on a passive interface", "the Hellos")
+    net.reload(net.settings)
+    return said
+
+
+def neighbours_that_are_believed(net):
+    """where `neighbors` names some, another's Hello is refused, and those are known"""
+    net.reload_interface("to-lan", 'neighbors = ["10.7.0.2", "10.7.0.64/28"]\n')
+    send(net, "asker", "to-lan", "10.7.0.99", "hello", 2)
+    send(net, "asker", "to-lan", "10.7.0.77", "hello", 2)
+    until("the one is known", 5, lambda: "10.7.0.77" in net.neighbours())
+    if "10.7.0.99" in net.neighbours():
+        raise Failed("so is the other")
+    until("so is first", 30, lambda: "10.7.0.2" in net.neighbours())
+    said = is_refused(net, "isn't among `neighbors`", "the Hello")
+    net.reload(net.settings)
+    return said
+
+
+def list_of_joins(net):
+    """a group that `join` doesn't permit isn't joined, by a host or by FRR, and another one is"""
+    rules = 'join = [{ groups = "239.2.8.0/24", permit = false }, { groups = "239.0.0.0/8" }]\n'
+    net.reload(net.with_policy(rules))
+    receivers = [net.receive("hosts", group, HOST, 1, 60) for group in ("239.2.8.1", "239.2.9.1")]
+    receivers += [net.receive("viewer", group, "10.6.0.77", 1, 60) for group in ("239.2.8.2", "239.2.9.2")]
+    outgoing = lambda group: net.entry("*", group)["outgoing"]
+    are_joined = lambda: "to-hosts" in outgoing("239.2.9.1") and "to-second" in outgoing("239.2.9.2")
+    until("the permitted are joined", 20, are_joined)
+    time.sleep(3)
+    joined = [group for group in ("239.2.8.1", "239.2.8.2") if outgoing(group)]
+    for receiver in receivers:
+        ended(receiver)
+    if joined:
+        raise Failed(f"{joined} are joined too")
+    said = is_refused(net, "`join` doesn't permit", "the joins")
+    net.reload(net.settings)
+    return said
+
+
+def list_of_senders(net):
+    """a source that `send` doesn't permit is dropped by the kernel, and another of the same group arrives"""
+    group = "239.1.8.3"
+    net.reload_interface("to-hosts", 'send = [{ sources = "10.5.0.77/32" }]\n')
+    receiver = net.receive("viewer", group, "10.6.0.77", 40, 40)
+    until("second is asked", 15, lambda: group in net.frr("second", "show ip igmp groups"))
+    net.send("hosts", group, "10.5.0.50", 20, 10).wait()
+    time.sleep(1)
+    if net.entry("10.5.0.50", group)["outgoing"] or "F" in net.entry("10.5.0.50", group)["flags"]:
+        raise Failed("the router forwards it")
+    refused = is_refused(net, "`send` doesn't permit", "the source")
+    net.send("hosts", group, HOST, 40, 10).wait()
+    came, of, twice = received(receiver)
+    if came < of - 3 or twice > 3:
+        raise Failed(f"{came} of {of} came, {twice} twice")
+    net.reload(net.settings)
+    return f"of the other {came} of {of} came; {refused}"
+
+
+def list_of_registers(net):
+    """a Register that `register` doesn't permit makes no source known, and another one does"""
+    net.reload(net.with_policy('register = [{ groups = "239.2.8.4/32", permit = false }, {}]\n'))
+    for group in ("239.2.8.4", "239.2.8.5"):
+        net.send("source", group, SOURCE, 10, 10).wait()
+    known = lambda group: net.entry(SOURCE, group)["flags"] not in ("", "U")
+    heard = net.counter("unicasts heard")
+    until("a Register is refused", 5, lambda: net.refused("`register` doesn't permit") > 0)
+    said = is_refused(net, "`register` doesn't permit", f"of {heard} unicasts")
+    net.reload(net.settings)
+    return said
+
+
+def fragments_of_a_report(net):
+    """a report in fragments is heard: the kernel makes it whole"""
+    groups = [f"239.2.13.{number}" for number in range(250)] + [f"239.2.14.{number}" for number in range(50)]
+    send(net, "hosts", "to-router", HOST, "report", *groups)
+    until("all its groups are known", 5, lambda: {row["group"] for row in net.show("igmp")} >= set(groups[:180]))
+    there = {row["group"] for row in net.show("igmp")} & set(groups)
+    return f"{len(there)} of {len(groups)} groups"
+
+
+def hosts_of_old_versions(net):
+    """a host that speaks IGMPv2 is said once, however often it reports"""
+    for _ in range(5):
+        send(net, "hosts", "to-router", "10.5.0.50", "old", "239.2.8.6")
+    until("it is said", 5, lambda: lines(net, "the host 10.5.0.50 on to-hosts speaks IGMPv1 or IGMPv2"))
+    count = len(lines(net, "the host 10.5.0.50 on to-hosts speaks"))
+    if count != 1 or net.refused("IGMPv1 or IGMPv2") < 5:
+        raise Failed(f"{count} lines")
+
+
+def check_says_quotas(net):
+    """--check says what is kept for neighbours, which quotas leave hosts without, and which interface isn't there"""
+    file = net.room / "checked.toml"
+    checked = lambda text: (file.write_text(text), subprocess.run(
+        inside("router", net.built / "viqeshord", "run", "--check", file), capture_output=True, text=True).stdout)[1]
+    said = checked(net.settings + '[[interface]]\nname = "to-nowhere"\n')
+    wanted = ("are kept for neighbours", "no interface to-nowhere now")
+    if any(words not in said for words in wanted) or "more than what is left" in said:
+        raise Failed(said)
+    said = checked(net.with_policy("max_groups = 60000\n"))
+    if "more than what is left of the limit" not in said:
+        raise Failed(said)
+
+
+TRIALS = [check_says_quotas, hosts_of_old_versions, fragments_of_a_report, hello_of_a_host,
+          neighbours_that_are_believed, list_of_joins, list_of_senders, list_of_registers, flood_of_neighbours,
+          flood_of_groups, flood_of_sources,
+          flood_of_registers]

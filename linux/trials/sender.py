@@ -1,0 +1,114 @@
+#!/usr/bin/env python3
+"""A host or a router that sends what others wouldn't; for the trials.
+
+    sender.py INTERFACE ADDRESS reports COUNT [PAUSE [FIRST]]  IGMPv3 reports, each for 183 groups that are new, COUNT
+                                                        groups in all, from 239.2.16.0 on or another one; it prints
+                                                        when it begins, in seconds since 1970
+    sender.py INTERFACE ADDRESS report GROUP ..         one report, in fragments where it is long
+    sender.py INTERFACE ADDRESS old GROUP               a report of IGMPv2
+    sender.py INTERFACE ADDRESS sources COUNT           a packet of data to each of COUNT groups
+    sender.py INTERFACE ADDRESS hello SECONDS           Hellos of a router with the highest priority
+    sender.py INTERFACE ADDRESS hellos COUNT            a Hello of each of COUNT routers, beginning with the address
+    sender.py INTERFACE ADDRESS registers RP GROUP COUNT  a Register of each of COUNT sources
+"""
+import socket
+import struct
+import sys
+import time
+
+from asker import ALL_PIM_ROUTERS, PIM, checksum
+
+IGMP = 2
+ALL_IGMP_ROUTERS = bytes([224, 0, 0, 22])
+RECORDS = 183
+TO_EX = 4
+MTU = 1500
+
+
+def ip(source, destination, protocol, content, flags=0, ttl=1):
+    head = struct.pack("!BBHHHBBH4s4s", 0x45, 0xC0, 20 + len(content), 7, flags, ttl, protocol, 0, source, destination)
+    return head[:10] + struct.pack("!H", checksum(head)) + head[12:] + content
+
+
+def summed(message):
+    return message[:2] + struct.pack("!H", checksum(message)) + message[4:]
+
+
+def report(groups):
+    records = b"".join(bytes([TO_EX, 0, 0, 0]) + group for group in groups)
+    return summed(struct.pack("!BBHHH", 0x22, 0, 0, 0, len(groups)) + records)
+
+
+def hello(generation):
+    holdtime, priority = struct.pack("!HHH", 1, 2, 105), struct.pack("!HHI", 19, 4, 0xFFFFFFFF)
+    return summed(bytes([0x20, 0, 0, 0]) + holdtime + struct.pack("!HHI", 20, 4, generation) + priority)
+
+
+def register(source, group):
+    data = ip(source, group, 17, struct.pack("!HHHH", 5004, 5004, 12, 0) + b"data", ttl=9)
+    return summed(bytes([0x21, 0, 0, 0, 0, 0, 0, 0])) + data
+
+
+def numbered(first, number):
+    return struct.pack("!I", struct.unpack("!I", socket.inet_aton(first))[0] + number)
+
+
+class Link:
+    def __init__(self, interface):
+        self.interface = interface
+        self.out = socket.socket(socket.AF_PACKET, socket.SOCK_DGRAM, socket.htons(0x0800))
+
+    def send(self, packet):
+        group = packet[16:20]
+        hardware = bytes([1, 0, 0x5E, group[1] & 0x7F, group[2], group[3]])
+        self.out.sendto(packet, (self.interface, 0x0800, 0, 0, hardware))
+
+    def send_long(self, source, destination, protocol, content):
+        room = (MTU - 20) & ~7
+        for at in range(0, len(content), room):
+            more = 0x2000 if at + room < len(content) else 0
+            self.send(ip(source, destination, protocol, content[at:at + room], more | at // 8))
+
+
+def main():
+    interface, address, what, *rest = sys.argv[1:]
+    link, own = Link(interface), socket.inet_aton(address)
+    if what == "reports":
+        count, pause = int(rest[0]), float(rest[1]) if len(rest) > 1 else 0.0
+        begin = rest[2] if len(rest) > 2 else "239.2.16.0"
+        named = [numbered(begin, number) for number in range(count)]
+        parts = [named[first:first + RECORDS] for first in range(0, count, RECORDS)]
+        packets = [ip(own, ALL_IGMP_ROUTERS, IGMP, report(groups)) for groups in parts]
+        print(time.time())
+        for packet in packets:
+            link.send(packet)
+            if pause:
+                time.sleep(pause)
+    elif what == "report":
+        link.send_long(own, ALL_IGMP_ROUTERS, IGMP, report([socket.inet_aton(group) for group in rest]))
+    elif what == "old":
+        group = socket.inet_aton(rest[0])
+        link.send(ip(own, group, IGMP, summed(bytes([0x16, 0, 0, 0]) + group)))
+    elif what == "sources":
+        for number in range(int(rest[0])):
+            link.send(ip(own, numbered("239.2.16.0", number), 17, struct.pack("!HHHH", 5004, 5004, 8, 0), ttl=9))
+            if number % 64 == 63:
+                time.sleep(0.004)
+    elif what == "hello":
+        for number in range(int(rest[0])):
+            link.send(ip(own, ALL_PIM_ROUTERS, PIM, hello(9)))
+            time.sleep(1)
+    elif what == "hellos":
+        for number in range(int(rest[0])):
+            link.send(ip(numbered(address, number), ALL_PIM_ROUTERS, PIM, hello(number)))
+    elif what == "registers":
+        rp, group = socket.inet_aton(rest[0]), socket.inet_aton(rest[1])
+        out = socket.socket(socket.AF_INET, socket.SOCK_RAW, PIM)
+        for number in range(int(rest[2])):
+            out.sendto(register(numbered("10.1.64.0", number), group), (socket.inet_ntoa(rp), 0))
+            if number % 64 == 63:
+                time.sleep(0.004)
+
+
+if __name__ == "__main__":
+    main()

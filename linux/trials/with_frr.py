@@ -1,0 +1,373 @@
+"""What the router does beside FRR's pimd."""
+import json
+import signal
+import subprocess
+import sys
+import time
+
+from trials.network import (ASKER, HOST, RPS, SOURCE, Failed, ended, goes_on, inside, ip, received, until)
+
+def neighbours(net):
+    """both sides know each other as neighbours"""
+    until("the router knows three neighbours", 30, lambda: net.neighbours() == {"10.2.0.1", "10.3.0.1", "10.7.0.2"})
+    for place, address in (("first", "10.2.0.2"), ("second", "10.3.0.2"), ("first", "10.7.0.3")):
+        until(f"{place} knows {address}", 30, lambda: address in net.frr(place, "show ip pim neighbor"))
+
+
+def frr_joined(net, place, group):
+    """What FRR has joined of a group towards the router."""
+    lines = net.frr(place, "show ip pim join").splitlines()
+    return [line for line in lines if group in line and "JOIN" in line and "to-router" in line]
+
+
+def joins_to_frr(net):
+    """a host's report at the router brings a Join to FRR, and its leave a Prune"""
+    receiver = net.receive("hosts", "239.1.9.1", HOST, 1, 60)
+    until("second has the Join", 15, lambda: "239.1.9.1" in net.frr("second", "show ip pim join"))
+    ended(receiver)
+    until("second has the Prune", 20, lambda: not frr_joined(net, "second", "239.1.9.1"))
+
+
+def joins_from_frr(net):
+    """a host's report at FRR brings a Join to the router, and its leave a Prune"""
+    receiver = net.receive("viewer", "239.2.9.1", "10.6.0.77", 1, 60)
+    until("the router sends towards second", 15, lambda: "to-second" in net.entry("*", "239.2.9.1")["outgoing"])
+    ended(receiver)
+    until("the router sends there no more", 30, lambda: "to-second" not in net.entry("*", "239.2.9.1")["outgoing"])
+
+
+def register_to_frr(net):
+    """the router registers its host with FRR's RP, whose viewer gets it, and FRR takes the source's tree"""
+    group = "239.1.2.2"
+    receiver = net.receive("viewer", group, "10.6.0.77", 40, 40)
+    until("second is asked", 15, lambda: group in net.frr("second", "show ip igmp groups"))
+    sent = net.counter("unicasts sent")
+    sender = net.send("hosts", group, HOST, 40, 10)
+    until("the kernel forwards to second", 20, lambda: net.entry(HOST, group)["outgoing"] == ["to-second"])
+    if net.counter("unicasts sent") == sent:
+        raise Failed("no Register was sent")
+    until("the Registers are stopped", 20, lambda: net.entry(HOST, group)["forwarding"] == "kernel")
+    sender.wait()
+    came, of, twice = received(receiver)
+    # FRR may lose the first while it has no entry, and take one of each way at the change.
+    if came < of - 3:
+        raise Failed(f"the viewer took {came} of {of}")
+    return f"{came} of {of} came, {twice} twice"
+
+
+def register_from_frr(net):
+    """FRR registers its source with the router as RP, whose host gets it, and the router takes the source's tree"""
+    group = "239.2.1.1"
+    receiver = net.receive("hosts", group, HOST, 40, 40)
+    until("the router has the report", 10, lambda: "to-hosts" in net.entry("*", group)["outgoing"])
+    heard = net.counter("unicasts heard")
+    sender = net.send("source", group, SOURCE, 40, 10)
+    until("the router forwards from first", 20, lambda: net.entry(SOURCE, group)["incoming"] == "to-first")
+    if net.counter("unicasts heard") == heard:
+        raise Failed("no Register came")
+    until("it has SPTbit", 10, lambda: "T" in net.entry(SOURCE, group)["flags"])
+    until("first stops its Registers", 20, lambda: "RegP" in net.frr("first", "show ip pim upstream"))
+    sender.wait()
+    came, of, twice = received(receiver)
+    if came < of - 3:
+        raise Failed(f"the host took {came} of {of}")
+    return f"{came} of {of} came, {twice} twice"
+
+
+def change_to_source_tree(net):
+    """as last hop the router leaves FRR's RP for the tree of the source, and prunes it off the shared one"""
+    group = "239.1.1.1"
+    receiver = net.receive("hosts", group, HOST, 60, 40)
+    until("second has the Join", 15, lambda: group in net.frr("second", "show ip pim join"))
+    sender = net.send("source", group, SOURCE, 60, 10)
+    until("the router forwards from first", 20, lambda: net.entry(SOURCE, group)["incoming"] == "to-first")
+    until("first has the Join of the source", 10, lambda: (SOURCE in net.frr("first", "show ip pim join")))
+    until("the router has pruned the shared tree", 10, lambda: f"prune ({SOURCE}, {group}, rpt)" in net.log())
+    if net.entry("*", group)["incoming"] != "to-second":
+        raise Failed("the shared tree isn't from second")
+    sender.wait()
+    came, of, twice = received(receiver)
+    if came < of - 3:
+        raise Failed(f"the host took {came} of {of}")
+    return f"{came} of {of} came, {twice} twice"
+
+
+# So often a stream is sent where other work of the machine keeps its sender from the rate that is wanted.
+SENDINGS = 4
+
+
+def carried(net, group, sending, source, receiving, receiver_address):
+    """A stream of 20,000 packets a second, all of which are to arrive by the kernel."""
+    # Sent somewhat faster, so that it is as many by the clock of the sender.
+    count, rate, least = 100_000, 21_000, 20_000
+    warm = net.receive(receiving, group, receiver_address, 30, 20)
+    time.sleep(2)
+    net.send(sending, group, source, 30, 10).wait()
+    for _ in range(SENDINGS):
+        receiver = net.receive(receiving, group, receiver_address, count, 60)
+        received(warm)
+        until("the kernel forwards", 15, lambda: net.entry(source, group)["forwarding"] == "kernel")
+        time.sleep(1)
+        whole = net.counter("packets that the kernel handed up whole")
+        said = net.send(sending, group, source, count, rate).communicate()[0].strip()
+        # The last one keeps the group for the next sending.
+        warm = net.receive(receiving, group, receiver_address, count, 2)
+        came, of, twice = received(receiver)
+        if came < of or twice:
+            raise Failed(f"{came} of {of} came, {twice} twice; {said}")
+        if int(said.split()[-3]) >= least:
+            ended(warm)
+            whole = net.counter("packets that the kernel handed up whole") - whole
+            return f"{came} of {of} came, none twice; {said}; {whole} came to the router"
+    raise Failed(f"the sender was too slow, {SENDINGS} times: {said}")
+
+
+def stream_as_last_hop(net):
+    """20,000 packets a second go through the kernel, and none is lost: from FRR's source to the router's host"""
+    return carried(net, "239.1.1.1", "source", SOURCE, "hosts", HOST)
+
+
+def stream_as_dr(net):
+    """and from the router's host to FRR's, with FRR's RP between"""
+    return carried(net, "239.1.2.9", "hosts", HOST, "viewer", "10.6.0.77")
+
+
+def stream_as_rp(net):
+    """and from FRR's source, by the router as its RP, to FRR's host"""
+    return carried(net, "239.2.1.9", "source", SOURCE, "viewer", "10.6.0.77")
+
+
+def assert_of(net, source_place, source, group, *rp):
+    """A router on the LAN asks both for a source, and where an RP is named first for the group; what it heard."""
+    words = ["to-lan", "10.7.0.77", source, group, "10.7.0.2", "10.7.0.3", 16, *rp]
+    asker = net.start("asker", sys.executable, ASKER, *words, stdout=subprocess.PIPE)
+    time.sleep(2)
+    sender = net.send(source_place, group, source, 180, 10)
+    heard = json.loads(asker.communicate()[0])
+    ended(sender)
+    said = f"Asserts {heard['asserts']}, packets {heard['all']}, in the last 3 s {heard['last']}"
+    if set(heard["all"]) != {"10.7.0.3", "10.7.0.2"}:
+        raise Failed(f"not both sent: {said}")
+    return heard, said
+
+
+def assert_lost(net):
+    """on a LAN onto which both send, FRR wins where it is at the source, and the router stops"""
+    group = "239.4.5.5"
+    heard, said = assert_of(net, "source", SOURCE, group, "10.4.0.1")
+    if set(heard["asserts"]) != {"10.7.0.3", "10.7.0.2"} or set(heard["last"]) != {"10.7.0.2"}:
+        raise Failed(f"at the end not first alone sends: {said}")
+    if "to-lan" in net.entry(SOURCE, group)["outgoing"]:
+        raise Failed(f"the router would still send there: {said}")
+    return said
+
+
+def assert_won(net):
+    """where the router is at the source it wins, and FRR says that it lost"""
+    group = "239.2.5.6"
+    heard, said = assert_of(net, "hosts", HOST, group)
+    if not heard["asserts"].get("10.7.0.3") or not heard["last"].get("10.7.0.3"):
+        raise Failed(f"the router sent no Assert, or stopped: {said}")
+    row = [line for line in net.frr("first", "show ip pim assert").splitlines() if group in line]
+    if not row or "LOSER  10.7.0.3" not in row[0]:
+        raise Failed(f"first says {row}: {said}")
+    return said
+
+
+def prunes(net):
+    """a leave at the router ends the stream on both trees, and one at FRR what the router sends there"""
+    group = "239.1.1.1"
+    receiver = net.receive("hosts", group, HOST, 10_000, 60)
+    sender = net.send("source", group, SOURCE, 400, 10)
+    until("the kernel forwards to the host", 20, lambda: net.entry(SOURCE, group)["outgoing"] == ["to-hosts"])
+    ended(receiver)
+    until("the kernel forwards nowhere", 20, lambda: net.entry(SOURCE, group)["outgoing"] == [])
+    for place in ("first", "second"):
+        until(f"{place} has the Prune", 20, lambda: not frr_joined(net, place, group))
+    ended(sender)
+
+
+def checksum(net):
+    """a sender that leaves its checksum to the card: what the router handles itself arrives with one"""
+    group = "239.1.3.3"
+    receiver = net.receive("viewer", group, "10.6.0.77", 5, 40)
+    until("second is asked", 15, lambda: group in net.frr("second", "show ip igmp groups"))
+    filled = net.counter("checksums filled in")
+    # The first packets go in Registers, by the router.
+    net.send("hosts", group, HOST, 5, 2).wait()
+    came, of, _ = received(receiver)
+    if net.counter("checksums filled in") == filled:
+        raise Failed("none was filled in")
+    if came < of - 1:
+        raise Failed(f"{came} of {of} came")
+    return f"{came} of {of} came, {net.counter('checksums filled in') - filled} filled in"
+
+
+def link_down(net):
+    """an interface of the router that goes down and comes back costs that link alone"""
+    group = "239.2.1.7"
+    receiver = net.receive("hosts", group, HOST, 100_000, 90)
+    sender = net.send("source", group, SOURCE, 600, 10)
+    until("the kernel forwards", 20, lambda: net.entry(SOURCE, group)["outgoing"] == ["to-hosts"])
+    ip("router", "link", "set", "to-second", "down")
+    until("second is gone", 10, lambda: "10.3.0.1" not in net.neighbours())
+    goes_on(net, group, "while the link is down")
+    ip("router", "link", "set", "to-second", "up")
+    ip("router", "route", "replace", "10.4.0.0/24", "via", "10.3.0.1")
+    ip("router", "route", "replace", "10.6.0.0/24", "via", "10.3.0.1")
+    until("second is back", 30, lambda: "10.3.0.1" in net.neighbours())
+    goes_on(net, group, "after it came back")
+    ended(sender)
+    ended(receiver)
+
+
+def link_deleted(net):
+    """one that is deleted and made anew, too"""
+    group = "239.2.1.8"
+    receiver = net.receive("hosts", group, HOST, 100_000, 120)
+    sender = net.send("source", group, SOURCE, 800, 10)
+    until("the kernel forwards", 20, lambda: net.entry(SOURCE, group)["outgoing"] == ["to-hosts"])
+    ip("router", "link", "delete", "to-lan")
+    is_gone = lambda: any(row["interface"] == "to-lan" and row["why_down"] for row in net.show("interfaces"))
+    until("it is said to be gone", 10, is_gone)
+    goes_on(net, group, "without it")
+    net.connect("router", "10.7.0.3/24", "lan", None)
+    until("first is back there", 40, lambda: "10.7.0.2" in net.neighbours())
+    goes_on(net, group, "with it anew")
+    ended(sender)
+    ended(receiver)
+
+
+def another_address(net):
+    """one that gets another address takes that, and its own again, and a stream through others flows on meanwhile"""
+    group = "239.1.1.18"
+    receiver = net.receive("hosts", group, HOST, 1500, 90)
+    sender = net.send("source", group, SOURCE, 1500, 20)
+    until("the kernel forwards", 20, lambda: net.entry(SOURCE, group)["outgoing"] == ["to-hosts"])
+    standing = lambda: next(row for row in net.show("interfaces") if row["interface"] == "to-lan")
+    for new, old in (("10.7.9.1/24", "10.7.0.3/24"), ("10.7.0.3/24", "10.7.9.1/24")):
+        ip("router", "address", "add", new, "dev", "to-lan")
+        ip("router", "address", "delete", old, "dev", "to-lan")
+        until(f"it has {new}", 10, lambda: standing()["address"] == new and standing()["is_up"])
+        until("the router has learned", 30, lambda: net.entry(SOURCE, group)["forwarding"] == "kernel")
+    until("first is back there", 40, lambda: "10.7.0.2" in net.neighbours())
+    sender.wait()
+    came, of, twice = received(receiver)
+    if came < of - 3:
+        raise Failed(f"{came} of {of} came, {twice} twice")
+    return f"{came} of {of} came, {twice} twice"
+
+
+def restart_of_router(net):
+    """the router says goodbye, comes again, and the stream with it"""
+    group = "239.1.1.9"
+    receiver = net.receive("hosts", group, HOST, 100_000, 120)
+    sender = net.send("source", group, SOURCE, 800, 10)
+    until("the kernel forwards", 20, lambda: net.entry(SOURCE, group)["outgoing"] == ["to-hosts"])
+    net.router.send_signal(signal.SIGTERM)
+    if net.router.wait(10):
+        raise Failed(f"it ended with {net.router.returncode}")
+    until("first has heard the goodbye", 3, lambda: "10.2.0.2" not in net.frr("first", "show ip pim neighbor"))
+    net.start_router()
+    until("the kernel forwards again", 60, lambda: net.entry(SOURCE, group)["outgoing"] == ["to-hosts"])
+    goes_on(net, group, "after it came again")
+    ended(sender)
+    ended(receiver)
+
+
+def restart_of_frr(net):
+    """FRR's pimd is killed and comes again, and the stream with it"""
+    group = "239.1.1.10"
+    receiver = net.receive("hosts", group, HOST, 100_000, 150)
+    sender = net.send("source", group, SOURCE, 1200, 10)
+    until("the kernel forwards", 20, lambda: net.entry(SOURCE, group)["outgoing"] == ["to-hosts"])
+    net.pimd["first"].kill()
+    time.sleep(2)
+    net.start_pimd("first")
+    until("first has the Join again", 40, lambda: group in net.frr("first", "show ip pim join"))
+    until("first knows the router", 20, lambda: "10.2.0.2" in net.frr("first", "show ip pim neighbor"))
+    goes_on(net, group, "after it came again")
+    ended(sender)
+    ended(receiver)
+
+
+def reload(net):
+    """SIGHUP takes new RP ranges, says what needs a restart, and refuses a wrong file, as --check does"""
+    file = net.room / "router.toml"
+    more = '[[rp]]\ngroups = "239.3.0.0/16"\naddress = "10.4.0.2"\n'
+    net.reload(net.settings.replace("control", "other") + more)
+    until("the new range is there", 5, lambda: any(row["groups"] == "239.3.0.0/16" for row in net.show("rp")))
+    if "socket differs in the file" not in net.log():
+        raise Failed("what needs a restart isn't said")
+    file.write_text("limit = 0\n" + net.settings)
+    net.router.send_signal(signal.SIGHUP)
+    until("a wrong file is refused", 5, lambda: "line 1: limit is 0" in net.log())
+    checked = subprocess.run([net.built / "viqeshord", "run", "--check", file], capture_output=True, text=True)
+    if checked.returncode != 2 or "line 1: limit is 0" not in checked.stderr:
+        raise Failed(f"--check: {checked}")
+    net.reload(net.settings)
+    until("the range is gone", 5, lambda: len(net.show("rp")) == len(RPS))
+
+
+def routes(net):
+    """of the kernel's routes the lowest metric and the highest next hop are taken, and a blackhole is a hole"""
+    for route in ("10.60.0.0/14 via 10.2.0.1", "blackhole 10.61.0.0/16",
+                  "10.62.0.0/16 nexthop via 10.2.0.1 nexthop via 10.3.0.1",
+                  "10.63.0.0/16 via 10.3.0.1 metric 30", "10.63.0.0/16 via 10.2.0.1 metric 20"):
+        ip("router", "route", "add", *route.split())
+    asked = [(f"239.{number}.0.0/16", f"10.{number}.0.1") for number in range(60, 64)]
+    ranges = [f'[[rp]]\ngroups = "{groups}"\naddress = "{address}"\n' for groups, address in asked]
+    net.reload(net.settings + "".join(ranges))
+    wanted = ["10.2.0.1", None, "10.3.0.1", "10.2.0.1"]
+    until(f"the next hops are {wanted}", 5, lambda: [row["next_hop"] for row in net.show("rp")[len(RPS):]] == wanted)
+    ip("router", "route", "delete", "blackhole", "10.61.0.0/16")
+    until("the hole is filled", 5, lambda: net.show("rp")[len(RPS) + 1]["next_hop"] == "10.2.0.1")
+    net.reload(net.settings)
+
+
+def reroute(net):
+    """a route to the source that changes takes its tree to the other neighbour, and back"""
+    group = "239.2.1.5"
+    receiver = net.receive("hosts", group, HOST, 100_000, 120)
+    sender = net.send("source", group, SOURCE, 1200, 10)
+    until("it comes from first", 20, lambda: net.entry(SOURCE, group)["incoming"] == "to-first")
+    for neighbour, port in (("10.3.0.1", "to-second"), ("10.2.0.1", "to-first")):
+        ip("router", "route", "replace", "10.1.0.0/24", "via", neighbour)
+        until(f"it comes from {port[3:]}", 20, lambda: net.entry(SOURCE, group)["incoming"] == port)
+        goes_on(net, group, f"by {port[3:]}")
+    ended(sender)
+    ended(receiver)
+
+
+def limit(net):
+    """at its limit the router refreshes what it knows, where a report also names what is new, and refuses that alone"""
+    known, new = "239.2.8.1", "239.2.8.2"
+    net.stop_router()
+    # Three neighbours, and a group; no quota is to be met before the limit.
+    net.start_router("limit = 4\n", "max_groups = 100\n")
+    receivers = []
+    try:
+        until("the router knows three neighbours", 40, lambda: len(net.neighbours()) == 3)
+        for group in (known, new):
+            receivers.append(net.receive("hosts", group, HOST, 1, 120))
+            time.sleep(1)
+        # Longer than a group stays of which no report comes: 2 x 20 s + 2 s.
+        for _ in range(12):
+            groups = {row["group"] for row in net.show("igmp")}
+            if groups != {known}:
+                raise Failed(f"it has {groups}")
+            time.sleep(4)
+        refused = net.refused("the rest of `limit`")
+        if refused < 3:
+            raise Failed(f"{refused} were refused")
+    finally:
+        for receiver in receivers:
+            ended(receiver)
+        net.stop_router()
+        net.start_router()
+    return f"the new one was refused {refused} times"
+
+
+TRIALS = [neighbours, joins_to_frr, joins_from_frr, register_to_frr, checksum, register_from_frr, change_to_source_tree,
+          stream_as_last_hop, stream_as_dr, stream_as_rp, assert_lost, assert_won, prunes, link_down, link_deleted,
+          another_address, restart_of_router, restart_of_frr, reload, routes, reroute, limit]

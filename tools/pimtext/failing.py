@@ -1,0 +1,224 @@
+"""What each single failure does to the hosts of a network of tools/lab: who loses what, for how long, and what comes
+twice.
+
+The network is taken as its file leaves it: hosts go on wanting what they want, sources go on sending. Each failure is
+tried in a process of its own, which begins where the file ended.
+"""
+import multiprocessing
+from collections import Counter
+from dataclasses import dataclass, field
+
+from lab.topology import ways
+
+# Seconds of the stream before the failure; then packets a second apart at first, and later EVERY seconds apart.
+BEFORE, CLOSE = 5, 10
+EVERY = 5
+
+
+@dataclass(frozen=True)
+class Failure:
+    """What fails: `kind` is link, router or interface; `what` says it in words."""
+    kind: str
+    name: str
+    router: str = ""
+    what: str = ""
+
+    def happen(self, net):
+        if self.kind == "link":
+            net.links[self.name].down()
+        elif self.kind == "router":
+            net.routers[self.name].stop()
+        else:
+            net.routers[self.router].port(net.links[self.name]).down()
+
+
+def failures(net):
+    """Each link of two routers or more, each router, and each interface on such a link."""
+    shared = [link for link in net.links.values() if len(link.ports) > 1 and link.is_up]
+    for link in shared:
+        yield Failure("link", link.name, what=f"link {link.name}")
+    for router in net.routers.values():
+        if router.is_up:
+            ranges = [prefix for prefix, address in net.ranges if net.owner(address) is router]
+            yield Failure("router", router.name, what=f"router {router.name}" + f" (RP of {', '.join(ranges)})"
+                          * bool(ranges))
+    for link in shared:
+        for port in link.ports:
+            if port.is_up():
+                yield Failure("interface", link.name, port.router.name,
+                              f"interface {port.number} ({link.name}) of {port.router.name}")
+
+
+# ---- streams
+
+
+@dataclass(frozen=True)
+class Stream:
+    """A source, a host by its name, that sends to a group."""
+    source: str
+    group: str
+
+    def __str__(self):
+        return f"({self.source}, {self.group})"
+
+
+def streams(net):
+    """What hosts have sent in the run so far, by the moves that gave it to routers."""
+    from pimtext import spoken
+    names = {host.address: host.name for host in net.hosts.values()}
+    sent = [(each.packet.source, each.packet.destination) for each in spoken.said(net.running().steps)
+            if each.is_data()]
+    return [Stream(names[source], group) for source, group in dict.fromkeys(sent) if source in names]
+
+
+def offsets(seconds):
+    """When packets are sent, in seconds from the failure on."""
+    close = list(range(-BEFORE, min(CLOSE, seconds)))
+    return close + list(range(CLOSE, seconds, EVERY))
+
+
+def payload(number):
+    return f"whatif {number}".encode()
+
+
+# ---- what came
+
+
+@dataclass
+class Outage:
+    """What a host got of a stream: `sent` are the times at which packets were, in seconds from the failure on, and
+    `came` says how often each one came. It is cut off where no way of links and routers leads to it from the source any
+    more."""
+    host: str
+    stream: Stream
+    sent: list
+    came: list
+    is_cut_off: bool = False
+
+    @property
+    def lost(self):
+        return self.came.count(0)
+
+    @property
+    def twice(self):
+        return sum(max(0, times - 1) for times in self.came)
+
+    def gaps(self):
+        """Runs of lost packets: when the first was sent, and when the next one that came; None where none came any
+        more."""
+        found, first = [], None
+        for at, times in zip(self.sent, self.came):
+            if times == 0 and first is None:
+                first = at
+            elif times and first is not None:
+                found.append((first, at))
+                first = None
+        return found + ([(first, None)] if first is not None else [])
+
+    def longest(self):
+        """The seconds of the longest run of lost packets, and whether nothing came after it."""
+        gaps = [((end if end is not None else self.sent[-1] + EVERY) - first, end is None) for first,
+                end in self.gaps()]
+        return max(gaps, default=(0, False))
+
+    def is_for_good(self):
+        return any(end is None for _, end in self.gaps())
+
+
+def is_joined(one, other):
+    """Whether links and routers that are up lead from one link to another."""
+    reached = set().union(*(ways(port.router) for port in one.ports if port.is_up()))
+    return one is other or any(port.is_up() and port.router in reached for port in other.ports)
+
+
+def outages(net, told, times):
+    """What each host that wants a stream got of it."""
+    found = []
+    for stream in told:
+        source = net.hosts[stream.source]
+        for host in net.hosts.values():
+            if host is source or not host.wants(stream.group, source.address):
+                continue
+            came = Counter(each.payload for each in host.received if each.group == stream.group
+                           and each.source == source.address)
+            times_came = [came[payload(number)] for number in range(len(times))]
+            found.append(Outage(host.name, stream, times, times_came, not is_joined(source.link, host.link)))
+    return found
+
+
+def play(net, failure, seconds):
+    """The network goes on, with the failure where there is one."""
+    told, times = streams(net), offsets(seconds)
+    for stream in told:
+        for number, at in enumerate(times):
+            net.hosts[stream.source].send(stream.group, payload(number), after=at + BEFORE + 0.5)
+    net.run(BEFORE)
+    if failure is not None:
+        failure.happen(net)
+    net.run(seconds)
+    return outages(net, told, times)
+
+
+# ---- all of them
+
+
+@dataclass
+class Effect:
+    """What a failure did. Only streams that came before it are counted: what never came isn't its doing."""
+    failure: Failure
+    outages: list = field(default_factory=list)
+
+    def cut_off(self):
+        """The streams to which no way is left: no multicast routing could bring them."""
+        return [each for each in self.outages if each.is_cut_off]
+
+    def hit(self):
+        """The streams that lose something though there is a way."""
+        return [each for each in self.outages if each.lost and not each.is_cut_off]
+
+    def worth(self):
+        """How bad it is: streams that don't come again though there is a way, then seconds without packets, packets
+        that came twice, and streams that are cut off."""
+        hit = self.hit()
+        return (sum(each.is_for_good() for each in hit), sum(each.longest()[0] for each in hit),
+                sum(each.twice for each in self.outages), len(self.cut_off()))
+
+
+class Trial:
+    """A network and how long each failure is looked at; its processes inherit it as it stands."""
+
+    def __init__(self, net, seconds):
+        self.net, self.seconds = net, seconds
+
+    def effect(self, failure):
+        return Effect(failure, play(self.net, failure, self.seconds))
+
+    def told(self, failure):
+        """The run of a failure, or of none, for a page."""
+        from pimtext import labfile
+        play(self.net, failure, self.seconds)
+        return labfile.told(self.net, failure.what if failure else "no failure")
+
+
+CURRENT = None
+
+
+def alone(method, failure):
+    return getattr(CURRENT, method)(failure)
+
+
+def each_alone(trial, method, chosen, jobs):
+    """What a method of a trial answers to each failure, in their order, each in a process of its own."""
+    global CURRENT
+    CURRENT = trial
+    with multiprocessing.get_context("fork").Pool(jobs, maxtasksperchild=1) as pool:
+        yield from pool.imap(Task(method), chosen, chunksize=1)
+
+
+@dataclass(frozen=True)
+class Task:
+    """A call that a process is handed."""
+    method: str
+
+    def __call__(self, failure):
+        return alone(self.method, failure)

@@ -1,0 +1,25 @@
+"""What the routers know after each move of a run, by one run of the program."""
+from pimtext import story, trees
+
+
+def after_moves(played, lines):
+    """After each move, and before the first: the number of moves, the steps of the last one, and what each router
+    knows. The lines have the tables of each answer. What is known is the same object each time."""
+    known, waiting = trees.known(played, [], {}), None
+    steps, number = [], 0
+    for part in story.Teller(played).tell(lines):
+        if isinstance(part, story.Step):
+            waiting = part
+        if isinstance(part, story.Step) or waiting is None:
+            continue
+        while number < waiting.move:
+            yield number, steps, known
+            number, steps = number + 1, []
+        steps.append(waiting)
+        if waiting.verdict == "done":
+            trees.follow(known[waiting.router], waiting)
+        known[waiting.router].rows, known[waiting.router].moment = part.rows, part.moment
+        waiting = None
+    while number <= len(played.moves):
+        yield number, steps, known
+        number, steps = number + 1, []

@@ -1,0 +1,115 @@
+"""Where the routers, links and hosts of a network stand in a picture, by Graphviz, or in a ring without it."""
+import math
+import re
+import shutil
+import subprocess
+from collections import defaultdict
+
+# Up to so many routers stand in ranks from the sources on; more are laid out by their distances.
+MOST_IN_RANKS = 9
+SIZES = {"r": (1.3, 0.58), "l": (1.17, 0.45), "h": (1.28, 0.36)}
+# Around the middles of the outermost nodes, to the sides and above and below.
+MARGIN = 96, 70
+
+
+def kinds(links, ports, hosts):
+    """What each link is in a picture: a node of its own ("lan"), a line between two routers ("pair"), a line from a
+    router to each host ("stub"), or nothing. `ports` are the routers on each link, `hosts` the hosts there."""
+    found = {}
+    for link in links:
+        routers, here = len(ports[link]), len(hosts[link])
+        if routers == 2 and not here and len(set(ports[link])) == 2:
+            found[link] = "pair"
+        elif routers == 1:
+            found[link] = "stub" if here else "none"
+        else:
+            found[link] = "lan"
+    return found
+
+
+def edges(kinds_of, ports, hosts):
+    """The lines of a picture, as pairs of nodes: a kind's letter and a name."""
+    for link, kind in kinds_of.items():
+        routers = [("r", name) for name in ports[link]]
+        ends = [("h", host) for host in hosts[link]]
+        if kind == "pair":
+            yield tuple(routers)
+        elif kind == "stub":
+            yield from ((routers[0], end) for end in ends)
+        elif kind == "lan":
+            yield from ((node, ("l", link)) for node in routers + ends)
+
+
+def ranks(pairs, roots):
+    """How far each node is from the roots."""
+    near = defaultdict(list)
+    for one, other in pairs:
+        near[one].append(other)
+        near[other].append(one)
+    far, waiting = {root: 0 for root in roots}, list(roots)
+    for node in waiting:  # grows as it goes
+        fresh = [each for each in near[node] if each not in far]
+        far.update((each, far[node] + 1) for each in fresh)
+        waiting += fresh
+    return far
+
+
+def ringed(nodes):
+    """All in a ring, where Graphviz isn't installed."""
+    radius = max(150, 26 * len(nodes))
+    turns = [2 * math.pi * place / max(1, len(nodes)) for place in range(len(nodes))]
+    return {node: (radius * math.cos(turn), radius * math.sin(turn)) for node, turn in zip(nodes, turns)}
+
+
+def quoted(node):
+    return '"' + " ".join(node).replace("\\", "\\\\").replace('"', '\\"') + '"'
+
+
+def graph(nodes, pairs, far, is_ranked):
+    """The text for Graphviz."""
+    yield "graph {"
+    if is_ranked:
+        yield "rankdir=LR; nodesep=0.9; ranksep=1.5"
+    else:
+        yield 'overlap=prism; overlap_scaling=0; sep="+10"; splines=false; start=7; mode=major; model=shortpath'
+    for node in nodes:
+        width, height = SIZES[node[0]]
+        yield f"{quoted(node)} [shape=box fixedsize=true width={width} height={height}]"
+    for pair in pairs:
+        one, other = sorted(pair, key=lambda node: far.get(node, 99))
+        length = 0.5 if "h" in (one[0], other[0]) else 0.8
+        yield f"{quoted(one)} -- {quoted(other)} [len={length}]"
+    yield "}"
+
+
+def laid_out(nodes, pairs, far, is_ranked):
+    program = "dot" if is_ranked else "neato"
+    if shutil.which(program) is None:
+        return ringed(nodes)
+    text = "\n".join(graph(nodes, pairs, far, is_ranked))
+    plain = subprocess.run([program, "-Tplain"], input=text, capture_output=True, text=True, check=True).stdout
+    rows = re.findall(r'^node (?:"((?:[^"\\]|\\.)*)"|(\S+)) (\S+) (\S+)', plain, re.M)
+    named = {quoted(node)[1:-1]: node for node in nodes}
+    scale = (72, -92) if is_ranked else (92, -72)
+    return {named[name or bare]: (scale[0] * float(x), scale[1] * float(y)) for name, bare, x, y in rows}
+
+
+def stretched(found, ratio):
+    """The places with more room between them from above to below, up to a ratio of width to height."""
+    wide, high = (max(each) - min(each) for each in zip(*found.values()))
+    more = min(2.4, max(1.0, wide / ratio / high)) if high else 1.0
+    return {node: (x, more * y) for node, (x, y) in found.items()}
+
+
+def places(routers, kinds_of, ports, hosts, roots, ratio):
+    """The place of each node by its kind and name, and the box that has all of them, about as much wider than high as
+    `ratio` says."""
+    pairs = list(edges(kinds_of, ports, hosts))
+    nodes = list(dict.fromkeys([("r", name) for name in routers] + [node for pair in pairs for node in pair]))
+    roots = [("h", host) for host in roots if ("h", host) in nodes] or nodes[:1]
+    found = stretched(laid_out(nodes, pairs, ranks(pairs, roots), len(routers) <= MOST_IN_RANKS), ratio)
+    xs, ys = [x for x, _ in found.values()] or [0], [y for _, y in found.values()] or [0]
+    wide, high = MARGIN
+    box = [min(xs) - wide, min(ys) - high, max(xs) - min(xs) + 2 * wide, max(ys) - min(ys) + 2 * high]
+    return {" ".join(node): [round(x, 1), round(y, 1)] for node,
+            (x, y) in found.items()}, [round(each, 1) for each in box]

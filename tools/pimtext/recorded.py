@@ -1,0 +1,332 @@
+"""A run as a page shows it: what each router knew after each answer, what was sent, and what came to each host.
+
+It is made of one run of `pimlab run --tables-each`. A router's *shape* is all that it knows but for when its timers
+end: shapes come again and again, so each is kept once, with its tables, rows and trees, and a step names the shape and
+the ends alone. In a shape's texts an end stands as a moment of its own beyond all real ones, MARK seconds and its
+place.
+"""
+import re
+from dataclasses import dataclass, field, fields
+from functools import cache
+
+from pimtext import packets, printed, story, trees, view_text, views, words
+from pimtext.printed import ANY
+from pimtext.arrivals import Arrivals
+
+# An address by itself, without the length of a subnet.
+ADDRESS = r"(?<![\d.])\d+\.\d+\.\d+\.\d+(?![\d.]*\d|/)"
+# An end in a shape's texts is this many seconds and its place in the list of ends.
+MARK = 10 ** 9
+# What moves a step's router to another shape although its rows stay: what it heard, and what it was told.
+SILENT = ("advance",)
+
+
+class Texts:
+    """Texts by number, each kept once."""
+
+    def __init__(self):
+        self.all, self.numbers = [], {}
+
+    def __call__(self, text):
+        if text not in self.numbers:
+            self.numbers[text] = len(self.all)
+            self.all.append(text)
+        return self.numbers[text]
+
+
+def marked(rows):
+    """The rows with their ends as marks, and the ends."""
+    ends, found = [], []
+    for row in rows:
+        changed = {}
+        for column in ("end", "pending"):
+            end = getattr(row, column, None)
+            if end is not None and end != printed.NEVER:
+                changed[column] = (MARK + len(ends)) * 1000
+                ends.append(end)
+        found.append(row._replace(**changed) if changed else row)
+    return tuple(found), ends
+
+
+# ---- rows in words
+
+
+def row_words(router, row):
+    """What a row says, without when it ends."""
+    where = f" on {words.place(router, row.iface)}" if hasattr(row, "iface") else ""
+    match row:
+        case printed.Neighbour():
+            return f"neighbour {row.address}{where}"
+        case printed.GroupRecord():
+            return f"hosts want {row.group}{where}" + (" of named sources" if row.mode == "include" else "")
+        case printed.SourceRecord():
+            return f"hosts {'exclude' if row.end is None else 'want'} {words.tree(row.group, row.source)}{where}"
+        case printed.Downstream():
+            verb = {"join": "Join", "pending": "Prune pending", "prune": "Prune"}[row.state]
+            return f"{verb} {words.tree(row.group, row.source, row.kind)}{where}"
+        case printed.AssertState():
+            whose = "won" if row.role == "winner" else f"lost to {row.winner}"
+            return f"assert {words.tree(row.group, row.source)}{where} {whose}"
+        case printed.Upstream():
+            return f"joined upstream {words.tree(row.group, row.source)}"
+        case printed.SharedTree():
+            verb = "pruned off" if row.state == "pruned" else "keeps"
+            return f"{verb} {words.tree(row.group, row.source, 'rpt')} upstream"
+        case printed.Active():
+            register = {"-": "", "join": ", registers", "prune": ", Registers stopped",
+                        "pending": ", asks the RP"}[row.register]
+            by = ", on its own tree" if row.spt == "spt" else ""
+            return f"source {words.tree(row.group, row.source)}{by}{register}"
+
+
+# ---- shapes
+
+
+def around(state):
+    """What a router knows beside its rows, their ends and its queriers."""
+    heard = tuple(sorted(state.hellos.items(), key=lambda pair: pair[0])), tuple(state.asserts.items())
+    return tuple(sorted(state.up)), tuple(state.routes), tuple(state.rps), heard
+
+
+def queriers(state):
+    """The other routers that are queriers still."""
+    found = ((number, trees.querier_of(state, number)) for number in sorted(state.queriers))
+    return tuple((number, querier.address) for number, querier in found if querier is not None)
+
+
+def still(state, rows):
+    """A router's knowledge with other rows, which stays as it is."""
+    told = {each.name: getattr(state, each.name) for each in fields(state)}
+    return trees.Still(**{**told, "rows": rows})
+
+
+class Shapes:
+    """The shapes of one router."""
+
+    def __init__(self, recording, router):
+        self.recording, self.router = recording, router
+        self.numbers, self.all, self.context = {}, [], None
+
+    def of(self, state, is_context_kept):
+        """The number of a router's shape, and its ends."""
+        rows, ends = marked(state.rows)
+        if self.context is None or not is_context_kept:
+            self.context = around(state)
+        key = rows, self.context, queriers(state)
+        if key not in self.numbers:
+            self.numbers[key] = len(self.all)
+            self.all.append(self.made(still(state, list(rows))))
+        return self.numbers[key], ends
+
+    def made(self, state):
+        text = self.recording.text
+        view = views.router(state)
+        tables = [[title, heads, [[text("-" if cell is None else str(cell)) for cell in row] for row in rows]]
+                  for title, heads, rows in view_text.tables(view) if rows]
+        arrows = [self.arrow(branch) for branch in trees.branches(state)]
+        registers = [[self.recording.tree(row.group, row.source), text(trees.rp_of(state, row.group) or "")]
+                     for row in state.of(printed.Active, register="join")]
+        rows = list(dict.fromkeys(text(row_words(self.router, row)) for row in state.rows))
+        drs = [number for number in sorted(state.up) if trees.is_dr(state, number)]
+        rps = sorted({text(f"{prefix}") for prefix, rp in state.rps if state.router.has(rp)})
+        return {"up": sorted(state.up), "dr": drs, "rp": rps, "rows": rows, "arrows": arrows, "registers": registers,
+                "view": tables}
+
+    def arrow(self, branch):
+        incoming = -1 if branch.incoming is None else branch.incoming
+        return [self.recording.tree(branch.group, branch.source), incoming, sorted(branch.outgoing)]
+
+
+# ---- packets and moves
+
+
+@cache
+def packet_words(kind, data):
+    """A packet's kind in a word or two, and all of it on a line."""
+    try:
+        read = packets.read_data(data) if kind == "copy" else packets.read(data)
+    except packets.Refused as refused:
+        return "malformed", f"malformed: {words.REFUSALS[refused.args[0]]}"
+    return kind_words(read.body), words.packet(read)
+
+
+def kind_words(body):
+    """A Join/Prune is called by what it does."""
+    if isinstance(body, packets.JoinPrune):
+        verbs = [verb for verb, name in (("Join", "joins"), ("Prune", "prunes"))
+                 if any(getattr(each, name) for each in body.groups)]
+        return "/".join(verbs) or "Join/Prune"
+    if isinstance(body, packets.Register):
+        return "Null-Register" if body.is_null else "Register"
+    names = {packets.RegisterStop: "Register-Stop", packets.Query: "query", packets.Report: "report",
+             packets.Data: "data"}
+    return names.get(type(body), type(body).__name__)
+
+
+def tree_of(sent):
+    """The group and source whose data a packet is or carries, None of any other."""
+    data = packets.read_data(sent.data) if sent.kind == "copy" else None
+    if sent.is_unicast():
+        try:
+            body = packets.read(sent.data).body
+        except packets.Refused:
+            return None
+        data = body.inner if isinstance(body, packets.Register) else None
+    return data and (data.destination, data.source)
+
+
+@dataclass
+class Recording:
+    """`hosts` are names by address where the run's maker knows them. Where it is by time, all moves of one time are
+    shown as one."""
+    played: object
+    hosts: dict = field(default_factory=dict)
+    is_by_time: bool = False
+
+    def __post_init__(self):
+        self.text, self.trees = Texts(), {}
+        self.routers = {router.name: place for place, router in enumerate(self.played.routers)}
+        self.links = {link: place for place, link in enumerate(self.played.links())}
+        self.known = {router.name: trees.Known(router, [], set(), router.routes, router.rps)
+                      for router in self.played.routers}
+        self.shapes = [Shapes(self, router) for router in self.played.routers]
+        self.now = [(shape.of(self.known[shape.router.name], False)) for shape in self.shapes]
+        self.steps, self.packets, self.moves = [], [], []
+
+    def named(self, text):
+        """A text with the names of hosts in the place of their addresses."""
+        return re.sub(ADDRESS, lambda found: self.hosts.get(found[0], found[0]), text)
+
+    def tree(self, group, source):
+        return self.trees.setdefault((group, source), len(self.trees))
+
+    def record(self, lines):
+        """Follows the lines, move by move."""
+        waiting = None
+        for part in story.Teller(self.played).tell(lines):
+            if isinstance(part, story.Step):
+                waiting = part
+            elif waiting is not None:
+                self.begin(waiting.move)
+                self.follow(waiting, part)
+                waiting = None
+        self.begin(len(self.played.moves) + 1)
+        return self
+
+    def begin(self, number):
+        """Goes on to a move: those before it are over."""
+        while len(self.moves) < number:
+            if self.moves:
+                self.close()
+            if len(self.moves) < len(self.played.moves):
+                self.moves.append([len(self.steps), 0, self.moves[-1][2] if self.moves else 0])
+            else:
+                return
+
+    def close(self):
+        """The move that was begun last is over."""
+        self.moves[-1][1] = len(self.steps) - self.moves[-1][0]
+
+    def follow(self, step, tables):
+        state = self.known[step.router]
+        if step.verdict == "done":
+            trees.follow(state, step)
+        state.rows, state.moment = tables.rows, tables.moment
+        place = self.routers[step.router]
+        was, old = self.now[place]
+        is_kept = step.verdict != "done" or step.did["do"] in SILENT
+        number, ends = self.now[place] = self.shapes[place].of(state, is_kept)
+        told = ends if number != was else [item for at, end in enumerate(ends) if end != old[at] for item in (at, end)]
+        first = len(self.packets)
+        self.packets += [self.packet(sent, len(self.steps)) for sent in step.sent]
+        self.moves[-1][2] = max(self.moves[-1][2], step.moment)
+        verdict = 0 if step.verdict == "done" else self.text(words.answer(step.verdict, step.cause)) + 1
+        brought = step.brought.number if step.brought else 0
+        iface = -1 if step.iface is None else step.iface
+        title = -1 if brought else self.text(f"{step.router}: {words.move(step.did, self.played.router(step.router))}")
+        self.steps.append(
+            [place, number if number != was else -1, step.moment, told, brought, iface, first, len(step.sent), verdict,
+             title])
+
+    def packet(self, sent, at):
+        short, told = packet_words(sent.kind, sent.data)
+        tree = tree_of(sent)
+        where = self.text(sent.where) if sent.is_unicast() else self.links[sent.where]
+        iface = -1 if sent.is_unicast() else story.sending_interface(self.played, sent)
+        if sent.kind == "copy":
+            iface = next(each.number for each in self.played.router(sent.router).on(sent.where))
+        tree = -1 if tree is None else self.tree(*tree)
+        return [self.routers[sent.router], where, int(sent.is_unicast()), self.text(short), self.text(told),
+                self.text(sent.data.hex()), at, tree, iface]
+
+    # ---- what the page gets
+
+    def title(self, number):
+        """What a move is, counted from 0."""
+        did, count = self.played.moves[number], self.moves[number][1]
+        name = did.get("router", "")
+        if did["do"] == "settle":
+            return f"settle: {deliveries(count)}"
+        if did["do"] in ("deliver", "carry") and count:
+            return f"{name}: takes packet {did['frame']}"
+        return f"{name}: {words.move(did, self.played.router(name))}"
+
+    def groups(self):
+        """The moves that are shown as one: each by itself, or all of one time."""
+        found = []
+        for number, (_, _, moment) in enumerate(self.moves):
+            if self.is_by_time and found and self.moves[found[-1][0]][2] == moment:
+                found[-1].append(number)
+            else:
+                found.append([number])
+        return found
+
+    def group(self, numbers):
+        """Moves that are shown as one: a title, the first answer and their count, the time, and what hosts gave in
+        them, as pairs of a host and an answer."""
+        first, moment = self.moves[numbers[0]][0], self.moves[numbers[-1]][2]
+        count = sum(self.moves[number][1] for number in numbers)
+        said = [[self.arrivals.senders[at], at] for at in range(first, first + count) if at in self.arrivals.senders]
+        title = self.summary(numbers, said) if self.is_by_time else self.title(numbers[0])
+        return [self.text(title), first, count, moment, said]
+
+    def summary(self, numbers, said):
+        """What happened at one time."""
+        hosts, dids = list(self.arrivals.hosts.values()), [self.played.moves[number] for number in numbers]
+        told = [f"{hosts[host].name} {self.verb(self.steps[at])}" for host, at in said]
+        told += [f"{did['router']}: {words.place(self.played.router(did['router']), did['iface'])} {did['do']}"
+                 for did in dids if did["do"] in ("up", "down")]
+        changed = sorted({did["router"] for did in dids if did["do"] in ("routes", "rps")})
+        told += [f"new routes or RPs at {', '.join(changed[:3])}{' ..' * (len(changed) > 3)}"] * bool(changed)
+        brought = sum(self.moves[number][1] for number in numbers
+                      if self.played.moves[number]["do"] in ("settle", "deliver", "carry"))
+        told += [deliveries(brought)] * bool(brought)
+        told = list(dict.fromkeys(told))
+        return words.seconds(self.moves[numbers[-1]][2]).replace(".000", "") + (": " + "; ".join(told) if told else "")
+
+    def verb(self, step):
+        return "sends" if ": data" in self.text.all[step[9]] else "reports"
+
+    def told(self, diagnosis):
+        """All of it with the diagnosis of the run, ready for JSON."""
+        self.arrivals = Arrivals(self, diagnosis)
+        hosts, groups = self.arrivals.told(), self.groups()
+        moves = [self.group(numbers) for numbers in groups]
+        numbers = {number + 1: place for place, group in enumerate(groups, 1) for number in group}
+        return {
+            "routers": [router_told(router) for router in self.played.routers],
+            "links": [[link, str(net)] for link, net in self.played.links().items()],
+            "hosts": hosts, "moves": moves, "steps": self.steps, "packets": self.packets,
+            "shapes": [shape.all for shape in self.shapes], "trees": [list(tree) for tree in self.trees],
+            "streams": self.arrivals.streams, "texts": self.text.all, "numbers": numbers, "byTime": self.is_by_time,
+        }
+
+
+def deliveries(count):
+    return f"{count} deliver{'y' if count == 1 else 'ies'}"
+
+
+def router_told(router):
+    """A router: its name, its interfaces by link and address, and the ranges of which it is the RP."""
+    own = [str(prefix) for prefix, rp in router.rps if router.has(rp)]
+    return {"name": router.name, "ifaces": [[each.link, each.address] for each in router.interfaces], "rp": own}
