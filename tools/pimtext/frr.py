@@ -72,6 +72,7 @@ class Router:
     lists: dict = field(default_factory=dict)
     ssm: tuple | None = None
     is_spt_never: bool = False
+    resolves_by_default: bool = False
     statics: list = field(default_factory=list)
     protocols: set = field(default_factory=set)
     left: list = field(default_factory=list)
@@ -140,6 +141,10 @@ def take_spt(router, _, place):
     router.is_spt_never = True
 
 
+def take_default(router, *_):
+    router.resolves_by_default = True
+
+
 def take_listed(router, _, place, name, number, verb, prefix, bounds):
     number = int(number) if number else 5 * (1 + len(router.lists.get(name, ())))
     router.lists.setdefault(name, []).append(Listed(number, verb == "permit", prefix, place))
@@ -159,7 +164,8 @@ GLOBAL_LINES = [(re.compile(pattern + r"$"), take) for pattern, take in [
     (r"ip pim rp (\S+) prefix-list (\S+)", take_rp_list), (r"ip pim rp (\S+)(?: (\d\S+))?", take_rp),
     (r"ip pim ssm prefix-list (\S+)", take_ssm), (r"ip pim spt-switchover infinity-and-beyond", take_spt),
     (r"ip prefix-list (\S+)(?: seq (\d+))? (permit|deny) (\d\S+)((?: [gl]e \d+)*)", take_listed),
-    (r"ip route (\S+) (\d+\.\S+)(?: (\d+))?", take_static),
+    (r"ip route (\S+) (\d+\.\S+)(?: (\d+))?", take_static), (r"ip nht resolve-via-default", take_default),
+    (r"frr defaults datacenter", take_default),
 ]]
 # What says nothing of a network, or is what the network does in any case.
 QUIET = [re.compile(pattern) for pattern in (
