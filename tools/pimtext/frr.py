@@ -3,7 +3,7 @@ what this doesn't carry over is kept with its file, its line and the reason."""
 import json
 import re
 from dataclasses import dataclass, field
-from ipaddress import IPv4Interface, IPv4Network, ip_address
+from ipaddress import IPv4Interface, IPv4Network
 from pathlib import Path
 
 ALL_GROUPS = "224.0.0.0/4"
@@ -163,7 +163,7 @@ INTERFACE_LINES = [(re.compile(pattern + r"$"), take) for pattern, take in [
 GLOBAL_LINES = [(re.compile(pattern + r"$"), take) for pattern, take in [
     (r"ip pim rp (\S+) prefix-list (\S+)", take_rp_list), (r"ip pim rp (\S+)(?: (\d\S+))?", take_rp),
     (r"ip pim ssm prefix-list (\S+)", take_ssm), (r"ip pim spt-switchover infinity-and-beyond", take_spt),
-    (r"ip prefix-list (\S+)(?: seq (\d+))? (permit|deny) (\d\S+)((?: [gl]e \d+)*)", take_listed),
+    (r"ip prefix-list (\S+)(?: seq (\d+))? (permit|deny) (\d\S+|any)((?: [gl]e \d+)*)", take_listed),
     (r"ip route (\S+) (\d+\.\S+)(?: (\d+))?", take_static), (r"ip nht resolve-via-default", take_default),
     (r"frr defaults datacenter", take_default),
 ]]
@@ -305,8 +305,18 @@ def routers_of(folder, vrf=DEFAULT):
         shown = str(path.relative_to(folder))
         router = Reader(name, vrf).read(path, shown)
         router.routes = routes_in(router, beside(path, name, "routes"))
+        add_addresses(router, beside(path, name, "interfaces"))
         found.append(router)
     return found
+
+
+def add_addresses(router, said):
+    """The addresses that `show interface json` tells of interfaces whose configuration has none."""
+    rows = said[2] if said else {}
+    for name, row in rows.items():
+        texts = [each["address"] for each in row.get("ipAddresses", ()) if ":" not in each["address"]]
+        if name in router.interfaces and not router.interfaces[name].addresses and texts:
+            take_address(router, router.interfaces[name], Place(said[0], 1, name), texts[0])
 
 
 @dataclass(frozen=True)
@@ -349,25 +359,34 @@ def route_of(router, prefix, entry, place):
 
 
 def ranges(router):
-    """The RP ranges as pairs of a prefix and an RP. What a prefix list refuses isn't carried over."""
+    """The RP ranges as pairs of a prefix and an RP. What can't be one is left."""
     found = []
     for address, groups, name, place in router.rps:
-        if name is None:
-            found.append((groups, address))
-        elif name not in router.lists:
+        if name is not None and name not in router.lists:
             router.leave(place, f"there is no prefix list {name}")
-        else:
-            found += [(prefix, address) for prefix in permitted(router, name)]
+        rows = [(groups, place)] if name is None else permitted(router, name)
+        found += [(prefix, address) for prefix in group_ranges(router, rows)]
     return found
 
 
 def permitted(router, name):
-    """What a prefix list permits; a refusal in it is told."""
-    rows = sorted(router.lists[name], key=lambda row: row.number)
+    """What a prefix list permits, with the lines; a refusal in it is left."""
+    rows = sorted(router.lists.get(name, ()), key=lambda row: row.number)
     for row in rows:
         if not row.is_permit:
             router.leave(row.place, "a range of an RP has no exceptions here")
-    return [str(IPv4Network(row.prefix, strict=False)) for row in rows if row.is_permit]
+    return [(row.prefix, row.place) for row in rows if row.is_permit]
+
+
+def group_ranges(router, rows):
+    """The prefixes as ranges of groups; one that has all groups and more is that of all groups."""
+    everything = IPv4Network(ALL_GROUPS)
+    for prefix, place in rows:
+        wanted = IPv4Network("0.0.0.0/0" if prefix == "any" else prefix, strict=False)
+        if wanted.subnet_of(everything) or everything.subnet_of(wanted):
+            yield str(wanted if wanted.subnet_of(everything) else everything)
+        else:
+            router.leave(place, "it is no range of groups")
 
 
 def is_usual_ssm(router):
@@ -379,6 +398,3 @@ def is_usual_ssm(router):
 def used_lists(router):
     return {name for _, _, name, _ in router.rps} | ({router.ssm[0]} if router.ssm else set())
 
-
-def is_group_range(prefix):
-    return ip_address(prefix.partition("/")[0]).is_multicast

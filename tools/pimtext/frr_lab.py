@@ -36,14 +36,14 @@ class Source:
     name: str
     link: str
     address: str
-    group: str
+    groups: tuple
 
 
 class Plan:
     """What is carried over. The rest is in each router's `left`."""
 
     def __init__(self, routers, sends=()):
-        self.routers, self.links, self.taken = routers, {}, set()
+        self.routers, self.links, self.taken = routers, {}, {address for address, _ in sends}
         self.ranges = {router.name: frr.ranges(router) for router in routers}
         self.roots = {address for ranges in self.ranges.values() for _, address in ranges}
         for router in routers:
@@ -52,11 +52,11 @@ class Plan:
                     self.plug(router, port)
         self.name_links()
         self.members = [member for router in routers for member in self.members_of(router)]
-        self.sources = [self.source(number, *send) for number, send in enumerate(sends, 1)]
+        self.sources = [self.source(number, *each) for number, each in enumerate(groups_of(sends).items(), 1)]
         self.routes = {router.name: self.routes_of(router) for router in routers}
         self.options = {router.name: self.options_of(router) for router in routers}
         for router in routers:
-            judge(router)
+            self.judge(router)
 
     # ---- links
 
@@ -64,6 +64,8 @@ class Plan:
         subnet = port.own.network
         if subnet.prefixlen > LONGEST:
             subnet = port.own.network.supernet(new_prefix=LONGEST)
+            if subnet in self.links:
+                return router.leave(port.place, f"its subnet would be {subnet}, which is another one's already")
         self.taken.add(str(port.own.ip))
         self.links.setdefault(subnet, Link(subnet)).ports.append((router, port))
 
@@ -109,12 +111,11 @@ class Plan:
                 return address
         return None
 
-    def source(self, number, address, group):
+    def source(self, number, address, groups):
         link = self.link_at(address)
         if link is None:
             raise frr.Unreadable(f"the source {address} is in the subnet of no interface that is carried over")
-        self.taken.add(address)
-        return Source(f"source{number}", link.name, address, group)
+        return Source(f"source{number}", link.name, address, tuple(groups))
 
     # ---- routes and options
 
@@ -139,6 +140,21 @@ class Plan:
         if router.is_spt_never:
             options["spt"] = "never"
         return options
+
+    def judge(self, router):
+        """Tells what is carried over, but not as it stands."""
+        for port, link in self.ports_of(router):
+            is_stub = len(link.ports) == 1 and not port.is_loopback()
+            if is_stub and not port.is_igmp:
+                router.leave(port.place, "it has no `ip igmp`; our router serves hosts on each interface")
+            if not port.is_pim:
+                router.leave(port.place, "it has no `ip pim`; our router speaks PIM on each interface")
+            if port.own.network.prefixlen > LONGEST:
+                router.leave(port.addresses[0][1], f"its subnet is /{LONGEST} here")
+        if router.ssm and not frr.is_usual_ssm(router):
+            router.leave(router.ssm[1], "the groups of SSM are 232.0.0.0/8, and no others")
+        judge_lists(router)
+        judge_statics(router)
 
     def is_alone(self, router):
         """Whether it has no other routes than those: it runs no routing protocol."""
@@ -193,31 +209,27 @@ def igmp_times(router):
     return options
 
 
-def judge(router):
-    """Tells what is carried over, but not as it stands."""
-    for port in router.here():
-        if port.is_pim and not port.is_igmp:
-            router.leave(port.place, "it has no `ip igmp`; our router asks hosts on each interface, and serves them")
-        elif port.is_igmp and not port.is_pim:
-            router.leave(port.place, "it has no `ip pim`; our router speaks PIM on each interface")
-        if port.own is not None and port.own.network.prefixlen > LONGEST and port.is_pim:
-            router.leave(port.addresses[0][1], f"its subnet is /{LONGEST} here")
-    if router.ssm and not frr.is_usual_ssm(router):
-        router.leave(router.ssm[1], "the groups of SSM are 232.0.0.0/8, and no others")
+def judge_lists(router):
     used = frr.used_lists(router)
     unused = [row for name, rows in router.lists.items() if name not in used for row in rows]
     for row in unused:
         router.leave(row.place, "no RP and no `ip pim ssm` names this prefix list")
-    judge_statics(router)
 
 
 def judge_statics(router):
-    if router.routes is None:
-        return
-    known = {route.prefix for route in router.routes}
+    """Tells which static routes FRR doesn't use."""
+    known = {route.prefix for route in router.routes or ()}
     for prefix, _, _, place in router.statics:
-        if str(IPv4Network(prefix, strict=False)) not in known:
+        if router.routes is not None and str(IPv4Network(prefix, strict=False)) not in known:
             router.leave(place, "it isn't among the routes that `show ip route json` tells")
+
+
+def groups_of(sends):
+    """The groups of each source."""
+    found = {}
+    for address, group in sends:
+        found.setdefault(address, []).append(group)
+    return found
 
 
 # ---- the file
@@ -234,7 +246,8 @@ def text_of(plan, origin):
               "from lab import Network", "", "net = Network()"]]
     parts += [[line for router in plan.routers for line in router_lines(plan, router)],
               [line for link in plan.links.values() for line in link_lines(link)],
-              [line for router in plan.routers for line in route_lines(plan, router)], host_lines(plan), run_lines(plan)]
+              [line for router in plan.routers for line in route_lines(plan, router) if plan.ports_of(router)],
+              host_lines(plan), run_lines(plan)]
     return "\n\n".join("\n".join(lines) for lines in parts if lines) + "\n"
 
 
@@ -243,7 +256,7 @@ def router_lines(plan, router):
     options["rps"] = [f"{prefix} {address}" for prefix, address in plan.ranges[router.name]]
     if router.routes is not None and not plan.is_alone(router):
         options["routes"] = plan.routes[router.name]
-    if any(owner is router for link in plan.links.values() for owner, _ in link.ports):
+    if plan.ports_of(router):
         yield call("net.router", router.name, **{key: value for key, value in options.items() if value != []})
 
 
@@ -270,7 +283,8 @@ def host_lines(plan):
 def run_lines(plan):
     joins = [call(f'net.hosts["{member.name}"].join', group, *([source] if source else []))
              for member in plan.members for group, source in member.joins]
-    streams = [call(f'net.hosts["{each.name}"].stream', each.group, every=1, times=STREAM) for each in plan.sources]
+    streams = [call(f'net.hosts["{each.name}"].stream', group, every=1, times=STREAM)
+               for each in plan.sources for group in each.groups]
     lines = [f"net.run({FIRST})", *joins, f"net.run({THEN})", *streams]
     lines += [f"net.run({STREAM})"] if streams else []
     groups = sorted({group for member in plan.members for group, source in member.joins if source is None})
@@ -282,7 +296,7 @@ def run_lines(plan):
 def sources_shown(plan):
     """Sources of groups whose trees are shown: those that somebody asks for, and those that send."""
     asked = {(group, source) for member in plan.members for group, source in member.joins if source}
-    return sorted(asked | {(each.group, each.address) for each in plan.sources})
+    return sorted(asked | {(group, each.address) for each in plan.sources for group in each.groups})
 
 
 # ---- what FRR told of its trees
