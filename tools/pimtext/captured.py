@@ -1,0 +1,281 @@
+"""A capture as moves of one router: what it took and what it sent, and the run of our router on the same."""
+import math
+from collections import Counter
+from dataclasses import dataclass, field
+
+from pimtext import packets, scenario, story, toml_lines, trees
+from pimtext.addresses import prefix_in
+from pimtext.packets import dotted, is_multicast
+
+SENT, CAME, UNCLEAR = "sent", "came", "unclear"
+# The longest time in ms between two advances of the run.
+STEP = 100
+# What isn't looked at, in words.
+OTHER_UNICAST = "unicast packets that are no PIM of this router"
+NO_INTERFACE = "packets on links on which the router has no interface"
+STAYS = "data to groups that stay on their link (224.0.0.0/24)"
+AS_HOST = "IGMP reports of the router itself, of groups that stay on their link"
+BEFORE = "packets that came before the router spoke on that interface"
+
+
+class Unclear(Exception):
+    """What the user gave isn't enough; the text is a sentence."""
+
+
+@dataclass(frozen=True)
+class Event:
+    """A packet that the router sent, or that came to it; `iface` is None for a unicast. `moment` is in ms from the first packet."""
+    number: int
+    moment: int
+    iface: int | None
+    what: str
+    data: bytes
+
+
+def source_of(frame):
+    return dotted(frame.data[12:16])
+
+
+def destination_of(frame):
+    return dotted(frame.data[16:20])
+
+
+def speaks(frame):
+    """Whether it is PIM or IGMP."""
+    return frame.data[9] in (packets.PIM, packets.IGMP)
+
+
+def is_to_group(frame):
+    return is_multicast(frame.data[16:20])
+
+
+def stays_on_link(group):
+    return group.startswith("224.0.0.")
+
+
+# ---- the router's table
+
+
+def table_of(addresses, ranges, routes, frames):
+    """A router's table of addresses with their lengths. A link has the name of the capture's interface on which it speaks."""
+    links = list(dict.fromkeys(frame.link for frame in frames))
+    interfaces = []
+    for number, text in enumerate(addresses):
+        told = prefix_in(text)
+        if told is None or not 1 <= told[1] <= 31:
+            raise Unclear(f"{text} has no length from 1 to 31: it is to be as 10.0.1.1/24, or a router of --table")
+        heard = [frame.link for frame in frames if source_of(frame) == text.partition("/")[0] and speaks(frame) and is_to_group(frame)]
+        link = heard[0] if heard else links[0] if len(links) == len(addresses) == 1 else f"link of {text}"
+        interfaces.append({"link": link, "address": text})
+    return {"name": "router", "iface": interfaces, "routes": list(routes), "rps": list(ranges)}
+
+
+def table_in(path, address, ranges, routes):
+    """The table of the router of a scenario's file that has an address, with more ranges and routes."""
+    played = scenario.read(path)
+    found = [router.table for router in played.routers if router.has(address)]
+    if not found:
+        raise Unclear(f"no router of {path} has the address {address}")
+    table = toml_lines.plain(found[0]) if not isinstance(found[0], dict) else dict(found[0])
+    return table | {"routes": [*table.get("routes", ()), *routes], "rps": [*table.get("rps", ()), *ranges]}
+
+
+# ---- what each packet is to the router
+
+
+@dataclass
+class Sorter:
+    """`ports` are interface numbers by the capture's links, `hardware` the router's hardware addresses by link."""
+    router: scenario.Router
+    ports: dict
+    hardware: dict
+    is_here: bool
+    left_out: Counter = field(default_factory=Counter)
+
+    def sort(self, frame):
+        """The interface, and whether the router sent it, it came, or that is unclear; None where it is left out."""
+        found = self.of_group(frame) if is_to_group(frame) else self.of_unicast(frame)
+        if isinstance(found, tuple):
+            return found
+        self.left_out[found] += 1
+        return None
+
+    def of_unicast(self, frame):
+        if frame.data[9] == packets.PIM and self.router.has(source_of(frame)):
+            return None, SENT
+        is_own = frame.data[9] == packets.PIM and self.router.has(destination_of(frame))
+        return (None, CAME) if is_own else OTHER_UNICAST
+
+    def of_group(self, frame):
+        number = self.ports.get(frame.link)
+        if number is None:
+            return NO_INTERFACE
+        if speaks(frame) and (frame.data[9] == packets.IGMP or destination_of(frame) == dotted(packets.ALL_PIM_ROUTERS)):
+            return self.of_speech(frame, number)
+        if stays_on_link(destination_of(frame)):
+            return STAYS
+        return number, self.way_of_data(frame, number)
+
+    def of_speech(self, frame, number):
+        if not self.router.has(source_of(frame)):
+            return number, CAME
+        groups = groups_wanted(frame.data)
+        if groups is None:
+            return number, SENT
+        return AS_HOST if all(map(stays_on_link, groups)) else (number, CAME)
+
+    def way_of_data(self, frame, number):
+        """By the direction that the frame tells, else by its sender's hardware address, else by where the source is."""
+        if self.is_here and frame.is_outgoing is not None:
+            return SENT if frame.is_outgoing else CAME
+        if self.hardware.get(frame.link):
+            return SENT if frame.hardware in self.hardware[frame.link] else CAME
+        known = trees.Known(self.router, [], {each.number for each in self.router.interfaces}, self.router.routes, [])
+        return CAME if trees.rpf_interface(known, source_of(frame)) == number else UNCLEAR
+
+
+def groups_wanted(data):
+    """The groups of an IGMP report, None of any other packet."""
+    try:
+        body = packets.read(data).body
+    except packets.Refused as refused:
+        return [] if refused.args[0] == packets.OLD and data[9] == packets.IGMP else None
+    return [record.group for record in body.records] if isinstance(body, packets.Report) else None
+
+
+def sorter_of(router, frames):
+    """How the capture tells what the router sent."""
+    own = [frame for frame in frames if router.has(source_of(frame)) and speaks(frame) and is_to_group(frame)]
+    numbers = {interface.address: interface.number for interface in router.interfaces}
+    ports = {interface.link: interface.number for interface in router.interfaces}
+    ports |= {frame.link: numbers[source_of(frame)] for frame in own}
+    hardware = {}
+    for frame in own:
+        if frame.hardware is not None:
+            hardware.setdefault(frame.link, set()).add(frame.hardware)
+    return Sorter(router, ports, hardware, any(frame.is_outgoing for frame in own))
+
+
+def events_of(sorter, frames):
+    """What the router sent and took, in the capture's order."""
+    begin, found = None, []
+    for frame in frames:
+        sorted_as = sorter.sort(frame)
+        if sorted_as is not None:
+            begin = frame.moment if begin is None else begin
+            found.append(Event(frame.number, round(max(0, frame.moment - begin) * 1000), *sorted_as, frame.data))
+    return found
+
+
+# ---- moves
+
+
+def ups(router, events, is_running):
+    """The moment at which each interface goes up: with the first packet that the router sent on it, or at the beginning."""
+    first = {}
+    for event in events:
+        if event.what == SENT:
+            first.setdefault(event.iface, event.moment)
+    begin = min(first.values(), default=0)
+    return {each.number: 0 if is_running else first.get(each.number, begin) for each in router.interfaces}
+
+
+def generations(events):
+    """The generation ID of each interface's first Hello, by its number."""
+    found = {}
+    for event in events:
+        if event.what == SENT and event.iface is not None and packets.is_pim(event.data, packets.HELLO):
+            found.setdefault(event.iface, hello_generation(event.data))
+    return found
+
+
+def hello_generation(data):
+    try:
+        return packets.read(data).body.generation or 0
+    except packets.Refused:
+        return 0
+
+
+class Mover:
+    """Writes the moves: time passes in steps of at most so many ms."""
+
+    def __init__(self, name, step):
+        self.name, self.step, self.now, self.moves = name, step or math.inf, 0, []
+
+    def move(self, do, **more):
+        self.moves.append({"do": do, "router": self.name, **more})
+
+    def pass_to(self, moment):
+        while self.now < moment:
+            self.now = min(moment, self.now + self.step)
+            self.move("advance", moment=self.now)
+
+
+def moves_of(router, events, came, step, is_running):
+    """The moves of a capture; `came` are the numbers of the packets that are given to the router. With them, how many of these came
+    while the interface was down."""
+    mover, draws, waiting, early = Mover(router.name, step), generations(events), ups(router, events, is_running), 0
+    for event in events:
+        mover.pass_to(event.moment)
+        for number in [number for number, moment in waiting.items() if moment <= event.moment]:
+            del waiting[number]
+            mover.move("up", iface=number, draw=draws.get(number, 0))
+        if event.number not in came:
+            continue
+        if event.iface in waiting:
+            early += 1
+        elif event.iface is None:
+            mover.move("unicast", hex=event.data.hex())
+        else:
+            mover.move("frame", iface=event.iface, hex=event.data.hex())
+    return mover.moves, early
+
+
+# ---- the run
+
+
+@dataclass
+class Run:
+    """Our router's run: the moves, its packets with their moments and interfaces, and how many packets came too early."""
+    moves: list
+    sent: list
+    steps: list
+    early: int
+
+    def troubles(self):
+        """How often it refused or ignored what came, by the answer."""
+        return Counter(step.answer() for step in self.steps if step.verdict != "done")
+
+
+def play(router, events, came, step, is_running):
+    moves, early = moves_of(router, events, came, step, is_running)
+    played = scenario.scenario_of({"router": [router.table], "move": moves})
+    steps, _ = story.played(played, scenario.run_text(scenario.text_of([router.table], moves)))
+    sent = [(each, iface_of(played, each)) for step in steps for each in step.sent]
+    return Run(moves, sent, steps, early)
+
+
+def iface_of(played, sent):
+    return None if sent.is_unicast() else story.sending_interface(played, sent)
+
+
+def run_of(router, events, step=STEP, is_running=False):
+    """The run, and the events with what was unclear made clear: data that our router sends too are the router's, the rest came."""
+    came = {event.number for event in events if event.what == CAME}
+    run = play(router, events, came, step, is_running)
+    unclear = [event for event in events if event.what == UNCLEAR]
+    if not unclear:
+        return run, events
+    copies = Counter((iface, sent.data) for sent, iface in run.sent if sent.kind == "copy")
+    decided = {event.number: decided_as(event, copies) for event in unclear}
+    events = [Event(event.number, event.moment, event.iface, decided.get(event.number, event.what), event.data) for event in events]
+    more = {number for number, what in decided.items() if what == CAME}
+    return (play(router, events, came | more, step, is_running) if more else run), events
+
+
+def decided_as(event, copies):
+    key = event.iface, event.data
+    if not copies[key]:
+        return CAME
+    copies[key] -= 1
+    return SENT
