@@ -133,14 +133,15 @@ def port_of(body, order, number):
     return Port(known_kind(kind), told.get(NAME, b"").decode("utf-8", "replace") or f"link {number}", ticks)
 
 
-def next_generation(content):
-    """The packets of a pcapng file."""
+def next_generation(content, names):
+    """The packets of a pcapng file; the names of its interfaces are added to a list."""
     ports, number = [], 0
     for kind, body, order in blocks(content):
         if kind == SECTION:
             ports = []
         elif kind == INTERFACE:
             ports.append(port_of(body, order, len(ports)))
+            names.append(ports[-1].name)
         elif kind in (ENHANCED, SIMPLE):
             number += 1
             yield block_packet(kind, body, order, number, ports)
@@ -155,14 +156,21 @@ def block_packet(kind, body, order, number, ports):
     return frame_of(number, (high << 32 | low) / ports[at].ticks, ports[at], body[20:20 + size])
 
 
+@dataclass(frozen=True)
+class Capture:
+    """All IPv4 packets of a capture, in their order, and the names of the interfaces that it tells."""
+    frames: list
+    names: list
+
+
 def read(path):
-    """All IPv4 packets of a capture, in their order."""
-    content = path.read_bytes()
+    """A capture; raises Unreadable."""
+    content, names = path.read_bytes(), []
     if content[:4] == b"\x0a\x0d\x0d\x0a":
-        found = next_generation(content)
+        found = next_generation(content, names)
     else:
         orders = [order for order in "<>" if len(content) >= 24 and struct.unpack(order + "I", content[:4])[0] in MAGICS]
         if not orders:
             raise Unreadable("it is neither pcap nor pcapng")
         found = classic(content, orders[0], MAGICS[struct.unpack(orders[0] + "I", content[:4])[0]])
-    return [frame for frame in found if frame is not None]
+    return Capture([frame for frame in found if frame is not None], names)

@@ -2,6 +2,7 @@
 import math
 from collections import Counter
 from dataclasses import dataclass, field
+from ipaddress import IPv4Address
 
 from pimtext import packets, scenario, story, toml_lines, trees
 from pimtext.addresses import prefix_in
@@ -10,11 +11,14 @@ from pimtext.packets import dotted, is_multicast
 SENT, CAME, UNCLEAR = "sent", "came", "unclear"
 # The longest time in ms between two advances of the run.
 STEP = 100
+# For so many ms the run goes on after the capture's last packet: what is the router's by chance earlier than ours.
+BEYOND = 5000
 # What isn't looked at, in words.
 OTHER_UNICAST = "unicast packets that are no PIM of this router"
 NO_INTERFACE = "packets on links on which the router has no interface"
 STAYS = "data to groups that stay on their link (224.0.0.0/24)"
 AS_HOST = "IGMP reports of the router itself, of groups that stay on their link"
+OWN_HOST = "IGMP reports of the router itself, as of a host beside it"
 BEFORE = "packets that came before the router spoke on that interface"
 
 
@@ -85,12 +89,15 @@ def table_in(path, address, ranges, routes):
 
 @dataclass
 class Sorter:
-    """`ports` are interface numbers by the capture's links, `hardware` the router's hardware addresses by link."""
+    """`ports` are interface numbers by the capture's links, `silent` the interfaces whose link is captured and on which the router
+    never speaks, `hardware` the router's hardware addresses by link."""
     router: scenario.Router
     ports: dict
+    silent: set
     hardware: dict
     is_here: bool
     left_out: Counter = field(default_factory=Counter)
+    as_host: int = 0
 
     def sort(self, frame):
         """The interface, and whether the router sent it, it came, or that is unclear; None where it is left out."""
@@ -143,41 +150,56 @@ def groups_wanted(data):
     return [record.group for record in body.records] if isinstance(body, packets.Report) else None
 
 
-def sorter_of(router, frames):
+def sorter_of(router, read):
     """How the capture tells what the router sent."""
-    own = [frame for frame in frames if router.has(source_of(frame)) and speaks(frame) and is_to_group(frame)]
+    own = [frame for frame in read.frames if router.has(source_of(frame)) and speaks(frame) and is_to_group(frame)]
     numbers = {interface.address: interface.number for interface in router.interfaces}
     ports = {interface.link: interface.number for interface in router.interfaces}
     ports |= {frame.link: numbers[source_of(frame)] for frame in own}
+    silent = {each.number for each in router.interfaces if each.link in read.names} - set(ports[frame.link] for frame in own)
     hardware = {}
     for frame in own:
         if frame.hardware is not None:
             hardware.setdefault(frame.link, set()).add(frame.hardware)
-    return Sorter(router, ports, hardware, any(frame.is_outgoing for frame in own))
+    return Sorter(router, ports, silent, hardware, any(frame.is_outgoing for frame in own))
 
 
-def events_of(sorter, frames):
+def events_of(sorter, read):
     """What the router sent and took, in the capture's order."""
     begin, found = None, []
-    for frame in frames:
+    for frame in read.frames:
         sorted_as = sorter.sort(frame)
         if sorted_as is not None:
             begin = frame.moment if begin is None else begin
-            found.append(Event(frame.number, round(max(0, frame.moment - begin) * 1000), *sorted_as, frame.data))
+            data = of_host(sorter, *sorted_as, frame.data)
+            found.append(Event(frame.number, round(max(0, frame.moment - begin) * 1000), *sorted_as, data))
     return found
+
+
+def of_host(sorter, iface, what, data):
+    """What came. A router ignores what has its own address: a report of the router itself is given as that of a host on the link,
+    with the highest address that isn't the router's."""
+    if what != CAME or iface is None or not sorter.router.has(dotted(data[12:16])):
+        return data
+    sorter.as_host += 1
+    last = int(sorter.router.interfaces[iface].own.network.broadcast_address) - 1
+    host = next(text for text in map(str, map(IPv4Address, (last, last - 1))) if not sorter.router.has(text))
+    return packets.with_header_sum(data[:12] + packets.octets(host) + data[16:])
 
 
 # ---- moves
 
 
-def ups(router, events, is_running):
-    """The moment at which each interface goes up: with the first packet that the router sent on it, or at the beginning."""
+def ups(sorter, events, is_running):
+    """The packet with which each interface goes up: the first that the router sent on it, or the first of all that are looked at. One
+    whose link isn't captured goes up with the first one that does; one on which nothing was sent stays down."""
     first = {}
     for event in events:
         if event.what == SENT:
-            first.setdefault(event.iface, event.moment)
-    begin = min(first.values(), default=0)
-    return {each.number: 0 if is_running else first.get(each.number, begin) for each in router.interfaces}
+            first.setdefault(event.iface, event.number)
+    begin = events[0].number if is_running else min(first.values(), default=events[0].number)
+    numbers = [each.number for each in sorter.router.interfaces if is_running or each.number not in sorter.silent]
+    return {number: begin if is_running else first.get(number, begin) for number in numbers}
 
 
 def generations(events):
@@ -210,24 +232,31 @@ class Mover:
             self.now = min(moment, self.now + self.step)
             self.move("advance", moment=self.now)
 
+    def bring_up(self, waiting, number, draws):
+        """The interfaces go up that wait for this packet; they wait no more."""
+        for iface in [iface for iface, first in waiting.items() if first <= number]:
+            del waiting[iface]
+            self.move("up", iface=iface, draw=draws.get(iface, 0))
 
-def moves_of(router, events, came, step, is_running):
+    def take(self, event):
+        where = {} if event.iface is None else {"iface": event.iface}
+        self.move("frame" if where else "unicast", **where, hex=event.data.hex())
+
+
+def moves_of(sorter, events, came, step, is_running):
     """The moves of a capture; `came` are the numbers of the packets that are given to the router. With them, how many of these came
     while the interface was down."""
-    mover, draws, waiting, early = Mover(router.name, step), generations(events), ups(router, events, is_running), 0
+    mover, draws, waiting, early = Mover(sorter.router.name, step), generations(events), ups(sorter, events, is_running), 0
+    down = sorter.silent - set(waiting)
     for event in events:
         mover.pass_to(event.moment)
-        for number in [number for number, moment in waiting.items() if moment <= event.moment]:
-            del waiting[number]
-            mover.move("up", iface=number, draw=draws.get(number, 0))
-        if event.number not in came:
-            continue
-        if event.iface in waiting:
+        mover.bring_up(waiting, event.number, draws)
+        if event.number in came and (event.iface in waiting or event.iface in down):
             early += 1
-        elif event.iface is None:
-            mover.move("unicast", hex=event.data.hex())
-        else:
-            mover.move("frame", iface=event.iface, hex=event.data.hex())
+        elif event.number in came:
+            mover.take(event)
+    if step:
+        mover.pass_to(mover.now + BEYOND)
     return mover.moves, early
 
 
@@ -236,33 +265,36 @@ def moves_of(router, events, came, step, is_running):
 
 @dataclass
 class Run:
-    """Our router's run: the moves, its packets with their moments and interfaces, and how many packets came too early."""
+    """Our router's run: the moves, its packets with their moments and interfaces, and how many packets came too early; it is coarse
+    where time passed from packet to packet alone."""
     moves: list
     sent: list
     steps: list
     early: int
+    is_coarse: bool
 
     def troubles(self):
         """How often it refused or ignored what came, by the answer."""
         return Counter(step.answer() for step in self.steps if step.verdict != "done")
 
 
-def play(router, events, came, step, is_running):
-    moves, early = moves_of(router, events, came, step, is_running)
+def play(sorter, events, came, step, is_running):
+    router = sorter.router
+    moves, early = moves_of(sorter, events, came, step, is_running)
     played = scenario.scenario_of({"router": [router.table], "move": moves})
     steps, _ = story.played(played, scenario.run_text(scenario.text_of([router.table], moves)))
     sent = [(each, iface_of(played, each)) for step in steps for each in step.sent]
-    return Run(moves, sent, steps, early)
+    return Run(moves, sent, steps, early, not step)
 
 
 def iface_of(played, sent):
     return None if sent.is_unicast() else story.sending_interface(played, sent)
 
 
-def run_of(router, events, step=STEP, is_running=False):
+def run_of(sorter, events, step=STEP, is_running=False):
     """The run, and the events with what was unclear made clear: data that our router sends too are the router's, the rest came."""
     came = {event.number for event in events if event.what == CAME}
-    run = play(router, events, came, step, is_running)
+    run = play(sorter, events, came, step, is_running)
     unclear = [event for event in events if event.what == UNCLEAR]
     if not unclear:
         return run, events
@@ -270,7 +302,7 @@ def run_of(router, events, step=STEP, is_running=False):
     decided = {event.number: decided_as(event, copies) for event in unclear}
     events = [Event(event.number, event.moment, event.iface, decided.get(event.number, event.what), event.data) for event in events]
     more = {number for number, what in decided.items() if what == CAME}
-    return (play(router, events, came | more, step, is_running) if more else run), events
+    return (play(sorter, events, came | more, step, is_running) if more else run), events
 
 
 def decided_as(event, copies):

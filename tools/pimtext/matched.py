@@ -1,11 +1,12 @@
 """What the router of a capture sent beside what ours sent: which packets say the same, and how much later or earlier."""
+from bisect import bisect_left
 from dataclasses import dataclass
 
 from pimtext import captured, packets, words
 from pimtext.packets import GroupEntries, JoinPrune, Refused
 
-# How far apart in ms two packets of a kind may be: what RFC 7761 (4.11) draws by chance, else a second for clocks and work.
-CLOCK = 1000
+# How far apart in ms two packets of a kind may be: what RFC 7761 (4.11) draws by chance, else two seconds for clocks and work.
+CLOCK = 2000
 WINDOWS = {
     "Hello": (5000, "Triggered_Hello_Delay"), "Join/Prune": (3000, "J/P_Override_Interval"),
     "Assert": (3000, "Assert_Override_Interval"), "Null-Register": (60000, "Register_Suppression_Time"),
@@ -111,10 +112,30 @@ def said_in_run(run):
             for said in said_of(sent.number, sent.moment, iface, sent.data, sent.kind == "copy")]
 
 
-def pairs(theirs, ours, is_pair):
+@dataclass(frozen=True)
+class Clock:
+    """The capture's moments. Where our time passes from one to the next alone, its packets are later by up to one of them."""
+    moments: list
+    is_coarse: bool
+
+    def are_near(self, said, other):
+        """Whether a captured packet and one of ours are within the window of their kind."""
+        if abs(said.moment - other.moment) <= said.window():
+            return True
+        if not self.is_coarse or said.moment < other.moment:
+            return False
+        place = bisect_left(self.moments, other.moment + said.window())
+        return place < len(self.moments) and said.moment <= self.moments[place]
+
+    def is_beyond(self, said):
+        """Whether the router may send what ours sent after the capture's end."""
+        return said.moment + WINDOWS.get(said.kind, (0, ""))[0] > self.moments[-1]
+
+
+def pairs(theirs, ours, clock, is_pair):
     """Pairs the captured with the nearest of ours, one after the other; both lists lose what is paired."""
     for said in list(theirs):
-        near = [other for other in ours if is_pair(said, other) and abs(said.moment - other.moment) <= said.window()]
+        near = [other for other in ours if is_pair(said, other) and clock.are_near(said, other)]
         if near:
             other = min(near, key=lambda each: abs(said.moment - each.moment))
             theirs.remove(said)
@@ -123,9 +144,12 @@ def pairs(theirs, ours, is_pair):
 
 
 def compared(events, run):
-    """A row for all that either sent, in time's order."""
+    """A row for all that either sent, in time's order, but for what ours sent alone and the router may send after the capture's
+    end."""
     theirs, ours = by_subject(said_in_capture(events)), by_subject(said_in_run(run))
-    rows = [row for subject in {**theirs, **ours} for row in rows_of(theirs.get(subject, []), ours.get(subject, []))]
+    clock = Clock([event.moment for event in events], run.is_coarse)
+    rows = [row for key in {**theirs, **ours} for row in rows_of(theirs.get(key, []), ours.get(key, []), clock)]
+    rows = [row for row in rows if row.verdict != ONLY_OURS or not clock.is_beyond(row.ours)]
     return sorted(rows, key=lambda row: (row.one().moment, row.one().packet))
 
 
@@ -136,10 +160,10 @@ def by_subject(said):
     return found
 
 
-def rows_of(theirs, ours):
+def rows_of(theirs, ours, clock):
     """The rows of one subject."""
-    rows = [Row(AGREE, *pair) for pair in pairs(theirs, ours, Said.is_as)]
-    rows += [Row(DIFFER, *pair) for pair in pairs(theirs, ours, Said.is_about_same)]
+    rows = [Row(AGREE, *pair) for pair in pairs(theirs, ours, clock, Said.is_as)]
+    rows += [Row(DIFFER, *pair) for pair in pairs(theirs, ours, clock, Said.is_about_same)]
     return rows + [Row(ONLY_CAPTURE, said, None) for said in theirs] + [Row(ONLY_OURS, None, said) for said in ours]
 
 
