@@ -1,16 +1,18 @@
 """A capture as moves of one router: what it took and what it sent, and the run of our router on the same."""
 import math
 from collections import Counter
-from dataclasses import dataclass, field
+from dataclasses import dataclass, field, replace
 from ipaddress import IPv4Address
 
-from pimtext import packets, scenario, story, toml_lines, trees
+from pimtext import packets, scenario, story, toml_lines
 from pimtext.addresses import prefix_in
 from pimtext.packets import dotted, is_multicast
 
 SENT, CAME, UNCLEAR = "sent", "came", "unclear"
 # The longest time in ms between two advances of the run.
 STEP = 100
+# A copy of data leaves at most so many ms after it came.
+FORWARDING = 1000
 # For so many ms the run goes on after the capture's last packet: what is the router's by chance earlier than ours.
 BEYOND = 5000
 # What isn't looked at, in words.
@@ -121,7 +123,7 @@ class Sorter:
             return self.of_speech(frame, number)
         if stays_on_link(destination_of(frame)):
             return STAYS
-        return number, self.way_of_data(frame, number)
+        return number, self.way_of_data(frame)
 
     def of_speech(self, frame, number):
         if not self.router.has(source_of(frame)):
@@ -131,14 +133,13 @@ class Sorter:
             return number, SENT
         return AS_HOST if all(map(stays_on_link, groups)) else (number, CAME)
 
-    def way_of_data(self, frame, number):
-        """By the direction that the frame tells, else by its sender's hardware address, else by where the source is."""
+    def way_of_data(self, frame):
+        """By the direction that the frame tells, else by its sender's hardware address, else it is unclear as yet."""
         if self.is_here and frame.is_outgoing is not None:
             return SENT if frame.is_outgoing else CAME
         if self.hardware.get(frame.link):
             return SENT if frame.hardware in self.hardware[frame.link] else CAME
-        known = trees.Known(self.router, [], {each.number for each in self.router.interfaces}, self.router.routes, [])
-        return CAME if trees.rpf_interface(known, source_of(frame)) == number else UNCLEAR
+        return UNCLEAR
 
 
 def groups_wanted(data):
@@ -173,7 +174,51 @@ def events_of(sorter, read):
             begin = frame.moment if begin is None else begin
             data = of_host(sorter, *sorted_as, frame.data)
             found.append(Event(frame.number, round(max(0, frame.moment - begin) * 1000), *sorted_as, data))
-    return found
+    return list(map(Origins().clear, found))
+
+
+@dataclass
+class Origin:
+    """A packet of data that came, and the interfaces on which the router's copy of it was seen; `iface` is None in a Register."""
+    moment: int
+    iface: int | None
+    copied: set = field(default_factory=set)
+
+
+class Origins:
+    """What a frame doesn't tell: a packet of data is the router's copy where one that came just before, elsewhere, is the same with a
+    TTL higher by one; else it came."""
+
+    def __init__(self):
+        self.found = {}
+
+    def clear(self, event):
+        """The event with what was unclear made clear."""
+        data = event.data if event.iface is not None else registered(event.data)
+        if event.what == UNCLEAR:
+            event = replace(event, what=SENT if self.is_copy(event) else CAME)
+        if event.what == CAME and data is not None:
+            self.found.setdefault((data[8], key_of(data)), []).append(Origin(event.moment, event.iface))
+        return event
+
+    def is_copy(self, event):
+        for origin in self.found.get((event.data[8] + 1, key_of(event.data)), ()):
+            is_near = event.moment - origin.moment <= FORWARDING
+            if is_near and origin.iface != event.iface and event.iface not in origin.copied:
+                origin.copied.add(event.iface)
+                return True
+        return False
+
+
+def key_of(data):
+    """A packet without its TTL and the checksum of its header."""
+    return data[:8] + data[9:10] + data[12:]
+
+
+def registered(data):
+    """The packet in a Register, None of any other one."""
+    start = 4 * (data[0] & 15)
+    return data[start + 8:] if data[start:start + 1] == b"\x21" and len(data) >= start + 28 else None
 
 
 def of_host(sorter, iface, what, data):
@@ -243,17 +288,16 @@ class Mover:
         self.move("frame" if where else "unicast", **where, hex=event.data.hex())
 
 
-def moves_of(sorter, events, came, step, is_running):
-    """The moves of a capture; `came` are the numbers of the packets that are given to the router. With them, how many of these came
-    while the interface was down."""
+def moves_of(sorter, events, step, is_running):
+    """The moves of a capture. With them, how many packets came while the interface was down."""
     mover, draws, waiting, early = Mover(sorter.router.name, step), generations(events), ups(sorter, events, is_running), 0
     down = sorter.silent - set(waiting)
     for event in events:
         mover.pass_to(event.moment)
         mover.bring_up(waiting, event.number, draws)
-        if event.number in came and (event.iface in waiting or event.iface in down):
+        if event.what == CAME and (event.iface in waiting or event.iface in down):
             early += 1
-        elif event.number in came:
+        elif event.what == CAME:
             mover.take(event)
     if step:
         mover.pass_to(mover.now + BEYOND)
@@ -278,36 +322,15 @@ class Run:
         return Counter(step.answer() for step in self.steps if step.verdict != "done")
 
 
-def play(sorter, events, came, step, is_running):
-    router = sorter.router
-    moves, early = moves_of(sorter, events, came, step, is_running)
-    played = scenario.scenario_of({"router": [router.table], "move": moves})
-    steps, _ = story.played(played, scenario.run_text(scenario.text_of([router.table], moves)))
+def run_of(sorter, events, step=STEP, is_running=False):
+    """Our router's run on what came to the router of the capture."""
+    moves, early = moves_of(sorter, events, step, is_running)
+    table = sorter.router.table
+    played = scenario.scenario_of({"router": [table], "move": moves})
+    steps, _ = story.played(played, scenario.run_text(scenario.text_of([table], moves)))
     sent = [(each, iface_of(played, each)) for step in steps for each in step.sent]
     return Run(moves, sent, steps, early, not step)
 
 
 def iface_of(played, sent):
     return None if sent.is_unicast() else story.sending_interface(played, sent)
-
-
-def run_of(sorter, events, step=STEP, is_running=False):
-    """The run, and the events with what was unclear made clear: data that our router sends too are the router's, the rest came."""
-    came = {event.number for event in events if event.what == CAME}
-    run = play(sorter, events, came, step, is_running)
-    unclear = [event for event in events if event.what == UNCLEAR]
-    if not unclear:
-        return run, events
-    copies = Counter((iface, sent.data) for sent, iface in run.sent if sent.kind == "copy")
-    decided = {event.number: decided_as(event, copies) for event in unclear}
-    events = [Event(event.number, event.moment, event.iface, decided.get(event.number, event.what), event.data) for event in events]
-    more = {number for number, what in decided.items() if what == CAME}
-    return (play(sorter, events, came | more, step, is_running) if more else run), events
-
-
-def decided_as(event, copies):
-    key = event.iface, event.data
-    if not copies[key]:
-        return CAME
-    copies[key] -= 1
-    return SENT

@@ -48,13 +48,26 @@ def unfit(read, steps, router):
         return "interfaces, routes or RPs change"
     if not any(step.sent for step in own):
         return "it sends nothing"
-    if any(step.iface is None and step.did.get("draw") and step.taken() is not None for step in own):
-        return "how long its Registers are stopped is drawn"
+    if any(step.did.get("draw") and step.did["do"] != "up" for step in own):
+        return "its delays are drawn"
+    if begins_late(read, steps, router):
+        return "what was sent before an interface was up reaches it"
     if any(looks_whole(data) and router.has(packets.dotted(data[12:16])) for _, _, data in taken(steps, router)):
         return "it is given what has its own address"
     if taken(steps, router) != shown(read, steps, router):
         return "it doesn't take what is on its links when it is sent"
     return None
+
+
+def begins_late(read, steps, router):
+    """Whether others' packets on a link of the router are in the capture before its own."""
+    spoken = set()
+    for seen in pcap.seen(read, steps, True):
+        if seen.comment.startswith("packet ") and f" of {router.name}, move " in seen.comment:
+            spoken.add(seen.link)
+        elif seen.link and router.on(seen.link) and seen.link not in spoken:
+            return True
+    return False
 
 
 def written(read, steps):
@@ -68,5 +81,5 @@ def written(read, steps):
 def rows_of(read, steps, router):
     seen = written(read, steps)
     sorter = captured.sorter_of(router, seen)
-    run, events = captured.run_of(sorter, captured.events_of(sorter, seen), 0)
-    return matched.compared(events, run)
+    events = captured.events_of(sorter, seen)
+    return matched.compared(events, captured.run_of(sorter, events, 0))
