@@ -83,3 +83,126 @@ def rows_of(read, steps, router):
     sorter = captured.sorter_of(router, seen)
     events = captured.events_of(sorter, seen)
     return matched.compared(events, captured.run_of(sorter, events, 0))
+
+
+class Stored(unittest.TestCase):
+    def test_what_routers_of_stored_scenarios_sent(self):
+        """Where the capture has all that its router took, and no delay of it is drawn, both send the same packets."""
+        fit = 0
+        for path, lines in stored.played():
+            read = scenario.read(path)
+            steps, _ = story.played(read, lines)
+            for router in read.routers:
+                if unfit(read, steps, router) is None:
+                    fit += 1
+                    rows = rows_of(read, steps, router)
+                    self.assertEqual([row for row in rows if row.verdict != matched.AGREE], [], f"{path.name}, {router.name}")
+                    self.assertEqual(len({row.theirs.packet for row in rows}), sent_by(steps, router))
+        self.assertGreater(fit, 40)
+
+
+def sent_by(steps, router):
+    """How many packets a router sent on links and as unicasts."""
+    return sum(len(step.sent) for step in steps if step.router == router.name)
+
+
+ROUTER, PEER, HOST = "10.0.1.1", "10.0.1.2", "10.0.1.77"
+GROUP, FAR = "239.1.1.1", "10.9.0.50"
+OWN, OTHER = b"\2\0\0\0\0\1", b"\2\0\0\0\0\2"
+
+
+def own_query():
+    return packets.write_igmp(ROUTER, "224.0.0.1", bytes.fromhex("1164000000000000027d0000"), 0xC0)
+
+
+def own_hello(priority=1):
+    return packets.write_hello(ROUTER, packets.Hello(105, 500, 2500, priority, 0))
+
+
+def report():
+    return packets.write_report(HOST, [packets.Record(4, GROUP, ())])
+
+
+def ethernet(hardware, data, tag=b""):
+    return b"\1\0\x5e\0\0\1" + hardware + tag + b"\x08\0" + data + b"\0\0\0"
+
+
+def cooked(way, data):
+    return struct.pack(">HHH8sH", way, 1, 6, OTHER + b"\0\0", 0x0800) + data
+
+
+def cooked_2(way, data):
+    return struct.pack(">HHIHBB8s", 0x0800, 0, 3, 1, way, 6, OTHER + b"\0\0") + data
+
+
+def classic(kind, frames, order="<", magic=0xA1B2C3D4, ticks=10**6):
+    """A pcap file of frames with their seconds."""
+    content = struct.pack(order + "IHHiIII", magic, 2, 4, 0, 0, 65535, kind)
+    for moment, frame in frames:
+        part = round(moment % 1 * ticks)
+        content += struct.pack(order + "IIII", int(moment), part, len(frame), len(frame)) + frame
+    return content
+
+
+class Files(unittest.TestCase):
+    def setUp(self):
+        folder = tempfile.TemporaryDirectory()
+        self.addCleanup(folder.cleanup)
+        self.path = Path(folder.name) / "run.pcap"
+
+    def compared(self, content, *words):
+        self.path.write_bytes(content)
+        ran = subprocess.run([stored.TOOLS / "from_pcap", self.path, *words], capture_output=True, text=True)
+        return ran.returncode, ran.stdout, ran.stderr
+
+    def test_kinds_of_frames(self):
+        """A querier that knows a host's group, in each kind of frame, and in both orders of bytes."""
+        said = [(1.0, own_query(), True), (1.5, own_hello(), True), (2.0, report(), False)]
+        kinds = {
+            1: lambda data, is_own: ethernet(OWN if is_own else OTHER, data), 101: lambda data, is_own: data,
+            113: lambda data, is_own: cooked(4 if is_own else 0, data), 276: lambda data, is_own: cooked_2(4 if is_own else 2, data),
+        }
+        for kind, frame in kinds.items():
+            for order, magic, ticks in (("<", 0xA1B2C3D4, 10**6), (">", 0xA1B23C4D, 10**9)):
+                frames = [(moment, frame(data, is_own)) for moment, data, is_own in said]
+                status, told, wrong = self.compared(classic(kind, frames, order, magic, ticks), "--router", f"{ROUTER}/24")
+                self.assertEqual((status, wrong), (0, ""), told)
+                self.assertIn("2 agree, 0 differ, 0 only in the capture, 0 only ours", told)
+                self.assertIn("+0.400 s beside ours (Triggered_Hello_Delay: up to 5 s)", told)
+
+    def test_a_tag_of_a_vlan(self):
+        content = classic(1, [(1.0, ethernet(OWN, own_query(), b"\x81\0\0\5"))])
+        self.assertIn("1 agree", self.compared(content, "--router", f"{ROUTER}/24")[1])
+
+    def test_differences(self):
+        frames = [(1.0, own_query()), (1.5, own_hello(7)), (2.0, packets.write_assert(ROUTER, packets.Assert(GROUP, 32, FAR, False, 0, 0)))]
+        frames += [(9.0, packets.write_hello(PEER, packets.Hello(105)))]
+        status, told, _ = self.compared(classic(101, frames), "--router", f"{ROUTER}/24", "--differences")
+        self.assertEqual(status, 1)
+        self.assertIn("1 agree, 1 differ, 1 only in the capture", told)
+        self.assertIn("DR priority 7, generation 0, propagation delay 500 ms, override interval 2500 ms: packet 2 at 0.500 s; ours: "
+                      "Hello for 105 s, DR priority 1", told)
+        self.assertIn(f"Assert of ({FAR}, {GROUP}), preference 0, metric 0: packet 3 at 1.000 s", told)
+        self.assertNotIn("agree\n", told)
+
+    def test_the_moves_are_a_scenario(self):
+        out = self.path.with_suffix(".toml")
+        frames = [(1.0, own_query()), (2.0, report())]
+        self.compared(classic(101, frames), "--router", f"{ROUTER}/24", "--step", "0", "--scenario", out)
+        moves = [(move["do"], move.get("moment", move.get("hex"))) for move in scenario.read(out).moves]
+        self.assertEqual(moves, [("up", None), ("advance", 1000), ("frame", report().hex())])
+
+    def test_what_cannot_be_compared(self):
+        for content, words, text in (
+            (b"no capture at all, but long enough to be", ["--router", f"{ROUTER}/24"], "neither pcap nor pcapng"),
+            (classic(105, []), ["--router", f"{ROUTER}/24"], "frames of the kind 105 aren't read"),
+            (classic(101, []), ["--router", f"{ROUTER}/24"], "no PIM, IGMP or multicast data"),
+            (classic(101, [(1.0, own_query())]), ["--router", ROUTER], "has no length"),
+        ):
+            status, _, wrong = self.compared(content, *words)
+            self.assertEqual(status, 1)
+            self.assertIn(text, wrong)
+
+
+if __name__ == "__main__":
+    unittest.main()
