@@ -5,7 +5,7 @@ import tempfile
 import unittest
 from pathlib import Path
 
-from pimtext import capture, captured, matched, packets, scenario, story
+from pimtext import capture, captured, frr, frr_lab, matched, packets, scenario, story
 from tests import stored
 
 pcap = stored.tool("pcap")
@@ -202,6 +202,28 @@ class Files(unittest.TestCase):
             status, _, wrong = self.compared(content, *words)
             self.assertEqual(status, 1)
             self.assertIn(text, wrong)
+
+
+class OfFrr(unittest.TestCase):
+    def test_what_its_router_sent(self):
+        """The capture is of r3 in tools/tests/frr/line, on both its links; docs say why what differs does."""
+        from_frr = stored.tool("from_frr")
+        plan = frr_lab.Plan(frr.routers_of(FRR / "line"))
+        with tempfile.TemporaryDirectory() as room:
+            table = Path(room) / "line.toml"
+            table.write_text(from_frr.played(frr_lab.text_of(plan, "line")).scenario())
+            words = [FRR / "line" / "r3.pcapng", "--router", "10.2.0.3", "--table", table]
+            ran = subprocess.run([stored.TOOLS / "from_pcap", *words], capture_output=True, text=True)
+        self.assertEqual((ran.returncode, ran.stderr), (1, ""))
+        self.assertIn("74 agree, 6 differ, 2 only in the capture, 6 only ours", ran.stdout)
+        differing = ran.stdout.partition("\ndiffer\n")[2].splitlines()
+        texts = [line.strip().partition(", packet ")[0].partition(": packet ")[0] for line in differing if line.startswith("  ")]
+        asked = "query of all groups: answer within 5 s, robustness 2, interval 20 s"
+        delays = "propagation delay 500 ms, override interval 2500 ms"
+        self.assertEqual([text.partition(", at ")[0] for text in texts], [
+            f"r3-home: {asked}, suppressed: 6 times", f"r2-r3: Hello for 105 s, DR priority 1, generation 377427461, {delays}",
+            "r2-r3: Join/Prune to 10.2.0.2 for 210 s: join (*, 239.1.1.1) by 10.255.0.2", f"r2-r3: {asked}: 6 times",
+        ])
 
 
 if __name__ == "__main__":
