@@ -1,11 +1,12 @@
-"""Captures, pcap and pcapng, read: the IPv4 packets in Ethernet, Linux cooked and raw frames, with their moments and links."""
+"""Captures, pcap and pcapng, read: the IPv4 packets in Ethernet, Linux cooked and raw frames, with their moments and
+links."""
 import struct
 from dataclasses import dataclass
 
 ETHERNET, RAW, RAW_BSD, RAW_IPV4, NULL, LOOP, COOKED, COOKED_2 = 1, 101, 12, 228, 0, 108, 113, 276
 LINK_TYPES = {
-    ETHERNET: "Ethernet", RAW: "raw", RAW_BSD: "raw", RAW_IPV4: "raw IPv4", COOKED: "Linux cooked", COOKED_2: "Linux cooked 2",
-    NULL: "null", LOOP: "null",
+    ETHERNET: "Ethernet", RAW: "raw", RAW_BSD: "raw", RAW_IPV4: "raw IPv4", COOKED: "Linux cooked",
+    COOKED_2: "Linux cooked 2", NULL: "null", LOOP: "null",
 }
 IPV4, VLAN = 0x0800, (0x8100, 0x88A8)
 # What Linux says of a packet that this machine sends itself.
@@ -22,8 +23,9 @@ class Unreadable(Exception):
 
 @dataclass(frozen=True)
 class Frame:
-    """An IPv4 packet of a capture: its number in the file, seconds since 1970, the interface, whether the machine that captured
-    sent it itself and its sender's hardware address, both None where the frame doesn't tell, and its bytes from the IP header on."""
+    """An IPv4 packet of a capture: its number in the file, seconds since 1970, the interface, whether the machine
+    that captured sent it itself and its sender's hardware address, both None where the frame doesn't tell, and its
+    bytes from the IP header on."""
     number: int
     moment: float
     link: str
@@ -41,7 +43,8 @@ class Port:
 
 
 def unwrapped(kind, frame, name):
-    """The interface, whether outgoing, the hardware address and the IP packet in a frame; None where that isn't IPv4."""
+    """The interface, whether outgoing, the hardware address and the IP packet in a frame; None where that isn't
+    IPv4."""
     if kind in (RAW, RAW_BSD, RAW_IPV4):
         return name, None, None, frame
     if kind in (NULL, LOOP):
@@ -55,7 +58,8 @@ def unwrapped(kind, frame, name):
         return (name, way == OUTGOING, frame[6:6 + min(size, 8)], frame[place:]) if protocol == IPV4 else None
     if kind == COOKED_2 and len(frame) >= 20:
         protocol, _, index, _, way, size = struct.unpack(">HHIHBB", frame[:12])
-        return (f"interface {index}", way == OUTGOING, frame[12:12 + min(size, 8)], frame[20:]) if protocol == IPV4 else None
+        found = f"interface {index}", way == OUTGOING, frame[12:12 + min(size, 8)], frame[20:]
+        return found if protocol == IPV4 else None
     return None
 
 
@@ -169,7 +173,8 @@ def read(path):
     if content[:4] == b"\x0a\x0d\x0d\x0a":
         found = next_generation(content, names)
     else:
-        orders = [order for order in "<>" if len(content) >= 24 and struct.unpack(order + "I", content[:4])[0] in MAGICS]
+        is_long = len(content) >= 24
+        orders = [order for order in "<>" if is_long and struct.unpack(order + "I", content[:4])[0] in MAGICS]
         if not orders:
             raise Unreadable("it is neither pcap nor pcapng")
         found = classic(content, orders[0], MAGICS[struct.unpack(orders[0] + "I", content[:4])[0]])

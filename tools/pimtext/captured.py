@@ -30,7 +30,8 @@ class Unclear(Exception):
 
 @dataclass(frozen=True)
 class Event:
-    """A packet that the router sent, or that came to it; `iface` is None for a unicast. `moment` is in ms from the first packet."""
+    """A packet that the router sent, or that came to it; `iface` is None for a unicast. `moment` is in ms from the
+    first packet."""
     number: int
     moment: int
     iface: int | None
@@ -63,14 +64,16 @@ def stays_on_link(group):
 
 
 def table_of(addresses, ranges, routes, frames):
-    """A router's table of addresses with their lengths. A link has the name of the capture's interface on which it speaks."""
+    """A router's table of addresses with their lengths. A link has the name of the capture's interface on which it
+    speaks."""
     links = list(dict.fromkeys(frame.link for frame in frames))
     interfaces = []
     for number, text in enumerate(addresses):
         told = prefix_in(text)
         if told is None or not 1 <= told[1] <= 31:
             raise Unclear(f"{text} has no length from 1 to 31: it is to be as 10.0.1.1/24, or a router of --table")
-        heard = [frame.link for frame in frames if source_of(frame) == text.partition("/")[0] and speaks(frame) and is_to_group(frame)]
+        own = [frame for frame in frames if source_of(frame) == text.partition("/")[0]]
+        heard = [frame.link for frame in own if speaks(frame) and is_to_group(frame)]
         link = heard[0] if heard else links[0] if len(links) == len(addresses) == 1 else f"link of {text}"
         interfaces.append({"link": link, "address": text})
     return {"name": "router", "iface": interfaces, "routes": list(routes), "rps": list(ranges)}
@@ -91,8 +94,8 @@ def table_in(path, address, ranges, routes):
 
 @dataclass
 class Sorter:
-    """`ports` are interface numbers by the capture's links, `silent` the interfaces whose link is captured and on which the router
-    never speaks, `hardware` the router's hardware addresses by link."""
+    """`ports` are interface numbers by the capture's links, `silent` the interfaces whose link is captured and on
+    which the router never speaks, `hardware` the router's hardware addresses by link."""
     router: scenario.Router
     ports: dict
     silent: set
@@ -119,7 +122,7 @@ class Sorter:
         number = self.ports.get(frame.link)
         if number is None:
             return NO_INTERFACE
-        if speaks(frame) and (frame.data[9] == packets.IGMP or destination_of(frame) == dotted(packets.ALL_PIM_ROUTERS)):
+        if frame.data[9] == packets.IGMP or (speaks(frame) and frame.data[16:20] == packets.ALL_PIM_ROUTERS):
             return self.of_speech(frame, number)
         if stays_on_link(destination_of(frame)):
             return STAYS
@@ -157,7 +160,8 @@ def sorter_of(router, read):
     numbers = {interface.address: interface.number for interface in router.interfaces}
     ports = {interface.link: interface.number for interface in router.interfaces}
     ports |= {frame.link: numbers[source_of(frame)] for frame in own}
-    silent = {each.number for each in router.interfaces if each.link in read.names} - set(ports[frame.link] for frame in own)
+    captured = {each.number for each in router.interfaces if each.link in read.names}
+    silent = captured - {ports[frame.link] for frame in own}
     hardware = {}
     for frame in own:
         if frame.hardware is not None:
@@ -179,15 +183,16 @@ def events_of(sorter, read):
 
 @dataclass
 class Origin:
-    """A packet of data that came, and the interfaces on which the router's copy of it was seen; `iface` is None in a Register."""
+    """A packet of data that came, and the interfaces on which the router's copy of it was seen; `iface` is None in a
+    Register."""
     moment: int
     iface: int | None
     copied: set = field(default_factory=set)
 
 
 class Origins:
-    """What a frame doesn't tell: a packet of data is the router's copy where one that came just before, elsewhere, is the same with a
-    TTL higher by one; else it came."""
+    """What a frame doesn't tell: a packet of data is the router's copy where one that came just before, elsewhere,
+    is the same with a TTL higher by one; else it came."""
 
     def __init__(self):
         self.found = {}
@@ -222,8 +227,8 @@ def registered(data):
 
 
 def of_host(sorter, iface, what, data):
-    """What came. A router ignores what has its own address: a report of the router itself is given as that of a host on the link,
-    with the highest address that isn't the router's."""
+    """What came. A router ignores what has its own address: a report of the router itself is given as that of a host
+    on the link, with the highest address that isn't the router's."""
     if what != CAME or iface is None or not sorter.router.has(dotted(data[12:16])):
         return data
     sorter.as_host += 1
@@ -236,8 +241,9 @@ def of_host(sorter, iface, what, data):
 
 
 def ups(sorter, events, is_running):
-    """The packet with which each interface goes up: the first that the router sent on it, or the first of all that are looked at. One
-    whose link isn't captured goes up with the first one that does; one on which nothing was sent stays down."""
+    """The packet with which each interface goes up: the first that the router sent on it, or the first of all that
+    are looked at. One whose link isn't captured goes up with the first one that does; one on which nothing was sent
+    stays down."""
     first = {}
     for event in events:
         if event.what == SENT:
@@ -290,7 +296,8 @@ class Mover:
 
 def moves_of(sorter, events, step, is_running):
     """The moves of a capture. With them, how many packets came while the interface was down."""
-    mover, draws, waiting, early = Mover(sorter.router.name, step), generations(events), ups(sorter, events, is_running), 0
+    mover, draws, early = Mover(sorter.router.name, step), generations(events), 0
+    waiting = ups(sorter, events, is_running)
     down = sorter.silent - set(waiting)
     for event in events:
         mover.pass_to(event.moment)
@@ -309,8 +316,8 @@ def moves_of(sorter, events, step, is_running):
 
 @dataclass
 class Run:
-    """Our router's run: the moves, its packets with their moments and interfaces, and how many packets came too early; it is coarse
-    where time passed from packet to packet alone."""
+    """Our router's run: the moves, its packets with their moments and interfaces, and how many packets came too
+    early; it is coarse where time passed from packet to packet alone."""
     moves: list
     sent: list
     steps: list

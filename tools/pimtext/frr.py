@@ -1,5 +1,5 @@
-"""Configurations of FRR routers, as `show running-config` has them, read into plain objects. What a configuration says and
-what this doesn't carry over is kept with its file, its line and the reason."""
+"""Configurations of FRR routers, as `show running-config` has them, read into plain objects. What a configuration
+says and what this doesn't carry over is kept with its file, its line and the reason."""
 import json
 import re
 from dataclasses import dataclass, field
@@ -33,7 +33,8 @@ class Left:
 
 @dataclass
 class Interface:
-    """`times` are IGMP's by their words in the configuration, `joins` groups and sources (or None) that it joins itself."""
+    """`times` are IGMP's by their words in the configuration, `joins` groups and sources (or None) that it joins
+    itself."""
     name: str
     vrf: str
     place: Place
@@ -64,14 +65,15 @@ class Listed:
 
 @dataclass
 class Router:
-    """`rps` are an RP, its range or None, its prefix list or None, and the line; `statics` prefix, next hop, distance and line."""
+    """`rps` are an RP, its range or None, its prefix list or None, and the line; `statics` prefix, next hop,
+    distance and line."""
     name: str
     vrf: str
     interfaces: dict = field(default_factory=dict)
     rps: list = field(default_factory=list)
     lists: dict = field(default_factory=dict)
     ssm: tuple | None = None
-    is_spt_never: bool = False
+    spt_never: Place | None = None
     resolves_by_default: bool = False
     statics: list = field(default_factory=list)
     protocols: set = field(default_factory=set)
@@ -138,7 +140,7 @@ def take_ssm(router, _, place, name):
 
 
 def take_spt(router, _, place):
-    router.is_spt_never = True
+    router.spt_never = place
 
 
 def take_default(router, *_):
@@ -169,8 +171,9 @@ GLOBAL_LINES = [(re.compile(pattern + r"$"), take) for pattern, take in [
 ]]
 # What says nothing of a network, or is what the network does in any case.
 QUIET = [re.compile(pattern) for pattern in (
-    r"frr (version|defaults) ", r"hostname ", r"service ", r"log ", r"password ", r"description ", r"(no )?ip(v6)? forwarding",
-    r"ip igmp version 3$", r"Building configuration", r"Current configuration", r"line vty", r"no shutdown$",
+    r"frr (version|defaults) ", r"hostname ", r"service ", r"log ", r"password ", r"description ",
+    r"(no )?ip(v6)? forwarding", r"ip igmp version 3$", r"Building configuration", r"Current configuration",
+    r"line vty", r"no shutdown$",
 )]
 REASONS = [(re.compile(pattern), reason) for pattern, reason in [
     (r"no ", "a line that takes something back isn't looked at"),
@@ -184,12 +187,14 @@ REASONS = [(re.compile(pattern), reason) for pattern, reason in [
     (r"ip pim use-source", "Hellos leave from the interface's address"),
     (r"ip pim bfd", "there is no BFD"), (r"ip pim register-accept-list", "Registers of every source are accepted"),
     (r"ip pim allow-rp", "there are no lists of what is accepted"),
-    (r"ip pim spt-switchover infinity-and-beyond prefix-list", "whether a router leaves the RP's tree is decided for all groups alike"),
+    (r"ip pim spt-switchover infinity-and-beyond prefix-list",
+     "whether a router leaves the RP's tree is decided for all groups alike"),
     (r"ip pim (active-active|packets|send-v6-secondary)", "it has no counterpart"),
     (r"ip igmp version 2", "our router speaks IGMPv3, and asks as version 3 does"),
     (r"ip igmp last-member-query-count ", "it is the robustness variable, 2"),
     (r"ip igmp ", "it has no counterpart"), (r"ip multicast boundary", "there are no boundaries"),
-    (r"ip mroute ", "there are no static trees, nor routes for multicast alone"), (r"ip msdp |msdp ", "there is no MSDP"),
+    (r"ip mroute ", "there are no static trees, nor routes for multicast alone"),
+    (r"ip msdp |msdp ", "there is no MSDP"),
     (r"ip route ", "its next hop is no address, or it has words that this doesn't know"),
     (r"ip prefix-list |route-map |access-list ", "no range of RPs or of SSM is made of it"),
     (r"ip ospf |ip rip |isis |router |mpls |ipv6 ", "routing protocols don't run: routes are those that they found"),
@@ -289,7 +294,8 @@ def configurations(folder):
 
 def beside(path, name, kind):
     """NAME.KIND.json beside a configuration, or KIND.json in its folder; its text and the file's name, or None."""
-    for each in (path.parent / f"{name}.{kind}.json", path.parent.parent / f"{name}.{kind}.json", path.parent / f"{kind}.json"):
+    own = f"{name}.{kind}.json"
+    for each in (path.parent / own, path.parent.parent / own, path.parent / f"{kind}.json"):
         if each.exists() and (each.name != f"{kind}.json" or path.name == "frr.conf"):
             try:
                 return each.name, each.read_text("utf-8"), json.loads(each.read_text("utf-8"))
@@ -347,7 +353,8 @@ def routes_in(router, said):
 
 def route_of(router, prefix, entry, place):
     """A route as one of at most one, by its first next hop that is used."""
-    hops = [hop for hop in entry.get("nexthops", ()) if hop.get("active", True) and hop.get("fib", True) and "ip" in hop]
+    told = [hop for hop in entry.get("nexthops", ()) if "ip" in hop]
+    hops = [hop for hop in told if hop.get("active", True) and hop.get("fib", True)]
     if not hops:
         router.leave(place, "it has no next hop with an address")
         return []

@@ -1,4 +1,5 @@
-"""A network for tools/lab out of the configurations of FRR routers: the text of a Python file, and the trees that FRR told."""
+"""A network for tools/lab out of the configurations of FRR routers: the text of a Python file, and the trees that
+FRR told."""
 from dataclasses import dataclass, field
 from ipaddress import IPv4Network, ip_address
 
@@ -24,7 +25,8 @@ class Link:
 
 @dataclass(frozen=True)
 class Member:
-    """A host for what an interface joins itself: its name, its link, its address, and groups with their sources or None."""
+    """A host for what an interface joins itself: its name, its link, its address, and groups with their sources or
+    None."""
     name: str
     link: str
     address: str
@@ -73,7 +75,8 @@ class Plan:
         names = set()
         for link in self.links.values():
             router, port = link.ports[0]
-            link.name = "-".join(each.name for each, _ in link.ports) if len(link.ports) > 1 else f"{router.name}-{port.name}"
+            shared = "-".join(each.name for each, _ in link.ports)
+            link.name = shared if len(link.ports) > 1 else f"{router.name}-{port.name}"
             link.name += f" {link.subnet}" * (link.name in names)
             names.add(link.name)
 
@@ -126,6 +129,11 @@ class Plan:
             return [text for route in router.routes for text in found_route(router, route, numbers)]
         return [text for row in router.statics for text in self.static_route(router, *row)]
 
+    def static_routes(self, router):
+        """Those of its routes that stay where it runs a routing protocol."""
+        static = {str(IPv4Network(prefix, strict=False)) for prefix, *_ in router.statics}
+        return [text for text in self.routes[router.name] if text.split()[0] in static]
+
     def static_route(self, router, prefix, hop, distance, place):
         if is_unused(router, prefix, place):
             return []
@@ -137,7 +145,7 @@ class Plan:
 
     def options_of(self, router):
         options = igmp_times(router)
-        if router.is_spt_never:
+        if router.spt_never:
             options["spt"] = "never"
         return options
 
@@ -153,6 +161,8 @@ class Plan:
                 router.leave(port.addresses[0][1], f"its subnet is /{LONGEST} here")
         if router.ssm and not frr.is_usual_ssm(router):
             router.leave(router.ssm[1], "the groups of SSM are 232.0.0.0/8, and no others")
+        if router.spt_never and any(router.has(root) for root in self.roots):
+            router.leave(router.spt_never, "as RP ours doesn't join the sources' trees then either")
         judge_lists(router)
         judge_statics(router)
 
@@ -169,7 +179,7 @@ def is_carried(router, port, roots, taken):
         reason = "it has no address"
     elif str(port.own.ip) in taken:
         reason = f"another router has its address {port.own.ip}: tools/lab can have one twice, by `link.configure`"
-    elif port.is_pim or port.is_igmp:
+    elif port.is_pim or (port.is_igmp and str(port.own.ip) not in roots):
         return True
     elif str(port.own.ip) in roots:
         reason = "it has an RP's address, but no `ip pim`: then FRR isn't the RP either"
@@ -197,7 +207,8 @@ def found_route(router, route, numbers):
 
 
 def igmp_times(router):
-    """IGMP's times, which are one for all interfaces: those of the first interface with IGMP. Another one's are left."""
+    """IGMP's times, which are one for all interfaces: those of the first interface with IGMP. Another one's are
+    left."""
     ports, options = [port for port in router.here() if port.is_igmp], {}
     for key, usual in IGMP_TIMES.items():
         values = [port.times.get(key, (usual, port.place)) for port in ports]
@@ -272,8 +283,8 @@ def route_lines(plan, router):
     """Static routes stay; where a routing protocol runs, the lab's shortest paths take over once something fails."""
     if plan.is_alone(router):
         yield call("net.routes", router.name, *plan.routes[router.name], alone=True)
-    elif router.routes is None and plan.routes[router.name]:
-        yield call("net.routes", router.name, *plan.routes[router.name])
+    elif texts := plan.static_routes(router):
+        yield call("net.routes", router.name, *texts)
 
 
 def host_lines(plan):
@@ -333,8 +344,9 @@ def branch_told(plan, router, entry):
     port = router.interfaces.get(entry["iif"])
     is_root = entry["iif"] == "pimreg" or (port is not None and port.is_loopback())
     incoming = None if is_root else plan.link_of(router, entry["iif"]) or entry["iif"]
-    named = {name: plan.link_of(router, name) or name for name in entry.get("oil", {}) if name not in ("pimreg", entry["iif"])}
-    return Branch(router.name, entry["source"], entry["group"], incoming, frozenset(named.values()))
+    ports = set(entry.get("oil", ())) - {"pimreg", entry["iif"]}
+    outgoing = frozenset(plan.link_of(router, name) or name for name in ports)
+    return Branch(router.name, entry["source"], entry["group"], incoming, outgoing)
 
 
 def lab_branches(net):

@@ -1,11 +1,13 @@
-"""What the router of a capture sent beside what ours sent: which packets say the same, and how much later or earlier."""
+"""What the router of a capture sent beside what ours sent: which packets say the same, and how much later or
+earlier."""
 from bisect import bisect_left
 from dataclasses import dataclass
 
 from pimtext import captured, packets, words
 from pimtext.packets import GroupEntries, JoinPrune, Refused
 
-# How far apart in ms two packets of a kind may be: what RFC 7761 (4.11) draws by chance, else two seconds for clocks and work.
+# How far apart in ms two packets of a kind may be: what RFC 7761 (4.11) draws by chance, else two seconds for clocks
+# and work.
 CLOCK = 2000
 WINDOWS = {
     "Hello": (5000, "Triggered_Hello_Delay"), "Join/Prune": (3000, "J/P_Override_Interval"),
@@ -16,7 +18,8 @@ AGREE, DIFFER, ONLY_CAPTURE, ONLY_OURS = "agree", "differ", "only in the capture
 
 @dataclass(frozen=True)
 class Said:
-    """What one packet says, or one tree of a Join/Prune: what it is about, and all of it as text, with what else must be equal."""
+    """What one packet says, or one tree of a Join/Prune: what it is about, and all of it as text, with what else
+    must be equal."""
     packet: int
     moment: int
     iface: int | None
@@ -78,26 +81,27 @@ def trees_of(body):
 
 def kind_of(packet):
     """The kind, the subject, the text and what else must be equal of a packet that is no Join/Prune."""
-    body = packet.body
+    body, to = packet.body, f"to {packet.destination}: "
     match body:
         case packets.Hello():
             return "Hello", "", words.hello(body)
         case packets.Assert():
             return "Assert", words.tree(body.group, body.source), words.assert_words(body)
         case packets.Register():
-            kind = "Null-Register" if body.is_null else "Register"
-            inner = b"" if body.is_null else body.inner.body.payload
-            return kind, words.tree(body.inner.destination, body.inner.source), f"to {packet.destination}: {words.register(body)}", inner
+            kind, inner = "Null-Register" if body.is_null else "Register", body.inner
+            payload = b"" if body.is_null else inner.body.payload
+            return kind, words.tree(inner.destination, inner.source), f"{to}{words.register(body)}", payload
         case packets.RegisterStop():
-            return "Register-Stop", words.tree(body.group, body.source), f"to {packet.destination}: {words.register_stop(body)}"
+            return "Register-Stop", words.tree(body.group, body.source), f"{to}{words.register_stop(body)}"
         case packets.Query():
             return "query", body.group, words.query(body)
     return type(body).__name__, "", words.packet(packet)
 
 
 def said_in_capture(events):
-    own = [event for event in events if event.what == captured.SENT]
-    return [said for event in own for said in said_of(event.number, event.moment, event.iface, event.data, is_copy(event))]
+    own = [(event.number, event.moment, event.iface, event.data, is_copy(event))
+           for event in events if event.what == captured.SENT]
+    return [said for words_of in own for said in said_of(*words_of)]
 
 
 def is_copy(event):
@@ -114,7 +118,8 @@ def said_in_run(run):
 
 @dataclass(frozen=True)
 class Clock:
-    """The capture's moments. Where our time passes from one to the next alone, its packets are later by up to one of them."""
+    """The capture's moments. Where our time passes from one to the next alone, its packets are later by up to one of
+    them."""
     moments: list
     is_coarse: bool
 
@@ -144,8 +149,8 @@ def pairs(theirs, ours, clock, is_pair):
 
 
 def compared(events, run):
-    """A row for all that either sent, in time's order, but for what ours sent alone and the router may send after the capture's
-    end."""
+    """A row for all that either sent, in time's order, but for what ours sent alone and the router may send after
+    the capture's end."""
     theirs, ours = by_subject(said_in_capture(events)), by_subject(said_in_run(run))
     clock = Clock([event.moment for event in events], run.is_coarse)
     rows = [row for key in {**theirs, **ours} for row in rows_of(theirs.get(key, []), ours.get(key, []), clock)]

@@ -1,4 +1,5 @@
 """Networks of FRR's configurations: their trees are those that FRR told, and what isn't carried over is listed."""
+import json
 import os
 import shutil
 import subprocess
@@ -84,7 +85,8 @@ def left(plan):
 class Told(unittest.TestCase):
     def test_trees_are_those_that_frr_told(self):
         for name in TOPOLOGIES:
-            ran = subprocess.run([stored.TOOLS / "from_frr", FRR / name, "--compare", "--quiet"], capture_output=True, text=True)
+            words = [stored.TOOLS / "from_frr", FRR / name, "--compare", "--quiet"]
+            ran = subprocess.run(words, capture_output=True, text=True)
             self.assertEqual((ran.returncode, ran.stderr), (0, ""), ran.stdout)
             plan = frr_lab.Plan(frr.routers_of(FRR / name))
             told = frr_lab.told_branches(plan, FRR / name)
@@ -119,6 +121,27 @@ class Carried(unittest.TestCase):
             self.assertEqual(plan.members[0].joins, (("239.1.1.1", None), ("232.1.1.1", "10.9.0.9")))
         self.assertEqual(plans[0].routes["r1"], ["10.9.0.0/24 10.0.1.2 0 1 0"])
         self.assertEqual(plans[1].routes["r1"], [])
+
+    def test_routes_that_frr_found(self):
+        """With a routing protocol they hold at the beginning, and its static ones stay; else they all stay."""
+        rows = {"10.9.0.0/24": ("static", 1, 0), "10.7.0.0/24": ("ospf", 110, 20)}
+        found = {prefix: [{"protocol": kind, "selected": True, "distance": distance, "metric": metric, "nexthops": [
+            {"ip": "10.0.1.2", "interfaceName": "eth0", "active": True, "fib": True}]}]
+            for prefix, (kind, distance, metric) in rows.items()}
+        routes = ["10.9.0.0/24 10.0.1.2 0 1 0", "10.7.0.0/24 10.0.1.2 0 110 20"]
+        for text, lines in (
+            (OLDER, [f"routes={routes}", f'net.routes("r1", "{routes[0]}")']),
+            (NEWER, ['net.routes("r1", "' + '", "'.join(routes) + '", alone=True)']),
+        ):
+            plan = plan_of({"r1.conf": text, "r1.routes.json": json.dumps(found), "r2.conf": OTHER})
+            made = frr_lab.text_of(plan, "here")
+            for line in lines:
+                self.assertIn(line.replace("'", '"'), made)
+            self.assertIn("r2", from_frr.played(made).routers)
+
+    def test_an_rp_that_never_leaves_its_tree(self):
+        text = "ip pim rp 10.0.9.9\nip pim spt-switchover infinity-and-beyond\n" + OTHER
+        self.assertIn("as RP", left(plan_of({"r2.conf": text}))["r2.conf:2"])
 
     def test_what_is_left_is_listed(self):
         said = left(plan_of({"r1.conf": OLDER, "r2/frr.conf": OTHER}))

@@ -1,4 +1,5 @@
-"""Captures of stored scenarios agree wholly with what their routers sent; a capture of FRR's router differs where the docs say."""
+"""Captures of stored scenarios agree wholly with what their routers sent; a capture of FRR's router differs where
+the docs say."""
 import struct
 import subprocess
 import tempfile
@@ -96,7 +97,8 @@ class Stored(unittest.TestCase):
                 if unfit(read, steps, router) is None:
                     fit += 1
                     rows = rows_of(read, steps, router)
-                    self.assertEqual([row for row in rows if row.verdict != matched.AGREE], [], f"{path.name}, {router.name}")
+                    others = [row for row in rows if row.verdict != matched.AGREE]
+                    self.assertEqual(others, [], f"{path.name}, {router.name}")
                     self.assertEqual(len({row.theirs.packet for row in rows}), sent_by(steps, router))
         self.assertGreater(fit, 40)
 
@@ -160,12 +162,14 @@ class Files(unittest.TestCase):
         said = [(1.0, own_query(), True), (1.5, own_hello(), True), (2.0, report(), False)]
         kinds = {
             1: lambda data, is_own: ethernet(OWN if is_own else OTHER, data), 101: lambda data, is_own: data,
-            113: lambda data, is_own: cooked(4 if is_own else 0, data), 276: lambda data, is_own: cooked_2(4 if is_own else 2, data),
+            113: lambda data, is_own: cooked(4 if is_own else 0, data),
+            276: lambda data, is_own: cooked_2(4 if is_own else 2, data),
         }
         for kind, frame in kinds.items():
             for order, magic, ticks in (("<", 0xA1B2C3D4, 10**6), (">", 0xA1B23C4D, 10**9)):
                 frames = [(moment, frame(data, is_own)) for moment, data, is_own in said]
-                status, told, wrong = self.compared(classic(kind, frames, order, magic, ticks), "--router", f"{ROUTER}/24")
+                content = classic(kind, frames, order, magic, ticks)
+                status, told, wrong = self.compared(content, "--router", f"{ROUTER}/24")
                 self.assertEqual((status, wrong), (0, ""), told)
                 self.assertIn("2 agree, 0 differ, 0 only in the capture, 0 only ours", told)
                 self.assertIn("+0.400 s beside ours (Triggered_Hello_Delay: up to 5 s)", told)
@@ -175,13 +179,14 @@ class Files(unittest.TestCase):
         self.assertIn("1 agree", self.compared(content, "--router", f"{ROUTER}/24")[1])
 
     def test_differences(self):
-        frames = [(1.0, own_query()), (1.5, own_hello(7)), (2.0, packets.write_assert(ROUTER, packets.Assert(GROUP, 32, FAR, False, 0, 0)))]
+        won = packets.write_assert(ROUTER, packets.Assert(GROUP, 32, FAR, False, 0, 0))
+        frames = [(1.0, own_query()), (1.5, own_hello(7)), (2.0, won)]
         frames += [(9.0, packets.write_hello(PEER, packets.Hello(105)))]
         status, told, _ = self.compared(classic(101, frames), "--router", f"{ROUTER}/24", "--differences")
         self.assertEqual(status, 1)
         self.assertIn("1 agree, 1 differ, 1 only in the capture", told)
-        self.assertIn("DR priority 7, generation 0, propagation delay 500 ms, override interval 2500 ms: packet 2 at 0.500 s; ours: "
-                      "Hello for 105 s, DR priority 1", told)
+        self.assertIn("DR priority 7, generation 0, propagation delay 500 ms, override interval 2500 ms: packet 2 at "
+                      "0.500 s; ours: Hello for 105 s, DR priority 1", told)
         self.assertIn(f"Assert of ({FAR}, {GROUP}), preference 0, metric 0: packet 3 at 1.000 s", told)
         self.assertNotIn("agree\n", told)
 
@@ -217,11 +222,13 @@ class OfFrr(unittest.TestCase):
         self.assertEqual((ran.returncode, ran.stderr), (1, ""))
         self.assertIn("74 agree, 6 differ, 2 only in the capture, 6 only ours", ran.stdout)
         differing = ran.stdout.partition("\ndiffer\n")[2].splitlines()
-        texts = [line.strip().partition(", packet ")[0].partition(": packet ")[0] for line in differing if line.startswith("  ")]
+        lines = [line.strip() for line in differing if line.startswith("  ")]
+        texts = [line.partition(", packet ")[0].partition(": packet ")[0] for line in lines]
         asked = "query of all groups: answer within 5 s, robustness 2, interval 20 s"
         delays = "propagation delay 500 ms, override interval 2500 ms"
         self.assertEqual([text.partition(", at ")[0] for text in texts], [
-            f"r3-home: {asked}, suppressed: 6 times", f"r2-r3: Hello for 105 s, DR priority 1, generation 377427461, {delays}",
+            f"r3-home: {asked}, suppressed: 6 times",
+            f"r2-r3: Hello for 105 s, DR priority 1, generation 377427461, {delays}",
             "r2-r3: Join/Prune to 10.2.0.2 for 210 s: join (*, 239.1.1.1) by 10.255.0.2", f"r2-r3: {asked}: 6 times",
         ])
 
