@@ -16,7 +16,7 @@ use Rattle.pim_model.specs.declared.accepted.Accepted.{Accepted}
 use Rattle.pim_model.specs.Downstream.{accepted_joins, accepted_prunes, is_accepted, is_named, joined_keys, keys_taken, pruned_keys, row_after, rpt_rows_joined, to_me, touched_keys}
 use Rattle.pim_model.specs.Messages.{entry}
 use Rattle.pim_model.specs.Network.{Station}
-use Rattle.pim_model.specs.Sets.{spt_bit}
+use Rattle.pim_model.specs.Sets.{prunes, spt_bit}
 use Rattle.pim_model.specs.State.{State, is_own_among, my_address}
 use Rattle.pim_model.specs.Step.{change, done, step}
 use Rattle.pim_model.specs.Tables.{has_row, keys_in, row_at, set_row}
@@ -39,6 +39,7 @@ use Rattle.pim_stream.specs.Climbing.{CanStream, JoinBeginsStream, delivered}
 use Rattle.pim_stream.specs.Passing.{Passes, Receiver, Tree}
 use Rattle.pim_stream.proofs.Changes.{same_ground, still_off, still_unlost}
 use Rattle.pim_stream.proofs.Climbing.{stepped_so}
+use Rattle.pim_stream.proofs.Rejoins.{prunes_by}
 use Rattle.pim_stream.proofs.Settles.{NoWorse, settling_no_worse}
 use Rattle.pim_stream.proofs.Ways.{SameGround, same_interface, same_interface_rp}
 
@@ -185,11 +186,11 @@ module _ (g rp from to link src : ℕ) (p : Place) (isg : IsGroup g rp) (can : C
   joins : JoinsStar s p.down g its_join
   joins = joins_it s p.down g rp isg can.rp_known (my_address s p.down)
 
-  none_prunes : has_row t.downstream (rpt_key p.down g src) ≡ false
-  unfolding has_row change
+  none_prunes : prunes t g src p.down ≡ false
+  unfolding prunes change
   none_prunes =
-      ap (λ d. has_row d (rpt_key p.down g src)) (follows).downstream
-      ∙ ap is_some (tree_gone s p.down g its_join joins src (unpruned s p.down g rp src (my_address s p.down)))
+      ap (λ d. prunes_by (row_at d (rpt_key p.down g src))) (follows).downstream
+      ∙ ap prunes_by (tree_gone s p.down g its_join joins src (unpruned s p.down g rp src (my_address s p.down)))
 
   pub begins : Passes Tree.Shared Receiver.Router t g src (up_iface p) p.down
   unfolding spt_bit

@@ -14,7 +14,7 @@ use Rattle.pim_model.specs.declared.accepted.Accepted.{Accepted}
 use Rattle.pim_model.specs.Cause.{done_as, if_done}
 use Rattle.pim_model.specs.Full.{is_full, source_is_full}
 use Rattle.pim_model.specs.Judging.{Judged, judged}
-use Rattle.pim_model.specs.Sets.{assert_source, assert_star, is_loser, spt_bit}
+use Rattle.pim_model.specs.Sets.{assert_source, assert_star, is_loser, prunes, spt_bit}
 use Rattle.pim_model.specs.State.{State, is_own_among}
 use Rattle.pim_model.specs.Step.{advanced, change, concluded, done, ran, state_after, step, taken, taken_unless_full}
 use Rattle.pim_model.specs.Tables.{has_row, row_at}
@@ -25,8 +25,8 @@ use Rattle.pim_ready.proofs.SettledStates.{settled_is_lawful}
 use Rattle.pim_ready.proofs.Steps.{step_is_settled}
 use Rattle.pim_promises.specs.Copies.{happens}
 use Rattle.pim_reach.proofs.Configured.{change_configured}
-use Rattle.pim_stream.proofs.JoinTimes.{time_keeps}
-use Rattle.pim_stream.specs.Passing.{ComesIn, EventKeepsPassing, GoesOut, IsJoinedThere, IsOn, IsOnShared, IsSourceJoinedThere, IsWanted, NoneEndsPassing, Receiver, RunKeepsPassing, Tree, serves_it, any_ends_passing, ends_by, ends_passing, has_expired, has_moved, is_asked, is_lost, is_on_source, leaves_tree, membership_ends, takes_from, takes_link}
+use Rattle.pim_stream.proofs.JoinTimes.{none_takes_effect, row_lasts}
+use Rattle.pim_stream.specs.Passing.{ComesIn, EventKeepsPassing, GoesOut, IsJoinedThere, IsOn, IsOnShared, IsSourceJoinedThere, IsWanted, NoneEndsPassing, Receiver, RunKeepsPassing, Tree, serves_it, any_ends_passing, ends_by, ends_passing, has_expired, has_moved, is_asked, is_lost, is_on_source, leaves_tree, membership_ends, takes_effect, takes_from, takes_link}
 use Rattle.pim_stream.proofs.Changes.{IsNoAssert, IsNotDown, IsQuietFor, chosen_spt, data_ground, other_data_off, same_ground, still_off, still_unlost, still_up}
 use Rattle.pim_stream.proofs.Fires.{Goes, time_goes}
 use Rattle.pim_stream.proofs.MemberTimes.{time_asks}
@@ -35,7 +35,7 @@ use Rattle.pim_asked.proofs.Same.{settled_same as settled_rows}
 use Rattle.pim_stream.proofs.Members.{IsNoReport, settled_asks, still_asks}
 use Rattle.std.specs.Cmp.{first_so}
 use Rattle.std.specs.Cmp.Derive.{both_true}
-use Rattle.pim_stream.proofs.Rejoins.{rejoined, source_rejoined}
+use Rattle.pim_stream.proofs.Rejoins.{prunes_by, rejoined, source_rejoined}
 use Rattle.pim_stream.proofs.Serving.{renewed_too}
 use Rattle.pim_promises.specs.Served.{renewed}
 use Rattle.pim_model.specs.Forwarding.{forwarded}
@@ -286,6 +286,7 @@ module _ (tree : Tree) (by : Receiver) (g src up down : ℕ) where
     wanted_after : (b : Receiver) → IsWanted b s g src down → (w : ℕ) (a : Accepted)
         → takes_link (t w a) g src up down (Some a) ≡ false → takes_from b s (t w a) g src down (Some a) ≡ false
         → IsWanted b (t w a) g src down
+    unfolding prunes
     wanted_after Receiver.Host e w a off other = host_after e w a off other
     wanted_after Receiver.Router j w a off other =
         let h : IsJoinedThere (c w a) g src down = rejoined s g src down j w (t w a) a (follows w a).downstream (isnt_below (t w a) a off) other in
@@ -293,7 +294,7 @@ module _ (tree : Tree) (by : Receiver) (g src up down : ℕ) where
         record {
           row = h.row;
           found = ap (λ d. row_at d (star_key down g)) same ∙ h.found;
-          none_prunes = ap (λ d. has_row d (rpt_key down g src)) same ∙ h.none_prunes;
+          none_prunes = ap (λ d. prunes_by (row_at d (rpt_key down g src))) same ∙ h.none_prunes;
         }
     wanted_after Receiver.SourceRouter j w a off other =
         let h : IsSourceJoinedThere (c w a) g src down =
@@ -336,24 +337,7 @@ module _ (tree : Tree) (by : Receiver) (g src up down : ℕ) where
             group = (f.goes_out).group;
             source = (f.goes_out).source;
             spt = λ e. e;
-            none_prunes = λ e. e;
           })
-
-      record Beyond (row : DownstreamRow) : Type 0 where
-        expiry : (end : ℕ) → row.expiry ≡ Some end → m < end
-        pending : (end : ℕ) → row.pending ≡ Some end → m < end
-
-      by_option : (o : Option ℕ) → ends_by m o ≡ false → (end : ℕ) → o ≡ Some end → m < end
-      by_option o off end is =
-          let before : nat_le end m ≡ false = subst (λ (x : Option ℕ). ends_by m x ≡ false) is off in
-          grind (arith, nat_tests, before)
-
-      beyond_by : (k : Key) (row : DownstreamRow) → row_at s.downstream k ≡ Some row → has_expired s k m ≡ false → Beyond row
-      unfolding has_expired
-      beyond_by k row found other =
-          let h : Two (ends_by m row.expiry) (ends_by m row.pending) =
-          neither _ _ (sym (ap (λ (o : Option DownstreamRow). option_map_or (λ (r : DownstreamRow). ends_by m r.expiry || ends_by m r.pending) o false) found) ∙ other) in
-          record { expiry = by_option row.expiry h.first; pending = by_option row.pending h.second }
 
       time_wanted : (b : Receiver) → IsWanted b s g src down
           → takes_from b s later g src down (Some (Accepted.Advance m)) ≡ false → IsWanted b later g src down
@@ -361,20 +345,16 @@ module _ (tree : Tree) (by : Receiver) (g src up down : ℕ) where
           let h : Two (membership_ends s g src down m) (not (serves_it later g down)) = neither _ _ other in
           both_true (time_asks s g src down w m (settled_is_lawful s rest) (first_so _ _ e) h.first)
           (is_true (serves_it later g down) h.second)
-      time_wanted Receiver.Router j other = record {
-        row = j.row;
-        found =
-            time_keeps (star_key down g) j.row m (beyond_by (star_key down g) j.row j.found other).pending
-            (beyond_by (star_key down g) j.row j.found other).expiry w s
-            (record { there = j.found; lawful = settled_is_lawful s rest });
-        none_prunes = (goes).none_prunes j.none_prunes;
-      }
+      time_wanted Receiver.Router j other =
+          let h : Two (has_expired s (star_key down g) m) (takes_effect s (rpt_key down g src) m) = neither _ _ other in
+          record {
+            row = j.row;
+            found = row_lasts w m s (star_key down g) j.row (settled_is_lawful s rest) j.found h.first;
+            none_prunes = none_takes_effect w m s g src down (settled_is_lawful s rest) j.none_prunes h.second;
+          }
       time_wanted Receiver.SourceRouter j other = record {
         row = j.row;
-        found =
-            time_keeps (source_key down g src) j.row m (beyond_by (source_key down g src) j.row j.found other).pending
-            (beyond_by (source_key down g src) j.row j.found other).expiry w s
-            (record { there = j.found; lawful = settled_is_lawful s rest });
+        found = row_lasts w m s (source_key down g src) j.row (settled_is_lawful s rest) j.found other;
       }
 
       time_on : (tr : Tree) → IsOn tr s g src up → leaves_tree tr later g src up (Some (Accepted.Advance m)) ≡ false

@@ -42,7 +42,7 @@ use Rattle.pim_served.specs.Ways.{Place, state_of}
 use Rattle.pim_served.proofs.Climbs.{still_stand}
 use Rattle.pim_served.proofs.Deliveries.{IsStepped, is_moved}
 use Rattle.pim_served.proofs.Forwards.{copy_fits, copy_reads_lower, from_copies}
-use Rattle.pim_stream.proofs.JoinTimes.{time_keeps}
+use Rattle.pim_stream.proofs.JoinTimes.{none_takes_effect, row_lasts}
 use Rattle.pim_served.proofs.Passes.{done_if, on_group_list}
 use Rattle.pim_served.proofs.Roots.{leaves_register}
 use Rattle.pim_stream.specs.Passing.{GoesOut, IsJoinedThere, Receiver, ends_by, has_expired, is_lost, takes_from}
@@ -50,7 +50,7 @@ use Rattle.pim_stream.specs.Roots.{EachOfStreamIsServed, EachRegisterIsBrought, 
 use Rattle.pim_stream.specs.Streams.{later_place}
 use Rattle.pim_stream.proofs.Changes.{IsNoAssert, IsNotDown, still_unlost}
 use Rattle.pim_stream.proofs.Fires.{Goes, time_goes}
-use Rattle.pim_stream.proofs.Rejoins.{rejoined}
+use Rattle.pim_stream.proofs.Rejoins.{prunes_by, rejoined}
 use Rattle.pim_stream.proofs.Settles.{NoWorse, settling_no_worse}
 use Rattle.pim_stream.proofs.Stations.{stands}
 use Rattle.pim_stream.proofs.Streams.{flow, flowed_so, later_apart, later_not_among, later_stand, later_streamed, same_length, same_top}
@@ -104,6 +104,7 @@ module _ (g src down : ℕ) where
 
     done_out : (w : ℕ) (a : Accepted) → takes_out (t w a) g src down (Some a) ≡ false
         → takes_from Receiver.Router s (t w a) g src down (Some a) ≡ false → Out (t w a)
+    unfolding prunes
     done_out w a off other =
         let unlost : Unlost (t w a) = unlost_after w a off in
         let h : IsJoinedThere (c w a) g src down = rejoined s g src down f.wanted w (t w a) a (follows w a).downstream (isnt_below (t w a) a off) other in
@@ -117,19 +118,9 @@ module _ (g src down : ℕ) where
           wanted = record {
             row = h.row;
             found = ap (λ d. row_at d (star_key down g)) same ∙ h.found;
-            none_prunes = ap (λ d. has_row d (rpt_key down g src)) same ∙ h.none_prunes;
+            none_prunes = ap (λ d. prunes_by (row_at d (rpt_key down g src))) same ∙ h.none_prunes;
           };
         }
-
-    by_option : (m : ℕ) (o : Option ℕ) → ends_by m o ≡ false → (end : ℕ) → o ≡ Some end → m < end
-    by_option m o off end is =
-        let before : nat_le end m ≡ false = subst (λ (x : Option ℕ). ends_by m x ≡ false) is off in
-        grind (arith, nat_tests, before)
-
-    both_ends : (m : ℕ) → has_expired s (star_key down g) m ≡ false → Two (ends_by m ((f.wanted).row).expiry) (ends_by m ((f.wanted).row).pending)
-    unfolding has_expired
-    both_ends m other =
-        neither _ _ (sym (ap (λ (o : Option DownstreamRow). option_map_or (λ (r : DownstreamRow). ends_by m r.expiry || ends_by m r.pending) o false) (f.wanted).found) ∙ other)
 
     module _ (rest : IsSettled s) where
       time_out : (w m : ℕ) → takes_from Receiver.Router s (advanced s w m).state g src down (Some (Accepted.Advance m)) ≡ false
@@ -137,7 +128,7 @@ module _ (g src down : ℕ) where
       time_out w m other =
           let h : Goes g src down s (advanced s w m).state =
           time_goes g src down s w m s
-          (record { ground = ground_itself s; group = f.group; source = f.source; spt = λ e. e; none_prunes = λ e. e }) in
+          (record { ground = ground_itself s; group = f.group; source = f.source; spt = λ e. e}) in
           record {
             configured = subst (λ (cs : List InterfaceConfig). down < length cs) (sym (h.ground).configured) f.configured;
             group = h.group;
@@ -145,10 +136,10 @@ module _ (g src down : ℕ) where
             wanted = record {
               row = (f.wanted).row;
               found =
-                  time_keeps (star_key down g) (f.wanted).row m (by_option m ((f.wanted).row).pending (both_ends m other).second)
-                  (by_option m ((f.wanted).row).expiry (both_ends m other).first) w s
-                  (record { there = (f.wanted).found; lawful = settled_is_lawful s rest });
-              none_prunes = h.none_prunes (f.wanted).none_prunes;
+                  row_lasts w m s (star_key down g) (f.wanted).row (settled_is_lawful s rest) (f.wanted).found
+                  (neither _ _ other).first;
+              none_prunes =
+                  none_takes_effect w m s g src down (settled_is_lawful s rest) (f.wanted).none_prunes (neither _ _ other).second;
             };
           }
 
@@ -260,13 +251,11 @@ each_register_is_brought t g rp src draw down lives bytes payload far own known 
 
 module _ (g src : ℕ) where
   served_there : (s : State) (down : ℕ) → Sends s g src down → IsServed s g src down
-  unfolding prunes has_row
+  unfolding has_row
   served_there s down f = record {
     configured = (f.goes_out).configured;
     joined = ap is_some ((f.goes_out).wanted).found;
-    unpruned =
-        ap (λ (o : Option DownstreamRow). option_map_or (λ (r : DownstreamRow). is_none r.pending) o false)
-        (none_there (row_at s.downstream (rpt_key down g src)) ((f.goes_out).wanted).none_prunes);
+    unpruned = ((f.goes_out).wanted).none_prunes;
     group = (f.goes_out).group;
     source = (f.goes_out).source;
   }
