@@ -16,7 +16,7 @@ use Rattle.pim_model.specs.declared.accepted.Accepted.{Accepted}
 use Rattle.pim_model.specs.Downstream.{accepted_joins, accepted_prunes, is_accepted, is_named, joined_keys, keys_taken, pruned_keys, row_after, rpt_rows_joined, to_me, touched_keys}
 use Rattle.pim_model.specs.Messages.{entry}
 use Rattle.pim_model.specs.Network.{Station}
-use Rattle.pim_model.specs.Sets.{prunes, spt_bit}
+use Rattle.pim_model.specs.Sets.{assert_source, is_loser, prunes, spt_bit}
 use Rattle.pim_model.specs.State.{State, is_own_among, my_address}
 use Rattle.pim_model.specs.Step.{change, done, step}
 use Rattle.pim_model.specs.Tables.{has_row, keys_in, row_at, set_row}
@@ -26,6 +26,7 @@ use Rattle.pim_laws.proofs.RowLaws.{has_row_any}
 use Rattle.pim_laws.proofs.TableLaws.{any_in_filter, any_of_map}
 use Rattle.pim_locality.proofs.JoinPrunes.{none_there}
 use Rattle.pim_promises.proofs.Made.{step_taken}
+use Rattle.pim_ready.specs.Ready.{IsSettled}
 use Rattle.pim_ready.proofs.Steps.{step_is_settled}
 use Rattle.pim_served.specs.Joins.{JoinsStar, TakesStar, join_value}
 use Rattle.pim_served.specs.Served.{became}
@@ -36,7 +37,8 @@ use Rattle.pim_served.proofs.Passes.{general_group, goes_on_with, is_done, join_
 use Rattle.pim_served.proofs.Serves.{has_room}
 use Rattle.pim_served.proofs.Taken.{becomes_set, stays_set}
 use Rattle.pim_stream.specs.Climbing.{CanStream, JoinBeginsStream, delivered}
-use Rattle.pim_stream.specs.Passing.{Passes, Receiver, Tree}
+use Rattle.pim_stream.specs.Passing.{GoesOut, Passes, Receiver, Tree}
+use Rattle.pim_stream.specs.Roots.{Sends}
 use Rattle.pim_stream.proofs.Changes.{same_ground, still_off, still_unlost}
 use Rattle.pim_stream.proofs.Climbing.{stepped_so}
 use Rattle.pim_stream.proofs.Rejoins.{prunes_by}
@@ -141,8 +143,7 @@ less_set a b true e f = drop b
 less_set true b false e f = cc e
 less_set false b false e f = ap (λ x. x && true) (f refl)
 
-module _ (g rp from to link src : ℕ) (p : Place) (isg : IsGroup g rp) (can : CanTake g rp from to link p)
-    (on : CanStream g src p) where
+module _ (g rp from to link src : ℕ) (p : Place) (isg : IsGroup g rp) (can : CanTake g rp from to link p) where
   abbrev s : State
   s = state_of p
 
@@ -192,9 +193,24 @@ module _ (g rp from to link src : ℕ) (p : Place) (isg : IsGroup g rp) (can : C
       ap (λ d. prunes_by (row_at d (rpt_key p.down g src))) (follows).downstream
       ∙ ap prunes_by (tree_gone s p.down g its_join joins src (unpruned s p.down g rp src (my_address s p.down)))
 
-  pub begins : Passes Tree.Shared Receiver.Router t g src (up_iface p) p.down
+  pub goes_out : is_loser (assert_source s g src p.down) ≡ false → GoesOut Receiver.Router t g src p.down
+  goes_out unlost = record {
+    configured = subst (λ (cs : List InterfaceConfig). p.down < length cs) (sym same_configured) (can.hears).configured;
+    group = (took).unlost;
+    source = (follows).source (still_unlost (source_key p.down g src) s p.draw a tt unlost);
+    wanted = record {
+      row = ((took).holds).row;
+      found = ((took).holds).found;
+      none_prunes = none_prunes;
+    };
+  }
+
+  pub begins_sending : IsSettled s → is_loser (assert_source s g src p.down) ≡ false → Sends t g src p.down
+  begins_sending settled unlost = record { settled = step_is_settled s e settled; goes_out = goes_out unlost }
+
+  pub begins : CanStream g src p → Passes Tree.Shared Receiver.Router t g src (up_iface p) p.down
   unfolding spt_bit
-  begins = record {
+  begins on = record {
     settled = step_is_settled s e on.settled;
     matched = tt;
     comes_in = record {
@@ -212,16 +228,7 @@ module _ (g rp from to link src : ℕ) (p : Place) (isg : IsGroup g rp) (can : C
             (λ off. (follows).spt (still_off (source_key 0 g src) s p.draw a tt off));
       };
     };
-    goes_out = record {
-      configured = subst (λ (cs : List InterfaceConfig). p.down < length cs) (sym same_configured) (can.hears).configured;
-      group = (took).unlost;
-      source = (follows).source (still_unlost (source_key p.down g src) s p.draw a tt on.unlost);
-      wanted = record {
-        row = ((took).holds).row;
-        found = ((took).holds).found;
-        none_prunes = none_prunes;
-      };
-    };
+    goes_out = goes_out on.unlost;
     room = has_room t g src ((goes_on_with g rp from to link p isg can).room on.settled on.room);
     on = on.on;
   }

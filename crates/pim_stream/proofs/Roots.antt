@@ -271,10 +271,10 @@ leaves_root s e p j lives f (InRegister outer is rp unset) =
 module _ (n : Network) (g src link lives : ℕ) (payload : List ℕ) (p : Place) (e : Event) (at : station_at n p.router ≡ Some p.station)
     (f : Sends (state_of p) g src p.down) (linked : slice_get (p.station).links p.down ≡ Some link) (some : 0 < lives)
     (b : IsBrought (state_of p) e g src p.down payload lives) where
-  did : IsStepped n p.router p.station e (moved n (At p.router e)).1
+  pub did : IsStepped n p.router p.station e (moved n (At p.router e)).1
   did = is_moved n p.router p.station e at
 
-  put_on : IsCarried (moved n (At p.router e)).1 g src link payload lives
+  pub put_on : IsCarried (moved n (At p.router e)).1 g src link payload lives
   put_on =
       let long = b.time_to_live in
       record {
