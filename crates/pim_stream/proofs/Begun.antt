@@ -90,7 +90,7 @@ module _ (g rp src link : ℕ) (isg : IsGroup g rp) (n : Network) (ms : List Mov
   is_end =
       sym (ran_both n b.before b.move b.after) ∙ ap (λ (xs : List Move). (network_ran n xs).1) (sym b.whole)
 
-  now : State
+  abbrev now : State
   now = state_after (first).state (events_in p.router middle b.after)
 
   now_there : station_at (network_ran n ms).1 p.router ≡ Some (became p now).station
