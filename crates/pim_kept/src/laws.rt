@@ -8,7 +8,7 @@ ghost use Rattle.pim_kept.specs.Kept.{KeptInAnyOrder, KeptIsCaughtUp, SplitRoute
 ghost use Rattle.pim_kept.specs.Silent.{CatchesUpSilently};
 ghost use Rattle.pim_kept.specs.Near.{EachKeepaliveIsNear};
 
-/// Each keepalive timer that runs ends within 210 s.
+/// Each keepalive timer that runs expires at most 210 s after the present.
 #[tactic(auto, using(crate::proofs::NearEnds::each_keepalive_is_near))]
 pub fn each_keepalive_is_near()
     ensures { EachKeepaliveIsNear }
@@ -20,31 +20,31 @@ pub fn kept_is_caught_up()
     ensures { KeptIsCaughtUp }
 {}
 
-/// So the router whose plane tells so is a router that gets every packet as an event.
+/// A router whose plane tells its notes by `keep` is a router that gets every packet as an event.
 #[tactic(auto, using(crate::proofs::KeptSplits::split_router_by_keep_is_sound))]
 pub fn split_router_by_keep_is_sound()
     ensures { SplitRouterByKeepIsSound }
 {}
 
-/// So it is in another order.
+/// Notes told by `keep` may come in any order, those told as seen by their moments.
 #[tactic(auto, using(crate::proofs::KeptOrders::kept_in_any_order))]
 pub fn kept_in_any_order()
     ensures { KeptInAnyOrder }
 {}
 
-/// So is one whose plane holds on to what it was offered of sources without a fact.
+/// A router whose plane holds rows of sources without a fact until they may differ is a router that gets every packet.
 #[tactic(auto, using(crate::proofs::GuestSplits::split_router_by_offers_is_sound))]
 pub fn split_router_by_offers_is_sound()
     ensures { SplitRouterByOffersIsSound }
 {}
 
-/// Time goes on in one step as in two, of which the first ends nothing.
+/// An Advance within which no timer ends, and a later one, are the later one alone.
 #[tactic(auto, using(crate::proofs::AtOnce::advance_at_once))]
 pub fn advance_at_once()
     ensures { AdvanceAtOnce }
 {}
 
-/// So after its notes a plane may have the router go on to the present at once.
+/// After its notes a plane may have the router advance beyond its next moment at once.
 #[tactic(auto, using(crate::proofs::KeptAtOnces::kept_at_once))]
 pub fn kept_at_once()
     ensures { KeptAtOnce }
@@ -56,7 +56,7 @@ pub fn documented_plane_is_sound()
     ensures { DocumentedPlaneIsSound }
 {}
 
-/// Any events may come to such a plane.
+/// Any list of events is one of a plane as it is documented.
 pub fn plain_acts_are_right()
     ensures { PlainActsAreRight }
 {}

@@ -1,5 +1,5 @@
 -- A Join(*,G) begins a stream.
-use Rattle.std.proofs.Common.{◌≡◌, ◌∙◌, ℕ, ◌<◌, ◌&&◌, ◌||◌, Bool, true, false, not, List, [], ◌∷◌, ◌++◌, fold, length, Option, Some, None, is_some, refl, sym, ap, subst, eq-eqb}
+use Rattle.std.proofs.Common.{◌≡◌, ◌∙◌, ℕ, ◌<◌, ◌&&◌, ◌||◌, Bool, true, false, not, List, [], ◌∷◌, ◌++◌, fold, length, Option, Some, None, refl, sym, ap, subst, eq-eqb}
 use Rattle.std.proofs.lemmas.Bool.{or_left, or_right}
 use Rattle.std.proofs.lemmas.List.Folds.{list_any-append}
 use Rattle.std.specs.List.{list_any}
@@ -44,6 +44,7 @@ use Rattle.pim_stream.proofs.Climbing.{stepped_so}
 use Rattle.pim_stream.proofs.Rejoins.{prunes_by}
 use Rattle.pim_stream.proofs.Settles.{NoWorse, settling_no_worse}
 use Rattle.pim_stream.proofs.Ways.{SameGround, same_interface, same_interface_rp}
+use Rattle.pim_stream.proofs.Tests.{less_set}
 
 named_last : (xs ys : List Key) (k : Key) → is_named ys k ≡ true → is_named (xs ++ ys) k ≡ true
 unfolding is_named
@@ -133,15 +134,6 @@ module _ (s : State) (i g rp : ℕ) (isg : IsGroup g rp) (known : rp_of s g ≡ 
     unpruned = rw pruned_is refl;
     lasts = refl;
   }
-
-less_set : (a b c : Bool) → (a && not c) ≡ false → (a ≡ false → b ≡ false) → (b && not c) ≡ false
-less_set a b true e f = drop b
-  where
-    drop : (b : Bool) → (b && false) ≡ false
-    drop true = refl
-    drop false = refl
-less_set true b false e f = cc e
-less_set false b false e f = ap (λ x. x && true) (f refl)
 
 module _ (g rp from to link src : ℕ) (p : Place) (isg : IsGroup g rp) (can : CanTake g rp from to link p) where
   abbrev s : State

@@ -1,6 +1,5 @@
 -- Routers that begin at moves of their own, put together.
-use Rattle.std.proofs.Common.{◌≡◌, ◌∙◌, ℕ, suc, ◌+◌, ◌<◌, false, List, [], ◌∷◌, ◌++◌, length, Option, Some, None, refl, sym, ap, subst, arith}
-use Rattle.std.specs.Prelude.{slice_get}
+use Rattle.std.proofs.Common.{◌≡◌, ◌∙◌, ℕ, suc, ◌+◌, List, [], ◌∷◌, ◌++◌, length, Option, Some, None, refl, sym, ap, subst, arith}
 use Rattle.pim_types.specs.declared.event.Event.{Event}
 use Rattle.pim_model.specs.Network.{At, Deliver, Move, Network, Station, moved, network_ran, station_at}
 use Rattle.pim_model.specs.State.{State}
@@ -16,7 +15,7 @@ use Rattle.pim_served.proofs.Hosts.{host_asks, report_makes_member}
 use Rattle.pim_served.proofs.Passes.{join_event}
 use Rattle.pim_stream.specs.Begun.{BeginsAt, BegunStreamIsServed, ByJoin, ByReport, EachOfBegunStreamIsServed, HasBegun, HasTakenAt, HaveBegun, HostBeginsStream, JoinBeginsSending}
 use Rattle.pim_stream.specs.Climbing.{delivered}
-use Rattle.pim_stream.specs.Passing.{Passes, Receiver, Tree}
+use Rattle.pim_stream.specs.Passing.{Receiver, Tree}
 use Rattle.pim_stream.specs.Roots.{Sends}
 use Rattle.pim_stream.specs.Streams.{IsStreamed, PassesAt}
 use Rattle.pim_stream.proofs.Begins.{begins, begins_sending}

@@ -1,13 +1,9 @@
 -- A stream goes on to pass at one router.
-use Rattle.std.proofs.Common.{◌≡◌, ◌∙◌, ℕ, ◌<◌, ◌==◌, nat_le, ◌&&◌, ◌||◌, Bool, true, false, not, List, [], ◌∷◌, length, Option, Some, Result, Ok, Err, refl, sym, ap, subst, arith}
-use Rattle.std.proofs.lemmas.Bool.Decides.{nat_tests}
-use Rattle.std.specs.Option.{option_map_or}
+use Rattle.std.proofs.Common.{◌≡◌, ◌∙◌, ℕ, ◌<◌, ◌==◌, ◌&&◌, Bool, true, false, not, List, [], ◌∷◌, length, Option, Some, Result, Ok, Err, refl, sym, ap, subst, arith}
 use Rattle.pim_ip.specs.declared.refusal.Refusal.{Refusal}
 use Rattle.pim_types.specs.Keys.{group_in, rpt_key, same_key, source_in, source_key, star_key}
 use Rattle.pim_types.specs.declared.config.InterfaceConfig.{InterfaceConfig}
 use Rattle.pim_types.specs.declared.event.Event.{Event}
-use Rattle.pim_types.specs.declared.fact.DownstreamRow.{DownstreamRow}
-use Rattle.pim_types.specs.declared.fact.Key.{Key}
 use Rattle.pim_types.specs.declared.outcome.Stop.{Stop}
 use Rattle.pim_types.specs.declared.outcome.Verdict.{Verdict}
 use Rattle.pim_model.specs.declared.accepted.Accepted.{Accepted}
@@ -17,7 +13,7 @@ use Rattle.pim_model.specs.Judging.{Judged, judged}
 use Rattle.pim_model.specs.Sets.{assert_source, assert_star, is_loser, prunes, spt_bit}
 use Rattle.pim_model.specs.State.{State, is_own_among}
 use Rattle.pim_model.specs.Step.{advanced, change, concluded, done, ran, state_after, step, taken, taken_unless_full}
-use Rattle.pim_model.specs.Tables.{has_row, row_at}
+use Rattle.pim_model.specs.Tables.{row_at}
 use Rattle.pim_model.specs.Unicast.{is_rpf_interface, is_rpf_interface_rp}
 use Rattle.pim_laws.proofs.UnchangedLaws.{full_or_taken, taken_done}
 use Rattle.pim_ready.specs.Ready.{IsSettled}
@@ -26,7 +22,7 @@ use Rattle.pim_ready.proofs.Steps.{step_is_settled}
 use Rattle.pim_promises.specs.Copies.{happens}
 use Rattle.pim_reach.proofs.Configured.{change_configured}
 use Rattle.pim_stream.proofs.JoinTimes.{none_takes_effect, row_lasts}
-use Rattle.pim_stream.specs.Passing.{ComesIn, EventKeepsPassing, GoesOut, IsJoinedThere, IsOn, IsOnShared, IsSourceJoinedThere, IsWanted, NoneEndsPassing, Receiver, RunKeepsPassing, Tree, serves_it, any_ends_passing, ends_by, ends_passing, has_expired, has_moved, is_asked, is_lost, is_on_source, leaves_tree, membership_ends, takes_effect, takes_from, takes_link}
+use Rattle.pim_stream.specs.Passing.{ComesIn, EventKeepsPassing, GoesOut, IsJoinedThere, IsOn, IsOnShared, IsSourceJoinedThere, IsWanted, NoneEndsPassing, Receiver, RunKeepsPassing, Tree, serves_it, any_ends_passing, ends_passing, has_expired, has_moved, is_asked, is_lost, is_on_source, leaves_tree, membership_ends, takes_effect, takes_from, takes_link}
 use Rattle.pim_stream.proofs.Changes.{IsNoAssert, IsNotDown, IsQuietFor, chosen_spt, data_ground, other_data_off, same_ground, still_off, still_unlost, still_up}
 use Rattle.pim_stream.proofs.Fires.{Goes, time_goes}
 use Rattle.pim_stream.proofs.MemberTimes.{time_asks}
@@ -45,51 +41,7 @@ use Rattle.pim_types.proofs.Keys.{equal_keys}
 use Rattle.std.proofs.lemmas.Grind.{common_steps}
 use Rattle.pim_stream.proofs.Settles.{NoWorse, settling_no_worse}
 use Rattle.pim_stream.proofs.Ways.{SameGround, ground_itself, same_interface, same_interface_rp}
-
--- ---- Booleans
-
-record Three (a b c : Bool) : Type 0 where
-  first : a ≡ false
-  second : b ≡ false
-  third : c ≡ false
-
-none_of : (a b c : Bool) → (a || b || c) ≡ false → Three a b c
-none_of true b c e = cc e
-none_of false true c e = cc e
-none_of false false c e = record { first = refl; second = refl; third = e }
-
-record Four (a b c d : Bool) : Type 0 where
-  first : a ≡ false
-  second : b ≡ false
-  third : c ≡ false
-  fourth : d ≡ false
-
-none_of_four : (a b c d : Bool) → (a || b || c || d) ≡ false → Four a b c d
-none_of_four true b c d e = cc e
-none_of_four false true c d e = cc e
-none_of_four false false true d e = cc e
-none_of_four false false false d e = record { first = refl; second = refl; third = refl; fourth = e }
-
-record Two (a b : Bool) : Type 0 where
-  first : a ≡ false
-  second : b ≡ false
-
-neither : (a b : Bool) → (a || b) ≡ false → Two a b
-neither true b e = cc e
-neither false b e = record { first = refl; second = e }
-
-is_true : (a : Bool) → not a ≡ false → a ≡ true
-is_true true e = refl
-is_true false e = cc e
-
-less_set : (a b c : Bool) → (a && not c) ≡ false → (a ≡ false → b ≡ false) → (b && not c) ≡ false
-less_set a b true e f = drop b
-  where
-    drop : (b : Bool) → (b && false) ≡ false
-    drop true = refl
-    drop false = refl
-less_set true b false e f = cc e
-less_set false b false e f = ap (λ x. x && true) (f refl)
+use Rattle.pim_stream.proofs.Tests.{Four, Two, is_true, less_set, neither, none_of_four}
 
 module _ (tree : Tree) (by : Receiver) (g src up down : ℕ) where
   -- what is asked of the state but that it is settled, and has room

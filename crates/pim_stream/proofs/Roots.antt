@@ -1,8 +1,6 @@
 -- What comes to the last router of a way leaves, and comes down.
-use Rattle.std.proofs.Common.{◌≡◌, ◌∙◌, ℕ, ◌+◌, ◌<◌, nat_le, ◌||◌, Bool, true, false, List, [], ◌∷◌, length, map, Option, Some, is_some, is_none, Result, Ok, Err, refl, sym, ap, subst, arith, eq-eqb}
-use Rattle.std.proofs.lemmas.Bool.Decides.{nat_tests}
+use Rattle.std.proofs.Common.{◌≡◌, ◌∙◌, ℕ, ◌+◌, ◌<◌, Bool, true, false, List, [], ◌∷◌, length, map, Option, Some, is_some, Result, Ok, Err, refl, sym, ap, subst, arith, eq-eqb}
 use Rattle.std.specs.List.{Contains}
-use Rattle.std.specs.Option.{option_map_or}
 use Rattle.std.specs.Prelude.{slice_get}
 use Rattle.pim_ip.specs.Ipv4.{Packet, copy_text, is_link_local}
 use Rattle.pim_ip.specs.View.{copied}
@@ -10,7 +8,6 @@ use Rattle.pim_types.specs.Keys.{rpt_key, source_key, star_key}
 use Rattle.pim_types.specs.declared.config.InterfaceConfig.{InterfaceConfig}
 use Rattle.pim_types.specs.declared.event.Event.{Event}
 use Rattle.pim_types.specs.declared.event.EventKind.{EventKind}
-use Rattle.pim_types.specs.declared.fact.DownstreamRow.{DownstreamRow}
 use Rattle.pim_types.specs.declared.outcome.Stop.{Stop}
 use Rattle.pim_types.specs.declared.outcome.Verdict.{Verdict}
 use Rattle.pim_ip.specs.declared.refusal.Refusal.{Refusal}
@@ -28,7 +25,6 @@ use Rattle.pim_model.specs.Unicast.{is_rp, rp_of}
 use Rattle.pim_model.specs.Writing.{on_link}
 use Rattle.pim_asked.specs.Networks.{events_in}
 use Rattle.pim_laws.proofs.UnchangedLaws.{full_or_taken, taken_done}
-use Rattle.pim_locality.proofs.JoinPrunes.{none_there}
 use Rattle.pim_promises.specs.Copies.{happens}
 use Rattle.pim_promises.specs.Served.{IsServed}
 use Rattle.pim_promises.proofs.Served.{served_here}
@@ -45,7 +41,7 @@ use Rattle.pim_served.proofs.Forwards.{copy_fits, copy_reads_lower, from_copies}
 use Rattle.pim_stream.proofs.JoinTimes.{none_takes_effect, row_lasts}
 use Rattle.pim_served.proofs.Passes.{done_if, on_group_list}
 use Rattle.pim_served.proofs.Roots.{leaves_register}
-use Rattle.pim_stream.specs.Passing.{GoesOut, IsJoinedThere, Receiver, ends_by, has_expired, is_lost, takes_from}
+use Rattle.pim_stream.specs.Passing.{GoesOut, IsJoinedThere, Receiver, is_lost, takes_from}
 use Rattle.pim_stream.specs.Roots.{EachOfStreamIsServed, EachRegisterIsBrought, EventKeepsSending, NoneEndsSending, RunKeepsSending, Sends, any_ends_sending, ends_sending, takes_out}
 use Rattle.pim_stream.specs.Streams.{later_place}
 use Rattle.pim_stream.proofs.Changes.{IsNoAssert, IsNotDown, still_unlost}
@@ -55,14 +51,7 @@ use Rattle.pim_stream.proofs.Settles.{NoWorse, settling_no_worse}
 use Rattle.pim_stream.proofs.Stations.{stands}
 use Rattle.pim_stream.proofs.Streams.{flow, flowed_so, later_apart, later_not_among, later_stand, later_streamed, same_length, same_top}
 use Rattle.pim_stream.proofs.Ways.{ground_itself}
-
-record Two (a b : Bool) : Type 0 where
-  first : a ≡ false
-  second : b ≡ false
-
-neither : (a b : Bool) → (a || b) ≡ false → Two a b
-neither true b e = cc e
-neither false b e = record { first = refl; second = e }
+use Rattle.pim_stream.proofs.Tests.{Two, neither}
 
 module _ (g src down : ℕ) where
   abbrev Out : State → Type 0
@@ -128,7 +117,7 @@ module _ (g src down : ℕ) where
       time_out w m other =
           let h : Goes g src down s (advanced s w m).state =
           time_goes g src down s w m s
-          (record { ground = ground_itself s; group = f.group; source = f.source; spt = λ e. e}) in
+          (record { ground = ground_itself s; group = f.group; source = f.source; spt = λ e. e }) in
           record {
             configured = subst (λ (cs : List InterfaceConfig). down < length cs) (sym (h.ground).configured) f.configured;
             group = h.group;

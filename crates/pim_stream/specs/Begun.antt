@@ -14,7 +14,7 @@ use Rattle.pim_ready.specs.Ready.{IsSettled}
 use Rattle.pim_served.specs.Flows.{IsCarried, IsFlowed, top_link}
 use Rattle.pim_served.specs.Roots.{IsBrought}
 use Rattle.pim_served.specs.Served.{CanServeHost, IsRequest, became}
-use Rattle.pim_served.specs.Ways.{AreApart, CanTake, IsGroup, IsNotAmong, Place, state_of, up_iface}
+use Rattle.pim_served.specs.Ways.{AreApart, CanTake, IsGroup, Place, state_of, up_iface}
 use Rattle.pim_stream.specs.Climbing.{CanStream, delivered, join_frame}
 use Rattle.pim_stream.specs.Passing.{NoneEndsPassing, Receiver, Tree}
 use Rattle.pim_stream.specs.Roots.{NoneEndsSending, Sends}

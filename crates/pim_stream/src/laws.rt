@@ -3,6 +3,7 @@
 
 ghost use Rattle.pim_stream.specs.Begun.{BegunStreamIsServed, EachOfBegunStreamIsServed, HostBeginsStream, JoinBeginsSending};
 ghost use Rattle.pim_stream.specs.Climbing.{FramesStay, JoinBeginsStream, JoinClimbsOver};
+ghost use Rattle.pim_stream.specs.InTime.{EventKeepsPassingUntil, JoinsInTimeKeepPassing};
 ghost use Rattle.pim_stream.specs.Passing.{EventKeepsPassing, PassingServes, RunKeepsPassing};
 ghost use Rattle.pim_stream.specs.Roots.{EachOfStreamIsServed, EachRegisterIsBrought, EventKeepsSending, RunKeepsSending};
 ghost use Rattle.pim_stream.specs.Streams.{MemberBeginsStream, StreamIsServed};
@@ -85,4 +86,14 @@ pub fn begun_stream_is_served()
 /// Each packet that is brought to the last router of such a way comes down to who asked.
 pub fn each_of_begun_stream_is_served()
     ensures { EachOfBegunStreamIsServed }
+{}
+
+/// An event keeps a stream to a router, and how long its Join holds, where it is none of those of `ends_in_time`.
+pub fn event_keeps_passing_until()
+    ensures { EventKeepsPassingUntil }
+{}
+
+/// While each Join(*,G) comes before the holdtime of the one before is over, the stream goes on.
+pub fn joins_in_time_keep_passing()
+    ensures { JoinsInTimeKeepPassing }
 {}

@@ -1,18 +1,15 @@
 -- The premises, computed.
-use Rattle.std.proofs.Common.{◌≡◌, ◌+◌, List, Option, map, [], ◌∷◌, length, Some, None, Ok, false, refl, lit≤, ℕ, ◌*◌}
+use Rattle.std.proofs.Common.{◌≡◌, ◌+◌, [], ◌∷◌, length, Some, None, Ok, false, refl, lit≤, ℕ}
 use Rattle.pim_runs.proofs.OnLiterals.{machine_on_literals}
-use Rattle.std.specs.Prelude.{unwrap_or}
 use Rattle.pim_model.specs.Limits.{config_test}
-use Rattle.pim_model.specs.Network.{At, Deliver, Move, Network, Sent, Station, network_ran, station_at}
-use Rattle.pim_model.specs.Step.{state_after}
+use Rattle.pim_model.specs.Network.{network_ran, station_at}
 use Rattle.pim_asked.specs.Networks.{events_in}
 use Rattle.pim_ready.specs.Ready.{IsSettled}
 use Rattle.pim_ready.proofs.Steps.{run_is_settled}
 use Rattle.pim_served.specs.Joins.{join_packet}
-use Rattle.pim_served.specs.Flows.{IsCarried, IsFlowed}
-use Rattle.pim_served.specs.Ways.{Place, StandIn, state_of, up_iface}
-use Rattle.pim_served_runs.specs.Chain.{asked_group, chain, content, first, first_meets, first_place, register, report, root, second, second_meets, second_place, sender, sent_packet, third, third_meets, third_place}
-use Rattle.pim_stream.specs.Passing.{Passes, Receiver, Tree, any_ends_passing, ends_passing, has_expired, has_moved, is_lost, membership_ends}
+use Rattle.pim_served.specs.Ways.{Place, state_of}
+use Rattle.pim_served_runs.specs.Chain.{asked_group, chain, content, first, first_meets, first_place, register, root, second, second_meets, second_place, sender, sent_packet, third, third_meets, third_place}
+use Rattle.pim_stream.specs.Passing.{Receiver, Tree, any_ends_passing, ends_passing, has_expired, has_moved, is_lost, membership_ends}
 use Rattle.pim_model.specs.Network.{frame_at}
 use Rattle.pim_runs.specs.Words.{address}
 use Rattle.pim_served.specs.Ways.{CanTake, IsGroup}
