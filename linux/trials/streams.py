@@ -4,7 +4,7 @@ import time
 from trials.network import HOST, SOURCE, Failed, ended, first_after, ip, received, until
 
 # A join to a running stream is to have its first packet within so many ms.
-SOON = 500
+SOON = 1000
 SIZES = (100, 1480, 9000, 60_000)
 
 

@@ -1,7 +1,8 @@
 """What is wrong with a scenario file: every fault with its line, and the number with which `pimlab` refuses it.
 
-The rules are those of docs/USING.md. 39 is anything that keeps the file from being read as a scenario; 30 to 38 are the
-tests of a router's configuration, asked in this order, of one router after the other. """
+The rules are those of docs/SCENARIOS.md. 39 is anything that keeps the file from being read as a scenario; 30 to 38 are
+the tests of a router's configuration, in this order, of one router after the other.
+"""
 import re
 from dataclasses import dataclass
 from difflib import get_close_matches

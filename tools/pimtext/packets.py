@@ -1,8 +1,9 @@
 """IPv4, PIM version 2 and IGMP version 3 packets, read and written.
 
 Readings are strict, by the formats of RFC 791, RFC 7761 (4.9) and RFC 3376 (4): the first test that fails is raised as
-`Refused` with the number of the refusal, as docs/USING.md lists them. They stand on no code of the router. Addresses
-are dotted text. """
+`Refused` with the number of the refusal, as docs/SCENARIOS.md lists them. They stand on no code of the router. Addresses
+are dotted text.
+"""
 from dataclasses import dataclass
 
 SHORT, VERSION, CHECKSUM, LENGTH, ADDRESS, GROUP, OLD, UNKNOWN, FRAGMENT = range(1, 10)

@@ -1,4 +1,4 @@
-"""The scenario file as plain objects, read and written; docs/USING.md says what its keys mean.
+"""The scenario file as plain objects, read and written; docs/SCENARIOS.md says what its keys mean.
 
 What the program would refuse isn't looked for here: these are the scenarios that it has played.
 """

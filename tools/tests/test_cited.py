@@ -98,10 +98,9 @@ impl Router {
 """,
     "crates/pim_router/specs/Standing.antt": "unfoldable pub standing : ℕ\nstanding = 1\n",
     "crates/pim_router/specs/Own.antt": "unfoldable pub own : ℕ\nown = 1\n",
-    "README.md": "# Low\n\n## Trusted\n\n<!-- trusted definitions -->\nx\n<!-- end -->\n",
     "docs/PROVED.md": "# Proved\n\n## What it means for a network\n\n| `NeverFar` | never |\n\n## Other\n\n| `Lemma` "
-                      "| so |\n\n<!-- what calls ask -->\nx\n<!-- end -->\n",
-    "docs/USING.md": "# Using\n",
+                      "| so |\n\n<!-- trusted definitions -->\nx\n<!-- end -->\n\n<!-- what calls ask -->\nx\n<!-- end -->\n",
+    "docs/LIBRARY.md": "# The library\n\n## What one event can bring\n\nNothing.\n",
 }
 
 
@@ -151,7 +150,7 @@ class Check(unittest.TestCase):
         with repository(FILES) as room:
             ran(room, "--write")
             self.assertEqual((0, ""), ran(room, "--check"))
-            self.assertIn("7 definitions", (room / "README.md").read_text())
+            self.assertIn("7 definitions", (room / "docs" / "PROVED.md").read_text())
 
     def spoilt(self, file, old, new):
         with repository(FILES) as room:
@@ -167,7 +166,7 @@ class Check(unittest.TestCase):
         status, printed = self.spoilt("crates/pim_router/src/router.rt", "specs.Standing.{standing};",
             "specs.Own.{own as standing};")
         self.assertEqual(1, status)
-        self.assertIn("README.md: this is missing: of `pim_router` in `Own`", printed)
+        self.assertIn("docs/PROVED.md: this is missing: of `pim_router` in `Own`", printed)
 
     def test_a_definition_that_cites_more(self):
         status, printed = self.spoilt("crates/low/specs/Deep.antt", "holds n = passed n",
@@ -178,13 +177,22 @@ class Check(unittest.TestCase):
         self.assertIn("8 definitions", printed)
 
     def test_a_file_that_the_list_leaves_out(self):
-        status, printed = self.spoilt("README.md", "; of `pim_router` in `Standing`", "")
-        self.assertEqual((1, "README.md: this is missing: of `pim_router` in `Standing`\n"), (status, printed))
+        status, printed = self.spoilt("docs/PROVED.md", "; of `pim_router` in `Standing`", "")
+        self.assertEqual((1, "docs/PROVED.md: this is missing: of `pim_router` in `Standing`\n"), (status, printed))
 
     def test_a_law_of_the_table_that_is_another(self):
         status, printed = self.spoilt("docs/PROVED.md", "| `NeverFar`", "| `Never`")
         self.assertEqual(1, status)
-        self.assertIn("README.md: this isn't so: 7 definitions", printed)
+        self.assertIn("docs/PROVED.md: this isn't so: 7 definitions", printed)
+
+    def test_laws_of_each_section(self):
+        for file, old, new in (
+                ("docs/PROVED.md", "# Proved\n", "# Proved\n\n## In short\n\nBy `IsBelow`.\n"),
+                ("docs/PROVED.md", "| `NeverFar` | never |", "| `NeverFar` | never |\n| `Lemma` | so |"),
+                ("docs/LIBRARY.md", "Nothing.", "| data | nothing | `Lemma` |")):
+            status, printed = self.spoilt(file, old, new)
+            self.assertEqual("Lemma" in new, status == 1, printed)
+            self.assertEqual("Lemma" in new, "8 definitions" in printed, printed)
 
     def test_a_call_that_asks_more(self):
         status, printed = self.spoilt("crates/low/src/bits.rt", "    fn more", "    pub fn more")
@@ -192,9 +200,9 @@ class Check(unittest.TestCase):
         self.assertIn("docs/PROVED.md: this is missing: of `low` `Bits::most`, `Bits::more`", printed)
 
     def test_no_list_at_all(self):
-        status, printed = self.spoilt("README.md", "<!-- trusted definitions -->", "")
+        status, printed = self.spoilt("docs/PROVED.md", "<!-- trusted definitions -->", "")
         self.assertEqual(1, status)
-        self.assertIn("README.md: it has no list", printed)
+        self.assertIn("docs/PROVED.md: it has no list", printed)
 
     def test_this_repository(self):
         self.assertEqual((0, ""), ran(Path(cited.__file__).resolve().parent.parent, "--check"))

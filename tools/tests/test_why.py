@@ -426,10 +426,10 @@ class Odd(unittest.TestCase):
 
 class Words(unittest.TestCase):
     def test_every_refusal_and_reason_of_a_move_has_its_meaning(self):
-        using = (stored.TOOLS.parent / "docs" / "USING.md").read_text()
-        refusals = using.partition("## Refusals")[2].partition("## Reasons")[0]
+        scenarios = (stored.TOOLS.parent / "docs" / "SCENARIOS.md").read_text()
+        refusals = scenarios.partition("## Refusals")[2].partition("## Reasons")[0]
         numbers = {number for number in re.findall(r"^\| (\d+) \|", refusals, re.M) if int(number) < 25}
-        reasons = set(re.findall(r"^\| `([A-Z]\w+)` \| ", using.partition("## Reasons to ignore")[2].partition("##")[0], re.M))
+        reasons = set(re.findall(r"^\| `([A-Z]\w+)` \| ", scenarios.partition("## Reasons to ignore")[2].partition("##")[0], re.M))
         self.assertEqual(set(notes.MEANINGS), numbers | reasons)
 
 
