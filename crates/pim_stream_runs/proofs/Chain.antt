@@ -9,7 +9,8 @@ use Rattle.pim_ready.proofs.Steps.{run_is_settled}
 use Rattle.pim_served.specs.Joins.{join_packet}
 use Rattle.pim_served.specs.Ways.{Place, state_of}
 use Rattle.pim_served_runs.specs.Chain.{asked_group, chain, content, first, first_meets, first_place, register, root, second, second_meets, second_place, sender, sent_packet, third, third_meets, third_place}
-use Rattle.pim_stream.specs.Passing.{Receiver, Tree, any_ends_passing, ends_passing, has_expired, has_moved, is_lost, membership_ends}
+use Rattle.pim_model.specs.Sets.{prunes}
+use Rattle.pim_stream.specs.Passing.{Receiver, Tree, any_ends_passing, ends_passing, has_expired, has_moved, is_lost, membership_ends, takes_effect}
 use Rattle.pim_model.specs.Network.{frame_at}
 use Rattle.pim_runs.specs.Words.{address}
 use Rattle.pim_served.specs.Ways.{CanTake, IsGroup}
@@ -86,11 +87,11 @@ pub way_streams : WayStreams
 way_streams = (first_passes, (second_passes, tt))
 
 first_goes_on : any_ends_passing Tree.Shared Receiver.Host (state_of one) (events_in 0 climbed later) asked_group sender 1 0 ≡ false
-unfolding machine_on_literals events_in network_ran any_ends_passing ends_passing has_expired has_moved is_lost membership_ends join_packet
+unfolding machine_on_literals events_in network_ran any_ends_passing ends_passing has_expired has_moved is_lost membership_ends join_packet takes_effect prunes
 first_goes_on = refl
 
 second_goes_on : any_ends_passing Tree.Shared Receiver.Router (state_of two) (events_in 1 climbed later) asked_group sender 1 0 ≡ false
-unfolding machine_on_literals events_in network_ran any_ends_passing ends_passing has_expired has_moved is_lost membership_ends join_packet
+unfolding machine_on_literals events_in network_ran any_ends_passing ends_passing has_expired has_moved is_lost membership_ends join_packet takes_effect prunes
 second_goes_on = refl
 
 pub none_ends_it : NoneEnds
@@ -129,7 +130,7 @@ third_sends = record {
 }
 
 third_goes_on : any_ends_sending (state_of last) (events_in 2 climbed later) asked_group sender 0 ≡ false
-unfolding machine_on_literals events_in network_ran any_ends_sending ends_sending has_expired has_moved is_lost membership_ends join_packet
+unfolding machine_on_literals events_in network_ran any_ends_sending ends_sending has_expired has_moved is_lost membership_ends join_packet takes_effect prunes
 third_goes_on = refl
 
 -- ---- all together
