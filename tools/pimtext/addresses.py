@@ -1,7 +1,7 @@
 """Addresses, prefixes, routes and RP ranges as a scenario writes them: all tools read them here.
 
-A text is read as the program reads it: decimal numbers without leading zeros in an address, any zeros before other numbers,
-numbers below 2^32, and between the words of a route what Unicode calls white space.
+A text is read as the program reads it: decimal numbers without leading zeros in an address, any zeros before other
+numbers, numbers below 2^32, and between the words of a route what Unicode calls white space.
 """
 import re
 from dataclasses import dataclass
