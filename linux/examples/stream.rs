@@ -90,6 +90,8 @@ fn receive(group: Ipv4Addr, at: Ipv4Addr, count: u64, seconds: u64, bytes: usize
             left -= 1;
         }
     }
+    // Where the stream ended, until now.
+    gap = if left > 0 && first.is_some() { gap.max(last.elapsed()) } else { gap };
     let first = first.map_or_else(|| "never".to_string(), |first| format!("after {} ms", first.as_millis()));
     let (came, gap) = (count - left, gap.as_millis());
     println!("received {came} of {count}, and {} twice, the first {first}, the longest gap {gap} ms", all - came);

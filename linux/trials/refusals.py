@@ -148,7 +148,7 @@ def list_of_senders(net):
     """a source that `send` doesn't permit is dropped by the kernel, and another of the same group arrives"""
     group = "239.1.8.3"
     net.reload_interface("to-hosts", 'send = [{ sources = "10.5.0.77/32" }]\n')
-    receiver = net.receive("viewer", group, "10.6.0.77", 40, 15)
+    receiver = net.receive("viewer", group, "10.6.0.77", 40, 40)
     until("second is asked", 15, lambda: group in net.frr("second", "show ip igmp groups"))
     net.send("hosts", group, "10.5.0.50", 20, 10).wait()
     time.sleep(1)

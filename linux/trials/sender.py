@@ -76,11 +76,14 @@ def main():
     if what == "reports":
         count, pause = int(rest[0]), float(rest[1]) if len(rest) > 1 else 0.0
         begin = rest[2] if len(rest) > 2 else "239.2.16.0"
+        named = [numbered(begin, number) for number in range(count)]
+        parts = [named[first:first + RECORDS] for first in range(0, count, RECORDS)]
+        packets = [ip(own, ALL_IGMP_ROUTERS, IGMP, report(groups)) for groups in parts]
         print(time.time())
-        for first in range(0, count, RECORDS):
-            groups = [numbered(begin, number) for number in range(first, min(first + RECORDS, count))]
-            link.send(ip(own, ALL_IGMP_ROUTERS, IGMP, report(groups)))
-            time.sleep(pause)
+        for packet in packets:
+            link.send(packet)
+            if pause:
+                time.sleep(pause)
     elif what == "report":
         link.send_long(own, ALL_IGMP_ROUTERS, IGMP, report([socket.inet_aton(group) for group in rest]))
     elif what == "old":

@@ -4,7 +4,7 @@ import time
 from trials.network import HOST, SOURCE, Failed, ended, first_after, ip, received, until
 
 # A join to a running stream is to have its first packet within so many ms.
-SOON = 500
+SOON = 1000
 SIZES = (100, 1480, 9000, 60_000)
 
 
@@ -37,7 +37,7 @@ def long_packets(net):
             ("source", SOURCE, "viewer", "10.6.0.77", f"239.2.4.{number}"),
             ("source", SOURCE, "hosts", HOST, f"239.1.5.{number}"),
         ):
-            receiver = net.receive(receiving, group, address, 60, 8, size)
+            receiver = net.receive(receiving, group, address, 60, 20, size)
             time.sleep(2)
             sender = net.send(sending, group, source, 60, 20, size)
             came, of, twice = received(receiver)
@@ -52,7 +52,7 @@ def long_packets(net):
 def first_long_packets_by_registers(net):
     """of a long packet each fragment goes in a Register of its own, and FRR's RP makes it whole for its viewer"""
     group = "239.1.4.77"
-    receiver = net.receive("viewer", group, "10.6.0.77", 3, 12, 9000)
+    receiver = net.receive("viewer", group, "10.6.0.77", 3, 25, 9000)
     until("second is asked", 15, lambda: group in net.frr("second", "show ip igmp groups"))
     stood_in, sent = net.counter("fragments and long packets that a short one stood for"), net.counter("unicasts sent")
     net.send("hosts", group, HOST, 3, 2, 9000).wait()
@@ -77,7 +77,7 @@ def whole_long_packets(net):
             ("source", SOURCE, "hosts", HOST, "239.2.4.99"),
         ):
             stood_in = net.counter("fragments and long packets that a short one stood for")
-            receiver = net.receive(receiving, group, address, 60, 8, 8000)
+            receiver = net.receive(receiving, group, address, 60, 20, 8000)
             time.sleep(2)
             sender = net.send(sending, group, source, 60, 20, 8000)
             came, of, twice = received(receiver)

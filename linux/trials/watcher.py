@@ -12,6 +12,7 @@ import sys
 import time
 
 PIM = 103
+SO_RCVBUFFORCE, SO_TIMESTAMPNS = 33, 35
 
 
 def joined(packet):
@@ -28,21 +29,26 @@ def joined(packet):
 
 
 def main():
-    interface, sender, count, seconds = sys.argv[1], socket.inet_aton(sys.argv[2]), int(sys.argv[3]), float(sys.argv[4])
+    interface, sender, count, patience = sys.argv[1], socket.inet_aton(sys.argv[2]), int(sys.argv[3]), float(sys.argv[4])
     link = socket.socket(socket.AF_PACKET, socket.SOCK_DGRAM, socket.htons(0x0800))
-    link.setsockopt(socket.SOL_SOCKET, 33, 64 << 20)
+    link.setsockopt(socket.SOL_SOCKET, SO_RCVBUFFORCE, 64 << 20)
+    link.setsockopt(socket.SOL_SOCKET, SO_TIMESTAMPNS, 1)
     link.bind((interface, 0x0800))
     link.settimeout(0.5)
     print("ready", flush=True)
-    end, groups, last = time.monotonic() + seconds, set(), 0.0
+    end, groups, last = time.monotonic() + patience, set(), 0.0
     while len(groups) < count and time.monotonic() < end:
         try:
-            packet = link.recv(65535)
+            packet, [(_, _, moment)], _, _ = link.recvmsg(65535, socket.CMSG_SPACE(16))
         except socket.timeout:
             continue
-        if packet[12:16] == sender:
-            groups.update(joined(packet))
-            last = time.time()
+        if packet[12:16] != sender:
+            continue
+        new = set(joined(packet)) - groups
+        groups |= new
+        # As the kernel had it, however late it is read.
+        seconds, nanoseconds = struct.unpack("@qq", moment)
+        last = seconds + nanoseconds / 1e9 if new else last
     print(f"joined {len(groups)} at {last}")
 
 

@@ -92,26 +92,34 @@ def change_to_source_tree(net):
     return f"{came} of {of} came, {twice} twice"
 
 
+# So often a stream is sent where other work of the machine keeps its sender from the rate that is wanted.
+SENDINGS = 4
+
+
 def carried(net, group, sending, source, receiving, receiver_address):
     """A stream of 20,000 packets a second, all of which are to arrive by the kernel."""
     # Sent somewhat faster, so that it is as many by the clock of the sender.
-    count, rate = 100_000, 21_000
+    count, rate, least = 100_000, 21_000, 20_000
     warm = net.receive(receiving, group, receiver_address, 30, 20)
     time.sleep(2)
     net.send(sending, group, source, 30, 10).wait()
-    receiver = net.receive(receiving, group, receiver_address, count, 60)
-    received(warm)
-    until("the kernel forwards", 15, lambda: net.entry(source, group)["forwarding"] == "kernel")
-    time.sleep(1)
-    whole = net.counter("packets that the kernel handed up whole")
-    said = net.send(sending, group, source, count, rate).communicate()[0].strip()
-    came, of, twice = received(receiver)
-    if came < of or twice:
-        raise Failed(f"{came} of {of} came, {twice} twice; {said}")
-    if int(said.split()[-3]) < 20_000:
-        raise Failed(f"the sender was too slow: {said}")
-    whole = net.counter("packets that the kernel handed up whole") - whole
-    return f"{came} of {of} came, none twice; {said}; {whole} came to the router"
+    for _ in range(SENDINGS):
+        receiver = net.receive(receiving, group, receiver_address, count, 60)
+        received(warm)
+        until("the kernel forwards", 15, lambda: net.entry(source, group)["forwarding"] == "kernel")
+        time.sleep(1)
+        whole = net.counter("packets that the kernel handed up whole")
+        said = net.send(sending, group, source, count, rate).communicate()[0].strip()
+        # The last one keeps the group for the next sending.
+        warm = net.receive(receiving, group, receiver_address, count, 2)
+        came, of, twice = received(receiver)
+        if came < of or twice:
+            raise Failed(f"{came} of {of} came, {twice} twice; {said}")
+        if int(said.split()[-3]) >= least:
+            ended(warm)
+            whole = net.counter("packets that the kernel handed up whole") - whole
+            return f"{came} of {of} came, none twice; {said}; {whole} came to the router"
+    raise Failed(f"the sender was too slow, {SENDINGS} times: {said}")
 
 
 def stream_as_last_hop(net):
@@ -182,7 +190,7 @@ def prunes(net):
 def checksum(net):
     """a sender that leaves its checksum to the card: what the router handles itself arrives with one"""
     group = "239.1.3.3"
-    receiver = net.receive("viewer", group, "10.6.0.77", 5, 15)
+    receiver = net.receive("viewer", group, "10.6.0.77", 5, 40)
     until("second is asked", 15, lambda: group in net.frr("second", "show ip igmp groups"))
     filled = net.counter("checksums filled in")
     # The first packets go in Registers, by the router.
@@ -332,7 +340,7 @@ def reroute(net):
 
 
 def limit(net):
-    """at its limit the router refreshes what it knows, where a report also names what is new"""
+    """at its limit the router refreshes what it knows, where a report also names what is new, and refuses that alone"""
     known, new = "239.2.8.1", "239.2.8.2"
     net.stop_router()
     # Three neighbours, and a group; no quota is to be met before the limit.
@@ -343,19 +351,21 @@ def limit(net):
         for group in (known, new):
             receivers.append(net.receive("hosts", group, HOST, 1, 120))
             time.sleep(1)
-        groups = lambda: {row["group"] for row in net.show("igmp")}
-        if groups() != {known}:
-            raise Failed(f"it has {groups()}")
-        until("a report was offered in parts", 60, lambda: net.counter("parts taken") > 0)
-        if groups() != {known}:
-            raise Failed(f"then it has {groups()}")
-        said = f"{net.counter('parts offered')} parts offered, {net.counter('parts taken')} taken"
+        # Longer than a group stays of which no report comes: 2 x 20 s + 2 s.
+        for _ in range(12):
+            groups = {row["group"] for row in net.show("igmp")}
+            if groups != {known}:
+                raise Failed(f"it has {groups}")
+            time.sleep(4)
+        refused = net.refused("the rest of `limit`")
+        if refused < 3:
+            raise Failed(f"{refused} were refused")
     finally:
         for receiver in receivers:
             ended(receiver)
         net.stop_router()
         net.start_router()
-    return said
+    return f"the new one was refused {refused} times"
 
 
 TRIALS = [neighbours, joins_to_frr, joins_from_frr, register_to_frr, checksum, register_from_frr, change_to_source_tree,

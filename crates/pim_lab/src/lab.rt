@@ -116,11 +116,14 @@ impl<W: Wire> Lab<W> {
     {
         for outcome in self.net.run(&[step])? {
             self.print(number, router, outcome, lines)?;
+            if self.tables_each {
+                self.print_tables_at(router, lines)?;
+            }
         }
         Ok(())
     }
 
-    // What became of a move, and the packets that left; then the router's tables, where they are asked for.
+    // What became of a move, and the packets that left.
     fn print(
         &mut self,
         number: usize,
@@ -140,9 +143,6 @@ impl<W: Wire> Lab<W> {
         for (place, emission) in emissions.iter().enumerate() {
             let frame = self.frames.send(router, emission)?;
             lines.push(station.packet_line(frame, emission, place >= first))?;
-        }
-        if self.tables_each {
-            self.print_tables_of(router, station, lines)?;
         }
         Ok(())
     }
@@ -170,6 +170,16 @@ impl<W: Wire> Lab<W> {
             self.print_tables_of(place, station, lines)?;
         }
         Ok(())
+    }
+
+    // Prints the tables of the router at a place.
+    fn print_tables_at(&self, place: usize, lines: &mut Lines) -> Result<(), Trouble>
+        ensures { IfErr result (λ t. IsFault t) }
+    {
+        match self.stations.get(place) {
+            Some(station) => self.print_tables_of(place, station, lines),
+            None => Ok(()),
+        }
     }
 
     // Prints the tables of the router at a place, whose station this is.

@@ -2,7 +2,7 @@
 import random
 import weakref
 from dataclasses import dataclass
-from itertools import count
+from itertools import count, zip_longest
 from pathlib import Path
 
 from lab.hosts import Host
@@ -54,6 +54,7 @@ class Network:
         self.loss, self.step, self.order = share_given(loss, "are lost"), ms_given(step, "step", 0.001), count()
         self.routers, self.links, self.hosts, self.ranges, self.fixed = Named("router"), Named("link"), Named("host"), [], {}
         self.now = self.present = self.stepped = 0
+        self.alone = set()
         self.player, self.sent, self.paths, self.odd = None, [], {}, []
         self.made, self.spoken, self.unheard, self.diagnosed = calling(), {}, set(), None
         MADE.append(weakref.ref(self))
@@ -73,8 +74,9 @@ class Network:
         self.routers[name] = Router(name, options, self)
         return self.routers[name]
 
-    def link(self, *routers, name=None, subnet=None, cost=10, loss=None):
-        """A link of routers, or of one for its hosts. They are told by name too, and are made where they are new."""
+    def link(self, *routers, name=None, subnet=None, addresses=(), cost=10, loss=None):
+        """A link of routers, or of one for its hosts. They are told by name too, and are made where they are new. `addresses` are
+        theirs, in their order; where it ends, the network gives them."""
         routers = [self.find(router) for router in routers]
         name = name or "-".join(router.name for router in routers)
         self.is_new(name, self.links)
@@ -82,8 +84,9 @@ class Network:
         subnet = subnet_given(subnet or f"10.{number >> 8}.{number & 255}.0/24")
         cost = number_given(cost, "cost of a link", 1, is_whole=True)
         link = Link(name, subnet, cost, share_given(self.loss if loss is None else loss, "are lost"), self)
-        for router in routers:
-            port = Port(router, len(router.ports), link, address_given(subnet, len(link.ports) + 1, router.name))
+        for router, address in zip_longest(routers, addresses[:len(routers)]):
+            own = host_given(address) if address else address_given(subnet, len(link.ports) + 1, router.name)
+            port = Port(router, len(router.ports), link, own)
             router.ports.append(port)
             link.ports.append(port)
         self.settles = self.settles and not link.loss
@@ -212,15 +215,19 @@ class Network:
         here = [router for router in self.routers.values() if router.is_up]
         self.schedule(Action([self.news(do, router, listing(router)) for router in here]), self.now)
 
-    def routes(self, router, *texts):
-        """Routes that go before those by shortest path, as `PREFIX NEXTHOP IFACE PREFERENCE METRIC`."""
+    def routes(self, router, *texts, alone=False):
+        """Routes that go before those by shortest path, as `PREFIX NEXTHOP IFACE PREFERENCE METRIC`. With `alone` the router has no
+        other ones: those stay, whatever fails."""
         router = self.known_router(router)
         self.fixed[router] = self.fixed.get(router, ()) + texts
+        self.alone |= {router} if alone else set()
         if self.player:
             self.schedule(Action([self.news("routes", router, self.routes_of(router))]), self.now)
 
     def routes_of(self, router):
         fixed = self.fixed.get(router, ())
+        if router in self.alone:
+            return list(fixed)
         prefixes = {text.split()[0] for text in fixed}
         return [*fixed, *(text for text in routes(router) if text.split()[0] not in prefixes)]
 

@@ -1,0 +1,145 @@
+-- While Joins come in time a stream goes on.
+use Rattle.std.proofs.Common.{◌≡◌, ◌∙◌, ℕ, ◌+◌, ◌*◌, ◌==◌, nat_le, ◌&&◌, ◌||◌, Bool, true, false, cond, [], ◌∷◌, Option, Some, None, is_some, refl, ap, subst, arith}
+use Rattle.std.proofs.lemmas.Grind.{common_steps}
+use Rattle.std.specs.Cmp.{first_so, second_so}
+use Rattle.std.specs.Option.{option_map_or}
+use Rattle.pim_types.specs.Keys.{rpt_key, star_key}
+use Rattle.pim_types.specs.declared.config.IfaceId.{IfaceId}
+use Rattle.pim_types.specs.declared.event.Event.{Event}
+use Rattle.pim_types.specs.declared.fact.DownstreamRow.{DownstreamRow}
+use Rattle.pim_wire.specs.Values.{JoinPrune}
+use Rattle.pim_model.specs.declared.accepted.Accepted.{Accepted}
+use Rattle.pim_model.specs.Cause.{done_as}
+use Rattle.pim_model.specs.Downstream.{holdtime_end, holdtime_end_from, holdtime_forever, is_named, pruned_keys}
+use Rattle.pim_model.specs.Full.{source_is_full}
+use Rattle.pim_model.specs.Sets.{prunes}
+use Rattle.pim_model.specs.State.{State}
+use Rattle.pim_model.specs.Step.{ran, state_after, step}
+use Rattle.pim_model.specs.Tables.{has_row, later_end}
+use Rattle.pim_promises.specs.Copies.{happens}
+use Rattle.pim_served.specs.Joins.{HoldsStar, JoinsStar}
+use Rattle.pim_served.specs.Lasts.{takes_back}
+use Rattle.pim_served.proofs.Keeps.{event_keeps_star}
+use Rattle.pim_served.proofs.Taken.{star_join_is_taken}
+use Rattle.pim_stream.specs.InTime.{EventKeepsPassingUntil, JoinsInTimeKeepPassing, ends_in_time, is_late, joined_until, joins_group, next_end}
+use Rattle.pim_stream.specs.Passing.{Receiver, ends_by, ends_passing, has_expired, leaves_tree, takes_effect, takes_from, takes_link}
+use Rattle.pim_stream.proofs.Passing.{event_keeps_passing}
+use Rattle.pim_stream.proofs.Tests.{Four, is_false, neither, none_of_four}
+
+module _ (s : State) (g src up down end : ℕ) (h : HoldsStar s down g (Some end)) where
+  -- ---- the old end
+
+  later_than : (o : Option ℕ) (m : ℕ) → later_end o (Some end) ≡ o → nat_le end m ≡ false → ends_by m o ≡ false
+  later_than None m e off = refl
+  later_than (Some n) m e off = grind (arith, common_steps, e, off)
+
+  unexpired : (m : ℕ) → nat_le end m ≡ false → has_expired s (star_key down g) m ≡ false
+  unfolding has_expired
+  unexpired m off =
+      ap (λ (o : Option DownstreamRow). option_map_or (λ (r : DownstreamRow). ends_by m r.expiry || ends_by m r.pending) o false) h.found
+      ∙ rw (later_than (h.row).expiry m h.lasts off, h.unpruned) refl
+
+  isnt_back : (t : State) (o : Option Accepted) → takes_link t g src up down o ≡ false
+      → is_late s t g src down end o ≡ false → takes_back (star_key down g) end o ≡ false
+  isnt_back t None a b = refl
+  isnt_back t (Some (Accepted.Advance m)) a b = (neither _ _ b).first
+  isnt_back t (Some (Accepted.Down j)) a b = (neither (j.number == down) (j.number == up) a).first
+  isnt_back t (Some (Accepted.JoinPruneToMe j m)) a b =
+      go (j.number == down) (is_named (pruned_keys j.number m) (star_key down g)) (prunes t g src down) b
+    where
+      go : (a b c : Bool) → (a && (b || c)) ≡ false → (a && b) ≡ false
+      go true true c e = cc e
+      go true false c e = refl
+      go false b c e = refl
+  isnt_back t (Some a) b c = refl
+
+  -- ---- the test of the row
+
+  isnt_ended : (t : State) (o : Option Accepted) → has_row t.downstream (star_key down g) ≡ true
+      → is_late s t g src down end o ≡ false → takes_from Receiver.Router s t g src down o ≡ false
+  isnt_ended t None there b = refl
+  isnt_ended t (Some (Accepted.Advance m)) there b =
+      rw (unexpired m (neither _ _ b).first, (neither (nat_le end m) (takes_effect s (rpt_key down g src) m) b).second) refl
+  isnt_ended t (Some (Accepted.JoinPruneToMe j m)) there b =
+      rw there (go (j.number == down) (is_named (pruned_keys j.number m) (star_key down g)) (prunes t g src down) b)
+    where
+      go : (a b c : Bool) → (a && (b || c)) ≡ false → (a && c) ≡ false
+      go true true c e = cc e
+      go true false c e = e
+      go false b c e = refl
+  isnt_ended t (Some a) there b = refl
+
+-- ---- a new end
+
+holdtime_is : (s : State) (h : ℕ) → (h == holdtime_forever) ≡ false → holdtime_end s h ≡ Some (s.present + 1000 * h)
+unfolding holdtime_end_from
+holdtime_is s h e = rw e refl
+
+record Joins (s : State) (g down : ℕ) (j : IfaceId) (m : JoinPrune) : Type 0 where
+  at : (j.number == down) ≡ true
+  joins : JoinsStar s j.number g m
+  ends : (m.holdtime == holdtime_forever) ≡ false
+
+joins_so : (s : State) (g down : ℕ) (j : IfaceId) (m : JoinPrune)
+    → joins_group s g down (Some (Accepted.JoinPruneToMe j m)) ≡ true → Joins s g down j m
+joins_so s g down j m e =
+    let a = second_so _ _ e in
+    let b = second_so _ _ a in
+    let c = second_so _ _ b in
+    record {
+      at = first_so _ _ e;
+      joins = record {
+        joined = first_so _ _ a;
+        unpruned = is_false _ (first_so _ _ b);
+        lasts = is_false _ (first_so _ _ c);
+      };
+      ends = is_false _ (second_so _ _ c);
+    }
+
+module _ (s : State) (e : Event) (g down end : ℕ) where
+  abbrev t : State
+  t = (step s e).state
+
+  taken_anew : (o : Option Accepted) → done_as (happens s e) ≡ o → joins_group s g down o ≡ true
+      → HoldsStar t down g (Some (joined_until s o end))
+  taken_anew None is f = cc f
+  taken_anew (Some (Accepted.JoinPruneToMe j m)) is f =
+      let x : Joins s g down j m = joins_so s g down j m f in
+      let same : j.number ≡ down = grind (arith, common_steps, x.at) in
+      subst (λ (i : ℕ). HoldsStar t i g (Some (s.present + 1000 * m.holdtime))) same
+      (subst (λ (o : Option ℕ). HoldsStar t j.number g o) (holdtime_is s m.holdtime x.ends)
+      (star_join_is_taken s e j m g is x.joins).holds)
+  taken_anew (Some a) is f = cc f
+
+  holds_next : HoldsStar t down g (Some end) → HoldsStar t down g (Some (next_end s e g down end))
+  unfolding next_end
+  holds_next old = go (joins_group s g down (done_as (happens s e))) refl
+    where
+      go : (b : Bool) → joins_group s g down (done_as (happens s e)) ≡ b
+          → HoldsStar t down g (Some (cond b (joined_until s (done_as (happens s e)) end) end))
+      go true is = taken_anew (done_as (happens s e)) refl is
+      go false is = old
+
+pub event_keeps_passing_until : EventKeepsPassingUntil
+unfolding ends_in_time ends_passing has_row
+event_keeps_passing_until tree s e g src up down end f off =
+    let t : State = (step s e).state in
+    let done : Option Accepted = done_as (happens s e) in
+    let h : Four (takes_link t g src up down done) (leaves_tree tree t g src up done) (is_late s t g src down end done)
+    (source_is_full t g src) =
+    none_of_four _ _ _ _ off in
+    let held : HoldsStar t down g (Some end) =
+    event_keeps_star s e down g end (f.passes).settled f.holds (isnt_back s g src up down end f.holds t done h.first h.third) in
+    record {
+      passes =
+          event_keeps_passing tree Receiver.Router s e g src up down f.passes
+          (rw (h.first, h.second, isnt_ended s g src up down end f.holds t done (ap is_some held.found) h.third, h.fourth) refl);
+      holds = holds_next s e g down end held;
+    }
+
+pub joins_in_time_keep_passing : JoinsInTimeKeepPassing
+unfolding state_after ran
+joins_in_time_keep_passing tree s [] g src up down end f all = f.passes
+joins_in_time_keep_passing tree s (e ∷ es) g src up down end f all =
+    joins_in_time_keep_passing tree (step s e).state es g src up down (next_end s e g down end)
+    (event_keeps_passing_until tree s e g src up down end f all.0) all.1

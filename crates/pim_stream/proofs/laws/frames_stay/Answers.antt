@@ -1,0 +1,5 @@
+use Rattle.pim_stream.proofs.Climbing.{frames_stay}
+use Rattle.pim_stream.proofs.laws.frames_stay.Goals as goal
+
+pub returns : goal.returns
+returns c = frames_stay

@@ -1,0 +1,99 @@
+//! A stream that is asked for is served until one of a few things happens. Laws of the definitions, each the contract of
+//! a function with nothing to do.
+
+ghost use Rattle.pim_stream.specs.Begun.{BegunStreamIsServed, EachOfBegunStreamIsServed, HostBeginsStream, JoinBeginsSending};
+ghost use Rattle.pim_stream.specs.Climbing.{FramesStay, JoinBeginsStream, JoinClimbsOver};
+ghost use Rattle.pim_stream.specs.InTime.{EventKeepsPassingUntil, JoinsInTimeKeepPassing};
+ghost use Rattle.pim_stream.specs.Passing.{EventKeepsPassing, PassingServes, RunKeepsPassing};
+ghost use Rattle.pim_stream.specs.Roots.{EachOfStreamIsServed, EachRegisterIsBrought, EventKeepsSending, RunKeepsSending};
+ghost use Rattle.pim_stream.specs.Streams.{MemberBeginsStream, StreamIsServed};
+
+/// A frame that was sent stays deliverable, whatever is done in the network.
+pub fn frames_stay()
+    ensures { FramesStay }
+{}
+
+/// A Join(*,G) climbs a way with any moves of the network between its deliveries.
+pub fn join_climbs_over()
+    ensures { JoinClimbsOver }
+{}
+
+/// From the Join that it takes on, a router that can pass packets of the source passes its stream.
+pub fn join_begins_stream()
+    ensures { JoinBeginsStream }
+{}
+
+/// The DR of a host passes the stream from the host's report on.
+pub fn member_begins_stream()
+    ensures { MemberBeginsStream }
+{}
+
+/// An event ends a stream at a router only where the test `ends_passing` says so.
+pub fn event_keeps_passing()
+    ensures { EventKeepsPassing }
+{}
+
+/// A list of events, none of which ends the stream, leaves the router passing it.
+pub fn run_keeps_passing()
+    ensures { RunKeepsPassing }
+{}
+
+/// While a router passes a stream, each packet of it that comes in leaves on the link.
+pub fn passing_serves()
+    ensures { PassingServes }
+{}
+
+/// After any moves that end nothing on the way, each packet above comes down to who asked.
+pub fn stream_is_served()
+    ensures { StreamIsServed }
+{}
+
+/// An event ends the sending of the last router only where the test `ends_sending` says so.
+pub fn event_keeps_sending()
+    ensures { EventKeepsSending }
+{}
+
+/// A list of events, none of which ends it, leaves the last router sending.
+pub fn run_keeps_sending()
+    ensures { RunKeepsSending }
+{}
+
+/// Each Register to the RP brings its packet, until SPTbit(S,G) is set there.
+pub fn each_register_is_brought()
+    ensures { EachRegisterIsBrought }
+{}
+
+/// Each packet that is brought to the last router comes down to who asked.
+pub fn each_of_stream_is_served()
+    ensures { EachOfStreamIsServed }
+{}
+
+/// A host's report at its DR begins the stream there, where the group is new.
+pub fn host_begins_stream()
+    ensures { HostBeginsStream }
+{}
+
+/// From the Join that it takes on, the last router of a way sends what comes to it.
+pub fn join_begins_sending()
+    ensures { JoinBeginsSending }
+{}
+
+/// Where each router of a way began at some move and nothing ended it, each packet above comes down to who asked.
+pub fn begun_stream_is_served()
+    ensures { BegunStreamIsServed }
+{}
+
+/// Each packet that is brought to the last router of such a way comes down to who asked.
+pub fn each_of_begun_stream_is_served()
+    ensures { EachOfBegunStreamIsServed }
+{}
+
+/// An event keeps a stream to a router, and how long its Join holds, where it is none of those of `ends_in_time`.
+pub fn event_keeps_passing_until()
+    ensures { EventKeepsPassingUntil }
+{}
+
+/// While each Join(*,G) comes before the holdtime of the one before is over, the stream goes on.
+pub fn joins_in_time_keep_passing()
+    ensures { JoinsInTimeKeepPassing }
+{}

@@ -1,0 +1,4 @@
+//! A stream is served, and stays served.
+#![tactic(auto)]
+
+pub mod laws;
