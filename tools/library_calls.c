@@ -1,8 +1,9 @@
-/* Tries each call of pim.h, and what it says of each. A line for each answer that is another one, and a line with their number. */
+/* Tries each call of viqeshor.h and plane.h, and what they say of each. A line for each answer that is another one, and
+ * a line with their number. */
 #include <stdio.h>
 #include <string.h>
 
-#include "pim.h"
+#include <viqeshor/plane.h>
 
 #define COUNT(items) (sizeof(items) / sizeof *(items))
 
@@ -24,144 +25,181 @@ static void set_sum(uint8_t *bytes, size_t length, size_t place) {
     bytes[place + 1] = (uint8_t)~sum;
 }
 
-static const struct pim_settings usual = PIM_USUAL_SETTINGS;
-static const struct pim_interface three[] = {{0x0a000002, 24, 1, 500, 2500}, {0x0a000101, 24, 1, 500, 2500}, {0x0a000201, 24, 1, 500, 2500}};
-static const struct pim_route two[] = {{0x0a090900, 24, 0x0a000001, 0, 110, 20}, {0x0a000300, 24, 0x0a000001, 0, 110, 20}};
-static const struct pim_range one[] = {{0xe0000000, 4, 0x0a090909}};
+static const struct viq_settings usual = VIQ_USUAL_SETTINGS;
+static const struct viq_interface three[] = {{0x0a000002, 24, 1, 500, 2500}, {0x0a000101, 24, 1, 500, 2500}, {0x0a000201, 24, 1, 500, 2500}};
+static const struct viq_route two[] = {{0x0a090900, 24, 0x0a000001, 0, 110, 20}, {0x0a000300, 24, 0x0a000001, 0, 110, 20}};
+static const struct viq_range one[] = {{0xe0000000, 4, 0x0a090909}};
 
-static uint32_t made(struct pim_router *router, const struct pim_settings *settings) {
-    return pim_new(router, settings, three, COUNT(three), two, COUNT(two), one, COUNT(one));
+static uint32_t made(struct viq_router **router, const struct viq_settings *settings) {
+    return viq_new(router, VIQ_ABI, settings, three, COUNT(three), two, COUNT(two), one, COUNT(one));
 }
 
-/* ---- a handle without a router */
+/* Whether a router can be made, which is ended then. */
+static uint32_t can_be_made(const struct viq_settings *settings, const struct viq_interface *interfaces, size_t interface_count,
+                            const struct viq_route *routes, size_t route_count, const struct viq_range *ranges, size_t range_count) {
+    struct viq_router *router = (struct viq_router *)&wrong;
+    uint32_t answer = viq_new(&router, VIQ_ABI, settings, interfaces, interface_count, routes, route_count, ranges, range_count);
+    is("a router where there is one", router != NULL, answer == VIQ_DONE);
+    viq_end(router);
+    return answer;
+}
+
+/* ---- no router */
 
 static void without_a_router(void) {
-    struct pim_router none = PIM_NO_HANDLE;
     uint8_t room[2] = {7, 7};
-    struct pim_packet packet = {true, 7, 7, 7};
-    struct pim_row row = {.table = 7};
-    struct pim_forwarding forwarding = {.rpf = 7};
-    struct pim_plane_row plane = {.incoming = 7};
-    struct pim_source_group name = {7, 7};
-    is("advance without a router", pim_advance(&none, 0, 1), PIM_NO_ROUTER);
-    is("frame without a router", pim_frame(&none, 0, 0, room, 2), PIM_NO_ROUTER);
-    is("unicast without a router", pim_unicast(&none, 0, room, 2), PIM_NO_ROUTER);
-    is("up without a router", pim_up(&none, 0, 0), PIM_NO_ROUTER);
-    is("down without a router", pim_down(&none, 0, 0), PIM_NO_ROUTER);
-    is("routes without a router", pim_routes(&none, 0, two, 2), PIM_NO_ROUTER);
-    is("ranges without a router", pim_ranges(&none, 0, one, 1), PIM_NO_ROUTER);
-    is("packets without a router", pim_packets(&none), 0);
-    is("packet without a router", pim_packet(&none, 0, &packet, room, 2), false);
-    is("its packet", packet.is_unicast && packet.iface == 7 && packet.destination == 7 && packet.length == 7, true);
+    struct viq_packet packet = {7, 7, 7, 7};
+    struct viq_row row = {.table = 7};
+    struct viq_forwarding forwarding = {.rpf = 7};
+    struct viq_plane_row plane = {.incoming = 7};
+    struct viq_source_group name = {7, 7};
+    is("advance without a router", viq_advance(NULL, 1, viq_draw(0)), VIQ_NO_ROUTER);
+    is("frame without a router", viq_frame(NULL, 0, room, 2, viq_draw(0)), VIQ_NO_ROUTER);
+    is("unicast without a router", viq_unicast(NULL, room, 2, viq_draw(0)), VIQ_NO_ROUTER);
+    is("up without a router", viq_up(NULL, 0, viq_draw(0)), VIQ_NO_ROUTER);
+    is("down without a router", viq_down(NULL, 0, viq_draw(0)), VIQ_NO_ROUTER);
+    is("routes without a router", viq_routes(NULL, two, 2, viq_draw(0)), VIQ_NO_ROUTER);
+    is("ranges without a router", viq_ranges(NULL, one, 1, viq_draw(0)), VIQ_NO_ROUTER);
+    is("packets without a router", viq_packets(NULL), 0);
+    is("packet without a router", viq_packet(NULL, 0, &packet, room, 2), false);
+    is("its packet", packet.kind == 7 && packet.iface == 7 && packet.destination == 7 && packet.length == 7, true);
     is("its room", room[0] == 7 && room[1] == 7, true);
-    is("copies without a router", pim_copies(&none), 0);
-    is("next moment without a router", pim_next_moment(&none), PIM_NEVER);
-    is("read without a router", pim_read(&none, 'N'), PIM_NO_ROUTER);
-    is("read of no table without a router", pim_read(&none, 'X'), PIM_NO_TABLE);
-    is("rows without a router", pim_rows(&none), 0);
-    is("row without a router", pim_row(&none, 0, &row), false);
+    is("copies without a router", viq_copies(NULL), 0);
+    is("next moment without a router", viq_next_moment(NULL), VIQ_NEVER);
+    is("read without a router", viq_read(NULL, 'N'), VIQ_NO_ROUTER);
+    is("read of no table without a router", viq_read(NULL, 'X'), VIQ_NO_TABLE);
+    is("rows without a router", viq_rows(NULL), 0);
+    is("row without a router", viq_row(NULL, 0, &row), false);
     is("its row", row.table, 7);
-    is("cached without a router", pim_cached(&none, 0x0a000305, 0xe1010101, &forwarding), false);
+    is("cached without a router", viq_cached(NULL, 0x0a000305, 0xe1010101, &forwarding), false);
     is("its forwarding", forwarding.rpf, 7);
-    is("offload without a router", pim_offload(&none, 0x0a000305, 0xe1010101, &plane), false);
+    is("offload without a router", viq_offload(NULL, 0x0a000305, 0xe1010101, &plane), false);
     is("its row", plane.incoming, 7);
-    is("changed without a router", pim_changed(&none), 0);
-    is("a changed source without a router", pim_changed_source(&none, 0, &name), false);
+    is("changed without a router", viq_changed(NULL), 0);
+    is("a changed source without a router", viq_changed_source(NULL, 0, &name), false);
     is("its name", name.source == 7 && name.group == 7, true);
-    is("may differ without a router", pim_may_differ(&none, 0x0a000305, 0xe1010101), true);
-    is("seen without a router", pim_seen(&none, 0, 0, 0x0a000305, 0xe1010101), PIM_NO_ROUTER);
-    is("keep without a router", pim_keep(&none, 0x0a000305, 0xe1010101, 1), PIM_NO_ROUTER);
-    is("probes without a router", pim_probes(&none), 0);
-    is("touched without a router", pim_touched(&none), 0);
-    pim_end(&none);
-    is("the handle after its end", none.is_there, false);
+    is("may differ without a router", viq_may_differ(NULL, 0x0a000305, 0xe1010101), true);
+    is("seen without a router", viq_seen(NULL, 0, 0x0a000305, 0xe1010101, viq_draw(0)), VIQ_NO_ROUTER);
+    is("keep without a router", viq_keep(NULL, 0x0a000305, 0xe1010101, 1), VIQ_NO_ROUTER);
+    is("probes without a router", viq_probes(NULL), 0);
+    is("touched without a router", viq_touched(NULL), 0);
+    viq_end(NULL);
 }
 
 /* ---- configurations that are refused */
 
-static void refused_settings(struct pim_router *router) {
-    struct { struct pim_settings settings; uint32_t answer; } tries[] = {
+static void refused_settings(void) {
+    struct { struct viq_settings settings; uint32_t answer; } tries[] = {
         {{0, 2, 125, 100, 10, false}, 34}, {{1000001, 2, 125, 100, 10, false}, 34}, {{65536, 1, 125, 100, 10, false}, 35},
         {{65536, 8, 125, 100, 10, false}, 35}, {{65536, 2, 0, 100, 10, false}, 35}, {{65536, 2, 31745, 100, 10, false}, 35},
         {{65536, 2, 125, 0, 10, false}, 35}, {{65536, 2, 125, 1250, 10, false}, 35}, {{65536, 2, 31744, 31745, 10, false}, 35},
         {{65536, 2, 125, 100, 0, false}, 35}, {{65536, 2, 125, 100, 256, false}, 35},
         {{1, 2, 1, 1, 1, true}, 0}, {{1000000, 7, 31744, 31744, 255, false}, 0}, {{65536, 2, 125, 1249, 10, true}, 0},
     };
-    for (size_t at = 0; at < COUNT(tries); at++) is("settings", made(router, &tries[at].settings), tries[at].answer);
+    for (size_t at = 0; at < COUNT(tries); at++) 
+        is("settings", can_be_made(&tries[at].settings, three, COUNT(three), two, COUNT(two), one, COUNT(one)), tries[at].answer);
 }
 
-static void refused_interfaces(struct pim_router *router) {
-    struct { struct pim_interface interface; uint32_t answer; } tries[] = {
+static void refused_interfaces(void) {
+    struct { struct viq_interface interface; uint32_t answer; } tries[] = {
         {{0, 24, 1, 500, 2500}, 31}, {{0xe0000000, 24, 1, 500, 2500}, 31}, {{0x0a000002, 0, 1, 500, 2500}, 32},
         {{0x0a000002, 32, 1, 500, 2500}, 32}, {{0x0a000002, 24, 1, 32768, 2500}, 36}, {{0x0a000002, 24, 1, 500, 65536}, 36},
         {{0xdffffffe, 31, 0, 32767, 65535}, 0}, {{1, 1, UINT32_MAX, 0, 0}, 0},
     };
-    struct pim_interface many[121];
+    struct viq_interface many[121];
     for (size_t at = 0; at < COUNT(tries); at++)
-        is("an interface", pim_new(router, &usual, &tries[at].interface, 1, two, 0, one, 0), tries[at].answer);
-    for (uint32_t at = 0; at < COUNT(many); at++) many[at] = (struct pim_interface){0x0a000001 + (at << 8), 24, 1, 500, 2500};
-    is("no interfaces", pim_new(router, &usual, many, 0, two, 0, one, 0), 30);
-    is("121 interfaces", pim_new(router, &usual, many, 121, two, 0, one, 0), 30);
-    is("120 interfaces", pim_new(router, &usual, many, 120, two, 0, one, 0), PIM_DONE);
+        is("an interface", can_be_made(&usual, &tries[at].interface, 1, two, 0, one, 0), tries[at].answer);
+    for (uint32_t at = 0; at < COUNT(many); at++) many[at] = (struct viq_interface){0x0a000001 + (at << 8), 24, 1, 500, 2500};
+    is("no interfaces", can_be_made(&usual, many, 0, two, 0, one, 0), 30);
+    is("121 interfaces", can_be_made(&usual, many, 121, two, 0, one, 0), 30);
+    is("120 interfaces", can_be_made(&usual, many, 120, two, 0, one, 0), VIQ_DONE);
     many[7].length = 16;
-    is("overlap", pim_new(router, &usual, many, 120, two, 0, one, 0), 33);
+    is("overlap", can_be_made(&usual, many, 120, two, 0, one, 0), 33);
 }
 
 /* As events, and in the configuration with an answer of 12 more. */
-static void refused_lists(struct pim_router *router) {
-    struct { struct pim_route route; uint32_t answer; } routes[] = {
+static void refused_lists(struct viq_router *router) {
+    struct { struct viq_route route; uint32_t answer; } routes[] = {
         {{0x0a090901, 24, 0x0a000001, 0, 110, 20}, 25}, {{0x0a090900, 33, 0x0a000001, 0, 110, 20}, 25},
         {{0x0a090900, 24, 0x0a000001, 3, 110, 20}, 25}, {{0x0a090900, 24, 0x0a000002, 0, 110, 20}, 25},
         {{0x0a090900, 24, 0xe0000001, 0, 110, 20}, 25}, {{0x0a090900, 24, 0x0a000001, 0, 0x7fffffff, 20}, 25},
         {{0x0a090900, 24, 0x0a000001, 0, 0x7ffffffe, UINT32_MAX}, 0}, {{0, 0, 0x0a000201 + 5, 2, 0, 0}, 0},
     };
-    struct { struct pim_range range; uint32_t answer; } ranges[] = {
+    struct { struct viq_range range; uint32_t answer; } ranges[] = {
         {{0xe0000001, 4, 0x0a090909}, 26}, {{0xe0000000, 3, 0x0a090909}, 26}, {{0xe1010101, 33, 0x0a090909}, 26},
         {{0x0a000000, 8, 0x0a090909}, 26}, {{0xe0000000, 4, 0xe0000001}, 26}, {{0xe1010101, 32, 0x0a000002}, 0},
     };
     for (size_t at = 0; at < COUNT(routes); at++) {
         uint32_t answer = routes[at].answer;
-        is("a route", pim_routes(router, 0, &routes[at].route, 1), answer);
-        is("a configured route", pim_new(router, &usual, three, 3, &routes[at].route, 1, one, 1), answer ? answer + 12 : 0);
+        is("a route", viq_routes(router, &routes[at].route, 1, viq_draw(0)), answer);
+        is("a configured route", can_be_made(&usual, three, 3, &routes[at].route, 1, one, 1), answer ? answer + 12 : 0);
     }
     for (size_t at = 0; at < COUNT(ranges); at++) {
         uint32_t answer = ranges[at].answer;
-        is("a range", pim_ranges(router, 0, &ranges[at].range, 1), answer);
-        is("a configured range", pim_new(router, &usual, three, 3, two, 2, &ranges[at].range, 1), answer ? answer + 12 : 0);
+        is("a range", viq_ranges(router, &ranges[at].range, 1, viq_draw(0)), answer);
+        is("a configured range", can_be_made(&usual, three, 3, two, 2, &ranges[at].range, 1), answer ? answer + 12 : 0);
     }
-    struct pim_route twice[] = {two[0], two[0]};
-    is("a route twice", pim_routes(router, 0, twice, 2), 25);
-    is("no routes", pim_routes(router, 0, twice, 0), PIM_DONE);
-    is("no ranges", pim_ranges(router, 0, one, 0), PIM_DONE);
-    is("no routes at NULL", pim_routes(router, 0, NULL, 0), PIM_DONE);
-    is("no ranges at NULL", pim_ranges(router, 0, NULL, 0), PIM_DONE);
-    is("no lists at NULL", pim_new(router, &usual, three, 3, NULL, 0, NULL, 0), PIM_DONE);
-    is("no interfaces at NULL", pim_new(router, &usual, NULL, 0, NULL, 0, NULL, 0), PIM_INTERFACE_COUNT);
+    struct viq_route twice[] = {two[0], two[0]};
+    is("a route twice", viq_routes(router, twice, 2, viq_draw(0)), 25);
+    is("no routes", viq_routes(router, twice, 0, viq_draw(0)), VIQ_DONE);
+    is("no ranges", viq_ranges(router, one, 0, viq_draw(0)), VIQ_DONE);
+    is("no routes at NULL", viq_routes(router, NULL, 0, viq_draw(0)), VIQ_DONE);
+    is("no ranges at NULL", viq_ranges(router, NULL, 0, viq_draw(0)), VIQ_DONE);
+    is("no lists at NULL", can_be_made(&usual, three, 3, NULL, 0, NULL, 0), VIQ_DONE);
+    is("no interfaces at NULL", can_be_made(&usual, NULL, 0, NULL, 0, NULL, 0), VIQ_INTERFACE_COUNT);
+}
+
+/* A list that is too long is refused by its count, and isn't read: here it isn't there. */
+static void long_lists(struct viq_router *router) {
+    static const size_t counts[] = {VIQ_MOST_ROUTES + 1, (size_t)1 << 40, SIZE_MAX};
+    static const struct viq_settings bad = {0, 2, 125, 100, 10, false};
+    for (size_t at = 0; at < COUNT(counts); at++) {
+        is("too many interfaces", can_be_made(&usual, three, counts[at], two, 2, one, 1), VIQ_INTERFACE_COUNT);
+        is("too many routes", can_be_made(&usual, three, 3, two, counts[at], one, 1), VIQ_CONFIGURED_ROUTES);
+        is("too many ranges", can_be_made(&usual, three, 3, two, 2, one, counts[at]), VIQ_CONFIGURED_RANGES);
+        is("what is tested before", can_be_made(&bad, three, 3, two, counts[at], one, counts[at]), VIQ_BAD_LIMIT);
+        is("routes before ranges", can_be_made(&usual, three, 3, two, counts[at], one, counts[at]), VIQ_CONFIGURED_ROUTES);
+        is("too many new routes", viq_routes(router, two, counts[at], viq_draw(0)), VIQ_BAD_ROUTES);
+        is("too many new ranges", viq_ranges(router, one, counts[at], viq_draw(0)), VIQ_BAD_RANGES);
+    }
+    is("257 ranges", viq_ranges(router, one, VIQ_MOST_RANGES + 1, viq_draw(0)), VIQ_BAD_RANGES);
+    is("no node is visited", viq_probes(router), 0);
+}
+
+static void other_abi(void) {
+    struct viq_router *router = (struct viq_router *)&wrong;
+    uint32_t other[] = {0, VIQ_ABI + 1, UINT32_MAX};
+    for (size_t at = 0; at < COUNT(other); at++) {
+        uint32_t answer = viq_new(&router, other[at], &usual, three, COUNT(three), two, COUNT(two), one, COUNT(one));
+        is("another ABI", answer, VIQ_OTHER_ABI);
+        is("no router of it", router == NULL, true);
+    }
+    is("the library's own", viq_abi(), VIQ_ABI);
 }
 
 static void configurations(void) {
-    struct pim_router router = PIM_NO_HANDLE;
-    is("new", made(&router, &usual), PIM_DONE);
-    is("the handle", router.is_there, true);
-    is("up", pim_up(&router, 7, 0), PIM_DONE);
-    uint64_t next = pim_next_moment(&router);
-    struct pim_settings wrong_one = {0, 2, 125, 100, 10, false};
-    is("new that is refused", made(&router, &wrong_one), 34);
-    is("the router that was there", pim_next_moment(&router), next);
-    is("its packets", pim_packets(&router), 1);
-    is("new in its place", made(&router, &usual), PIM_DONE);
-    is("its first moment", pim_next_moment(&router), PIM_NEVER);
-    is("no packets", pim_packets(&router), 0);
-    refused_settings(&router);
-    refused_interfaces(&router);
-    is("new again", made(&router, &usual), PIM_DONE);
-    refused_lists(&router);
-    pim_end(&router);
-    is("the handle after its end", router.is_there, false);
-    is("up after its end", pim_up(&router, 7, 0), PIM_NO_ROUTER);
+    struct viq_router *router = (struct viq_router *)&wrong, *other = NULL;
+    is("new", made(&router, &usual), VIQ_DONE);
+    is("the router", router != NULL, true);
+    is("up", viq_up(router, 0, viq_draw(7)), VIQ_DONE);
+    struct viq_settings wrong_one = {0, 2, 125, 100, 10, false};
+    is("new that is refused", made(&other, &wrong_one), 34);
+    is("there is none", other == NULL, true);
+    is("its packets", viq_packets(router), 1);
+    is("new beside it", made(&other, &usual), VIQ_DONE);
+    is("its first moment", viq_next_moment(other), VIQ_NEVER);
+    is("no packets", viq_packets(other), 0);
+    viq_end(router);
+    refused_settings();
+    refused_interfaces();
+    refused_lists(other);
+    long_lists(other);
+    other_abi();
+    viq_end(other);
 }
 
-/* ---- events: a Join of 10.0.1.2 and two packets of its source, as in crates/pim_played/data/a_join_that_is_over.toml */
+/* ---- events: a Join of 10.0.1.2 and two packets of its source, as in crates/pim_played/data/a_join_that_is_over.toml
+ * */
 
 static const char hello_above[] = "45C0001E000000000167CEAB0A000001E000000D2000DFFC00010002FFFF";
 static const char hello_below[] = "45C0001E000000000167CDAA0A000102E000000D2000DFFC00010002FFFF";
@@ -176,95 +214,97 @@ static size_t bytes_of(const char *hex, uint8_t *bytes) {
     return count;
 }
 
-static uint32_t frame(struct pim_router *router, uint32_t iface, const char *hex) {
-    uint8_t packet[PIM_MOST_BYTES];
-    return pim_frame(router, 0, iface, packet, bytes_of(hex, packet));
+static uint32_t frame(struct viq_router *router, uint32_t iface, const char *hex) {
+    uint8_t packet[VIQ_MOST_BYTES];
+    return viq_frame(router, iface, packet, bytes_of(hex, packet), viq_draw(0));
 }
 
-static void moments_and_interfaces(struct pim_router *router) {
+static void moments_and_interfaces(struct viq_router *router) {
     uint8_t none[1] = {0};
-    is("advance to 5", pim_advance(router, 0, 5), PIM_DONE);
-    is("advance back", pim_advance(router, 0, 4), 20);
-    is("advance to the present", pim_advance(router, 0, 5), PIM_DONE);
-    is("advance too far", pim_advance(router, 0, ((uint64_t)1 << 62) + 1), 21);
-    is("up of no interface", pim_up(router, 0, 3), 22);
-    is("down of no interface", pim_down(router, 0, 3), 22);
+    is("advance to 5", viq_advance(router, 5, viq_draw(0)), VIQ_DONE);
+    is("advance back", viq_advance(router, 4, viq_draw(0)), 20);
+    is("advance to the present", viq_advance(router, 5, viq_draw(0)), VIQ_DONE);
+    is("advance too far", viq_advance(router, ((uint64_t)1 << 62) + 1, viq_draw(0)), 21);
+    is("up of no interface", viq_up(router, 3, viq_draw(0)), 22);
+    is("down of no interface", viq_down(router, 3, viq_draw(0)), 22);
     is("frame on no interface", frame(router, 3, data), 22);
     is("frame on one that is down", frame(router, 0, data), 23);
-    is("down of one that is down", pim_down(router, 0, 0), PIM_IGNORED + 7);
-    is("up", pim_up(router, 7, 0), PIM_DONE);
-    is("a packet of it", pim_packets(router), 1);
-    is("up once more", pim_up(router, 7, 0), PIM_IGNORED + 7);
-    is("no packet of what is ignored", pim_packets(router), 0);
-    is("a frame without bytes", pim_frame(router, 0, 0, none, 0), 1);
-    is("a unicast without bytes", pim_unicast(router, 0, none, 0), 1);
-    is("a unicast of NULL", pim_unicast(router, 0, NULL, 0), 1);
-    is("a frame of NULL", pim_frame(router, 0, 0, NULL, 0), 1);
-    is("up of the second", pim_up(router, 7, 1), PIM_DONE);
-    is("up of the third", pim_up(router, 7, 2), PIM_DONE);
+    is("down of one that is down", viq_down(router, 0, viq_draw(0)), VIQ_ALREADY);
+    is("up", viq_up(router, 0, viq_draw(7)), VIQ_DONE);
+    is("a packet of it", viq_packets(router), 1);
+    is("up once more", viq_up(router, 0, viq_draw(7)), VIQ_ALREADY);
+    is("no packet of what is ignored", viq_packets(router), 0);
+    is("a frame without bytes", viq_frame(router, 0, none, 0, viq_draw(0)), 1);
+    is("a unicast without bytes", viq_unicast(router, none, 0, viq_draw(0)), 1);
+    is("a unicast of NULL", viq_unicast(router, NULL, 0, viq_draw(0)), 1);
+    is("a frame of NULL", viq_frame(router, 0, NULL, 0, viq_draw(0)), 1);
+    is("up of the second", viq_up(router, 1, viq_draw(7)), VIQ_DONE);
+    is("up of the third", viq_up(router, 2, viq_draw(7)), VIQ_DONE);
 }
 
-static void packets(struct pim_router *router) {
-    uint8_t wanted[PIM_MOST_BYTES], room[PIM_MOST_BYTES], small[9];
-    struct pim_packet packet = {true, 7, 7, 7};
+static void packets(struct viq_router *router) {
+    uint8_t wanted[VIQ_MOST_BYTES], room[VIQ_MOST_BYTES], small[9];
+    struct viq_packet packet = {7, 7, 7, 7};
     size_t length = bytes_of(copy, wanted);
-    is("hello", frame(router, 0, hello_above), PIM_DONE);
-    is("hello of the other", frame(router, 1, hello_below), PIM_DONE);
-    is("join", frame(router, 1, join), PIM_DONE);
-    is("a Hello and a Join", pim_packets(router), 2);
-    is("none is a copy", pim_copies(router), 0);
-    is("data", frame(router, 0, data), PIM_DONE);
-    is("one packet", pim_packets(router), 1);
-    is("a copy", pim_copies(router), 1);
-    is("the copy", pim_packet(router, 0, &packet, room, sizeof room), true);
-    is("what it is", !packet.is_unicast && packet.iface == 1 && packet.destination == 0 && packet.length == length, true);
+    is("hello", frame(router, 0, hello_above), VIQ_DONE);
+    is("hello of the other", frame(router, 1, hello_below), VIQ_DONE);
+    is("join", frame(router, 1, join), VIQ_DONE);
+    is("a Hello and a Join", viq_packets(router), 2);
+    is("the Join", viq_packet(router, 1, &packet, room, sizeof room), true);
+    is("it is no copy", packet.kind == VIQ_FRAME && packet.iface == 0, true);
+    is("none is a copy", viq_copies(router), 0);
+    is("data", frame(router, 0, data), VIQ_DONE);
+    is("one packet", viq_packets(router), 1);
+    is("a copy", viq_copies(router), 1);
+    is("the copy", viq_packet(router, 0, &packet, room, sizeof room), true);
+    is("what it is", packet.kind == VIQ_COPY && packet.iface == 1 && packet.destination == 0 && packet.length == length, true);
     is("its bytes", memcmp(room, wanted, length) == 0, true);
     memset(small, 7, sizeof small);
-    is("the copy into a small room", pim_packet(router, 0, &packet, small, 8), true);
+    is("the copy into a small room", viq_packet(router, 0, &packet, small, 8), true);
     is("its length", packet.length, length);
     is("the room", memcmp(small, wanted, 8) == 0 && small[8] == 7, true);
-    is("the copy into no room", pim_packet(router, 0, &packet, small, 0), true);
-    is("the copy into no room at NULL", pim_packet(router, 0, &packet, NULL, 0), true);
+    is("the copy into no room", viq_packet(router, 0, &packet, small, 0), true);
+    is("the copy into no room at NULL", viq_packet(router, 0, &packet, NULL, 0), true);
     memset(room, 7, sizeof room);
-    is("the copy into a large room", pim_packet(router, 0, &packet, room, sizeof room), true);
+    is("the copy into a large room", viq_packet(router, 0, &packet, room, sizeof room), true);
     is("the rest of the room", room[length] == 7 && room[sizeof room - 1] == 7, true);
-    is("a second packet", pim_packet(router, 1, &packet, room, sizeof room), false);
-    is("the largest number", pim_packet(router, SIZE_MAX, &packet, room, sizeof room), false);
-    is("the node of the group and of the source", pim_probes(router) >= 1, true);
-    is("data of the known source", frame(router, 0, data), PIM_DONE);
-    is("its nodes", pim_probes(router) >= 1 && pim_probes(router) <= 66, true);
-    is("no row is touched", pim_touched(router), 0);
+    is("a second packet", viq_packet(router, 1, &packet, room, sizeof room), false);
+    is("the largest number", viq_packet(router, SIZE_MAX, &packet, room, sizeof room), false);
+    is("the node of the group and of the source", viq_probes(router) >= 1, true);
+    is("data of the known source", frame(router, 0, data), VIQ_DONE);
+    is("its nodes", viq_probes(router) >= 1 && viq_probes(router) <= 66, true);
+    is("no row is touched", viq_touched(router), 0);
 }
 
-static void tables(struct pim_router *router) {
+static void tables(struct viq_router *router) {
     static const struct { uint8_t letter; size_t rows; } wanted[] = {{'N', 2}, {'G', 0}, {'S', 0}, {'D', 1}, {'A', 0}, {'U', 1}, {'R', 0}, {'F', 1}};
-    struct pim_row row = {.table = 7};
+    struct viq_row row = {.table = 7};
     for (size_t at = 0; at < COUNT(wanted); at++) {
-        is("read", pim_read(router, wanted[at].letter), PIM_DONE);
-        is("how many rows", pim_rows(router), wanted[at].rows);
+        is("read", viq_read(router, wanted[at].letter), VIQ_DONE);
+        is("how many rows", viq_rows(router), wanted[at].rows);
     }
-    is("no table", pim_read(router, 'n'), PIM_NO_TABLE);
-    is("the rows before it", pim_rows(router), 1);
-    is("neighbours", pim_read(router, 'N'), PIM_DONE);
-    is("no third one", pim_row(router, 2, &row), false);
+    is("no table", viq_read(router, 'n'), VIQ_NO_TABLE);
+    is("the rows before it", viq_rows(router), 1);
+    is("neighbours", viq_read(router, 'N'), VIQ_DONE);
+    is("no third one", viq_row(router, 2, &row), false);
     is("what isn't written", row.table, 7);
-    is("the second one", pim_row(router, 1, &row), true);
-    is("its table", row.table == 'N' && row.iface == 1 && row.source == 0x0a000102 && row.end == PIM_NEVER, true);
-    is("joins", pim_read(router, 'D'), PIM_DONE);
-    is("the join", pim_row(router, 0, &row), true);
+    is("the second one", viq_row(router, 1, &row), true);
+    is("its table", row.table == 'N' && row.iface == 1 && row.source == 0x0a000102 && row.end == VIQ_NEVER, true);
+    is("joins", viq_read(router, 'D'), VIQ_DONE);
+    is("the join", viq_row(router, 0, &row), true);
     is("whose", row.table == 'D' && row.iface == 1 && row.group == 0xe1010101 && row.source == 0x0a000305 && !row.is_rpt, true);
-    is("joined for a second", row.state == 1 && row.end == 5 + 1000 && row.pending == PIM_NEVER, true);
-    is("down", pim_down(router, 0, 1), PIM_DONE);
-    is("the rows stay", pim_rows(router), 1);
-    is("joins again", pim_read(router, 'D'), PIM_DONE);
-    is("there is none", pim_rows(router), 0);
+    is("joined for a second", row.state == VIQ_JOINED && row.end == 5 + 1000 && row.pending == VIQ_NEVER, true);
+    is("down", viq_down(router, 1, viq_draw(0)), VIQ_DONE);
+    is("the rows stay", viq_rows(router), 1);
+    is("joins again", viq_read(router, 'D'), VIQ_DONE);
+    is("there is none", viq_rows(router), 0);
 }
 
-static void cached(struct pim_router *router) {
-    struct pim_forwarding told = {.rpf = 7};
-    is("no fact of another source", pim_cached(router, 0x0a000306, 0xe1010101, &told), false);
+static void cached(struct viq_router *router) {
+    struct viq_forwarding told = {.rpf = 7};
+    is("no fact of another source", viq_cached(router, 0x0a000306, 0xe1010101, &told), false);
     is("what isn't told", told.rpf, 7);
-    is("the source's row", pim_cached(router, 0x0a000305, 0xe1010101, &told), true);
+    is("the source's row", viq_cached(router, 0x0a000305, 0xe1010101, &told), true);
     is("by the source's tree", told.rpf == 0 && told.has_spt_bit && !told.has_tunnel, true);
     is("the way to the RP", told.shared_rpf, 0);
     is("immediate_olist", told.immediate.low == 1 << 1 && told.immediate.high == 0, true);
@@ -274,146 +314,154 @@ static void cached(struct pim_router *router) {
 
 /* ---- a data plane: the source of the Join, another one, and a third that is on the router's own link */
 
-static void told_rows(struct pim_router *router) {
-    struct pim_plane_row row = {.incoming = 7};
-    is("the source's row", pim_offload(router, 0x0a000305, 0xe1010101, &row), true);
+static void told_rows(struct viq_router *router) {
+    struct viq_plane_row row = {.incoming = 7};
+    is("the source's row", viq_offload(router, 0x0a000305, 0xe1010101, &row), true);
     is("it is known", row.is_known, true);
     is("by the source's tree", row.incoming, 0);
     is("where copies leave", row.outgoing.low == 1 << 1 && row.outgoing.high == 0, true);
     is("where it is alive", row.alive.low == 1 << 0 && row.alive.high == 0, true);
     is("where it is the router's", row.to_core.low == 1 << 1 && row.to_core.high == 0, true);
-    is("another source's row", pim_offload(router, 0x0a000306, 0xe1010101, &row), true);
+    is("another source's row", viq_offload(router, 0x0a000306, 0xe1010101, &row), true);
     is("it is unknown", row.is_known, false);
     is("by the shared tree", row.incoming, 0);
     is("no copies", row.outgoing.low | row.outgoing.high, 0);
     is("nobody hears of it", row.alive.low | row.alive.high, 0);
     is("nowhere the router's", row.to_core.low | row.to_core.high, 0);
-    is("one on a link of the router", pim_offload(router, 0x0a000207, 0xe1010101, &row), true);
+    is("one on a link of the router", viq_offload(router, 0x0a000207, 0xe1010101, &row), true);
     is("whose first packet is the router's", row.to_core.low, 1 << 2);
 }
 
-static void told_packets(struct pim_router *router) {
-    struct pim_source_group name = {7, 7};
-    is("seen", pim_seen(router, 0, 0, 0x0a000305, 0xe1010101), PIM_DONE);
-    is("nothing leaves", pim_packets(router), 0);
-    is("nothing is touched", pim_touched(router), 0);
-    is("nothing changed", pim_changed(router), 0);
-    is("nothing may differ", pim_may_differ(router, 0x0a000305, 0xe1010101), false);
-    is("seen on no interface", pim_seen(router, 0, 3, 0x0a000305, 0xe1010101), 22);
-    is("seen of an address of the router", pim_seen(router, 0, 0, 0x0a000002, 0xe1010101), PIM_IGNORED);
-    is("seen to no group", pim_seen(router, 0, 0, 0x0a000305, 0x0a000306), PIM_NOT_FOR_ME);
-    is("seen of a source on a link", pim_seen(router, 0, 2, 0x0a000207, 0xe1010101), PIM_DONE);
-    is("its row changed", pim_changed(router), 1);
-    is("whose", pim_changed_source(router, 0, &name), true);
+static void told_packets(struct viq_router *router) {
+    struct viq_source_group name = {7, 7};
+    is("seen", viq_seen(router, 0, 0x0a000305, 0xe1010101, viq_draw(0)), VIQ_DONE);
+    is("nothing leaves", viq_packets(router), 0);
+    is("nothing is touched", viq_touched(router), 0);
+    is("nothing changed", viq_changed(router), 0);
+    is("nothing may differ", viq_may_differ(router, 0x0a000305, 0xe1010101), false);
+    is("seen on no interface", viq_seen(router, 3, 0x0a000305, 0xe1010101, viq_draw(0)), 22);
+    is("seen of an address of the router", viq_seen(router, 0, 0x0a000002, 0xe1010101, viq_draw(0)), VIQ_OWN);
+    is("seen to no group", viq_seen(router, 0, 0x0a000305, 0x0a000306, viq_draw(0)), VIQ_NOT_FOR_ME);
+    is("seen of a source on a link", viq_seen(router, 2, 0x0a000207, 0xe1010101, viq_draw(0)), VIQ_DONE);
+    is("its row changed", viq_changed(router), 1);
+    is("whose", viq_changed_source(router, 0, &name), true);
     is("its source and group", name.source == 0x0a000207 && name.group == 0xe1010101, true);
-    is("no second one", pim_changed_source(router, 1, &name), false);
-    is("it may differ", pim_may_differ(router, 0x0a000207, 0xe1010101), true);
-    is("others don't", pim_may_differ(router, 0x0a000306, 0xe1010102), false);
-    is("keep", pim_keep(router, 0x0a000305, 0xe1010101, 1000), PIM_DONE);
-    is("what changed stays", pim_changed(router), 1);
-    is("keep of another source", pim_keep(router, 0x0a000306, 0xe1010101, 1000), PIM_NO_TIMER);
-    is("active sources", pim_read(router, 'F'), PIM_DONE);
-    is("how many", pim_rows(router), 2);
+    is("no second one", viq_changed_source(router, 1, &name), false);
+    is("it may differ", viq_may_differ(router, 0x0a000207, 0xe1010101), true);
+    is("others don't", viq_may_differ(router, 0x0a000306, 0xe1010102), false);
+    is("keep", viq_keep(router, 0x0a000305, 0xe1010101, 1000), VIQ_DONE);
+    is("what changed stays", viq_changed(router), 1);
+    is("keep at the last moment", viq_keep(router, 0x0a000306, 0xe1010101, (uint64_t)1 << 62), VIQ_NO_TIMER);
+    is("keep beyond it", viq_keep(router, 0x0a000305, 0xe1010101, ((uint64_t)1 << 62) + 1), VIQ_MOMENT_FAR);
+    is("keep of another source", viq_keep(router, 0x0a000306, 0xe1010101, 1000), VIQ_NO_TIMER);
+    is("active sources", viq_read(router, 'F'), VIQ_DONE);
+    is("how many", viq_rows(router), 2);
 }
 
-static void kept(struct pim_router *router) {
-    struct pim_row row = {.table = 7};
-    is("the second one", pim_row(router, 1, &row), true);
+static void kept(struct viq_router *router) {
+    struct viq_row row = {.table = 7};
+    is("the second one", viq_row(router, 1, &row), true);
     is("it is kept for 210 s", row.source == 0x0a000305 && row.end == 1000 + 210000, true);
-    is("keep at an earlier moment", pim_keep(router, 0x0a000305, 0xe1010101, 500), PIM_DONE);
-    is("active sources again", pim_read(router, 'F'), PIM_DONE);
-    is("the second one again", pim_row(router, 1, &row), true);
+    is("keep at an earlier moment", viq_keep(router, 0x0a000305, 0xe1010101, 500), VIQ_DONE);
+    is("active sources again", viq_read(router, 'F'), VIQ_DONE);
+    is("the second one again", viq_row(router, 1, &row), true);
     is("its end stays", row.end, 1000 + 210000);
 }
 
 static void plane(void) {
-    struct pim_router router = PIM_NO_HANDLE;
-    is("new for a plane", made(&router, &usual), PIM_DONE);
-    moments_and_interfaces(&router);
-    packets(&router);
-    told_rows(&router);
-    told_packets(&router);
-    kept(&router);
-    pim_end(&router);
+    struct viq_router *router = NULL;
+    is("new for a plane", made(&router, &usual), VIQ_DONE);
+    moments_and_interfaces(router);
+    packets(router);
+    told_rows(router);
+    told_packets(router);
+    kept(router);
+    viq_end(router);
 }
 
 /* A router with room for one fact. */
 static void full(void) {
-    struct pim_settings small = PIM_USUAL_SETTINGS;
-    struct pim_router router = PIM_NO_HANDLE;
-    struct pim_plane_row row = {.incoming = 7};
+    struct viq_settings small = VIQ_USUAL_SETTINGS;
+    struct viq_router *router = NULL;
+    struct viq_plane_row row = {.incoming = 7};
     small.limit = 1;
-    is("new with room for one", made(&router, &small), PIM_DONE);
-    is("up", pim_up(&router, 7, 2), PIM_DONE);
-    is("an unknown source's row", pim_offload(&router, 0x0a000306, 0xe1010101, &row), true);
-    is("seen of a source on a link", pim_seen(&router, 0, 2, 0x0a000207, 0xe1010101), PIM_DONE);
+    is("new with room for one", made(&router, &small), VIQ_DONE);
+    is("up", viq_up(router, 2, viq_draw(7)), VIQ_DONE);
+    is("an unknown source's row", viq_offload(router, 0x0a000306, 0xe1010101, &row), true);
+    is("seen of a source on a link", viq_seen(router, 2, 0x0a000207, 0xe1010101, viq_draw(0)), VIQ_DONE);
     row.incoming = 7;
-    is("any source may differ", pim_may_differ(&router, 0x0a000306, 0xe1010101), true);
-    is("there is no room", pim_offload(&router, 0x0a000306, 0xe1010101, &row), false);
+    is("any source may differ", viq_may_differ(router, 0x0a000306, 0xe1010101), true);
+    is("there is no room", viq_offload(router, 0x0a000306, 0xe1010101, &row), false);
     is("what isn't written", row.incoming, 7);
-    is("the known one's row", pim_offload(&router, 0x0a000207, 0xe1010101, &row), true);
-    is("of another group there is no room", pim_seen(&router, 0, 2, 0x0a000207, 0xe1010102), PIM_FULL);
-    pim_end(&router);
+    is("the known one's row", viq_offload(router, 0x0a000207, 0xe1010101, &row), true);
+    is("of another group there is no room", viq_seen(router, 2, 0x0a000207, 0xe1010102, viq_draw(0)), VIQ_FULL);
+    viq_end(router);
 }
 
-/* A router with 120 interfaces, and hosts on some that want a source of a group: what is told of interface 64 and above. */
+/* A router with 120 interfaces, and hosts on some that want a source of a group: what is told of interface 64 and
+ * above. */
 static void many_interfaces(void) {
     static const uint32_t hosts[] = {1, 63, 64, 119};
-    struct pim_interface many[120];
-    struct pim_router router = PIM_NO_HANDLE;
-    struct pim_forwarding told;
-    struct pim_plane_row row;
+    struct viq_interface many[120];
+    struct viq_router *router = NULL;
+    struct viq_forwarding told;
+    struct viq_plane_row row;
     uint8_t packet[] = {0x45, 0, 0, 28, 0, 0, 0, 0, 64, 17, 0, 0, 10, 0, 0, 9, 232, 1, 1, 1, 0, 1, 0, 2, 0, 8, 0, 0};
-    for (uint32_t at = 0; at < COUNT(many); at++) many[at] = (struct pim_interface){0x0a000001 + (at << 8), 24, 1, 500, 2500};
-    is("120 interfaces", pim_new(&router, &usual, many, COUNT(many), NULL, 0, one, 1), PIM_DONE);
-    for (uint32_t at = 0; at < COUNT(many); at++) is("up", pim_up(&router, at, at), PIM_DONE);
+    for (uint32_t at = 0; at < COUNT(many); at++) many[at] = (struct viq_interface){0x0a000001 + (at << 8), 24, 1, 500, 2500};
+    is("120 interfaces", viq_new(&router, VIQ_ABI, &usual, many, COUNT(many), NULL, 0, one, 1), VIQ_DONE);
+    for (uint32_t at = 0; at < COUNT(many); at++) is("up", viq_up(router, at, viq_draw(at)), VIQ_DONE);
     for (size_t at = 0; at < COUNT(hosts); at++) {
         /* ALLOW of 10.0.0.9 in 232.1.1.1 */
         uint8_t report[] = {0x46, 0xc0, 0, 44, 0, 0, 0, 0, 1, 2, 0, 0, 10, 0, (uint8_t)hosts[at], 9, 224, 0, 0, 22, 0x94, 4, 0, 0,
                             0x22, 0, 0, 0, 0, 0, 0, 1, 5, 0, 0, 1, 232, 1, 1, 1, 10, 0, 0, 9};
         set_sum(report, 24, 10);
         set_sum(report + 24, 20, 2);
-        is("a report", pim_frame(&router, 0, hosts[at], report, sizeof report), PIM_DONE);
+        is("a report", viq_frame(router, hosts[at], report, sizeof report, viq_draw(0)), VIQ_DONE);
     }
     set_sum(packet, 20, 10);
-    is("data of the source", pim_frame(&router, 0, 0, packet, sizeof packet), PIM_DONE);
-    is("its copies", pim_copies(&router), COUNT(hosts));
-    is("its row", pim_cached(&router, 0x0a000009, 0xe8010101, &told), true);
-    is("no RP", told.shared_rpf, PIM_NO_INTERFACE);
+    is("data of the source", viq_frame(router, 0, packet, sizeof packet, viq_draw(0)), VIQ_DONE);
+    is("its copies", viq_copies(router), COUNT(hosts));
+    is("its row", viq_cached(router, 0x0a000009, 0xe8010101, &told), true);
+    is("no RP", told.shared_rpf, VIQ_NO_INTERFACE);
     is("the low word", told.inherited.low, (uint64_t)1 << 63 | 1 << 1);
     is("the high word", told.inherited.high, (uint64_t)1 << 55 | 1);
-    is("its row for a plane", pim_offload(&router, 0x0a000009, 0xe8010101, &row), true);
+    is("interface 63, by name", viq_has(&told.inherited, 63) && viq_has(&told.inherited, 64) && !viq_has(&told.inherited, 62), true);
+    is("no interface 128", viq_has(&told.inherited, 128), false);
+    is("its row for a plane", viq_offload(router, 0x0a000009, 0xe8010101, &row), true);
     is("the low word of it", row.outgoing.low, (uint64_t)1 << 63 | 1 << 1);
     is("the high word of it", row.outgoing.high, (uint64_t)1 << 55 | 1);
-    pim_end(&router);
+    viq_end(router);
 }
 
 static void texts(void) {
-    is("the version", strncmp(pim_version(), PIM_VERSION " ", sizeof PIM_VERSION), 0);
-    is("how it was built", strstr(pim_version(), "proved") != NULL, true);
-    is("done", strcmp(pim_answer_text(PIM_DONE), "done"), 0);
-    is("no answer", strcmp(pim_answer_text(10), "no answer of this library"), 0);
-    is("the last reason", strcmp(pim_answer_text(PIM_ALREADY), pim_answer_text(PIM_ALREADY + 1)) != 0, true);
+    is("the version", strncmp(viq_version(), VIQ_VERSION " ", sizeof VIQ_VERSION), 0);
+    is("how it was built", strstr(viq_version(), "proved") != NULL, true);
+    is("done", strcmp(viq_answer_text(VIQ_DONE), "done"), 0);
+    is("no answer", strcmp(viq_answer_text(10), "no answer of this library"), 0);
+    is("refused", viq_is_refused(VIQ_FULL) && viq_is_refused(38) && !viq_is_refused(VIQ_DONE) && !viq_is_refused(VIQ_MEMORY), true);
+    is("ignored", viq_is_ignored(VIQ_OWN) && viq_is_ignored(VIQ_ALREADY) && !viq_is_ignored(VIQ_NO_TIMER) && !viq_is_ignored(VIQ_IGNORED), true);
+    is("lost", viq_is_lost(VIQ_LOST) && viq_is_lost(VIQ_FAILED) && !viq_is_lost(VIQ_MEMORY), true);
+    is("the last reason", strcmp(viq_answer_text(VIQ_ALREADY), viq_answer_text(VIQ_ALREADY + 1)) != 0, true);
 }
 
 int main(void) {
-    struct pim_router router = PIM_NO_HANDLE, other = PIM_NO_HANDLE;
+    struct viq_router *router, *other;
     without_a_router();
     configurations();
-    is("new", made(&router, &usual), PIM_DONE);
-    is("new of another", made(&other, &usual), PIM_DONE);
-    moments_and_interfaces(&router);
-    packets(&router);
-    cached(&router);
-    tables(&router);
+    is("new", made(&router, &usual), VIQ_DONE);
+    is("new of another", made(&other, &usual), VIQ_DONE);
+    moments_and_interfaces(router);
+    packets(router);
+    cached(router);
+    tables(router);
     many_interfaces();
     plane();
     full();
     texts();
-    is("the other's moment", pim_next_moment(&other), PIM_NEVER);
-    is("the other's packets", pim_packets(&other), 0);
-    pim_end(&router);
-    pim_end(&other);
-    printf("%u calls and values, %u other than pim.h says\n", tried, wrong);
+    is("the other's moment", viq_next_moment(other), VIQ_NEVER);
+    is("the other's packets", viq_packets(other), 0);
+    viq_end(router);
+    viq_end(other);
+    printf("%u calls and values, %u other than the headers say\n", tried, wrong);
     return wrong != 0;
 }

@@ -1,9 +1,10 @@
-/* One router: 10.0.1.2 joins a source, data comes and is copied, the Join ends, and data comes again. What becomes of each event
- * and what leaves is printed as ./pimlab prints it; crates/pim_played/data/a_join_that_is_over.toml is the same as a scenario. */
+/* One router: 10.0.1.2 joins a source, data comes and is copied, the Join ends, and data comes again. What becomes of
+ * each event and what leaves is printed as ./pimlab prints it; crates/pim_played/data/a_join_that_is_over.toml is the
+ * same as a scenario. */
 #include <stdio.h>
 #include <stdlib.h>
 
-#include "pim.h"
+#include <viqeshor/viqeshor.h>
 
 #define HELLO_ABOVE "45C0001E000000000167CEAB0A000001E000000D2000DFFC00010002FFFF"
 #define HELLO_BELOW "45C0001E000000000167CDAA0A000102E000000D2000DFFC00010002FFFF"
@@ -15,54 +16,51 @@
 static const char *const links = "nmo";
 static int moves, frames;
 
-static void print_packet(const struct pim_packet *packet, const uint8_t *bytes, bool is_copy) {
+static void print_packet(const struct viq_packet *packet, const uint8_t *bytes) {
     unsigned to = (unsigned)packet->destination;
-    if (packet->is_unicast) printf("unicast %d %u.%u.%u.%u ", ++frames, to >> 24, to >> 16 & 255, to >> 8 & 255, to & 255);
-    else printf("%s %d %c ", is_copy ? "copy" : "frame", ++frames, links[packet->iface]);
+    if (packet->kind == VIQ_UNICAST)
+        printf("unicast %d %u.%u.%u.%u ", ++frames, to >> 24, to >> 16 & 255, to >> 8 & 255, to & 255);
+    else printf("%s %d %c ", packet->kind == VIQ_COPY ? "copy" : "frame", ++frames, links[packet->iface]);
     for (size_t at = 0; at < packet->length; at++) printf("%02x", bytes[at]);
     putchar('\n');
 }
 
-/* What became of an event, and what leaves: the last packets on links are the copies. */
-static void took(struct pim_router *router, uint32_t answer) {
-    uint8_t bytes[PIM_MOST_BYTES];
-    struct pim_packet packet;
-    size_t on_links = 0;
-    if (answer == PIM_MEMORY || answer == PIM_FAILED) exit(1);
-    if (answer >= PIM_IGNORED) printf("move %d r ignored %u\n", ++moves, (unsigned)answer);
-    else if (answer != PIM_DONE) printf("move %d r refused %u\n", ++moves, (unsigned)answer);
+/* What became of an event, and what leaves. */
+static void took(struct viq_router *router, uint32_t answer) {
+    uint8_t bytes[VIQ_MOST_BYTES];
+    struct viq_packet packet;
+    if (viq_is_lost(answer)) exit(1);
+    if (viq_is_ignored(answer)) printf("move %d r ignored %u\n", ++moves, (unsigned)answer);
+    else if (viq_is_refused(answer)) printf("move %d r refused %u\n", ++moves, (unsigned)answer);
     else printf("move %d r done\n", ++moves);
-    for (size_t at = 0; pim_packet(router, at, &packet, bytes, 0); at++) on_links += !packet.is_unicast;
-    for (size_t at = 0, seen = 0; pim_packet(router, at, &packet, bytes, sizeof bytes); at++) {
-        seen += !packet.is_unicast;
-        print_packet(&packet, bytes, seen > on_links - pim_copies(router));
-    }
+    for (size_t at = 0; viq_packet(router, at, &packet, bytes, sizeof bytes); at++) print_packet(&packet, bytes);
 }
 
 /* A packet came on an interface. The draw should be a random number. */
-static void frame(struct pim_router *router, uint32_t iface, const char *hex) {
-    uint8_t packet[PIM_MOST_BYTES];
+static void frame(struct viq_router *router, uint32_t iface, const char *hex) {
+    uint8_t packet[VIQ_MOST_BYTES];
     size_t length = 0;
     for (unsigned byte; sscanf(hex + 2 * length, "%2x", &byte) == 1; length++) packet[length] = (uint8_t)byte;
-    took(router, pim_frame(router, 0, iface, packet, length));
+    took(router, viq_frame(router, iface, packet, length, viq_draw(0)));
 }
 
 int main(void) {
-    struct pim_settings settings = PIM_USUAL_SETTINGS;
-    struct pim_interface interfaces[] = {{0x0a000002, 24, 1, 500, 2500}, {0x0a000101, 24, 1, 500, 2500}, {0x0a000201, 24, 1, 500, 2500}};
-    struct pim_route routes[] = {{0x0a090900, 24, 0x0a000001, 0, 110, 20}, {0x0a000300, 24, 0x0a000001, 0, 110, 20}};
-    struct pim_range ranges[] = {{0xe0000000, 4, 0x0a090909}};
-    struct pim_router router = PIM_NO_HANDLE;
-    uint32_t answer = pim_new(&router, &settings, interfaces, 3, routes, 2, ranges, 1);
-    if (answer != PIM_DONE) return printf("refused %u\n", (unsigned)answer), 1;
-    for (uint32_t iface = 0; iface < 3; iface++) took(&router, pim_up(&router, 7, iface));
-    frame(&router, 0, HELLO_ABOVE);
-    frame(&router, 1, HELLO_BELOW);
-    frame(&router, 1, JOIN);
-    took(&router, pim_advance(&router, 0, 999));
-    frame(&router, 0, DATA);
-    took(&router, pim_advance(&router, 0, 1000));
-    frame(&router, 0, MORE_DATA);
-    pim_end(&router);
+    struct viq_settings settings = VIQ_USUAL_SETTINGS;
+    struct viq_interface interfaces[] = {
+        {0x0a000002, 24, 1, 500, 2500}, {0x0a000101, 24, 1, 500, 2500}, {0x0a000201, 24, 1, 500, 2500}};
+    struct viq_route routes[] = {{0x0a090900, 24, 0x0a000001, 0, 110, 20}, {0x0a000300, 24, 0x0a000001, 0, 110, 20}};
+    struct viq_range ranges[] = {{0xe0000000, 4, 0x0a090909}};
+    struct viq_router *router = NULL;
+    uint32_t answer = viq_new(&router, VIQ_ABI, &settings, interfaces, 3, routes, 2, ranges, 1);
+    if (answer != VIQ_DONE) return printf("refused %u\n", (unsigned)answer), 1;
+    for (uint32_t iface = 0; iface < 3; iface++) took(router, viq_up(router, iface, viq_draw(7)));
+    frame(router, 0, HELLO_ABOVE);
+    frame(router, 1, HELLO_BELOW);
+    frame(router, 1, JOIN);
+    took(router, viq_advance(router, 999, viq_draw(0)));
+    frame(router, 0, DATA);
+    took(router, viq_advance(router, 1000, viq_draw(0)));
+    frame(router, 0, MORE_DATA);
+    viq_end(router);
     return 0;
 }

@@ -1,7 +1,7 @@
 """The same as `join.c`, in Python, by the package of bindings/python."""
 from itertools import count
 
-from pim import Answer, Router
+from viqeshor import Answer, Router
 
 LINKS = "nmo"
 HELLO_ABOVE = "45C0001E000000000167CEAB0A000001E000000D2000DFFC00010002FFFF"

@@ -1,6 +1,6 @@
 //! The same as `join.c`, in Rust.
-use pim::{Error, Interface, Range, Route, Router, Settings, Verdict};
 use std::net::Ipv4Addr;
+use viqeshor::{Error, Interface, Kind, Range, Route, Router, Settings, Verdict};
 
 fn bytes_of(hex: &str) -> Vec<u8> {
     let digit = |at: usize| hex.as_bytes()[at] as char;
@@ -27,11 +27,11 @@ impl Printer {
         for sent in router.packets() {
             self.frames += 1;
             let hex: String = sent.bytes.iter().map(|byte| format!("{byte:02x}")).collect();
-            if sent.packet.is_unicast {
-                println!("unicast {} {} {hex}", self.frames, Ipv4Addr::from(sent.packet.destination));
-            } else {
-                let kind = if sent.is_copy { "copy" } else { "frame" };
-                println!("{kind} {} {} {hex}", self.frames, ["n", "m", "o"][sent.packet.iface as usize]);
+            let (number, packet) = (self.frames, sent.packet);
+            match packet.kind {
+                Kind::Unicast => println!("unicast {number} {} {hex}", packet.destination),
+                Kind::Copy => println!("copy {number} {} {hex}", ["n", "m", "o"][packet.iface as usize]),
+                _ => println!("frame {number} {} {hex}", ["n", "m", "o"][packet.iface as usize]),
             }
         }
         Ok(())
@@ -46,7 +46,7 @@ fn main() -> Result<(), Error> {
     let mut router = Router::new(&Settings::default(), &interfaces, &routes, &ranges)?;
     let mut printer = Printer::default();
     for iface in 0..3 {
-        let answer = router.up(7, iface);
+        let answer = router.up(iface, 7);
         printer.took(&mut router, answer)?;
     }
     let packets = [
@@ -58,10 +58,10 @@ fn main() -> Result<(), Error> {
     ];
     for (moment, iface, hex) in packets {
         if moment > 0 {
-            let answer = router.advance(0, moment);
+            let answer = router.advance(moment, 0);
             printer.took(&mut router, answer)?;
         }
-        let answer = router.frame(0, iface, &bytes_of(hex));
+        let answer = router.frame(iface, &bytes_of(hex), 0);
         printer.took(&mut router, answer)?;
     }
     Ok(())

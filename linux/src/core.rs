@@ -3,7 +3,7 @@ use crate::error::Fatal;
 use crate::mroute::Key;
 use crate::plane::Row;
 use crate::settings::{RpSettings, Settings};
-use pim::{Error, Packet, Range, Refusal, Route, Router, Sent, Table, Verdict, MOST_BYTES};
+use viqeshor::{Error, Packet, Range, Refusal, Route, Router, Sent, Table, Verdict, MOST_BYTES};
 use rand::rngs::{OsRng, StdRng};
 use rand::{RngCore, SeedableRng};
 use std::net::Ipv4Addr;
@@ -42,8 +42,8 @@ pub fn ranges_of(rps: &[RpSettings]) -> Vec<Range> {
     rps.iter().map(|rp| Range::new(rp.groups.address, rp.groups.length.into(), rp.address)).collect()
 }
 
-fn settings_of(settings: &Settings) -> pim::Settings {
-    pim::Settings {
+fn settings_of(settings: &Settings) -> viqeshor::Settings {
+    viqeshor::Settings {
         limit: settings.limit,
         robustness: settings.robustness,
         query_interval: settings.query_interval,
@@ -55,7 +55,7 @@ fn settings_of(settings: &Settings) -> pim::Settings {
 
 impl Core {
     /// A router without routes, at moment 0 and with every interface down.
-    pub fn new(settings: &Settings, interfaces: &[pim::Interface]) -> Result<Core, Fatal> {
+    pub fn new(settings: &Settings, interfaces: &[viqeshor::Interface]) -> Result<Core, Fatal> {
         let router = Router::new(&settings_of(settings), interfaces, &[], &ranges_of(&settings.rps));
         Ok(Core { router: router.map_err(Fatal::Settings)?, draws: StdRng::from_rng(OsRng)? })
     }
@@ -65,14 +65,14 @@ impl Core {
         let draw = self.draws.next_u32();
         let router = &mut self.router;
         let verdict = match event {
-            Event::Advance(moment) => router.advance(draw, moment),
-            Event::Frame(iface, packet) => router.frame(draw, iface, packet),
-            Event::Unicast(packet) => router.unicast(draw, packet),
-            Event::Up(iface) => router.up(draw, iface),
-            Event::Down(iface) => router.down(draw, iface),
-            Event::Routes(routes) => router.set_routes(draw, routes),
-            Event::Ranges(ranges) => router.set_ranges(draw, ranges),
-            Event::Seen(iface, key) => router.seen(draw, iface, key.source, key.group),
+            Event::Advance(moment) => router.advance(moment, draw),
+            Event::Frame(iface, packet) => router.frame(iface, packet, draw),
+            Event::Unicast(packet) => router.unicast(packet, draw),
+            Event::Up(iface) => router.up(iface, draw),
+            Event::Down(iface) => router.down(iface, draw),
+            Event::Routes(routes) => router.set_routes(routes, draw),
+            Event::Ranges(ranges) => router.set_ranges(ranges, draw),
+            Event::Seen(iface, key) => router.seen(iface, key.source, key.group, draw),
         };
         match verdict {
             Ok(Verdict::Done) => Ok(Answer::Done),
@@ -118,7 +118,7 @@ impl Core {
         Ok(self.router.keep(key.source, key.group, moment)?)
     }
 
-    pub fn rows(&mut self, table: Table) -> Result<Vec<pim::Row>, Fatal> {
+    pub fn rows(&mut self, table: Table) -> Result<Vec<viqeshor::Row>, Fatal> {
         Ok(self.router.rows(table)?)
     }
 

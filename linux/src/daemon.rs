@@ -18,7 +18,7 @@ use crate::routes::Counts;
 use crate::settings::Settings;
 use crate::{stand_in, words};
 use log::{debug, info, warn};
-use pim::{Route, Table};
+use viqeshor::{Route, Table};
 use std::collections::{BTreeMap, BTreeSet};
 use std::net::Ipv4Addr;
 use std::path::{Path, PathBuf};
@@ -153,7 +153,7 @@ struct Ledger<'a> {
 }
 
 impl Books for Ledger<'_> {
-    fn rows(&mut self, table: Table) -> Vec<pim::Row> {
+    fn rows(&mut self, table: Table) -> Vec<viqeshor::Row> {
         // A router that failed says so at its next event.
         self.core.rows(table).unwrap_or_default()
     }
@@ -279,7 +279,7 @@ impl Daemon {
         let Daemon { core, kernel, ports, policy, counters, .. } = self;
         core.each_packet(|packet, bytes| {
             let to = packet.iface;
-            match packet.is_unicast {
+            match packet.is_unicast() {
                 true => send_unicast(kernel.as_mut(), counters, bytes),
                 false => send_on(kernel.as_mut(), ports.get_mut(to as usize), policy.is_passive(to), bytes),
             }
@@ -292,11 +292,11 @@ impl Daemon {
         counters.stood_in += 1;
         for sent in core.packets() {
             let to = sent.packet.iface;
-            if sent.packet.is_unicast {
+            if sent.packet.is_unicast() {
                 let bytes = stand_in::register(itself, &sent.bytes).unwrap_or(sent.bytes);
                 send_unicast(kernel.as_mut(), counters, &bytes);
             } else {
-                let bytes = if sent.is_copy { stand_in::copy(itself, &sent.bytes) } else { sent.bytes };
+                let bytes = if sent.packet.is_copy() { stand_in::copy(itself, &sent.bytes) } else { sent.bytes };
                 send_on(kernel.as_mut(), ports.get_mut(to as usize), policy.is_passive(to), &bytes);
             }
         }

@@ -20,8 +20,8 @@ pub enum Fatal {
     #[error("{}: {error}", .path.display())]
     Control { path: PathBuf, error: io::Error },
     #[error("the settings: {0}")]
-    Settings(#[source] pim::Error),
+    Settings(#[source] viqeshor::Error),
     /// Memory was refused to the library.
     #[error("the router failed: {0}")]
-    Router(#[from] pim::Error),
+    Router(#[from] viqeshor::Error),
 }

@@ -14,7 +14,7 @@
 //! What comes on another interface is a stray for the kernel, which drops it and hands up one in three seconds, whole.
 use crate::mroute::{Forwarded, Key, REGISTER_VIF};
 use crate::netlink::Used;
-use pim::{Interfaces, PlaneRow};
+use viqeshor::{Interfaces, PlaneRow};
 use std::collections::{BTreeSet, HashMap};
 use std::io;
 use std::net::Ipv4Addr;

@@ -7,7 +7,7 @@ use crate::mroute::Key;
 use crate::packet::{address, is_pim, Packet, IGMP};
 use crate::split;
 use log::warn;
-use pim::{Row, Table};
+use viqeshor::{Row, Table};
 use std::collections::{BTreeMap, HashMap, HashSet};
 use std::fmt;
 use std::net::Ipv4Addr;

@@ -135,9 +135,9 @@ impl Port {
     }
 
     /// As the router is told: it wants a subnet with room for a neighbour.
-    pub fn told(&self) -> pim::Interface {
+    pub fn told(&self) -> viqeshor::Interface {
         let subnet = self.told_subnet();
-        pim::Interface {
+        viqeshor::Interface {
             address: subnet.address.into(),
             length: u32::from(subnet.length),
             priority: self.settings.priority,

@@ -4,7 +4,7 @@
 //! the kernel has for a prefix (a blackhole, an interface that isn't the router's, another subnet on a link, a next
 //! hop in IPv6) is a hole: there a shorter route has to end, so it is told as the prefixes around the hole.
 use crate::settings::{mask, RouteSettings, Subnet};
-use pim::Route;
+use viqeshor::Route;
 use std::collections::HashMap;
 
 pub const MOST_ROUTES: usize = 100_000;
@@ -123,9 +123,9 @@ fn entry(route: &KernelRoute, ours: &Ours, settings: &RouteSettings, counts: &mu
             counts.multipath += usize::from(route.hops.len() > 1);
             let preference = settings.preference_of(route.protocol);
             let told = Route {
-                prefix: route.prefix,
+                prefix: route.prefix.into(),
                 length: route.length.into(),
-                next_hop,
+                next_hop: next_hop.into(),
                 iface,
                 preference,
                 metric: route.metric,
@@ -141,7 +141,7 @@ fn around(prefix: u32, length: u8, covering: Option<Route>, entries: &[Entry], t
         Some((first, rest)) if (first.prefix, first.length) == (prefix, length) => (first.route, rest),
         _ => (covering, entries),
     };
-    let here = covering.map(|route| Route { prefix, length: length.into(), ..route });
+    let here = covering.map(|route| Route { prefix: prefix.into(), length: length.into(), ..route });
     if here.is_none() || !inner.iter().any(Entry::is_hole) {
         told.extend(here);
         match here {
@@ -169,8 +169,8 @@ fn each_alone(entries: &[Entry], told: &mut Vec<Route>) {
 
 /// The longest match among told routes, as (next hop, interface).
 pub fn longest(routes: &[Route], address: u32) -> Option<(u32, u32)> {
-    let fits = |route: &&Route| address & mask(route.length as u8) == route.prefix;
-    routes.iter().filter(fits).max_by_key(|route| route.length).map(|route| (route.next_hop, route.iface))
+    let fits = |route: &&Route| address & mask(route.length as u8) == u32::from(route.prefix);
+    routes.iter().filter(fits).max_by_key(|route| route.length).map(|route| (u32::from(route.next_hop), route.iface))
 }
 
 #[cfg(test)]
@@ -236,9 +236,9 @@ mod tests {
         fixed.protocol = 4;
         let (routes, counts) = taken(&[fixed], &ours(), &settings());
         let wanted = Route {
-            prefix: number("10.9.0.0"),
+            prefix: number("10.9.0.0").into(),
             length: 16,
-            next_hop: number("10.0.1.2"),
+            next_hop: number("10.0.1.2").into(),
             iface: 1,
             preference: 1,
             metric: 20,
@@ -262,7 +262,7 @@ mod tests {
     fn the_lowest_metric_is_taken() {
         let worse = KernelRoute { metric: 30, ..kernel("10.9.0.0/16", &[("10.0.0.9", 11)]) };
         let (routes, counts) = taken(&[worse, kernel("10.9.0.0/16", &[("10.0.0.2", 11)])], &ours(), &settings());
-        assert_eq!((routes[0].next_hop, routes.len(), counts.higher_metric), (number("10.0.0.2"), 1, 1));
+        assert_eq!((u32::from(routes[0].next_hop), routes.len(), counts.higher_metric), (number("10.0.0.2"), 1, 1));
     }
 
     #[test]

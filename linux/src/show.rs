@@ -7,7 +7,7 @@ use crate::plane::Entry;
 use crate::ports::{Port, Standing};
 use crate::routes::{longest, Counts};
 use crate::settings::{mask, RpSettings};
-use pim::{Interfaces, Row, Table};
+use viqeshor::{Interfaces, Row, Table};
 use serde_json::{json, Map, Value};
 use std::collections::{BTreeMap, BTreeSet, HashMap};
 use std::net::Ipv4Addr;
@@ -126,8 +126,8 @@ fn way(daemon: &Daemon, to: Ipv4Addr) -> Option<(u32, Ipv4Addr)> {
 }
 
 fn rp(daemon: &mut Daemon) -> Result<Rows, Fatal> {
-    let mut groups: BTreeSet<u32> = rows_of(daemon, Table::Upstream)?.iter().map(|row| row.group).collect();
-    groups.extend(rows_of(daemon, Table::Groups)?.iter().map(|row| row.group));
+    let mut groups: BTreeSet<u32> = rows_of(daemon, Table::Upstream)?.iter().map(|row| u32::from(row.group)).collect();
+    groups.extend(rows_of(daemon, Table::Groups)?.iter().map(|row| u32::from(row.group)));
     let ranges = &daemon.settings.rps;
     let row = |range: &RpSettings| {
         let is_here = daemon.ports.iter().any(|port| port.address() == Some(range.address));
@@ -154,10 +154,10 @@ fn neighbours(daemon: &mut Daemon) -> Result<Rows, Fatal> {
     let rows = rows_of(daemon, Table::Neighbours)?;
     let now = daemon.now();
     let row = |row: &Row| {
-        let known = daemon.neighbours.known.get(&(row.iface, row.source.into()));
+        let known = daemon.neighbours.known.get(&(row.iface, row.source));
         vec![
             ("interface", json!(daemon.name(row.iface))),
-            ("address", address(row.source)),
+            ("address", address(u32::from(row.source))),
             ("up_seconds", known.map_or(Value::Null, |known| seconds(now.saturating_sub(known.since)))),
             ("expires_seconds", until(row.end, now)),
             ("priority", known.map_or(Value::Null, |known| json!(known.priority))),
@@ -209,7 +209,7 @@ fn igmp(daemon: &mut Daemon) -> Result<Rows, Fatal> {
         let mode = if row.is_set { "exclude" } else { "include" };
         vec![
             ("interface", json!(daemon.name(row.iface))),
-            ("group", address(row.group)),
+            ("group", address(u32::from(row.group))),
             ("source", json!("*")),
             ("mode", json!(mode)),
             ("expires_seconds", until(row.end, now)),
@@ -220,14 +220,14 @@ fn igmp(daemon: &mut Daemon) -> Result<Rows, Fatal> {
         let mode = if row.end == u64::MAX { "excluded" } else { "included" };
         vec![
             ("interface", json!(daemon.name(row.iface))),
-            ("group", address(row.group)),
-            ("source", address(row.source)),
+            ("group", address(u32::from(row.group))),
+            ("source", address(u32::from(row.source))),
             ("mode", json!(mode)),
             ("expires_seconds", until(row.end, now)),
         ]
     };
-    let key = |row: &Row| (row.iface, row.group, row.source);
-    let mut all: BTreeMap<_, _> = groups.iter().map(|row| ((row.iface, row.group, 0), of_group(row))).collect();
+    let key = |row: &Row| (row.iface, u32::from(row.group), u32::from(row.source));
+    let mut all: BTreeMap<_, _> = groups.iter().map(|row| ((row.iface, u32::from(row.group), 0), of_group(row))).collect();
     all.extend(sources.iter().map(|row| (key(row), of_source(row))));
     Ok(all.into_values().collect())
 }
@@ -241,16 +241,16 @@ fn names(daemon: &Daemon, set: Interfaces) -> Vec<String> {
 /// The shared trees: each group that a host or a router asked for.
 fn shared_trees(daemon: &mut Daemon) -> Result<BTreeMap<(u32, u32), Cells>, Fatal> {
     let mut wanted: BTreeMap<u32, BTreeSet<String>> = BTreeMap::new();
-    for row in rows_of(daemon, Table::Downstream)?.iter().filter(|row| row.source == 0 && row.state != PRUNED) {
-        wanted.entry(row.group).or_default().insert(daemon.name(row.iface).to_string());
+    for row in rows_of(daemon, Table::Downstream)?.iter().filter(|row| u32::from(row.source) == 0 && row.state != PRUNED) {
+        wanted.entry(u32::from(row.group)).or_default().insert(daemon.name(row.iface).to_string());
     }
     let joined: BTreeSet<_> = wanted.keys().copied().collect();
     let mut hosts = BTreeSet::new();
     for row in rows_of(daemon, Table::Groups)?.iter().filter(|row| row.is_set) {
-        hosts.insert(row.group);
+        hosts.insert(u32::from(row.group));
         let port = &daemon.ports[row.iface as usize];
         if Some(designated(daemon, port)) == port.address() {
-            wanted.entry(row.group).or_default().insert(port.settings.name.clone());
+            wanted.entry(u32::from(row.group)).or_default().insert(port.settings.name.clone());
         }
     }
     let row = |(group, outgoing): (&u32, &BTreeSet<String>)| {
@@ -300,7 +300,7 @@ fn used(daemon: &Daemon) -> HashMap<Key, Used> {
 fn mroute(daemon: &mut Daemon) -> Result<Rows, Fatal> {
     let used = used(daemon);
     let active = rows_of(daemon, Table::Active)?;
-    let states: BTreeMap<_, _> = active.iter().map(|row| ((row.group, row.source), row)).collect();
+    let states: BTreeMap<_, _> = active.iter().map(|row| ((u32::from(row.group), u32::from(row.source)), row)).collect();
     let mut all = shared_trees(daemon)?;
     for (key, entry) in daemon.plane.entries() {
         let place = (u32::from(key.group), u32::from(key.source));
@@ -349,7 +349,7 @@ fn counters(daemon: &mut Daemon) -> Result<Rows, Fatal> {
     let reasons: Vec<_> = it
         .refused
         .iter()
-        .map(|(number, count)| (format!("  of these: {}", pim::answer_text(*number)), *count))
+        .map(|(number, count)| (format!("  of these: {}", viqeshor::answer_text(*number)), *count))
         .collect();
     let more = [
         ("messages that a full router was offered in parts", it.split),

@@ -3,7 +3,7 @@
 //! By the rules a message is taken whole or not at all. So where one names what is known beside what is new, a router
 //! at its limit would let the known end too. Offered part by part, the known is refreshed, and the new alone refused.
 use crate::packet::{address, is_pim, put_checksum, two, with_content, Packet, IGMP};
-use pim::Row;
+use viqeshor::Row;
 use std::fmt;
 use std::net::Ipv4Addr;
 use std::ops::Range;
@@ -153,7 +153,7 @@ pub struct JoinKey {
 impl JoinKey {
     /// Of a row of the downstream table.
     pub fn of_row(row: &Row) -> JoinKey {
-        let source = (row.source != 0).then(|| row.source.into());
+        let source = (!row.source.is_unspecified()).then_some(row.source);
         JoinKey { group: row.group.into(), source, is_rpt: row.is_rpt }
     }
 }

@@ -5,19 +5,19 @@
 #include <stdio.h>
 #include <stdlib.h>
 
-#include "pim.h"
+#include <viqeshor/viqeshor.h>
 
 enum { MOST_INTERFACES = 120, MOST_ROUTES = 100000 };
-static struct pim_router router = PIM_NO_HANDLE;
-static struct pim_route routes[MOST_ROUTES];
+static struct viq_router *router = NULL;
+static struct viq_route routes[MOST_ROUTES];
 static size_t route_count = 0;
-static uint8_t packet[PIM_MOST_BYTES];
+static uint8_t packet[VIQ_MOST_BYTES];
 
 static uint32_t take(char kind, uint32_t iface, size_t length) {
     switch (kind) {
-    case 'u': return pim_up(&router, 7, iface);
-    case 'f': return pim_frame(&router, 7, iface, packet, length);
-    default: return pim_routes(&router, 7, routes, route_count);
+    case 'u': return viq_up(router, iface, viq_draw(7));
+    case 'f': return viq_frame(router, iface, packet, length, viq_draw(7));
+    default: return viq_routes(router, routes, route_count, viq_draw(7));
     }
 }
 
@@ -38,7 +38,7 @@ static void play(FILE *file) {
     static char line[65536], hex[65536];
     bool is_counted = false;
     while (fgets(line, sizeof line, file)) {
-        struct pim_route *route = &routes[route_count];
+        struct viq_route *route = &routes[route_count];
         unsigned iface = 0;
         size_t length = 0;
         if (line[0] == 'c') {
@@ -57,22 +57,22 @@ static void play(FILE *file) {
             iface = (unsigned)atoi(line + 3);
         uint32_t answer = is_counted ? counted(line[0], iface, length) : take(line[0], iface, length);
         if (line[0] == 'r') route_count = 0;
-        if (is_counted) printf("%u %llu\n", (unsigned)answer, (unsigned long long)pim_probes(&router));
-        if (!is_counted && answer != PIM_DONE) exit(1);
+        if (is_counted) printf("%u %llu\n", (unsigned)answer, (unsigned long long)viq_probes(router));
+        if (!is_counted && answer != VIQ_DONE) exit(1);
     }
 }
 
 int main(int words, char **word) {
-    static struct pim_interface interfaces[MOST_INTERFACES];
-    struct pim_settings settings = PIM_USUAL_SETTINGS;
-    struct pim_range ranges[] = {{0xe0000000, 4, 0x0a090909}};
+    static struct viq_interface interfaces[MOST_INTERFACES];
+    struct viq_settings settings = VIQ_USUAL_SETTINGS;
+    struct viq_range ranges[] = {{0xe0000000, 4, 0x0a090909}};
     FILE *file = words == 3 ? fopen(word[1], "r") : NULL;
     size_t count = words == 3 ? (size_t)atoi(word[2]) : 0;
     if (!file || count > MOST_INTERFACES) return 2;
     for (uint32_t at = 0; at < count; at++)
-        interfaces[at] = (struct pim_interface){0x0a000002 + (at << 8), 24, 1, 500, 2500};
+        interfaces[at] = (struct viq_interface){0x0a000002 + (at << 8), 24, 1, 500, 2500};
     settings.limit = 1000000;
-    if (pim_new(&router, &settings, interfaces, count, routes, 0, ranges, 1) != PIM_DONE) return 1;
+    if (viq_new(&router, VIQ_ABI, &settings, interfaces, count, routes, 0, ranges, 1) != VIQ_DONE) return 1;
     play(file);
     return 0;
 }

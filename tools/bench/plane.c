@@ -4,27 +4,27 @@
 #include <stdlib.h>
 #include <string.h>
 
-#include "pim.h"
+#include <viqeshor/plane.h>
 
 enum { SOURCES_A_GROUP = 100, BYTES = 128 };
-static struct pim_router router = PIM_NO_HANDLE;
+static struct viq_router *router = NULL;
 static uint64_t now = 1;
 
 static void must(uint32_t answer) {
-    if (answer != PIM_DONE) exit(1);
+    if (answer != VIQ_DONE) exit(1);
 }
 
 static void play(const char *path) {
     static char line[65536], hex[65536];
-    static uint8_t packet[PIM_MOST_BYTES];
+    static uint8_t packet[VIQ_MOST_BYTES];
     unsigned iface, byte;
     FILE *file = fopen(path, "r");
     while (file && fgets(line, sizeof line, file)) {
         size_t length = 0;
-        if (sscanf(line, "up %u", &iface) == 1) must(pim_up(&router, 7, iface));
+        if (sscanf(line, "up %u", &iface) == 1) must(viq_up(router, iface, viq_draw(7)));
         if (sscanf(line, "frame %u %s", &iface, hex) != 2) continue;
         for (; sscanf(hex + 2 * length, "%2x", &byte) == 1; length++) packet[length] = (uint8_t)byte;
-        must(pim_frame(&router, 7, iface, packet, length));
+        must(viq_frame(router, iface, packet, length, viq_draw(7)));
     }
 }
 
@@ -52,40 +52,40 @@ static void make_data(uint8_t *packet, uint32_t row) {
 
 /* What is counted. A whole packet is taken with its copy, as a program has to. */
 __attribute__((noinline)) void counted(char call, const uint8_t *packet, uint32_t source, uint32_t group) {
-    static uint8_t room[PIM_MOST_BYTES];
-    struct pim_plane_row row;
-    struct pim_packet copy;
+    static uint8_t room[VIQ_MOST_BYTES];
+    struct viq_plane_row row;
+    struct viq_packet copy;
     switch (call) {
     case 'f':
-        must(pim_frame(&router, 7, 0, packet, BYTES));
-        for (size_t at = 0, count = pim_packets(&router); at < count; at++) pim_packet(&router, at, &copy, room, sizeof room);
+        must(viq_frame(router, 0, packet, BYTES, viq_draw(7)));
+        for (size_t at = 0, count = viq_packets(router); at < count; at++) viq_packet(router, at, &copy, room, sizeof room);
         break;
-    case 's': must(pim_seen(&router, 7, 0, source, group)); break;
-    case 'k': must(pim_keep(&router, source, group, now)); break;
-    case 'o': must(pim_offload(&router, source, group, &row) && row.is_known ? PIM_DONE : PIM_NO_TIMER); break;
-    case 'u': must(pim_offload(&router, 0x0a09ffff, group, &row) && !row.is_known ? PIM_DONE : PIM_NO_TIMER); break;
-    default: must(pim_may_differ(&router, source, group) ? PIM_NO_TIMER : PIM_DONE);
+    case 's': must(viq_seen(router, 0, source, group, viq_draw(7))); break;
+    case 'k': must(viq_keep(router, source, group, now)); break;
+    case 'o': must(viq_offload(router, source, group, &row) && row.is_known ? VIQ_DONE : VIQ_NO_TIMER); break;
+    case 'u': must(viq_offload(router, 0x0a09ffff, group, &row) && !row.is_known ? VIQ_DONE : VIQ_NO_TIMER); break;
+    default: must(viq_may_differ(router, source, group) ? VIQ_NO_TIMER : VIQ_DONE);
     }
 }
 
 int main(int words, char **word) {
-    struct pim_settings settings = PIM_USUAL_SETTINGS;
-    struct pim_interface interfaces[] = {{0x0a000002, 24, 1, 500, 2500}, {0x0a000101, 24, 1, 500, 2500}};
-    struct pim_route routes[] = {{0x0a080000, 15, 0x0a000001, 0, 110, 20}};
-    struct pim_range ranges[] = {{0xef000000, 8, 0x0a080808}};
+    struct viq_settings settings = VIQ_USUAL_SETTINGS;
+    struct viq_interface interfaces[] = {{0x0a000002, 24, 1, 500, 2500}, {0x0a000101, 24, 1, 500, 2500}};
+    struct viq_route routes[] = {{0x0a080000, 15, 0x0a000001, 0, 110, 20}};
+    struct viq_range ranges[] = {{0xef000000, 8, 0x0a080808}};
     uint8_t packet[BYTES];
     if (words != 5) return 2;
     uint32_t rows = (uint32_t)atoi(word[2]), count = (uint32_t)atoi(word[4]);
     settings.limit = 1000000;
-    must(pim_new(&router, &settings, interfaces, 2, routes, 1, ranges, 1));
+    must(viq_new(&router, VIQ_ABI, &settings, interfaces, 2, routes, 1, ranges, 1));
     play(word[1]);
     /* The second packet of a source sets SPTbit. */
     for (uint32_t at = 0; at < 2 * rows; at++) {
         make_data(packet, at % rows);
-        must(pim_frame(&router, 7, 0, packet, BYTES));
+        must(viq_frame(router, 0, packet, BYTES, viq_draw(7)));
     }
     for (uint32_t at = 0, row = 0; at < count; at++, row = (row + 7919) % rows) {
-        if (at % 64 == 0) must(pim_advance(&router, 7, now++));
+        if (at % 64 == 0) must(viq_advance(router, now++, viq_draw(7)));
         make_data(packet, row);
         counted(word[3][0], packet, source_of(row), group_of(row));
     }

@@ -1,9 +1,9 @@
-"""A router behind a data plane, which forwards by itself what the router's rows decide, as include/pim.h says. Each duty of a plane
+"""A router behind a data plane, which forwards by itself what the router's rows decide, as include/viqeshor/plane.h says. Each duty of a plane
 has a name, and may be forgotten."""
 from dataclasses import dataclass
 
-import pim
-from pim import Answer
+import viqeshor
+from viqeshor import Answer
 from pimtext import packets
 from pimtext.packets import Refused
 
@@ -61,7 +61,12 @@ class Outcome:
             yield f"{kind} {where} {data.hex()}"
 
 
-def outcome(router, answer):
+def outcome(router, call, *values, **draw):
+    """What comes of a call of the router; an answer that the package raises is one too."""
+    try:
+        answer = getattr(router, call)(*values, **draw)
+    except viqeshor.Error as error:
+        answer = error.answer
     return Outcome(answer, tuple(router.packets()) if answer == Answer.DONE else ())
 
 
@@ -109,7 +114,7 @@ class Plane:
     def ask(self, name):
         row = self.router.offload(*name)
         if row is None and not self.minds("nothing"):
-            row = pim.PlaneRow(False, None, frozenset(), frozenset(), frozenset())
+            row = viqeshor.PlaneRow(False, None, frozenset(), frozenset(), frozenset())
         if row is None:
             self.rows.pop(name, None)
         else:
@@ -136,7 +141,7 @@ class Plane:
         copy = packets.aged(whole) if self.minds("aged") and whole[8] else whole
         for to in sorted(row.outgoing):
             if to != iface or not self.minds("incoming"):
-                yield pim.Sent("copy", to, copy)
+                yield viqeshor.Sent("copy", to, copy)
 
     def note(self, name, iface):
         if self.minds("last"):
@@ -157,7 +162,7 @@ class Plane:
         late = []
         for name, (moment, iface) in self.noted.items():
             moment = moment if self.minds("moments") else self.now
-            answer = self.router.keep(*name, moment) if self.tells == "keep" else Answer.NO_TIMER
+            answer = outcome(self.router, "keep", *name, moment).answer if self.tells == "keep" else Answer.NO_TIMER
             if answer == Answer.NO_TIMER:
                 late.append((moment, iface, *name))
         for moment, *seen in sorted(late, key=lambda told: told[0]):
@@ -172,8 +177,8 @@ class Plane:
 
     def given(self, call, values, draw):
         """Hands an event to the router, and asks the rows anew that it changed."""
-        got = outcome(self.router, getattr(self.router, call)(*values, draw=draw))
-        self.has_failed = got.answer in (Answer.MEMORY, Answer.FAILED)
+        got = outcome(self.router, call, *values, draw=draw)
+        self.has_failed = got.answer in (Answer.LOST, Answer.FAILED)
         if self.has_failed:
             if self.minds("fault"):
                 self.rows.clear()

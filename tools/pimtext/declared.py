@@ -1,23 +1,31 @@
-"""What the library's archive declares, as C: the functions and values of crates/pim_c, and assertions that include/pim.h has the same."""
+"""What the library's archive declares, as C: the functions and values of crates/pim_c, and assertions that the headers have the
+same; and what a compiled program and a library have to agree on, as lines."""
 import re
 from pathlib import Path
 
 TOP = Path(__file__).resolve().parent.parent.parent
 SOURCES = TOP / "crates" / "pim_c" / "src"
-HEADER = TOP / "include" / "pim.h"
+HEADERS = [TOP / "include" / "viqeshor" / name for name in ("viqeshor.h", "plane.h")]
+CORE = TOP / "bindings" / "c" / "core.h"
+# What VIQ_ABI stands for: its number, and the lines of `agreed`.
+ABI = TOP / "bindings" / "c" / "abi.txt"
 # What the crate's values are called in C.
 NAMES = {
-    "Handle": "pim_router", "GivenInterface": "pim_interface", "GivenRoute": "pim_route", "GivenRange": "pim_range",
-    "GivenSettings": "pim_settings", "Packet": "pim_packet", "TableRow": "pim_row", "Interfaces": "pim_interfaces",
-    "Forwarding": "pim_forwarding", "PlaneRow": "pim_plane_row", "NamedSource": "pim_source_group",
+    "Handle": "viq_core", "GivenInterface": "viq_interface", "GivenRoute": "viq_route", "GivenRange": "viq_range",
+    "GivenSettings": "viq_settings", "Packet": "viq_packet", "TableRow": "viq_row", "Interfaces": "viq_interfaces",
+    "Forwarding": "viq_forwarding", "PlaneRow": "viq_plane_row", "NamedSource": "viq_source_group",
 }
 # `Place` is a pointer beside what takes no room.
 TYPES = {"u8": "uint8_t", "u32": "uint32_t", "u64": "uint64_t", "usize": "size_t", "bool": "bool", "Place": "void *"}
 STRUCT = re.compile(r"#\[repr\(C\)\]\n(?:#\[[^\n]*\]\n)?pub struct (\w+) \{\n(.*?)^\}", re.M | re.S)
 FIELD = re.compile(r"^    (?:pub )?(\w+): (\w+),$", re.M)
-CALL = re.compile(r'^pub extern "C" fn (pim_\w+)\((.*?)\)(?: -> (\w+))?\n', re.M | re.S)
+CALL = re.compile(r'^pub extern "C" fn (viq_core_\w+)\((.*?)\)(?: -> (\w+))?\n', re.M | re.S)
 PARAMETER = re.compile(r"(\w+): (&mut |&)?(\[?)(\w+)\]?")
-C_CALL = re.compile(r"\b(pim_\w+)\(")
+C_CALL = re.compile(r"\b(viq_core_\w+)\(")
+PROTOTYPE = re.compile(r"^(?:VIQ_\w+(?:\(\d\))? ?)*((?:const )?\w+ \*?viq_\w+\([^;{]*\));", re.M)
+C_STRUCT = re.compile(r"^struct (viq_\w+) \{\n(.*?)^\};", re.M | re.S)
+C_ENUM = re.compile(r"^enum \{(.*?)\};", re.M | re.S)
+C_NUMBER = re.compile(r"^#define (VIQ_(?:MOST|NEVER|NO|USUAL)\w*) (.+)$", re.M)
 
 
 def structs():
@@ -50,11 +58,41 @@ def calls():
         yield name, f"{c_type(answer) if answer else 'void'} (*)({', '.join(parameters(text))})"
 
 
+def without_comments(header):
+    return re.sub(r"/\*.*?\*/", "", header, flags=re.S)
+
+
 def called(header):
-    """The calls of a header that the crate has to have: all but those of bindings/c."""
-    texts = (TOP / "bindings" / "c" / "texts.c").read_text()
-    code = re.sub(r"/\*.*?\*/", "", header, flags=re.S)
-    return set(C_CALL.findall(code)) - set(C_CALL.findall(texts))
+    """The calls of a header that the crate has to have."""
+    return set(C_CALL.findall(without_comments(header)))
+
+
+def agreed(headers):
+    """What a compiled program and a library have to agree on: values field by field, calls and numbers, each as a line."""
+    code = without_comments("\n".join(headers))
+    for name, body in C_STRUCT.findall(code):
+        yield f"struct {name}: {'; '.join(' '.join(field.split()) for field in body.split(';') if field.strip())}"
+    for body in C_ENUM.findall(code):
+        yield from (" ".join(number.split()) for number in body.split(",") if number.strip())
+    yield from (f"{name} = {value}" for name, value in C_NUMBER.findall(code))
+    yield from (" ".join(call.split()) for call in PROTOTYPE.findall(code))
+
+
+def abi_number(headers):
+    return int(re.search(r"^#define VIQ_ABI (\d+)$", "\n".join(headers), re.M)[1])
+
+
+def abi_text(headers):
+    return "\n".join([f"VIQ_ABI {abi_number(headers)}", *sorted(agreed(headers)), ""])
+
+
+def store_abi():
+    """Keeps what the number stands for now. It has to be another number than that which is kept, where anything else differs."""
+    headers = [path.read_text() for path in HEADERS]
+    text, kept = abi_text(headers), ABI.read_text() if ABI.exists() else ""
+    if kept and kept != text and kept.splitlines()[0] == text.splitlines()[0]:
+        raise SystemExit("VIQ_ABI has to be raised: the library isn't the same any more")
+    ABI.write_text(text)
 
 
 def fields_hold(name, fields):
@@ -68,10 +106,14 @@ def fields_hold(name, fields):
 
 
 def assertions():
-    """A C file that compiles where include/pim.h declares what the crate does."""
-    lines = ['#include "pim.h"']
+    """A C file that compiles where the headers declare what the crate does."""
+    lines = ['#include "core.h"']
     for name, fields in structs().items():
         lines += fields_hold(name, fields)
     for name, kind in calls():
         lines.append(f'_Static_assert(__builtin_types_compatible_p(__typeof__(&{name}), {kind}), "{name}");')
     return "\n".join([*lines, ""])
+
+
+if __name__ == "__main__":
+    store_abi()

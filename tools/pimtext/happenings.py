@@ -22,7 +22,7 @@ SPOILT = ("version", "header", "total", "short", "long", "checksum", "fragment",
 
 @dataclass(frozen=True)
 class Event:
-    """`call` is the method of `pim.Router`, `values` what it takes before the draw, `words` what it is. Meanwhile memory may be
+    """`call` is the method of `viqeshor.Router`, `values` what it takes before the draw, `words` what it is. Meanwhile memory may be
     refused."""
     call: str
     values: tuple

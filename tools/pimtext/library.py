@@ -1,4 +1,4 @@
-"""The library: one archive of the router, the kit's few lines of C around malloc and the texts, and what is made of it."""
+"""The library: one archive of the router, the kit's few lines of C around malloc and our own (bindings/c), and what is made of it."""
 import hashlib
 import os
 import re
@@ -17,9 +17,13 @@ INCLUDE = TOP / "include"
 BINDINGS = TOP / "bindings"
 ROOM = TOP / "out" / "library"
 CC = os.environ.get("CC", "cc")
-VERSION = re.search(r'#define PIM_VERSION "(.*)"', (INCLUDE / "pim.h").read_text())[1]
+HEADERS = ["viqeshor.h", "plane.h"]
+DOCS = TOP / "docs"
+VERSION = re.search(r'#define VIQ_VERSION "(.*)"', (INCLUDE / "viqeshor" / "viqeshor.h").read_text())[1]
+# What stays the same where a newer library may take an older one's place: while the first number is 0, the second one too.
+SERIES = ".".join(VERSION.split(".")[:2 if VERSION.startswith("0.") else 1])
 # What the shared library is called by the programs that are linked with it.
-SONAME = f"libpim.so.{VERSION.partition('.')[0]}"
+SONAME = f"libviqeshor.so.{SERIES}"
 
 
 def ran(words, **how):
@@ -100,10 +104,13 @@ def unproved_router(folder):
 HEAP = "heap.pic.o"
 
 
-def texts(how):
-    made = ROOM / "texts.o"
-    ran([CC, "-std=c99", "-O2", "-fPIC", f'-DPIM_HOW="{how}"', "-I", INCLUDE, "-c", BINDINGS / "c" / "texts.c", "-o", made])
-    return made
+def written_in_c(how):
+    """What of the library is C: what it says of itself, and its calls, which make those that are proved."""
+    for name in ("texts", "calls"):
+        made = ROOM / f"{name}.o"
+        ran([CC, "-std=c99", "-Wall", "-Wextra", "-Werror", "-O2", "-fPIC", f'-DVIQ_HOW="{how}"', "-I", INCLUDE, "-c",
+             BINDINGS / "c" / f"{name}.c", "-o", made])
+        yield made
 
 
 def archiver():
@@ -114,15 +121,22 @@ def archiver():
 def archive(router, how):
     """The archive, of a router's, that says how it was built. The kit's few lines of C around malloc are in it, or are put
     there."""
-    made, tool = ROOM / "libpim.a", archiver()
+    made, tool = ROOM / "libviqeshor.a", archiver()
     made.unlink(missing_ok=True)
     shutil.copyfile(router, made)
     if HEAP not in ran([tool, "t", made]).decode().split():
         with tempfile.TemporaryDirectory(dir=ROOM) as room:
             ran([tool, "x", kit.kit() / "c" / "liblibc_c.a", HEAP], cwd=room)
             ran([tool, "r", made, Path(room) / HEAP])
-    ran([tool, "rs", made, texts(how)])
+    ran([tool, "rs", made, *written_in_c(how)])
     return made
+
+
+def names_of_calls():
+    """The library's calls, as its headers declare them."""
+    headers = "".join((INCLUDE / "viqeshor" / name).read_text() for name in HEADERS)
+    code = re.sub(r"/\*.*?\*/|^static inline.*?$", "", headers, flags=re.S | re.M)
+    return sorted(set(re.findall(r"^[a-z].*?\b(viq_\w+)\(", code, re.M)))
 
 
 class Library:
@@ -140,13 +154,13 @@ class Library:
 
     def shared(self):
         """A shared library of all of it."""
-        made, names = ROOM / "libpim.so", ROOM / "names"
-        names.write_text("{ global: pim_*; local: *; };\n")
+        made, names = ROOM / "libviqeshor.so", ROOM / "names"
+        names.write_text(f"{{ global: {'; '.join(names_of_calls())}; local: *; }};\n")
         flags = [f"-Wl,-soname,{SONAME}", f"-Wl,--version-script={names}", "-Wl,--whole-archive", self.archive, "-Wl,--no-whole-archive"]
-        ran([CC, "-shared", "-o", made, *flags])
+        ran([CC, "-shared", "-o", beside(made), *flags])
+        beside(made).replace(made)
         # The kit takes no links below the repository, not even in what is built.
-        (ROOM / SONAME).unlink(missing_ok=True)
-        shutil.copy(made, ROOM / SONAME)
+        put(ROOM / SONAME, made.read_bytes(), 0o755)
         return made
 
     def program(self, source, *flags):
@@ -184,38 +198,62 @@ def chosen(asked):
 # ---- installed
 
 
+def beside(path):
+    """A name beside a path, by which nobody looks for anything."""
+    return path.with_name(f".{path.name}.{os.getpid()}")
+
+
+def put(path, content, mode=0o644):
+    """Writes a file beside its path, and gives it its name then. What runs by an older file of that name goes on by it."""
+    made = beside(path)
+    made.write_bytes(content)
+    made.chmod(mode)
+    made.replace(path)
+
+
 def link(target, path):
-    path.unlink(missing_ok=True)
-    path.symlink_to(target)
+    made = beside(path)
+    made.unlink(missing_ok=True)
+    made.symlink_to(target)
+    made.replace(path)
+
+
+def named_docs():
+    """The documents that the headers name."""
+    named = "".join((INCLUDE / "viqeshor" / name).read_text() for name in HEADERS)
+    return sorted(set(re.findall(r"\b[A-Z]+\.md\b", named)))
 
 
 PKG_CONFIG = """prefix={prefix}
 includedir=${{prefix}}/include
 libdir=${{prefix}}/lib
 
-Name: pim
+Name: viqeshor
 Description: A multicast router core: PIM Sparse Mode and IGMPv3
 Version: {version}
 Cflags: -I${{includedir}}
-Libs: -L${{libdir}} -lpim
+Libs: -L${{libdir}} -lviqeshor
 """
 
-CMAKE = """get_filename_component(PIM_PREFIX "${CMAKE_CURRENT_LIST_DIR}/../../.." ABSOLUTE)
+CMAKE = """get_filename_component(VIQ_PREFIX "${CMAKE_CURRENT_LIST_DIR}/../../.." ABSOLUTE)
 foreach(kind STATIC SHARED)
   string(TOLOWER ${kind} name)
-  if(NOT TARGET pim::${name})
-    add_library(pim::${name} ${kind} IMPORTED)
-    set_target_properties(pim::${name} PROPERTIES INTERFACE_INCLUDE_DIRECTORIES "${PIM_PREFIX}/include")
+  if(NOT TARGET viqeshor::${name})
+    add_library(viqeshor::${name} ${kind} IMPORTED)
+    set_target_properties(viqeshor::${name} PROPERTIES INTERFACE_INCLUDE_DIRECTORIES "${VIQ_PREFIX}/include")
   endif()
 endforeach()
-set_target_properties(pim::static PROPERTIES IMPORTED_LOCATION "${PIM_PREFIX}/lib/libpim.a")
-set_target_properties(pim::shared PROPERTIES IMPORTED_LOCATION "${PIM_PREFIX}/lib/libpim.so" IMPORTED_SONAME "@SONAME@")
+set_target_properties(viqeshor::static PROPERTIES IMPORTED_LOCATION "${VIQ_PREFIX}/lib/libviqeshor.a")
+set_target_properties(viqeshor::shared PROPERTIES IMPORTED_LOCATION "${VIQ_PREFIX}/lib/libviqeshor.so" IMPORTED_SONAME "@SONAME@")
 """
 
-# Versions with the same first number take one another's place, the newer one the older one's.
+# A newer version takes the place of an older one with the same first number, and second one while the first is 0.
 CMAKE_VERSION = """set(PACKAGE_VERSION "@VERSION@")
-string(REGEX MATCH "^[0-9]+" asked "${PACKAGE_FIND_VERSION}")
-if("@VERSION@" VERSION_LESS "${PACKAGE_FIND_VERSION}" OR (PACKAGE_FIND_VERSION AND NOT asked EQUAL "@MAJOR@"))
+set(asked "${PACKAGE_FIND_VERSION_MAJOR}.${PACKAGE_FIND_VERSION_MINOR}")
+if(NOT "@SERIES@" MATCHES "^0")
+  set(asked "${PACKAGE_FIND_VERSION_MAJOR}")
+endif()
+if("@VERSION@" VERSION_LESS "${PACKAGE_FIND_VERSION}" OR (PACKAGE_FIND_VERSION AND NOT asked STREQUAL "@SERIES@"))
   set(PACKAGE_VERSION_COMPATIBLE FALSE)
 else()
   set(PACKAGE_VERSION_COMPATIBLE TRUE)
@@ -227,21 +265,26 @@ endif()
 
 
 def filled(text):
-    values = {"SONAME": SONAME, "VERSION": VERSION, "MAJOR": VERSION.partition(".")[0]}
+    values = {"SONAME": SONAME, "VERSION": VERSION, "SERIES": SERIES}
     return re.sub(r"@(\w+)@", lambda found: values[found[1]], text)
 
 
 def install(library, prefix):
     """The header, the archive, the shared library, and what pkg-config and CMake find them by."""
     prefix = prefix.resolve()
-    lib, named = prefix / "lib", f"libpim.so.{VERSION}"
-    for folder in ("include", "lib/pkgconfig", "lib/cmake/pim"):
-        (prefix / folder).mkdir(parents=True, exist_ok=True)
-    shutil.copy(INCLUDE / "pim.h", prefix / "include")
-    shutil.copy(library.archive, lib)
-    shutil.copy(library.shared(), lib / named)
+    lib, named = prefix / "lib", f"libviqeshor.so.{VERSION}"
+    headers, docs = prefix / "include" / "viqeshor", prefix / "share" / "doc" / "viqeshor"
+    pkg_config, cmake = lib / "pkgconfig", lib / "cmake" / "viqeshor"
+    for folder in (headers, docs, pkg_config, cmake):
+        folder.mkdir(parents=True, exist_ok=True)
+    for name in HEADERS:
+        put(headers / name, (INCLUDE / "viqeshor" / name).read_bytes())
+    for name in named_docs():
+        put(docs / name, (DOCS / name).read_bytes())
+    put(lib / "libviqeshor.a", library.archive.read_bytes())
+    put(lib / named, library.shared().read_bytes(), 0o755)
     link(named, lib / SONAME)
-    link(SONAME, lib / "libpim.so")
-    (lib / "pkgconfig" / "pim.pc").write_text(PKG_CONFIG.format(prefix=prefix, version=VERSION))
-    (lib / "cmake" / "pim" / "pim-config.cmake").write_text(filled(CMAKE))
-    (lib / "cmake" / "pim" / "pim-config-version.cmake").write_text(filled(CMAKE_VERSION))
+    link(SONAME, lib / "libviqeshor.so")
+    put(pkg_config / "viqeshor.pc", PKG_CONFIG.format(prefix=prefix, version=VERSION).encode())
+    put(cmake / "viqeshor-config.cmake", filled(CMAKE).encode())
+    put(cmake / "viqeshor-config-version.cmake", filled(CMAKE_VERSION).encode())

@@ -1,13 +1,15 @@
-/* Plays the events of one router over and over, with one allocation refused each time, and looks at what the library says then.
+/* Plays the events of one router over and over, with one allocation refused each time, and looks at what the library
+ * says then.
  *
- * Standard input has lines of words: `interface`, `route` and `range` with their numbers, `new` with the six settings, and then a
- * line an event, as `frame DRAW IFACE HEX`; `new` takes the lists that stand before it, `routes DRAW` and `ranges DRAW` those since
- * then. Linked with --wrap=malloc, realloc and free. */
+ * Standard input has lines of words: `interface`, `route` and `range` with their numbers, `new` with the six settings,
+ * and then a line an event, as `frame DRAW IFACE HEX`; `new` takes the lists that stand before it, `routes DRAW` and
+ * `ranges DRAW` those since then. All is played a second time as behind a data plane: of each packet of data the router
+ * is told by viq_seen and viq_keep. Linked with --wrap=malloc, realloc and free. */
 #include <stdio.h>
 #include <stdlib.h>
 #include <string.h>
 
-#include "pim.h"
+#include <viqeshor/plane.h>
 
 enum { MOST_EVENTS = 4096, MOST_ITEMS = 4096, MOST_SOURCES = 64 };
 static const char tables[] = "NGSDAURF";
@@ -43,16 +45,16 @@ void __wrap_free(void *old) {
 /* ---- what is played */
 
 struct event {
-    char kind; /* a f u + - r g */
+    char kind; /* a f u + - r g, and s k of a data plane */
     uint32_t draw, iface;
     uint64_t moment;
     size_t first, count; /* bytes, routes or ranges */
 };
 
-static struct pim_settings settings;
-static struct pim_interface interfaces[128];
-static struct pim_route routes[MOST_ITEMS];
-static struct pim_range ranges[MOST_ITEMS];
+static struct viq_settings settings;
+static struct viq_interface interfaces[128];
+static struct viq_route routes[MOST_ITEMS];
+static struct viq_range ranges[MOST_ITEMS];
 static uint8_t bytes[MOST_EVENTS * 256];
 static struct event events[MOST_EVENTS];
 static size_t interface_count, route_count, range_count, byte_count, event_count, first_routes, first_ranges;
@@ -97,7 +99,7 @@ static void read_line(char *line) {
     if (strcmp(word, "new") == 0) {
         uint32_t given[6];
         for (int at = 0; at < 6; at++) given[at] = number();
-        settings = (struct pim_settings){given[0], given[1], given[2], given[3], given[4], given[5] != 0};
+        settings = (struct viq_settings){given[0], given[1], given[2], given[3], given[4], given[5] != 0};
         first_routes = taken_routes = route_count;
         first_ranges = taken_ranges = range_count;
     } else if (strcmp(word, "interface") == 0) {
@@ -116,15 +118,47 @@ static void read_line(char *line) {
     }
 }
 
-static uint32_t play(struct pim_router *router, const struct event *event) {
+static uint32_t number_at(const uint8_t *from) {
+    return (uint32_t)from[0] << 24 | (uint32_t)from[1] << 16 | (uint32_t)from[2] << 8 | from[3];
+}
+static uint32_t source_in(const struct event *event) { return number_at(bytes + event->first + 12); }
+static uint32_t group_in(const struct event *event) { return number_at(bytes + event->first + 16); }
+
+/* Neither PIM nor IGMP, and long enough to be asked. */
+static int is_data(const struct event *event) {
+    const uint8_t *packet = bytes + event->first;
+    return event->kind == 'f' && event->count >= 20 && packet[9] != 2 && packet[9] != 103;
+}
+
+/* What a data plane tells in place of each packet of data. */
+static void put_behind_a_plane(void) {
+    static struct event given[MOST_EVENTS];
+    size_t count = event_count;
+    uint64_t now = 0;
+    memcpy(given, events, sizeof given);
+    event_count = 0;
+    for (size_t at = 0; at < count && event_count + 2 < MOST_EVENTS; at++) {
+        if (given[at].kind == 'a') now = given[at].moment;
+        events[event_count++] = given[at];
+        if (!is_data(&given[at])) continue;
+        events[event_count - 1].kind = 's';
+        events[event_count] = given[at];
+        events[event_count].kind = 'k';
+        events[event_count++].moment = now;
+    }
+}
+
+static uint32_t play(struct viq_router *router, const struct event *event) {
     switch (event->kind) {
-    case 'a': return pim_advance(router, event->draw, event->moment);
-    case 'f': return pim_frame(router, event->draw, event->iface, bytes + event->first, event->count);
-    case 'u': return pim_unicast(router, event->draw, bytes + event->first, event->count);
-    case '+': return pim_up(router, event->draw, event->iface);
-    case '-': return pim_down(router, event->draw, event->iface);
-    case 'r': return pim_routes(router, event->draw, routes + event->first, event->count);
-    default: return pim_ranges(router, event->draw, ranges + event->first, event->count);
+    case 'a': return viq_advance(router, event->moment, viq_draw(event->draw));
+    case 'f': return viq_frame(router, event->iface, bytes + event->first, event->count, viq_draw(event->draw));
+    case 'u': return viq_unicast(router, bytes + event->first, event->count, viq_draw(event->draw));
+    case '+': return viq_up(router, event->iface, viq_draw(event->draw));
+    case '-': return viq_down(router, event->iface, viq_draw(event->draw));
+    case 's': return viq_seen(router, event->iface, source_in(event), group_in(event), viq_draw(event->draw));
+    case 'k': return viq_keep(router, source_in(event), group_in(event), event->moment);
+    case 'r': return viq_routes(router, routes + event->first, event->count, viq_draw(event->draw));
+    default: return viq_ranges(router, ranges + event->first, event->count, viq_draw(event->draw));
     }
 }
 
@@ -142,23 +176,25 @@ static uint64_t mixed(uint64_t sum, const void *from, size_t count) {
     return sum;
 }
 
-static uint64_t packets_of(struct pim_router *router) {
-    uint64_t sum = 14695981039346656037u;
-    uint8_t room[PIM_MOST_BYTES];
-    struct pim_packet packet;
-    for (size_t index = 0; pim_packet(router, index, &packet, room, sizeof room); index++) {
-        uint64_t words[] = {packet.is_unicast, packet.iface, packet.destination, packet.length};
+static const uint64_t no_packets = 14695981039346656037u;
+
+static uint64_t packets_of(const struct viq_router *router) {
+    uint64_t sum = no_packets;
+    uint8_t room[VIQ_MOST_BYTES];
+    struct viq_packet packet;
+    for (size_t index = 0; viq_packet(router, index, &packet, room, sizeof room); index++) {
+        uint64_t words[] = {packet.kind, packet.iface, packet.destination, packet.length};
         sum = mixed(mixed(sum, words, sizeof words), room, packet.length);
     }
     return sum;
 }
 
 /* The rows of the forwarding cache, of every source that comes up. 0 where there is none. */
-static uint64_t cached_of(struct pim_router *router) {
+static uint64_t cached_of(const struct viq_router *router) {
     uint64_t sum = 0;
     for (size_t at = 0; at < source_count; at++) {
-        struct pim_forwarding told;
-        if (!pim_cached(router, sources[at].source, sources[at].group, &told)) continue;
+        struct viq_forwarding told;
+        if (!viq_cached(router, sources[at].source, sources[at].group, &told)) continue;
         uint64_t words[] = {at + 1, told.rpf, told.shared_rpf, told.has_spt_bit, told.has_tunnel,
                             told.immediate.low, told.immediate.high, told.inherited.low, told.inherited.high,
                             told.shared_tree.low, told.shared_tree.high};
@@ -167,9 +203,9 @@ static uint64_t cached_of(struct pim_router *router) {
     return sum;
 }
 
-static struct seen look(struct pim_router *router, uint32_t answer) {
-    return (struct seen){packets_of(router), cached_of(router), pim_next_moment(router), pim_probes(router), pim_touched(router),
-                         answer, pim_copies(router)};
+static struct seen look(const struct viq_router *router, uint32_t answer) {
+    return (struct seen){packets_of(router), cached_of(router), viq_next_moment(router), viq_probes(router), viq_touched(router),
+                         answer, viq_copies(router)};
 }
 
 static int same(struct seen a, struct seen b) {
@@ -177,9 +213,9 @@ static int same(struct seen a, struct seen b) {
            a.answer == b.answer && a.copies == b.copies;
 }
 
-static uint64_t rows_of(struct pim_router *router, uint64_t sum) {
-    struct pim_row row;
-    for (size_t index = 0; pim_row(router, index, &row); index++) {
+static uint64_t rows_of(const struct viq_router *router, uint64_t sum) {
+    struct viq_row row;
+    for (size_t index = 0; viq_row(router, index, &row); index++) {
         uint64_t words[] = {row.table, row.iface, row.group, row.source, row.winner, row.is_rpt,
                             row.is_set, row.state, row.end, row.pending};
         sum = mixed(sum, words, sizeof words);
@@ -187,17 +223,21 @@ static uint64_t rows_of(struct pim_router *router, uint64_t sum) {
     return sum;
 }
 
+/* What came of a run: all as without a refusal; a lost router; a call that changed nothing, after which all came;
+ * anything else. */
+enum { DONE_WITHOUT, LOST, UNCHANGED, OTHER };
+
 /* All tables. Where memory is refused, nothing has changed, and the table is read once more. */
-static int read_all(struct pim_router *router, uint64_t *sum, int *was_refused) {
+static int read_all(struct viq_router *router, uint64_t *sum, int *was_refused) {
     for (const char *table = tables; *table; table++) {
         uint64_t before = rows_of(router, 0);
-        uint32_t answer = pim_read(router, (uint8_t)*table);
-        if (answer == PIM_MEMORY) {
-            *was_refused = 1;
+        uint32_t answer = viq_read(router, (uint8_t)*table);
+        if (answer == VIQ_MEMORY) {
+            *was_refused = UNCHANGED;
             if (rows_of(router, 0) != before) return 0;
-            answer = pim_read(router, (uint8_t)*table);
+            answer = viq_read(router, (uint8_t)*table);
         }
-        if (answer != PIM_DONE) return 0;
+        if (answer != VIQ_DONE) return 0;
         *sum = rows_of(router, *sum);
     }
     return 1;
@@ -206,28 +246,30 @@ static int read_all(struct pim_router *router, uint64_t *sum, int *was_refused) 
 static struct seen full[MOST_EVENTS];
 static uint64_t full_rows;
 
-/* Whether a router has failed: the packets are as they were, nothing else is told, and the router answers no more. */
-static int has_failed(struct pim_router *router, uint64_t packets) {
+/* Whether a router is lost: it answers so, and nothing else is told. The rows that were read stay. */
+static int is_lost(struct viq_router *router, uint64_t rows) {
     uint8_t none[1] = {0};
-    uint32_t answers[] = {pim_up(router, 1, 0), pim_down(router, 1, 0), pim_advance(router, 1, UINT64_MAX),
-                          pim_frame(router, 1, 0, none, 0), pim_unicast(router, 1, none, 0),
-                          pim_routes(router, 1, routes, first_routes), pim_ranges(router, 1, ranges, first_ranges),
-                          pim_seen(router, 1, 0, 0x0a000009, 0xe8010101), pim_keep(router, 0x0a000009, 0xe8010101, 1)};
-    struct pim_plane_row offered;
+    uint32_t answers[] = {viq_up(router, 0, viq_draw(1)), viq_down(router, 0, viq_draw(1)), viq_advance(router, UINT64_MAX, viq_draw(1)),
+                          viq_frame(router, 0, none, 0, viq_draw(1)), viq_unicast(router, none, 0, viq_draw(1)),
+                          viq_routes(router, routes, first_routes, viq_draw(1)), viq_ranges(router, ranges, first_ranges, viq_draw(1)),
+                          viq_seen(router, 0, 0x0a000009, 0xe8010101, viq_draw(1)), viq_keep(router, 0x0a000009, 0xe8010101, 1)};
+    struct viq_plane_row offered;
+    struct viq_source_group name;
     for (size_t at = 0; at < sizeof answers / sizeof *answers; at++)
-        if (answers[at] != PIM_FAILED) return 0;
+        if (answers[at] != VIQ_FAILED) return 0;
     for (const char *table = tables; *table; table++)
-        if (pim_read(router, (uint8_t)*table) != PIM_FAILED) return 0;
-    struct seen wanted = {packets, 0, PIM_NEVER, 0, 0, PIM_FAILED, 0};
-    if (pim_offload(router, 0x0a000009, 0xe8010101, &offered) || pim_changed(router) != 0) return 0;
-    return pim_may_differ(router, 0x0a000009, 0xe8010101) && pim_rows(router) == 0 && same(look(router, PIM_FAILED), wanted);
+        if (viq_read(router, (uint8_t)*table) != VIQ_FAILED) return 0;
+    struct seen wanted = {no_packets, 0, VIQ_NEVER, 0, 0, VIQ_FAILED, 0};
+    if (viq_offload(router, 0x0a000009, 0xe8010101, &offered) || viq_changed(router) || viq_changed_source(router, 0, &name)) return 0;
+    if (viq_packets(router) != 0 || rows_of(router, 0) != rows) return 0;
+    return viq_may_differ(router, 0x0a000009, 0xe8010101) && same(look(router, VIQ_FAILED), wanted);
 }
 
 /* Finds every source of which there is a fact after some event. */
-static void find_sources(struct pim_router *router) {
-    struct pim_row row;
-    if (pim_read(router, 'F') != PIM_DONE) return;
-    for (size_t index = 0; pim_row(router, index, &row); index++) {
+static void find_sources(struct viq_router *router) {
+    struct viq_row row;
+    if (viq_read(router, 'F') != VIQ_DONE) return;
+    for (size_t index = 0; viq_row(router, index, &row); index++) {
         size_t at = 0;
         while (at < source_count && (sources[at].source != row.source || sources[at].group != row.group)) at++;
         if (at < source_count || source_count == MOST_SOURCES) continue;
@@ -236,61 +278,93 @@ static void find_sources(struct pim_router *router) {
     }
 }
 
-static int began(struct pim_router *router) {
-    return pim_new(router, &settings, interfaces, interface_count, routes, first_routes, ranges, first_ranges) == PIM_DONE;
+static uint32_t made(struct viq_router **router) {
+    return viq_new(router, VIQ_ABI, &settings, interfaces, interface_count, routes, first_routes, ranges, first_ranges);
 }
 
 static void play_for_sources(void) {
-    struct pim_router router = PIM_NO_HANDLE;
-    if (!began(&router)) return;
+    struct viq_router *router = NULL;
+    if (made(&router) != VIQ_DONE) return;
     for (size_t at = 0; at < event_count; at++) {
-        (void)play(&router, &events[at]);
-        find_sources(&router);
+        (void)play(router, &events[at]);
+        find_sources(router);
     }
-    pim_end(&router);
+    viq_end(router);
 }
 
-static int is_copied(const struct event *event) { return event->kind != 'a' && event->kind != '+' && event->kind != '-'; }
+static int is_copied(const struct event *event) { return event->kind == 'r' || event->kind == 'g'; }
 
-/* Such an answer takes no memory but that of a copy: the event is ignored, or refused for its bytes, its moment or its interface. */
-static int is_sure(uint32_t answer) { return (answer >= PIM_SHORT && answer <= PIM_INTERFACE_DOWN) || answer >= PIM_IGNORED; }
-
-/* After memory was refused to an event: the router has failed (1), or nothing changed and the event may be given again (0); else 2. */
-static int after_refusal(struct pim_router *router, size_t at, struct seen before) {
-    if (pim_read(router, 'N') == PIM_FAILED) return has_failed(router, before.packets) && !is_sure(full[at].answer) ? 1 : 2;
-    return is_copied(&events[at]) && same(look(router, before.answer), before) ? 0 : 2;
+/* Such an answer takes no memory but that of a copy: the event is ignored, or refused for its bytes, its moment or its
+ * interface. Of viq_seen and viq_keep it isn't said. */
+static int is_sure(const struct event *event, uint32_t answer) {
+    bool is_told = event->kind == 's' || event->kind == 'k';
+    return !is_told && ((answer >= VIQ_SHORT && answer <= VIQ_INTERFACE_DOWN) || viq_is_ignored(answer));
 }
 
-/* A run. 0 where all came as without a refusal, 1 where memory was refused and told, 2 otherwise. */
-static int run(int is_first) {
-    struct pim_router router = PIM_NO_HANDLE;
+/* After memory was refused to an event: each answer says what became of the router. */
+static int after_refusal(struct viq_router *router, size_t at, uint32_t answer, struct seen before, uint64_t rows) {
+    if (answer == VIQ_LOST) return is_lost(router, rows) && !is_sure(&events[at], full[at].answer) ? LOST : OTHER;
+    return is_copied(&events[at]) && same(look(router, before.answer), before) && rows_of(router, 0) == rows ? UNCHANGED : OTHER;
+}
+
+/* A run, which ends its router. */
+static int run_on(struct viq_router *router, int is_first) {
     uint64_t sum = 0;
-    int was_refused = 0;
-    uint32_t answer = pim_new(&router, &settings, interfaces, interface_count, routes, first_routes,
-                              ranges, first_ranges);
-    if (answer == PIM_MEMORY)
-        return !router.is_there && pim_up(&router, 1, 0) == PIM_NO_ROUTER && pim_next_moment(&router) == PIM_NEVER ? 1 : 2;
-    if (answer != PIM_DONE) return 2;
-    struct seen before = look(&router, answer);
+    int was_refused = DONE_WITHOUT;
+    struct seen before = look(router, VIQ_DONE);
     for (size_t at = 0; at < event_count; at++) {
-        answer = play(&router, &events[at]);
-        if (answer == PIM_MEMORY) {
-            int outcome = after_refusal(&router, at, before);
-            if (outcome != 0) pim_end(&router);
-            if (outcome != 0) return outcome;
-            was_refused = 1;
-            answer = play(&router, &events[at]);
+        uint64_t rows = rows_of(router, 0);
+        uint32_t answer = play(router, &events[at]);
+        if (answer == VIQ_MEMORY || answer == VIQ_LOST) {
+            was_refused = after_refusal(router, at, answer, before, rows);
+            if (was_refused != UNCHANGED) return was_refused;
+            answer = play(router, &events[at]);
         }
-        struct seen now = look(&router, answer);
+        struct seen now = look(router, answer);
         if (is_first) full[at] = now;
-        else if (!same(now, full[at])) return 2;
+        else if (!same(now, full[at])) return OTHER;
         before = now;
+        if (at % 8 == 0 && viq_read(router, (uint8_t)tables[at / 8 % 8]) == VIQ_MEMORY) {
+            was_refused = UNCHANGED;
+            if (!same(look(router, answer), now) || viq_read(router, (uint8_t)tables[at / 8 % 8]) != VIQ_DONE) return OTHER;
+        }
     }
-    if (!read_all(&router, &sum, &was_refused)) return 2;
+    if (!read_all(router, &sum, &was_refused)) return OTHER;
     if (is_first) full_rows = sum;
-    else if (sum != full_rows) return 2;
-    pim_end(&router);
+    else if (sum != full_rows) return OTHER;
     return was_refused;
+}
+
+static int run(int is_first) {
+    struct viq_router *router = (struct viq_router *)&full_rows;
+    uint32_t answer = made(&router);
+    if (answer == VIQ_MEMORY) {
+        bool is_none = router == NULL && viq_up(router, 0, viq_draw(1)) == VIQ_NO_ROUTER && viq_next_moment(router) == VIQ_NEVER;
+        return is_none ? UNCHANGED : OTHER;
+    }
+    if (answer != VIQ_DONE) return OTHER;
+    int outcome = run_on(router, is_first);
+    viq_end(router);
+    return outcome;
+}
+
+static unsigned long outcomes[OTHER + 1], allocations, played;
+
+/* All runs, with each allocation refused in turn. */
+static int refuse_each(void) {
+    refused_at = 0;
+    kept = 0, asked = 0;
+    if (run(1) != DONE_WITHOUT || kept != 0) return printf("the full run fails, or keeps %ld blocks\n", kept), 0;
+    unsigned long total = asked;
+    for (refused_at = 1; refused_at <= total; refused_at++) {
+        asked = 0, kept = 0;
+        int outcome = run(0);
+        if (kept != 0 || outcome == OTHER) printf("refused at %lu: outcome %d, %ld blocks kept\n", refused_at, outcome, kept);
+        outcomes[kept == 0 ? outcome : OTHER]++;
+    }
+    allocations += total;
+    played += event_count;
+    return 1;
 }
 
 int main(void) {
@@ -298,19 +372,11 @@ int main(void) {
     while (fgets(line, sizeof line, stdin)) read_line(line);
     setvbuf(stdout, NULL, _IONBF, 0);
     play_for_sources();
-    kept = 0, asked = 0;
-    if (run(1) != 0 || kept != 0) return printf("the full run fails, or keeps %ld blocks\n", kept), 1;
-    unsigned long total = asked, done_without = 0, told = 0, other = 0;
-    for (refused_at = 1; refused_at <= total; refused_at++) {
-        asked = 0, kept = 0;
-        int outcome = run(0);
-        done_without += outcome == 0 && kept == 0;
-        told += outcome == 1 && kept == 0;
-        if (outcome != 2 && kept == 0) continue;
-        other++;
-        printf("refused at %lu: outcome %d, %ld blocks kept\n", refused_at, outcome, kept);
-    }
-    printf("%lu events, %lu allocations, %lu refusals told, %lu done without, %lu other\n", (unsigned long)event_count, total, told,
-           done_without, other);
-    return other != 0;
+    if (!refuse_each()) return 1;
+    put_behind_a_plane();
+    play_for_sources();
+    if (!refuse_each()) return 1;
+    printf("%lu events, %lu allocations, %lu routers lost, %lu calls that changed nothing, %lu done without, %lu other\n", played,
+           allocations, outcomes[LOST], outcomes[UNCHANGED], outcomes[DONE_WITHOUT], outcomes[OTHER]);
+    return outcomes[OTHER] != 0;
 }

@@ -1,30 +1,61 @@
-//! A multicast router: PIM Sparse Mode (RFC 7761) and IGMPv3 (RFC 3376). It is what `include/pim.h` describes.
+//! A multicast router: PIM Sparse Mode (RFC 7761) and IGMPv3 (RFC 3376). It is what `include/viqeshor/viqeshor.h`
+//! describes.
 //!
-//! A program tells a [`Router`] what happens, by one call an event, and after each sends the packets that it names. The router
-//! starts no thread, opens no socket and reads no clock. Moments are milliseconds from any beginning. A draw is a random number,
-//! another one with each event.
+//! A program tells a [`Router`] what happens, by one call an event, and after each sends the packets that it names. The
+//! router starts no thread, opens no socket and reads no clock. With the program's own `clock_ms`, `receive`,
+//! `wait_until`, `send` and `random`:
+//!
+//! ```ignore
+//! let mut room = [0; MOST_BYTES];
+//! loop {
+//!     router.run_to(clock_ms(), random, send)?;                        // time passes, and packets leave
+//!     while let Some((iface, packet)) = receive() {
+//!         if let Err(lost @ (Error::Lost | Error::Failed)) = router.frame(iface, &packet, random()) {
+//!             return Err(lost);
+//!         }
+//!         router.each_packet(&mut room, send);
+//!     }
+//!     wait_until(router.next_moment());                                // or a packet comes
+//! }
+//! ```
+//!
+//! Moments are milliseconds from any beginning, at most 2^62. A draw is a random number, another one with each event.
+#![deny(missing_debug_implementations, unsafe_op_in_unsafe_fn)]
 use std::ffi::CStr;
 use std::fmt;
 use std::net::Ipv4Addr;
 use std::os::raw::{c_char, c_void};
+use std::ptr::{null_mut, NonNull};
 
 /// The most bytes that a packet has.
 pub const MOST_BYTES: usize = 1528;
+/// The states of a row of the table of Joins.
+pub const JOINED: u32 = 1;
+pub const PRUNE_PENDING: u32 = 2;
+pub const PRUNED: u32 = 3;
+/// The states of the register in a row of an active source.
+pub const REGISTER_NONE: u32 = 0;
+pub const REGISTER_JOINED: u32 = 1;
+pub const REGISTER_JOIN_PENDING: u32 = 2;
+pub const REGISTER_PRUNED: u32 = 3;
+/// What this crate and the library have to agree on: `VIQ_ABI` of `viqeshor.h`.
+pub const ABI: u32 = 1;
 
 const DONE: u32 = 0;
 const MEMORY: u32 = 40;
 const FAILED: u32 = 41;
+const LOST: u32 = 43;
 const NO_TIMER: u32 = 52;
+const OTHER_ABI: u32 = 53;
 const NEVER: u64 = u64::MAX;
 const NO_INTERFACE: u32 = u32::MAX;
 
 // ---- what is given
 
 /// An interface of the router.
-#[repr(C)]
 #[derive(Clone, Copy, Debug, PartialEq, Eq)]
 pub struct Interface {
-    pub address: u32,
+    pub address: Ipv4Addr,
     /// Of the subnet's prefix.
     pub length: u32,
     /// As designated router.
@@ -38,17 +69,26 @@ pub struct Interface {
 impl Interface {
     /// With the usual priority and delays.
     pub fn new(address: Ipv4Addr, length: u32) -> Interface {
-        Interface { address: address.into(), length, priority: 1, propagation_delay: 500, override_interval: 2500 }
+        Interface { address, length, priority: 1, propagation_delay: 500, override_interval: 2500 }
+    }
+
+    fn given(&self) -> raw::Interface {
+        raw::Interface {
+            address: self.address.into(),
+            length: self.length,
+            priority: self.priority,
+            propagation_delay: self.propagation_delay,
+            override_interval: self.override_interval,
+        }
     }
 }
 
 /// A unicast route.
-#[repr(C)]
 #[derive(Clone, Copy, Debug, PartialEq, Eq)]
 pub struct Route {
-    pub prefix: u32,
+    pub prefix: Ipv4Addr,
     pub length: u32,
-    pub next_hop: u32,
+    pub next_hop: Ipv4Addr,
     pub iface: u32,
     /// The lower is better.
     pub preference: u32,
@@ -58,22 +98,36 @@ pub struct Route {
 impl Route {
     /// With the preference 110 and the metric 20.
     pub fn new(prefix: Ipv4Addr, length: u32, next_hop: Ipv4Addr, iface: u32) -> Route {
-        Route { prefix: prefix.into(), length, next_hop: next_hop.into(), iface, preference: 110, metric: 20 }
+        Route { prefix, length, next_hop, iface, preference: 110, metric: 20 }
+    }
+
+    fn given(&self) -> raw::Route {
+        raw::Route {
+            prefix: self.prefix.into(),
+            length: self.length,
+            next_hop: self.next_hop.into(),
+            iface: self.iface,
+            preference: self.preference,
+            metric: self.metric,
+        }
     }
 }
 
 /// A range of groups, and its RP.
-#[repr(C)]
 #[derive(Clone, Copy, Debug, PartialEq, Eq)]
 pub struct Range {
-    pub prefix: u32,
+    pub prefix: Ipv4Addr,
     pub length: u32,
-    pub rp: u32,
+    pub rp: Ipv4Addr,
 }
 
 impl Range {
     pub fn new(prefix: Ipv4Addr, length: u32, rp: Ipv4Addr) -> Range {
-        Range { prefix: prefix.into(), length, rp: rp.into() }
+        Range { prefix, length, rp }
+    }
+
+    fn given(&self) -> raw::Range {
+        raw::Range { prefix: self.prefix.into(), length: self.length, rp: self.rp.into() }
     }
 }
 
@@ -113,6 +167,7 @@ macro_rules! numbered {
     ($(#[$about:meta])* $name:ident { $($variant:ident = $number:literal,)* }) => {
         $(#[$about])*
         #[derive(Clone, Copy, Debug, PartialEq, Eq, Hash)]
+        #[non_exhaustive]
         #[repr(u32)]
         pub enum $name { $($variant = $number,)* }
 
@@ -128,7 +183,7 @@ macro_rules! numbered {
 }
 
 numbered! {
-    /// A refusal, which changed nothing. `docs/USING.md` has each.
+    /// A refusal, which changed nothing. `docs/SCENARIOS.md` has each.
     Refusal {
         Short = 1,
         BadVersion = 2,
@@ -181,13 +236,18 @@ pub enum Verdict {
 
 /// Why a call did nothing.
 #[derive(Clone, Copy, Debug, PartialEq, Eq, Hash)]
+#[non_exhaustive]
 pub enum Error {
-    /// The event or the configuration was refused.
+    /// The event or the configuration was refused, and nothing has changed.
     Refused(Refusal),
-    /// Memory was refused. The event didn't happen, and the router may have failed: then it says so from now on.
+    /// Memory was refused, and nothing has changed: the call may be made again.
     Memory,
-    /// The router failed before.
+    /// Memory was refused in the midst of a change: the router is lost, and answers `Failed` from now on.
+    Lost,
+    /// The router was lost before.
     Failed,
+    /// The library is of another version than this crate.
+    OtherAbi,
     /// An answer that this crate doesn't know.
     Unknown(u32),
 }
@@ -196,17 +256,21 @@ impl Error {
     fn of(answer: u32) -> Error {
         match answer {
             MEMORY => Error::Memory,
+            LOST => Error::Lost,
             FAILED => Error::Failed,
+            OTHER_ABI => Error::OtherAbi,
             _ => Refusal::of(answer).map_or(Error::Unknown(answer), Error::Refused),
         }
     }
 
-    /// Its number in `include/pim.h`.
+    /// Its number in `include/viqeshor/viqeshor.h`.
     pub fn number(self) -> u32 {
         match self {
             Error::Refused(refusal) => refusal as u32,
             Error::Memory => MEMORY,
+            Error::Lost => LOST,
             Error::Failed => FAILED,
+            Error::OtherAbi => OTHER_ABI,
             Error::Unknown(number) => number,
         }
     }
@@ -229,25 +293,54 @@ fn verdict(answer: u32) -> Result<Verdict, Error> {
 
 // ---- what is told
 
-/// What a packet is that is to be sent, without its bytes.
-#[repr(C)]
-#[derive(Clone, Copy, Debug, Default, PartialEq, Eq)]
+/// What a packet is.
+#[derive(Clone, Copy, Debug, PartialEq, Eq, Hash)]
+#[non_exhaustive]
+pub enum Kind {
+    /// PIM or IGMP, on the interface, to its group.
+    Frame,
+    /// Data that is forwarded, on the interface, to its group.
+    Copy,
+    /// By unicast routing, to the destination.
+    Unicast,
+}
+
+/// A packet that is to be sent, without its bytes.
+#[derive(Clone, Copy, Debug, PartialEq, Eq)]
+#[non_exhaustive]
 pub struct Packet {
-    /// By unicast routing to the destination; else on the interface, to its group.
-    pub is_unicast: bool,
+    pub kind: Kind,
     /// Or 0.
     pub iface: u32,
-    /// Or 0.
-    pub destination: u32,
+    /// Or 0.0.0.0.
+    pub destination: Ipv4Addr,
     pub length: usize,
+}
+
+impl Packet {
+    fn told(of: raw::Packet) -> Packet {
+        let kind = match of.kind {
+            raw::COPY => Kind::Copy,
+            raw::UNICAST => Kind::Unicast,
+            _ => Kind::Frame,
+        };
+        Packet { kind, iface: of.iface, destination: of.destination.into(), length: of.length }
+    }
+
+    pub fn is_unicast(&self) -> bool {
+        self.kind == Kind::Unicast
+    }
+
+    pub fn is_copy(&self) -> bool {
+        self.kind == Kind::Copy
+    }
 }
 
 /// A packet that is to be sent.
 #[derive(Clone, Debug, PartialEq, Eq)]
+#[non_exhaustive]
 pub struct Sent {
     pub packet: Packet,
-    /// It is a copy of data.
-    pub is_copy: bool,
     pub bytes: Vec<u8>,
 }
 
@@ -279,24 +372,48 @@ impl Table {
 }
 
 /// A row of a table. What its kind of row doesn't have is 0, or `u64::MAX` for a time.
-#[repr(C)]
-#[derive(Clone, Copy, Debug, Default, PartialEq, Eq)]
+#[derive(Clone, Copy, Debug, PartialEq, Eq)]
 pub struct Row {
     /// The table's letter.
     pub table: u32,
     pub iface: u32,
-    pub group: u32,
-    /// 0 for (*,G); a neighbour's address.
-    pub source: u32,
+    pub group: Ipv4Addr,
+    /// 0.0.0.0 for (*,G); a neighbour's address.
+    pub source: Ipv4Addr,
     /// Of an assert.
-    pub winner: u32,
+    pub winner: Ipv4Addr,
     pub is_rpt: bool,
     pub is_set: bool,
+    /// Of a Join: `JOINED`, `PRUNE_PENDING` or `PRUNED`. Of an active source, its register's: `REGISTER_NONE` to
+    /// `REGISTER_PRUNED`.
     pub state: u32,
     /// In ms.
     pub end: u64,
     /// In ms.
     pub pending: u64,
+}
+
+impl Default for Row {
+    fn default() -> Row {
+        Row::told(raw::Row::default())
+    }
+}
+
+impl Row {
+    fn told(of: raw::Row) -> Row {
+        Row {
+            table: of.table,
+            iface: of.iface,
+            group: of.group.into(),
+            source: of.source.into(),
+            winner: of.winner.into(),
+            is_rpt: of.is_rpt,
+            is_set: of.is_set,
+            state: of.state,
+            end: of.end,
+            pending: of.pending,
+        }
+    }
 }
 
 /// A set of interfaces.
@@ -323,6 +440,7 @@ impl Interfaces {
 /// How data of a source to a group goes.
 #[repr(C)]
 #[derive(Clone, Copy, Debug, Default, PartialEq, Eq)]
+#[non_exhaustive]
 pub struct Forwarding {
     rpf: u32,
     shared_rpf: u32,
@@ -353,8 +471,10 @@ impl Forwarding {
 /// What a data plane may do of the packets of a source to a group.
 #[repr(C)]
 #[derive(Clone, Copy, Debug, Default, PartialEq, Eq)]
+#[non_exhaustive]
 pub struct PlaneRow {
-    /// The source has a fact: the row stays until `Router::changed` has the source, else until `Router::may_differ` is true of it.
+    /// The source has a fact: the row stays until `Router::changed` has the source, else until `Router::may_differ` is
+    /// true of it.
     pub is_known: bool,
     incoming: u32,
     /// Where copies of accepted packets leave, but for the interface on which they came.
@@ -392,49 +512,113 @@ impl SourceGroup {
 
 // ---- the calls
 
-#[repr(C)]
-struct Handle {
-    place: *mut c_void,
-    is_there: bool,
+/// The values of C that aren't those of the crate.
+mod raw {
+    pub const COPY: u32 = 2;
+    pub const UNICAST: u32 = 3;
+
+    #[repr(C)]
+    pub struct Interface {
+        pub address: u32,
+        pub length: u32,
+        pub priority: u32,
+        pub propagation_delay: u32,
+        pub override_interval: u32,
+    }
+
+    #[repr(C)]
+    pub struct Route {
+        pub prefix: u32,
+        pub length: u32,
+        pub next_hop: u32,
+        pub iface: u32,
+        pub preference: u32,
+        pub metric: u32,
+    }
+
+    #[repr(C)]
+    pub struct Range {
+        pub prefix: u32,
+        pub length: u32,
+        pub rp: u32,
+    }
+
+    #[repr(C)]
+    #[derive(Default)]
+    pub struct Packet {
+        pub kind: u32,
+        pub iface: u32,
+        pub destination: u32,
+        pub length: usize,
+    }
+
+    #[repr(C)]
+    #[derive(Default)]
+    pub struct Row {
+        pub table: u32,
+        pub iface: u32,
+        pub group: u32,
+        pub source: u32,
+        pub winner: u32,
+        pub is_rpt: bool,
+        pub is_set: bool,
+        pub state: u32,
+        pub end: u64,
+        pub pending: u64,
+    }
+
+    #[repr(C)]
+    #[derive(Clone, Copy)]
+    pub struct Draw {
+        pub bits: u32,
+    }
 }
+use raw::Draw;
 
 extern "C" {
-    fn pim_version() -> *const c_char;
-    fn pim_answer_text(answer: u32) -> *const c_char;
-    fn pim_new(
-        router: &mut Handle,
-        settings: &Settings,
-        interfaces: *const Interface,
+    fn viq_version() -> *const c_char;
+    fn viq_answer_text(answer: u32) -> *const c_char;
+    fn viq_new(
+        router: *mut *mut c_void,
+        abi: u32,
+        settings: *const Settings,
+        interfaces: *const raw::Interface,
         interface_count: usize,
-        routes: *const Route,
+        routes: *const raw::Route,
         route_count: usize,
-        ranges: *const Range,
+        ranges: *const raw::Range,
         range_count: usize,
     ) -> u32;
-    fn pim_end(router: &mut Handle);
-    fn pim_advance(router: &mut Handle, draw: u32, moment: u64) -> u32;
-    fn pim_frame(router: &mut Handle, draw: u32, iface: u32, packet: *const u8, length: usize) -> u32;
-    fn pim_unicast(router: &mut Handle, draw: u32, packet: *const u8, length: usize) -> u32;
-    fn pim_up(router: &mut Handle, draw: u32, iface: u32) -> u32;
-    fn pim_down(router: &mut Handle, draw: u32, iface: u32) -> u32;
-    fn pim_routes(router: &mut Handle, draw: u32, routes: *const Route, count: usize) -> u32;
-    fn pim_ranges(router: &mut Handle, draw: u32, ranges: *const Range, count: usize) -> u32;
-    fn pim_packets(router: &mut Handle) -> usize;
-    fn pim_packet(router: &mut Handle, index: usize, packet: &mut Packet, room: *mut u8, room_length: usize) -> bool;
-    fn pim_copies(router: &mut Handle) -> u32;
-    fn pim_next_moment(router: &mut Handle) -> u64;
-    fn pim_read(router: &mut Handle, letter: u8) -> u32;
-    fn pim_rows(router: &mut Handle) -> usize;
-    fn pim_row(router: &mut Handle, index: usize, row: &mut Row) -> bool;
-    fn pim_cached(router: &mut Handle, source: u32, group: u32, forwarding: &mut Forwarding) -> bool;
-    fn pim_offload(router: &mut Handle, source: u32, group: u32, row: &mut PlaneRow) -> bool;
-    fn pim_changed(router: &mut Handle) -> usize;
-    fn pim_changed_source(router: &mut Handle, index: usize, name: &mut SourceGroup) -> bool;
-    fn pim_may_differ(router: &mut Handle, source: u32, group: u32) -> bool;
-    fn pim_seen(router: &mut Handle, draw: u32, iface: u32, source: u32, group: u32) -> u32;
-    fn pim_keep(router: &mut Handle, source: u32, group: u32, moment: u64) -> u32;
-    fn pim_probes(router: &mut Handle) -> u64;
-    fn pim_touched(router: &mut Handle) -> u64;
+    fn viq_end(router: *mut c_void);
+    fn viq_advance(router: *mut c_void, moment: u64, draw: Draw) -> u32;
+    fn viq_frame(router: *mut c_void, iface: u32, packet: *const u8, length: usize, draw: Draw) -> u32;
+    fn viq_unicast(router: *mut c_void, packet: *const u8, length: usize, draw: Draw) -> u32;
+    fn viq_up(router: *mut c_void, iface: u32, draw: Draw) -> u32;
+    fn viq_down(router: *mut c_void, iface: u32, draw: Draw) -> u32;
+    fn viq_routes(router: *mut c_void, routes: *const raw::Route, count: usize, draw: Draw) -> u32;
+    fn viq_ranges(router: *mut c_void, ranges: *const raw::Range, count: usize, draw: Draw) -> u32;
+    fn viq_packets(router: *const c_void) -> usize;
+    fn viq_packet(
+        router: *const c_void,
+        index: usize,
+        packet: *mut raw::Packet,
+        room: *mut u8,
+        room_length: usize,
+    ) -> bool;
+    fn viq_copies(router: *const c_void) -> u32;
+    fn viq_next_moment(router: *const c_void) -> u64;
+    fn viq_read(router: *mut c_void, letter: u8) -> u32;
+    fn viq_rows(router: *const c_void) -> usize;
+    fn viq_row(router: *const c_void, index: usize, row: *mut raw::Row) -> bool;
+    fn viq_cached(router: *const c_void, source: u32, group: u32, forwarding: *mut Forwarding) -> bool;
+    fn viq_offload(router: *const c_void, source: u32, group: u32, row: *mut PlaneRow) -> bool;
+    fn viq_changed(router: *const c_void) -> usize;
+    fn viq_changed_source(router: *const c_void, index: usize, name: *mut SourceGroup) -> bool;
+    fn viq_may_differ(router: *const c_void, source: u32, group: u32) -> bool;
+    fn viq_seen(router: *mut c_void, iface: u32, source: u32, group: u32, draw: Draw) -> u32;
+    fn viq_keep(router: *mut c_void, source: u32, group: u32, moment: u64) -> u32;
+    fn viq_probes(router: *const c_void) -> u64;
+    fn viq_touched(router: *const c_void) -> u64;
 }
 
 fn text(from: *const c_char) -> &'static str {
@@ -444,82 +628,157 @@ fn text(from: *const c_char) -> &'static str {
 
 /// The version of the library, and how it was built: `proved` or `not proved`.
 pub fn version() -> &'static str {
-    text(unsafe { pim_version() })
+    // SAFETY: the call takes nothing.
+    text(unsafe { viq_version() })
 }
 
 /// What an answer's number says.
 pub fn answer_text(answer: u32) -> &'static str {
-    text(unsafe { pim_answer_text(answer) })
+    // SAFETY: the call takes any number.
+    text(unsafe { viq_answer_text(answer) })
 }
 
 /// A router, which ends where it is dropped.
-pub struct Router(Handle);
+// The pointer is of a router that `viq_new` made, until it is dropped: this is what makes each call below safe. Those
+// that change it borrow it alone.
+pub struct Router(NonNull<c_void>);
 
-// SAFETY: a router is memory of its own, taken by malloc. What it does depends on no thread, and each call borrows it alone.
+// SAFETY: a router is memory of its own, taken by malloc. What it does depends on no thread, and one thread has it at a
+// time.
 unsafe impl Send for Router {}
+
+impl fmt::Debug for Router {
+    fn fmt(&self, to: &mut fmt::Formatter<'_>) -> fmt::Result {
+        to.debug_struct("Router")
+            .field("next_moment", &self.next_moment())
+            .field("packets", &self.packet_count())
+            .finish_non_exhaustive()
+    }
+}
 
 impl Router {
     /// Makes a router, at moment 0 and with all interfaces down.
-    pub fn new(settings: &Settings, interfaces: &[Interface], routes: &[Route], ranges: &[Range]) -> Result<Router, Error> {
-        let mut handle = Handle { place: std::ptr::null_mut(), is_there: false };
-        let (interface_count, route_count, range_count) = (interfaces.len(), routes.len(), ranges.len());
-        // SAFETY: each slice is passed as its pointer and its length, and the handle has no router.
+    pub fn new(
+        settings: &Settings,
+        interfaces: &[Interface],
+        routes: &[Route],
+        ranges: &[Range],
+    ) -> Result<Router, Error> {
+        let mut made = null_mut();
+        let interfaces: Vec<_> = interfaces.iter().map(Interface::given).collect();
+        let routes: Vec<_> = routes.iter().map(Route::given).collect();
+        let ranges: Vec<_> = ranges.iter().map(Range::given).collect();
+        // SAFETY: each list is passed as its pointer and its length, and what points to the router is only written.
         let answer = unsafe {
-            let (interfaces, routes, ranges) = (interfaces.as_ptr(), routes.as_ptr(), ranges.as_ptr());
-            pim_new(&mut handle, settings, interfaces, interface_count, routes, route_count, ranges, range_count)
+            viq_new(
+                &mut made,
+                ABI,
+                settings,
+                interfaces.as_ptr(),
+                interfaces.len(),
+                routes.as_ptr(),
+                routes.len(),
+                ranges.as_ptr(),
+                ranges.len(),
+            )
         };
-        if answer == DONE { Ok(Router(handle)) } else { Err(Error::of(answer)) }
+        match NonNull::new(made) {
+            Some(router) if answer == DONE => Ok(Router(router)),
+            _ => Err(Error::of(answer)),
+        }
     }
 
+    fn at(&self) -> *const c_void {
+        self.0.as_ptr()
+    }
+
+    fn at_mut(&mut self) -> *mut c_void {
+        self.0.as_ptr()
+    }
+
+    // ---- events
+
     /// Time passes up to the moment, which isn't before the present.
-    pub fn advance(&mut self, draw: u32, moment: u64) -> Result<Verdict, Error> {
-        // SAFETY: the handle has a router of its own; so it is below.
-        verdict(unsafe { pim_advance(&mut self.0, draw, moment) })
+    pub fn advance(&mut self, moment: u64, draw: u32) -> Result<Verdict, Error> {
+        // SAFETY: the router is there and borrowed alone.
+        verdict(unsafe { viq_advance(self.at_mut(), moment, Draw { bits: draw }) })
+    }
+
+    /// Time passes up to now, timer by timer, each with a draw of its own; each packet that leaves meanwhile is handed
+    /// on with its bytes.
+    pub fn run_to(
+        &mut self,
+        now: u64,
+        mut draw: impl FnMut() -> u32,
+        mut send: impl FnMut(&Packet, &[u8]),
+    ) -> Result<(), Error> {
+        let mut room = [0; MOST_BYTES];
+        loop {
+            let next = self.next_moment().map_or(now, |moment| moment.min(now));
+            self.advance(next, draw())?;
+            self.each_packet(&mut room, &mut send);
+            if next == now && self.next_moment().map_or(true, |moment| moment > now) {
+                return Ok(());
+            }
+        }
     }
 
     /// A packet came on an interface, to a group: PIM, IGMP or data.
-    pub fn frame(&mut self, draw: u32, iface: u32, packet: &[u8]) -> Result<Verdict, Error> {
-        verdict(unsafe { pim_frame(&mut self.0, draw, iface, packet.as_ptr(), packet.len()) })
+    pub fn frame(&mut self, iface: u32, packet: &[u8], draw: u32) -> Result<Verdict, Error> {
+        // SAFETY: the router is there and borrowed alone; the packet is passed as its pointer and its length.
+        verdict(unsafe { viq_frame(self.at_mut(), iface, packet.as_ptr(), packet.len(), Draw { bits: draw }) })
     }
 
     /// A PIM packet came for an address of the router.
-    pub fn unicast(&mut self, draw: u32, packet: &[u8]) -> Result<Verdict, Error> {
-        verdict(unsafe { pim_unicast(&mut self.0, draw, packet.as_ptr(), packet.len()) })
+    pub fn unicast(&mut self, packet: &[u8], draw: u32) -> Result<Verdict, Error> {
+        // SAFETY: as of `frame`.
+        verdict(unsafe { viq_unicast(self.at_mut(), packet.as_ptr(), packet.len(), Draw { bits: draw }) })
     }
 
     /// An interface goes up.
-    pub fn up(&mut self, draw: u32, iface: u32) -> Result<Verdict, Error> {
-        verdict(unsafe { pim_up(&mut self.0, draw, iface) })
+    pub fn up(&mut self, iface: u32, draw: u32) -> Result<Verdict, Error> {
+        // SAFETY: the router is there and borrowed alone.
+        verdict(unsafe { viq_up(self.at_mut(), iface, Draw { bits: draw }) })
     }
 
     /// An interface goes down.
-    pub fn down(&mut self, draw: u32, iface: u32) -> Result<Verdict, Error> {
-        verdict(unsafe { pim_down(&mut self.0, draw, iface) })
+    pub fn down(&mut self, iface: u32, draw: u32) -> Result<Verdict, Error> {
+        // SAFETY: the router is there and borrowed alone.
+        verdict(unsafe { viq_down(self.at_mut(), iface, Draw { bits: draw }) })
     }
 
     /// All unicast routes are replaced.
-    pub fn set_routes(&mut self, draw: u32, routes: &[Route]) -> Result<Verdict, Error> {
-        verdict(unsafe { pim_routes(&mut self.0, draw, routes.as_ptr(), routes.len()) })
+    pub fn set_routes(&mut self, routes: &[Route], draw: u32) -> Result<Verdict, Error> {
+        let given: Vec<_> = routes.iter().map(Route::given).collect();
+        // SAFETY: the router is there and borrowed alone; the list is passed as its pointer and its length.
+        verdict(unsafe { viq_routes(self.at_mut(), given.as_ptr(), given.len(), Draw { bits: draw }) })
     }
 
     /// All RP ranges are replaced.
-    pub fn set_ranges(&mut self, draw: u32, ranges: &[Range]) -> Result<Verdict, Error> {
-        verdict(unsafe { pim_ranges(&mut self.0, draw, ranges.as_ptr(), ranges.len()) })
+    pub fn set_ranges(&mut self, ranges: &[Range], draw: u32) -> Result<Verdict, Error> {
+        let given: Vec<_> = ranges.iter().map(Range::given).collect();
+        // SAFETY: as of `set_routes`.
+        verdict(unsafe { viq_ranges(self.at_mut(), given.as_ptr(), given.len(), Draw { bits: draw }) })
     }
 
-    /// How many packets the last event sent that met no fault.
-    pub fn packet_count(&mut self) -> usize {
-        unsafe { pim_packets(&mut self.0) }
+    // ---- what is to be sent
+
+    /// How many packets the last event sent; none once the router is lost.
+    pub fn packet_count(&self) -> usize {
+        // SAFETY: the router is there.
+        unsafe { viq_packets(self.at()) }
     }
 
     /// One of them, counted from 0; its bytes go into the room, as many as it takes.
-    pub fn packet(&mut self, index: usize, room: &mut [u8]) -> Option<Packet> {
-        let mut packet = Packet::default();
-        unsafe { pim_packet(&mut self.0, index, &mut packet, room.as_mut_ptr(), room.len()) }.then_some(packet)
+    pub fn packet(&self, index: usize, room: &mut [u8]) -> Option<Packet> {
+        let mut packet = raw::Packet::default();
+        // SAFETY: the router is there; the room is passed as its pointer and its length.
+        let is_there = unsafe { viq_packet(self.at(), index, &mut packet, room.as_mut_ptr(), room.len()) };
+        is_there.then(|| Packet::told(packet))
     }
 
     /// Hands on each of them with its bytes, in the order in which they are to leave.
-    pub fn each_packet(&mut self, room: &mut [u8; MOST_BYTES], mut take: impl FnMut(&Packet, &[u8])) {
+    pub fn each_packet(&self, room: &mut [u8; MOST_BYTES], mut take: impl FnMut(&Packet, &[u8])) {
         for index in 0..self.packet_count() {
             if let Some(packet) = self.packet(index, room) {
                 take(&packet, &room[..packet.length]);
@@ -527,98 +786,125 @@ impl Router {
         }
     }
 
-    /// All of them. The last packets on links are the copies.
-    pub fn packets(&mut self) -> Vec<Sent> {
+    /// All of them.
+    pub fn packets(&self) -> Vec<Sent> {
         let mut all = Vec::new();
         self.each_packet(&mut [0; MOST_BYTES], |packet, bytes| {
-            all.push(Sent { packet: *packet, is_copy: false, bytes: bytes.to_vec() });
+            all.push(Sent { packet: *packet, bytes: bytes.to_vec() })
         });
-        let on_links = all.iter_mut().rev().filter(|sent| !sent.packet.is_unicast);
-        on_links.take(self.copies()).for_each(|sent| sent.is_copy = true);
         all
     }
 
-    /// How many copies of a data packet the last event sent on links.
-    pub fn copies(&mut self) -> usize {
-        unsafe { pim_copies(&mut self.0) as usize }
+    /// How many of them are copies of data.
+    pub fn copies(&self) -> usize {
+        // SAFETY: the router is there.
+        unsafe { viq_copies(self.at()) as usize }
     }
 
     /// The moment at which the next timer ends: time is to pass then.
-    pub fn next_moment(&mut self) -> Option<u64> {
-        let moment = unsafe { pim_next_moment(&mut self.0) };
+    pub fn next_moment(&self) -> Option<u64> {
+        // SAFETY: the router is there.
+        let moment = unsafe { viq_next_moment(self.at()) };
         (moment != NEVER).then_some(moment)
     }
 
+    // ---- what the router knows
+
     /// The rows of a table, ascending by their keys.
     pub fn rows(&mut self, table: Table) -> Result<Vec<Row>, Error> {
-        match unsafe { pim_read(&mut self.0, table as u8) } {
-            DONE => Ok((0..unsafe { pim_rows(&mut self.0) }).filter_map(|index| self.row(index)).collect()),
+        // SAFETY: the router is there and borrowed alone.
+        match unsafe { viq_read(self.at_mut(), table as u8) } {
+            DONE => Ok(self.read_rows()),
             answer => Err(Error::of(answer)),
         }
     }
 
-    /// A row of the table that was read last.
-    fn row(&mut self, index: usize) -> Option<Row> {
-        let mut row = Row::default();
-        unsafe { pim_row(&mut self.0, index, &mut row) }.then_some(row)
+    /// The rows of the table that was read last.
+    fn read_rows(&self) -> Vec<Row> {
+        // SAFETY: the router is there.
+        let count = unsafe { viq_rows(self.at()) };
+        (0..count).filter_map(|index| self.row(index)).collect()
     }
 
-    /// How data of a source to a group goes, as the forwarding cache has it; `None` where there is no fact of the source.
-    pub fn cached(&mut self, source: Ipv4Addr, group: Ipv4Addr) -> Option<Forwarding> {
+    fn row(&self, index: usize) -> Option<Row> {
+        let mut row = raw::Row::default();
+        // SAFETY: the router is there.
+        unsafe { viq_row(self.at(), index, &mut row) }.then(|| Row::told(row))
+    }
+
+    /// How data of a source to a group goes, as the forwarding cache has it; `None` where there is no fact of the
+    /// source.
+    pub fn cached(&self, source: Ipv4Addr, group: Ipv4Addr) -> Option<Forwarding> {
         let mut told = Forwarding::default();
-        unsafe { pim_cached(&mut self.0, source.into(), group.into(), &mut told) }.then_some(told)
+        // SAFETY: the router is there.
+        unsafe { viq_cached(self.at(), source.into(), group.into(), &mut told) }.then_some(told)
     }
 
-    /// What a data plane may do of the packets of a source to a group; `None` where all are the router's. `include/pim.h` says what
-    /// a plane owes.
-    pub fn offload(&mut self, source: Ipv4Addr, group: Ipv4Addr) -> Option<PlaneRow> {
+    // ---- a data plane: `include/viqeshor/plane.h` says what one owes
+
+    /// What a data plane may do of the packets of a source to a group; `None` where all are the router's.
+    pub fn offload(&self, source: Ipv4Addr, group: Ipv4Addr) -> Option<PlaneRow> {
         let mut row = PlaneRow::default();
-        unsafe { pim_offload(&mut self.0, source.into(), group.into(), &mut row) }.then_some(row)
+        // SAFETY: the router is there.
+        unsafe { viq_offload(self.at(), source.into(), group.into(), &mut row) }.then_some(row)
     }
 
-    /// The sources whose rows the last event changed; one may stand there more than once.
-    pub fn changed(&mut self) -> Vec<SourceGroup> {
-        (0..unsafe { pim_changed(&mut self.0) }).filter_map(|index| self.changed_source(index)).collect()
+    /// The sources whose rows may have changed at the last event; one may stand there more than once.
+    pub fn changed(&self) -> Vec<SourceGroup> {
+        // SAFETY: the router is there.
+        let count = unsafe { viq_changed(self.at()) };
+        (0..count).filter_map(|index| self.changed_source(index)).collect()
     }
 
-    fn changed_source(&mut self, index: usize) -> Option<SourceGroup> {
+    fn changed_source(&self, index: usize) -> Option<SourceGroup> {
         let mut name = SourceGroup::default();
-        unsafe { pim_changed_source(&mut self.0, index, &mut name) }.then_some(name)
+        // SAFETY: the router is there.
+        unsafe { viq_changed_source(self.at(), index, &mut name) }.then_some(name)
     }
 
     /// Whether what `offload` tells of a source, with a fact or without one, may have changed at the last event.
-    pub fn may_differ(&mut self, source: Ipv4Addr, group: Ipv4Addr) -> bool {
-        unsafe { pim_may_differ(&mut self.0, source.into(), group.into()) }
+    pub fn may_differ(&self, source: Ipv4Addr, group: Ipv4Addr) -> bool {
+        // SAFETY: the router is there.
+        unsafe { viq_may_differ(self.at(), source.into(), group.into()) }
     }
 
-    /// An event: a data plane saw a packet of a source to a group on an interface. Its copies and its Register don't leave.
-    pub fn seen(&mut self, draw: u32, iface: u32, source: Ipv4Addr, group: Ipv4Addr) -> Result<Verdict, Error> {
-        verdict(unsafe { pim_seen(&mut self.0, draw, iface, source.into(), group.into()) })
+    /// An event: a data plane saw a packet of a source to a group on an interface. Its copies and its Register don't
+    /// leave.
+    pub fn seen(&mut self, iface: u32, source: Ipv4Addr, group: Ipv4Addr, draw: u32) -> Result<Verdict, Error> {
+        // SAFETY: the router is there and borrowed alone.
+        verdict(unsafe { viq_seen(self.at_mut(), iface, source.into(), group.into(), Draw { bits: draw }) })
     }
 
-    /// A data plane forwarded a packet of a source to a group at a moment: the source's keepalive timer, where it runs, ends 210 s
-    /// after that, or when it would end later. It tells whether the timer runs; it is started by `seen` alone.
+    /// A data plane forwarded a packet of a source to a group at a moment, at most 2^62: the source's keepalive timer,
+    /// where it runs, ends 210 s after that, or when it would end later. It tells whether the timer runs; it is started
+    /// by `seen` alone.
     pub fn keep(&mut self, source: Ipv4Addr, group: Ipv4Addr, moment: u64) -> Result<bool, Error> {
-        match unsafe { pim_keep(&mut self.0, source.into(), group.into(), moment) } {
+        // SAFETY: the router is there and borrowed alone.
+        match unsafe { viq_keep(self.at_mut(), source.into(), group.into(), moment) } {
             DONE => Ok(true),
             NO_TIMER => Ok(false),
             answer => Err(Error::of(answer)),
         }
     }
 
+    // ---- costs
+
     /// The trie nodes that the last event visited.
-    pub fn probes(&mut self) -> u64 {
-        unsafe { pim_probes(&mut self.0) }
+    pub fn probes(&self) -> u64 {
+        // SAFETY: the router is there.
+        unsafe { viq_probes(self.at()) }
     }
 
     /// The rows of the forwarding cache that the last event evaluated, put in and took out.
-    pub fn touched(&mut self) -> u64 {
-        unsafe { pim_touched(&mut self.0) }
+    pub fn touched(&self) -> u64 {
+        // SAFETY: the router is there.
+        unsafe { viq_touched(self.at()) }
     }
 }
 
 impl Drop for Router {
     fn drop(&mut self) {
-        unsafe { pim_end(&mut self.0) }
+        // SAFETY: the router is there, and nobody has it after this.
+        unsafe { viq_end(self.0.as_ptr()) }
     }
 }

@@ -1,6 +1,6 @@
 //! Each call of the crate once, and what it answers: a Join of 10.0.1.2 comes and a packet of its source, as in `examples/library`.
-use pim::{Error, Interface, Range, Reason, Refusal, Route, Router, Settings, Table, Verdict};
 use std::net::Ipv4Addr;
+use viqeshor::{Error, Interface, Kind, Range, Reason, Refusal, Route, Router, Settings, Table, Verdict, JOINED};
 
 const HELLO_ABOVE: &str = "45C0001E000000000167CEAB0A000001E000000D2000DFFC00010002FFFF";
 const HELLO_BELOW: &str = "45C0001E000000000167CDAA0A000102E000000D2000DFFC00010002FFFF";
@@ -37,11 +37,11 @@ fn router() -> Router {
 fn joined() -> Router {
     let mut router = router();
     for iface in 0..3 {
-        assert_eq!(router.up(7, iface), DONE);
+        assert_eq!(router.up(iface, 7), DONE);
     }
-    assert_eq!(router.frame(0, 0, &bytes_of(HELLO_ABOVE)), DONE);
-    assert_eq!(router.frame(0, 1, &bytes_of(HELLO_BELOW)), DONE);
-    assert_eq!(router.frame(0, 1, &bytes_of(JOIN)), DONE);
+    assert_eq!(router.frame(0, &bytes_of(HELLO_ABOVE), 0), DONE);
+    assert_eq!(router.frame(1, &bytes_of(HELLO_BELOW), 0), DONE);
+    assert_eq!(router.frame(1, &bytes_of(JOIN), 0), DONE);
     router
 }
 
@@ -59,21 +59,21 @@ fn configurations_that_are_refused() {
 #[test]
 fn events_that_are_refused_or_ignored() {
     let mut router = router();
-    assert_eq!(router.frame(0, 0, &[]), Err(Error::Refused(Refusal::InterfaceDown)));
-    assert_eq!(router.up(0, 3), Err(Error::Refused(Refusal::BadInterface)));
+    assert_eq!(router.frame(0, &[], 0), Err(Error::Refused(Refusal::InterfaceDown)));
+    assert_eq!(router.up(3, 0), Err(Error::Refused(Refusal::BadInterface)));
     assert_eq!(router.down(0, 0), Ok(Verdict::Ignored(Reason::Already)));
-    assert_eq!(router.unicast(0, &[]), Err(Error::Refused(Refusal::Short)));
-    assert_eq!(router.advance(0, 5), DONE);
-    assert_eq!(router.advance(0, 4), Err(Error::Refused(Refusal::MomentBack)));
-    assert_eq!(router.set_routes(0, &[routes()[0], routes()[0]]), Err(Error::Refused(Refusal::BadRoutes)));
-    assert_eq!(router.set_ranges(0, &[Range { length: 3, ..ranges()[0] }]), Err(Error::Refused(Refusal::BadRanges)));
+    assert_eq!(router.unicast(&[], 0), Err(Error::Refused(Refusal::Short)));
+    assert_eq!(router.advance(5, 0), DONE);
+    assert_eq!(router.advance(4, 0), Err(Error::Refused(Refusal::MomentBack)));
+    assert_eq!(router.set_routes(&[routes()[0], routes()[0]], 0), Err(Error::Refused(Refusal::BadRoutes)));
+    assert_eq!(router.set_ranges(&[Range { length: 3, ..ranges()[0] }], 0), Err(Error::Refused(Refusal::BadRanges)));
 }
 
 #[test]
 fn lists_are_replaced() {
     let mut router = router();
-    assert_eq!(router.set_routes(0, &[]), DONE);
-    assert_eq!(router.set_ranges(0, &[]), DONE);
+    assert_eq!(router.set_routes(&[], 0), DONE);
+    assert_eq!(router.set_ranges(&[], 0), DONE);
 }
 
 #[test]
@@ -81,15 +81,15 @@ fn a_join_a_packet_and_its_copy() {
     let mut router = joined();
     let sent = router.packets();
     assert_eq!(sent.len(), 2);
-    assert!(sent.iter().all(|sent| !sent.is_copy && !sent.packet.is_unicast && sent.packet.iface == 0));
-    assert_eq!(router.frame(0, 0, &bytes_of(DATA)), DONE);
+    assert!(sent.iter().all(|sent| sent.packet.kind == Kind::Frame && sent.packet.iface == 0));
+    assert_eq!(router.frame(0, &bytes_of(DATA), 0), DONE);
     let [copy] = &router.packets()[..] else { panic!("one packet") };
-    assert!(copy.is_copy && copy.packet.iface == 1 && copy.packet.length == copy.bytes.len());
+    assert!(copy.packet.is_copy() && copy.packet.iface == 1 && copy.packet.length == copy.bytes.len());
     assert_eq!(copy.bytes[8], 63);
     assert_eq!(router.copies(), 1);
     assert!(router.packet(1, &mut []).is_none());
     assert!(router.probes() >= 1);
-    assert_eq!(router.frame(0, 0, &bytes_of(DATA)), DONE);
+    assert_eq!(router.frame(0, &bytes_of(DATA), 0), DONE);
     assert_eq!(router.touched(), 0);
 }
 
@@ -99,7 +99,7 @@ fn what_the_router_knows() {
     let counts = Table::ALL.map(|table| router.rows(table).unwrap().len());
     assert_eq!(counts, [2, 0, 0, 1, 0, 1, 0, 0]);
     let [join] = &router.rows(Table::Downstream).unwrap()[..] else { panic!("one row") };
-    assert_eq!((join.table, join.iface, join.group, join.state), (u32::from(b'D'), 1, 0xe101_0101, 1));
+    assert_eq!((join.table, join.iface, join.group, join.state), (u32::from(b'D'), 1, address([225, 1, 1, 1]), JOINED));
     assert!(router.next_moment().is_some());
 }
 
@@ -107,7 +107,7 @@ fn what_the_router_knows() {
 fn how_data_goes() {
     let mut router = joined();
     let (source, group) = (address([10, 0, 3, 5]), address([225, 1, 1, 1]));
-    assert_eq!(router.frame(0, 0, &bytes_of(DATA)), DONE);
+    assert_eq!(router.frame(0, &bytes_of(DATA), 0), DONE);
     let told = router.cached(source, group).unwrap();
     assert_eq!((told.rpf(), told.shared_rpf()), (Some(0), Some(0)));
     assert_eq!((told.has_spt_bit, told.has_tunnel), (true, false));
@@ -117,10 +117,10 @@ fn how_data_goes() {
     assert!(!told.immediate.contains(128));
     assert_eq!(router.cached(address([10, 0, 3, 6]), group), None);
     let to_rp = Route::new(address([10, 9, 9, 0]), 24, address([10, 0, 1, 2]), 1);
-    assert_eq!(router.set_routes(0, &[to_rp, routes()[1]]), DONE);
+    assert_eq!(router.set_routes(&[to_rp, routes()[1]], 0), DONE);
     let told = router.cached(source, group).unwrap();
     assert_eq!((told.rpf(), told.shared_rpf()), (Some(0), Some(1)));
-    assert_eq!(router.set_ranges(0, &[]), DONE);
+    assert_eq!(router.set_ranges(&[], 0), DONE);
     assert_eq!(router.cached(source, group).unwrap().shared_rpf(), None);
 }
 
@@ -131,9 +131,12 @@ fn what_a_data_plane_is_told() {
     let unknown = router.offload(source, group).unwrap();
     assert!(!unknown.is_known && unknown.to_core.contains(0));
     assert_eq!(router.keep(source, group, 0), Ok(false));
-    assert_eq!(router.seen(0, 0, source, group), DONE);
+    assert_eq!(router.seen(0, source, group, 0), DONE);
     assert_eq!(router.packet_count(), 0);
-    assert_eq!(router.changed().iter().map(|name| (name.source(), name.group())).collect::<Vec<_>>(), [(source, group)]);
+    assert_eq!(
+        router.changed().iter().map(|name| (name.source(), name.group())).collect::<Vec<_>>(),
+        [(source, group)]
+    );
     assert!(router.may_differ(source, group));
     assert!(!router.may_differ(address([10, 0, 3, 6]), address([225, 1, 1, 2])));
     let row = router.offload(source, group).unwrap();
@@ -145,13 +148,13 @@ fn what_a_data_plane_is_told() {
 fn what_a_data_plane_tells() {
     let mut router = joined();
     let (source, group) = (address([10, 0, 3, 5]), address([225, 1, 1, 1]));
-    assert_eq!(router.frame(0, 0, &bytes_of(DATA)), DONE);
+    assert_eq!(router.frame(0, &bytes_of(DATA), 0), DONE);
     assert_eq!(router.keep(source, group, 1000), Ok(true));
     let [active] = &router.rows(Table::Active).unwrap()[..] else { panic!("one row") };
     assert_eq!(active.end, 211_000);
-    assert_eq!(router.seen(0, 0, source, group), DONE);
+    assert_eq!(router.seen(0, source, group, 0), DONE);
     assert_eq!(router.changed(), []);
-    assert_eq!(router.seen(0, 3, source, group), Err(Error::Refused(Refusal::BadInterface)));
+    assert_eq!(router.seen(3, source, group, 0), Err(Error::Refused(Refusal::BadInterface)));
 }
 
 #[test]
@@ -159,18 +162,45 @@ fn a_router_without_room_offers_nothing() {
     let settings = Settings { limit: 1, ..Settings::default() };
     let mut router = Router::new(&settings, &interfaces(), &routes(), &ranges()).unwrap();
     let (source, group) = (address([10, 0, 2, 7]), address([225, 1, 1, 1]));
-    assert_eq!(router.up(7, 2), DONE);
+    assert_eq!(router.up(2, 7), DONE);
     assert!(router.offload(address([10, 0, 3, 6]), group).is_some());
-    assert_eq!(router.seen(0, 2, source, group), DONE);
+    assert_eq!(router.seen(2, source, group, 0), DONE);
     assert_eq!(router.offload(address([10, 0, 3, 6]), group), None);
     assert!(router.offload(source, group).is_some());
+}
+
+#[test]
+fn a_moment_that_is_too_far() {
+    let mut router = joined();
+    let (source, group) = (address([10, 0, 3, 5]), address([225, 1, 1, 1]));
+    assert_eq!(router.keep(source, group, 1 << 62), Ok(false));
+    assert_eq!(router.keep(source, group, (1 << 62) + 1), Err(Error::Refused(Refusal::MomentFar)));
+}
+
+#[test]
+fn time_passes_timer_by_timer() {
+    let (mut at_once, mut by_timers, mut hellos) = (joined(), joined(), Vec::new());
+    let mut draws = 0..;
+    by_timers
+        .run_to(100_000, || draws.next().unwrap(), |packet, bytes| hellos.push((packet.iface, bytes.to_vec())))
+        .unwrap();
+    assert!(by_timers.next_moment().unwrap() > 100_000);
+    assert_eq!(hellos.iter().filter(|(iface, bytes)| *iface == 2 && bytes[9] == 103 && bytes[20] == 0x20).count(), 4);
+    assert_eq!(at_once.advance(100_000, 0), DONE);
+    assert!(draws.start > 4);
+    assert_eq!(by_timers.run_to(99_999, || 0, |_, _| ()), Err(Error::Refused(Refusal::MomentBack)));
+}
+
+#[test]
+fn what_is_shown_of_it() {
+    assert!(format!("{:?}", joined()).starts_with("Router { next_moment: Some("));
 }
 
 #[test]
 fn a_router_goes_to_another_thread() {
     let mut router = joined();
     let sent = std::thread::spawn(move || {
-        assert_eq!(router.frame(0, 0, &bytes_of(DATA)), DONE);
+        assert_eq!(router.frame(0, &bytes_of(DATA), 0), DONE);
         router.packets().len()
     });
     assert_eq!(sent.join().unwrap(), 1);
@@ -178,8 +208,8 @@ fn a_router_goes_to_another_thread() {
 
 #[test]
 fn texts() {
-    let (number, how) = pim::version().split_once(' ').unwrap();
+    let (number, how) = viqeshor::version().split_once(' ').unwrap();
     assert_eq!(number, env!("CARGO_PKG_VERSION"));
     assert!(["proved", "not proved"].contains(&how));
-    assert_eq!(pim::answer_text(0), "done");
+    assert_eq!(viqeshor::answer_text(0), "done");
 }

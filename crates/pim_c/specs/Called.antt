@@ -1,10 +1,12 @@
 -- What a call leaves of a handle, and answers, by what stood there: nothing, a router that has failed, or one that hasn't.
-use Rattle.std.specs.Prelude.{[], Bool, Err, List, None, Ok, Option, Result, Some, false, min, true, unwrap_or, ℕ, ◌+◌, ◌≡◌, ◌⊎◌}
+use Rattle.std.specs.Option.{option_map_or}
+use Rattle.std.specs.Prelude.{[], Bool, Err, List, None, Ok, Option, Result, Some, drop, false, filter, length, min, nat_lt, true, unwrap_or, ℕ, ◌+◌, ◌≡◌, ◌⊎◌}
 use Rattle.pim_fanout.specs.Disturbed.{is_disturbed}
 use Rattle.pim_ip.specs.Refusal.{refusal_number}
 use Rattle.pim_ip.specs.declared.refusal.Refusal.{Refusal}
 use Rattle.pim_ifset.specs.Members.{mask_of}
 use Rattle.pim_model.specs.Cache.{Answers, cached}
+use Rattle.pim_model.specs.Cause.{is_on_link}
 use Rattle.pim_model.specs.Judging.{last_moment}
 use Rattle.pim_model.specs.Limits.{config_test}
 use Rattle.pim_model.specs.Printed.{rows}
@@ -55,7 +57,7 @@ abbrev pub SteppedFrom : ShownSession → Option Standing → Event → ℕ → 
 SteppedFrom s None e answer left = (answer ≡ 41) × (left ≡ lost s)
 SteppedFrom s (Some r) e answer left =
     ((answer ≡ answer_number (step r.state e).answer) × Taken s r e left)
-    ⊎ ((answer ≡ 40) × (left ≡ lost s) × (needs_no_memory (step r.state e).answer ≡ false))
+    ⊎ ((answer ≡ 43) × (left ≡ lost s) × (needs_no_memory (step r.state e).answer ≡ false))
 
 -- the router took the event and the answer is its own, or memory was refused
 abbrev pub Stepped : Option ShownSession → Event → ℕ → Option ShownSession → Type 0
@@ -79,7 +81,7 @@ Copied old e answer left = Stepped old e answer left ⊎ Refused old answer left
 abbrev pub SeenFrom : ShownSession → Option Standing → Event → ℕ → ShownSession → Type 0
 SeenFrom s None e answer left = (answer ≡ 41) × (left ≡ lost s)
 SeenFrom s (Some r) e answer left =
-    ((answer ≡ answer_number (step r.state e).answer) × Taken s r e left) ⊎ ((answer ≡ 40) × (left ≡ lost s))
+    ((answer ≡ answer_number (step r.state e).answer) × Taken s r e left) ⊎ ((answer ≡ 43) × (left ≡ lost s))
 
 -- the router took the event that tells of a packet, or memory was refused, whatever event it is
 abbrev pub Seen : Option ShownSession → Event → ℕ → Option ShownSession → Type 0
@@ -95,7 +97,7 @@ SourceKeptFrom s (Some r) source group moment answer left =
       sent = s.sent;
       rows = s.rows;
     }))
-    ⊎ ((answer ≡ 40) × (left ≡ lost s))
+    ⊎ ((answer ≡ 43) × (left ≡ lost s))
 
 -- the source's timer was moved where it runs, or memory was refused
 abbrev pub SourceKept : Option ShownSession → ℕ → ℕ → ℕ → ℕ → Option ShownSession → Type 0
@@ -103,6 +105,11 @@ SourceKept None source group moment answer left = (answer ≡ 50) × (left ≡ N
 SourceKept (Some s) source group moment answer (Some left) =
     SourceKeptFrom s s.router.standing source group moment answer left
 SourceKept (Some s) source group moment answer None = ⊥
+
+-- a moment that is beyond the last one is refused, and nothing changes; else the source's timer is moved
+abbrev pub KeepAnswered : Bool → Option ShownSession → ℕ → ℕ → ℕ → ℕ → Option ShownSession → Type 0
+KeepAnswered true old source group moment answer left = (answer ≡ 21) × (left ≡ old)
+KeepAnswered false old source group moment answer left = SourceKept old source group moment answer left
 
 abbrev pub ReadFrom : ShownSession → Option Standing → Table → ℕ → ShownSession → Type 0
 ReadFrom s None table answer left = (answer ≡ 41) × (left ≡ s)
@@ -121,9 +128,14 @@ abbrev pub ReadBy : Option ShownSession → Option Table → ℕ → Option Show
 ReadBy old None answer left = (answer ≡ 51) × (left ≡ old)
 ReadBy old (Some table) answer left = Read old table answer left
 
+-- what is to be sent: nothing once the router has failed
+abbrev pub to_send : List Emission → Option Standing → List Emission
+to_send sent None = []
+to_send sent (Some r) = sent
+
 abbrev pub packets_in : Option ShownSession → List Emission
 packets_in None = []
-packets_in (Some s) = s.sent
+packets_in (Some s) = to_send s.sent s.router.standing
 
 abbrev pub rows_in : Option ShownSession → List Row
 rows_in None = []
@@ -151,11 +163,18 @@ abbrev pub may_differ_in : Option ShownSession → ℕ → ℕ → Bool
 may_differ_in None source group = true
 may_differ_in (Some s) source group = is_disturbed s.router.disturbed group source
 
+-- the packet of this number is one of the last so many on links
+abbrev pub is_copy : List Emission → ℕ → ℕ → Bool
+is_copy sent copies index = nat_lt (length (filter is_on_link (drop (index + 1) sent))) copies
+
+abbrev pub copies_in : Option Standing → ℕ
+copies_in standing = option_map_or (λ (r : Standing). r.copies) standing 0
+
 -- a packet that is there is told, and its bytes are written
-abbrev pub PacketTold : Option Emission → Bool → Packet → Packet → List ℕ → List ℕ → Type 0
-PacketTold None is_there packet told room filled = (is_there ≡ false) × (told ≡ packet) × (filled ≡ room)
-PacketTold (Some emission) is_there packet told room filled =
-    (is_there ≡ true) × (told ≡ told_packet emission) × (filled ≡ written_into room (bytes_in emission))
+abbrev pub PacketTold : Option Emission → Bool → Bool → Packet → Packet → List ℕ → List ℕ → Type 0
+PacketTold None is_copied is_there packet told room filled = (is_there ≡ false) × (told ≡ packet) × (filled ≡ room)
+PacketTold (Some emission) is_copied is_there packet told room filled =
+    (is_there ≡ true) × (told ≡ told_packet emission is_copied) × (filled ≡ written_into room (bytes_in emission))
 
 abbrev pub RowTold : Option Row → Bool → TableRow → TableRow → Type 0
 RowTold None is_there row told = (is_there ≡ false) × (told ≡ row)

@@ -1,6 +1,7 @@
 -- The numbers and values by which a program is told.
 use Rattle.std.specs.Prelude.{Bool, Err, List, None, Ok, Option, Some, drop, false, length, take, true, unwrap_or, Result, if◌then◌else◌, ℕ, ◌++◌, ◌^◌, ◌-◌, ◌==◌}
 use Rattle.pim_ip.specs.Refusal.{refusal_number}
+use Rattle.pim_ip.specs.declared.fault.Fault.{Fault}
 use Rattle.pim_ip.specs.declared.refusal.Refusal.{Refusal}
 use Rattle.pim_types.specs.declared.outcome.Emission.{Emission}
 use Rattle.pim_types.specs.declared.outcome.Ignored.{Ignored}
@@ -43,6 +44,12 @@ abbrev pub answer_number : Result Verdict Refusal → ℕ
 answer_number (Ok verdict) = verdict_number verdict
 answer_number (Err refusal) = refusal_number refusal
 
+-- a fault after which the router has failed
+abbrev pub loss_number : Fault → ℕ
+loss_number Fault.Memory = 43
+loss_number Fault.Failed = 41
+loss_number Fault.Wire = 42
+
 -- whether a keepalive timer runs
 abbrev pub kept_number : Bool → ℕ
 kept_number true = 0
@@ -52,10 +59,16 @@ abbrev pub bytes_in : Emission → List ℕ
 bytes_in (Emission.Link iface bytes) = bytes
 bytes_in (Emission.Unicast destination bytes) = bytes
 
-abbrev pub told_packet : Emission → Packet
-told_packet (Emission.Link iface bytes) = record { is_unicast = false; iface = iface.number; destination = 0; length = length bytes }
-told_packet (Emission.Unicast destination bytes) =
-    record { is_unicast = true; iface = 0; destination = destination.bits; length = length bytes }
+-- a packet on an interface is a copy of data (2) or isn't (1)
+abbrev pub link_kind : Bool → ℕ
+link_kind true = 2
+link_kind false = 1
+
+abbrev pub told_packet : Emission → Bool → Packet
+told_packet (Emission.Link iface bytes) is_copy =
+    record { kind = link_kind is_copy; iface = iface.number; destination = 0; length = length bytes }
+told_packet (Emission.Unicast destination bytes) is_copy =
+    record { kind = 3; iface = 0; destination = destination.bits; length = length bytes }
 
 -- bytes written into a room from its start, as many as it takes
 abbrev pub written_into : List ℕ → List ℕ → List ℕ

@@ -1,25 +1,29 @@
 //! The functions that C calls. Each repeats what the call promises that it makes.
 ghost use Rattle.std.specs.Option.{option_map_or};
 ghost use Rattle.std.specs.List.{slice_get};
-ghost use Rattle.std.specs.Prelude.{◌≡◌, None, length, map, option_and_then, unwrap_or};
+ghost use Rattle.std.specs.Prelude.{◌≡◌, None, length, map, nat_lt, option_and_then, unwrap_or};
+ghost use Rattle.pim_model.specs.Judging.{last_moment};
 ghost use Rattle.pim_model.specs.Timers.{next_moment};
 ghost use Rattle.pim_offload.specs.Seen.{seen_event};
 ghost use Rattle.pim_types.specs.declared.event.EventKind.{EventKind};
-ghost use Rattle.pim_c.specs.Called.{CachedTold, Copied, SourceKept, Made, NameTold, OffloadTold, PacketTold, ReadBy, RowTold, Seen, Stepped, changed_in, may_differ_in, packets_in, probes_in, rows_in, standing_in, touched_in};
+ghost use Rattle.pim_c.specs.Called.{CachedTold, Copied, KeepAnswered, Made, NameTold, OffloadTold, PacketTold, ReadBy, RowTold, Seen, Stepped, changed_in, copies_in, is_copy, may_differ_in, packets_in, probes_in, rows_in, standing_in, touched_in};
 ghost use Rattle.pim_ifset.specs.Members.{iface_of};
 ghost use Rattle.pim_c.specs.Given.{config_of, given_event, range_of, route_of};
 ghost use Rattle.pim_c.specs.Told.{never, table_of_letter};
 
 use crate::given::{self, GivenInterface, GivenRange, GivenRoute, GivenSettings};
 use crate::handle::Handle;
-use crate::told::{self, Forwarding, MEMORY, NO_TABLE, NamedSource, Packet, PlaneRow, TableRow};
+use crate::told::{
+    self, Forwarding, LAST_MOMENT, MEMORY, MOMENT_FAR, NO_TABLE, NamedSource, Packet, PlaneRow,
+    TableRow,
+};
 use pim_intake::LentEvent;
 use pim_types::{Addr, Event, EventKind, IfaceId};
 use std::alloc::Global;
 
 /// Makes a router of a configuration. Where the handle had one, and the new one is made, the old one is ended.
 #[unsafe(no_mangle)]
-pub extern "C" fn pim_new(
+pub extern "C" fn viq_core_new(
     alloc: Global,
     router: &mut Handle,
     settings: &GivenSettings,
@@ -37,7 +41,7 @@ pub extern "C" fn pim_new(
 
 /// Ends a router, and gives its memory back. The handle has none then.
 #[unsafe(no_mangle)]
-pub extern "C" fn pim_end(alloc: Global, router: &mut Handle)
+pub extern "C" fn viq_core_end(alloc: Global, router: &mut Handle)
     ensures { router.new.place.inside ≡ None }
 {
     let _ended = router.take(alloc);
@@ -45,7 +49,12 @@ pub extern "C" fn pim_end(alloc: Global, router: &mut Handle)
 
 /// Time passes up to the moment, in ms.
 #[unsafe(no_mangle)]
-pub extern "C" fn pim_advance(alloc: Global, router: &mut Handle, draw: u32, moment: u64) -> u32
+pub extern "C" fn viq_core_advance(
+    alloc: Global,
+    router: &mut Handle,
+    draw: u32,
+    moment: u64,
+) -> u32
     ensures { Stepped router.old.place.inside (given_event draw (EventKind.Advance moment)) result router.new.place.inside }
 {
     let kind = EventKind::Advance { moment };
@@ -54,7 +63,7 @@ pub extern "C" fn pim_advance(alloc: Global, router: &mut Handle, draw: u32, mom
 
 /// A packet was received on a link.
 #[unsafe(no_mangle)]
-pub extern "C" fn pim_frame(
+pub extern "C" fn viq_core_frame(
     alloc: Global,
     router: &mut Handle,
     draw: u32,
@@ -69,7 +78,12 @@ pub extern "C" fn pim_frame(
 
 /// A packet was received for an address of the router.
 #[unsafe(no_mangle)]
-pub extern "C" fn pim_unicast(alloc: Global, router: &mut Handle, draw: u32, packet: &[u8]) -> u32
+pub extern "C" fn viq_core_unicast(
+    alloc: Global,
+    router: &mut Handle,
+    draw: u32,
+    packet: &[u8],
+) -> u32
     ensures { Stepped router.old.place.inside (given_event draw (EventKind.Unicast packet.now)) result router.new.place.inside }
 {
     router.step(alloc, &LentEvent::unicast(draw, packet))
@@ -77,7 +91,7 @@ pub extern "C" fn pim_unicast(alloc: Global, router: &mut Handle, draw: u32, pac
 
 /// The interface goes up.
 #[unsafe(no_mangle)]
-pub extern "C" fn pim_up(alloc: Global, router: &mut Handle, draw: u32, iface: u32) -> u32
+pub extern "C" fn viq_core_up(alloc: Global, router: &mut Handle, draw: u32, iface: u32) -> u32
     ensures { Stepped router.old.place.inside (given_event draw (EventKind.Up (iface_of iface))) result router.new.place.inside }
 {
     let kind = EventKind::Up {
@@ -88,7 +102,7 @@ pub extern "C" fn pim_up(alloc: Global, router: &mut Handle, draw: u32, iface: u
 
 /// The interface goes down.
 #[unsafe(no_mangle)]
-pub extern "C" fn pim_down(alloc: Global, router: &mut Handle, draw: u32, iface: u32) -> u32
+pub extern "C" fn viq_core_down(alloc: Global, router: &mut Handle, draw: u32, iface: u32) -> u32
     ensures { Stepped router.old.place.inside (given_event draw (EventKind.Down (iface_of iface))) result router.new.place.inside }
 {
     let kind = EventKind::Down {
@@ -99,7 +113,7 @@ pub extern "C" fn pim_down(alloc: Global, router: &mut Handle, draw: u32, iface:
 
 /// The unicast routes are replaced.
 #[unsafe(no_mangle)]
-pub extern "C" fn pim_routes(
+pub extern "C" fn viq_core_routes(
     alloc: Global,
     router: &mut Handle,
     draw: u32,
@@ -112,7 +126,7 @@ pub extern "C" fn pim_routes(
 
 /// The RP ranges are replaced.
 #[unsafe(no_mangle)]
-pub extern "C" fn pim_ranges(
+pub extern "C" fn viq_core_ranges(
     alloc: Global,
     router: &mut Handle,
     draw: u32,
@@ -123,25 +137,28 @@ pub extern "C" fn pim_ranges(
     router.step_copied(alloc, given::new_ranges(alloc, draw, ranges))
 }
 
-/// How many packets the last event sent that was taken.
+/// How many packets the last event sent that was taken; none once the router has failed.
 #[unsafe(no_mangle)]
-pub extern "C" fn pim_packets(alloc: Global, router: &mut Handle) -> usize
+pub extern "C" fn viq_core_packets(alloc: Global, router: &mut Handle) -> usize
     ensures count { result ≡ length (packets_in router.old.place.inside) }
     ensures stays { router.new.place.inside ≡ router.old.place.inside }
 {
     router.packets(alloc)
 }
 
-/// One of these packets, counted from 0. Its bytes are written into the room, as many as this takes. False where there is none.
+/// One of these packets, counted from 0. Its bytes are written into the room, as many as this takes. False where there
+/// is none.
 #[unsafe(no_mangle)]
-pub extern "C" fn pim_packet(
+pub extern "C" fn viq_core_packet(
     alloc: Global,
     router: &mut Handle,
     index: usize,
     packet: &mut Packet,
     room: &mut [u8],
 ) -> bool
-    ensures told { PacketTold (slice_get (packets_in router.old.place.inside) index) result packet.old packet.new room.old room.new }
+    ensures told { PacketTold (slice_get (packets_in router.old.place.inside) index)
+        (is_copy (packets_in router.old.place.inside) (copies_in (standing_in router.old.place.inside)) index)
+        result packet.old packet.new room.old room.new }
     ensures stays { router.new.place.inside ≡ router.old.place.inside }
 {
     router.packet(alloc, index, packet, room)
@@ -149,7 +166,7 @@ pub extern "C" fn pim_packet(
 
 /// How many copies of a data packet the last event sent on links. They are the last of its packets on links.
 #[unsafe(no_mangle)]
-pub extern "C" fn pim_copies(alloc: Global, router: &mut Handle) -> u32
+pub extern "C" fn viq_core_copies(alloc: Global, router: &mut Handle) -> u32
     ensures copies { result ≡ option_map_or (λ r. r.copies) (standing_in router.old.place.inside) 0 }
     ensures stays { router.new.place.inside ≡ router.old.place.inside }
 {
@@ -158,7 +175,7 @@ pub extern "C" fn pim_copies(alloc: Global, router: &mut Handle) -> u32
 
 /// The moment, in ms, at which the next timer ends, or 2^64 - 1 where none runs.
 #[unsafe(no_mangle)]
-pub extern "C" fn pim_next_moment(alloc: Global, router: &mut Handle) -> u64
+pub extern "C" fn viq_core_next_moment(alloc: Global, router: &mut Handle) -> u64
     ensures moment { result ≡ unwrap_or (option_and_then (λ r. next_moment r.state) (standing_in router.old.place.inside)) never }
     ensures stays { router.new.place.inside ≡ router.old.place.inside }
 {
@@ -167,7 +184,7 @@ pub extern "C" fn pim_next_moment(alloc: Global, router: &mut Handle) -> u64
 
 /// Reads the rows of a table, which is named by the letter of its printed lines.
 #[unsafe(no_mangle)]
-pub extern "C" fn pim_read(alloc: Global, router: &mut Handle, letter: u8) -> u32
+pub extern "C" fn viq_core_read(alloc: Global, router: &mut Handle, letter: u8) -> u32
     ensures { ReadBy router.old.place.inside (table_of_letter letter) result router.new.place.inside }
 {
     match told::table(letter) {
@@ -178,7 +195,7 @@ pub extern "C" fn pim_read(alloc: Global, router: &mut Handle, letter: u8) -> u3
 
 /// How many rows were read.
 #[unsafe(no_mangle)]
-pub extern "C" fn pim_rows(alloc: Global, router: &mut Handle) -> usize
+pub extern "C" fn viq_core_rows(alloc: Global, router: &mut Handle) -> usize
     ensures count { result ≡ length (rows_in router.old.place.inside) }
     ensures stays { router.new.place.inside ≡ router.old.place.inside }
 {
@@ -187,7 +204,7 @@ pub extern "C" fn pim_rows(alloc: Global, router: &mut Handle) -> usize
 
 /// One of these rows, counted from 0. False where there is none.
 #[unsafe(no_mangle)]
-pub extern "C" fn pim_row(
+pub extern "C" fn viq_core_row(
     alloc: Global,
     router: &mut Handle,
     index: usize,
@@ -201,7 +218,7 @@ pub extern "C" fn pim_row(
 
 /// How data of a source to a group goes, as the forwarding cache has it. False where it has no row.
 #[unsafe(no_mangle)]
-pub extern "C" fn pim_cached(
+pub extern "C" fn viq_core_cached(
     alloc: Global,
     router: &mut Handle,
     source: u32,
@@ -218,7 +235,7 @@ pub extern "C" fn pim_cached(
 
 /// What a data plane may do of the packets of a source to a group. False where all are the router's.
 #[unsafe(no_mangle)]
-pub extern "C" fn pim_offload(
+pub extern "C" fn viq_core_offload(
     alloc: Global,
     router: &mut Handle,
     source: u32,
@@ -235,7 +252,7 @@ pub extern "C" fn pim_offload(
 
 /// How many sources the last event changed the rows of.
 #[unsafe(no_mangle)]
-pub extern "C" fn pim_changed(alloc: Global, router: &mut Handle) -> usize
+pub extern "C" fn viq_core_changed(alloc: Global, router: &mut Handle) -> usize
     ensures count { result ≡ length (changed_in router.old.place.inside) }
     ensures stays { router.new.place.inside ≡ router.old.place.inside }
 {
@@ -244,7 +261,7 @@ pub extern "C" fn pim_changed(alloc: Global, router: &mut Handle) -> usize
 
 /// One of these sources, counted from 0. False where there is none.
 #[unsafe(no_mangle)]
-pub extern "C" fn pim_changed_source(
+pub extern "C" fn viq_core_changed_source(
     alloc: Global,
     router: &mut Handle,
     index: usize,
@@ -258,7 +275,7 @@ pub extern "C" fn pim_changed_source(
 
 /// Whether what is offered of a source may have changed at the last event.
 #[unsafe(no_mangle)]
-pub extern "C" fn pim_may_differ(
+pub extern "C" fn viq_core_may_differ(
     alloc: Global,
     router: &mut Handle,
     source: u32,
@@ -274,7 +291,7 @@ pub extern "C" fn pim_may_differ(
 
 /// A data plane saw a packet of a source to a group on the interface.
 #[unsafe(no_mangle)]
-pub extern "C" fn pim_seen(
+pub extern "C" fn viq_core_seen(
     alloc: Global,
     router: &mut Handle,
     draw: u32,
@@ -290,17 +307,20 @@ pub extern "C" fn pim_seen(
     router.seen(alloc, draw, iface, source, group)
 }
 
-/// A data plane forwarded its last packet of a source to a group at the moment, in ms.
+/// A data plane forwarded its last packet of a source to a group at the moment, in ms, at most 2^62.
 #[unsafe(no_mangle)]
-pub extern "C" fn pim_keep(
+pub extern "C" fn viq_core_keep(
     alloc: Global,
     router: &mut Handle,
     source: u32,
     group: u32,
     moment: u64,
 ) -> u32
-    ensures { SourceKept router.old.place.inside source group moment result router.new.place.inside }
+    ensures { KeepAnswered (nat_lt last_moment moment) router.old.place.inside source group moment result router.new.place.inside }
 {
+    if LAST_MOMENT < moment {
+        return MOMENT_FAR;
+    }
     let source = Addr { bits: source };
     let group = Addr { bits: group };
     router.keep(alloc, source, group, moment)
@@ -308,7 +328,7 @@ pub extern "C" fn pim_keep(
 
 /// The trie nodes that the last event visited.
 #[unsafe(no_mangle)]
-pub extern "C" fn pim_probes(alloc: Global, router: &mut Handle) -> u64
+pub extern "C" fn viq_core_probes(alloc: Global, router: &mut Handle) -> u64
     ensures probes { result ≡ probes_in router.old.place.inside }
     ensures stays { router.new.place.inside ≡ router.old.place.inside }
 {
@@ -317,7 +337,7 @@ pub extern "C" fn pim_probes(alloc: Global, router: &mut Handle) -> u64
 
 /// The rows of the forwarding cache that the last event evaluated, put in and took out.
 #[unsafe(no_mangle)]
-pub extern "C" fn pim_touched(alloc: Global, router: &mut Handle) -> u64
+pub extern "C" fn viq_core_touched(alloc: Global, router: &mut Handle) -> u64
     ensures touched { result ≡ touched_in router.old.place.inside }
     ensures stays { router.new.place.inside ≡ router.old.place.inside }
 {

@@ -1,24 +1,25 @@
 //! A handle of a router.
 ghost use Rattle.std.specs.List.{slice_get};
 ghost use Rattle.std.specs.Option.{option_map_or};
-ghost use Rattle.std.specs.Prelude.{◌≡◌, [], Err, IfErr, IfOk, MatchOption, None, Ok, OnErr, Option, Some, false, is_some, length, option_and_then, unwrap_or};
+ghost use Rattle.std.specs.Prelude.{◌≡◌, ◌<◌, [], Err, IfErr, IfOk, MatchOption, None, Ok, OnErr, Option, Some, false, filter, is_some, length, option_and_then, unwrap_or};
 ghost use Rattle.pim_fanout.specs.Named.{keys_of};
 ghost use Rattle.pim_ip.specs.declared.fault.Fault.{Fault};
 ghost use Rattle.pim_model.specs.Limits.{config_test};
 ghost use Rattle.pim_macros.specs.Rows.{number_of};
 ghost use Rattle.pim_mfc.specs.Laws.{TellsRow};
 ghost use Rattle.pim_model.specs.Cache.{Answers};
+ghost use Rattle.pim_model.specs.Cause.{is_on_link};
 ghost use Rattle.pim_model.specs.Timers.{next_moment};
 ghost use Rattle.pim_offload.specs.Offered.{Offered as OfferedValue};
 ghost use Rattle.pim_offload.specs.Seen.{seen_event};
 ghost use Rattle.pim_offrow.specs.Shown.{TellsOffload};
 ghost use Rattle.pim_c.specs.Told.{never};
-ghost use Rattle.pim_c.specs.Called.{AnswersTold, CachedTold, SourceKept, SourceKeptFrom, Made, NameTold, OfferTold, OffloadTold, PacketTold, Read, ReadFrom, Refused, RowTold, Seen, SeenFrom, Stepped, SteppedFrom, changed_in, lost, may_differ_in, new_shown, packets_in, probes_in, refused_number, rows_in, standing_in, touched_in};
+ghost use Rattle.pim_c.specs.Called.{AnswersTold, CachedTold, SourceKept, SourceKeptFrom, Made, NameTold, OfferTold, OffloadTold, PacketTold, Read, ReadFrom, Refused, RowTold, Seen, SeenFrom, Stepped, SteppedFrom, changed_in, copies_in, is_copy, lost, may_differ_in, new_shown, packets_in, probes_in, refused_number, rows_in, standing_in, to_send, touched_in};
 
 use crate::place::Place;
 use crate::told::{
     self, DONE, FAILED, Forwarding, MEMORY, NEVER, NO_ROUTER, NamedSource, Packet, PlaneRow,
-    TableRow, answer_number, kept_number,
+    TableRow, answer_number, kept_number, loss_number,
 };
 use pim_intake::LentEvent;
 use pim_mfc::CacheRow;
@@ -158,7 +159,7 @@ impl Handle {
         let Some(session) = self.take(alloc) else {
             return 0;
         };
-        let count = session.sent().len();
+        let count = to_send(&session).len();
         self.put(session);
         count
     }
@@ -171,13 +172,15 @@ impl Handle {
         packet: &mut Packet,
         room: &mut [u8],
     ) -> bool
-        ensures told { PacketTold (slice_get (packets_in self.old.place.inside) index) result packet.old packet.new room.old room.new }
+        ensures told { PacketTold (slice_get (packets_in self.old.place.inside) index)
+            (is_copy (packets_in self.old.place.inside) (copies_in (standing_in self.old.place.inside)) index)
+            result packet.old packet.new room.old room.new }
         ensures stays { self.new.place.inside ≡ self.old.place.inside }
     {
         let Some(session) = self.take(alloc) else {
             return false;
         };
-        let is_there = tell_packet(session.sent(), index, packet, room);
+        let is_there = tell_packet(to_send(&session), session.copies(), index, packet, room);
         self.put(session);
         is_there
     }
@@ -346,13 +349,46 @@ fn boxed(alloc: Global, config: Config) -> Result<Result<Box<Session>, Refusal>,
     }
 }
 
+// What is to be sent: nothing once the router has failed.
+fn to_send(session: &Session) -> &[Emission]
+    ensures { result.now ≡ to_send session.now.sent session.now.router.standing }
+{
+    if session.has_failed() {
+        return &[];
+    }
+    session.sent()
+}
+
+// How many of the packets leave on links.
+fn links(sent: &[Emission]) -> usize
+    ensures { result ≡ length (filter is_on_link sent.now) }
+{
+    sent.iter()
+        .filter(|emission| told::is_on_link(emission))
+        .count()
+}
+
+// Whether a packet is a copy, if it leaves on a link: the copies are the last of those.
+fn is_copy(sent: &[Emission], copies: u32, index: usize) -> bool
+    requires { index < length sent.now }
+    ensures { result ≡ is_copy sent.now copies index }
+{
+    links(&sent[index + 1..]) < copies as usize
+}
+
 // Tells one of the packets, where it is there.
-fn tell_packet(sent: &[Emission], index: usize, packet: &mut Packet, room: &mut [u8]) -> bool
-    ensures { PacketTold (slice_get sent.now index) result packet.old packet.new room.old room.new }
+fn tell_packet(
+    sent: &[Emission],
+    copies: u32,
+    index: usize,
+    packet: &mut Packet,
+    room: &mut [u8],
+) -> bool
+    ensures { PacketTold (slice_get sent.now index) (is_copy sent.now copies index) result packet.old packet.new room.old room.new }
 {
     match sent.get(index) {
         Some(emission) => {
-            *packet = told::outline(emission);
+            *packet = told::outline(emission, is_copy(sent, copies, index));
             told::write(room, told::bytes(emission));
             true
         }
@@ -458,7 +494,7 @@ fn keep(session: &mut Session, source: Addr, group: Addr, moment: u64) -> u32
 {
     match session.keep(source, group, moment) {
         Ok(runs) => kept_number(runs),
-        Err(fault) => u32::from(fault.number()),
+        Err(fault) => loss_number(fault),
     }
 }
 

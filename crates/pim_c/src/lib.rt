@@ -1,4 +1,5 @@
-//! The router in other programs: a static library whose functions C calls. `include/pim.h` describes each of them.
+//! The router in other programs: a static library whose functions C calls. `include/viqeshor/viqeshor.h` describes each
+//! of them.
 #![tactic(auto)]
 
 pub mod calls;

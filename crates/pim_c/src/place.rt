@@ -1,5 +1,5 @@
-//! A session as its pointer, or nothing: what stands in a handle that C keeps. The functions that reach the pointer are proved by
-//! hand.
+//! A session as its pointer, or nothing: what stands in a handle that C keeps. The functions that reach the pointer are
+//! proved by hand.
 ghost use Rattle.std.specs.Prelude.{◌≡◌, Option, IsSome, None, Some};
 ghost use Rattle.pim_session.specs.Session.{ShownSession};
 

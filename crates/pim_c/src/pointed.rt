@@ -1,5 +1,5 @@
-//! A box as its pointer, for code that isn't Rattle to keep. The two calls that make and end a raw pointer are proved by
-//! hand.
+//! A box as its pointer, for code that isn't Rattle to keep. The two calls that make and end a raw pointer are proved
+//! by hand.
 ghost use Rattle.std.specs.Prelude.{◌≡◌};
 
 use std::alloc::Allocator;

@@ -1,17 +1,17 @@
 //! What a program is told: answers, packets and rows.
 ghost use Rattle.std.specs.Prelude.{◌≡◌, ◌+◌, ◌<◌, ◌≤◌, ◌^◌, IfErr, IfOk, if◌then◌else◌, nat_lt, true, ℕ};
 ghost use Rattle.pim_fanout.specs.Before.{name_key};
-ghost use Rattle.pim_ip.specs.Fault.{fault_number};
 ghost use Rattle.pim_ifset.specs.Members.{has, mask_of};
 ghost use Rattle.pim_macros.specs.Rows.{number_of};
 ghost use Rattle.pim_mfc.specs.Laws.{IsAfresh};
 ghost use Rattle.pim_model.specs.Cache.{Answers};
+ghost use Rattle.pim_model.specs.Cause.{is_on_link};
 ghost use Rattle.pim_model.specs.Sets.{Set};
 ghost use Rattle.pim_offload.specs.Offered.{Offered as OfferedValue};
 ghost use Rattle.pim_offrow.specs.Shown.{ShowsOffered};
 ghost use Rattle.pim_world.specs.Shown.{Shows};
 ghost use Rattle.pim_c.specs.Called.{forwarding_of, interface_bits, plane_row_of};
-ghost use Rattle.pim_c.specs.Told.{answer_number, bytes_in, downstream_number, iface_number, ignored_number, kept_number, name_of, told_packet, register_number, row_of, source_or_zero, table_of_letter, verdict_number, written_into};
+ghost use Rattle.pim_c.specs.Told.{answer_number, bytes_in, downstream_number, iface_number, ignored_number, kept_number, link_kind, loss_number, name_of, told_packet, register_number, row_of, source_or_zero, table_of_letter, verdict_number, written_into};
 
 use pim_ifset::IfSet;
 use pim_mfc::CacheRow;
@@ -24,16 +24,28 @@ use pim_types::{
 
 /// An event was taken.
 pub const DONE: u32 = 0;
-/// Memory was refused.
+/// The moment is beyond the last one.
+pub const MOMENT_FAR: u32 = 21;
+/// Memory was refused, and nothing has changed.
 pub const MEMORY: u32 = 40;
 /// The router has failed before.
 pub const FAILED: u32 = 41;
+/// Memory was refused in the midst of a change: the router has failed.
+pub const LOST: u32 = 43;
 /// The handle has no router.
 pub const NO_ROUTER: u32 = 50;
 /// No table has this letter.
 pub const NO_TABLE: u32 = 51;
 /// The source's keepalive timer doesn't run.
 pub const NO_TIMER: u32 = 52;
+/// A packet that leaves on an interface and is no copy.
+pub const FRAME: u32 = 1;
+/// A copy of a packet of data, which leaves on an interface.
+pub const COPY: u32 = 2;
+/// A packet that leaves by unicast routing.
+pub const UNICAST: u32 = 3;
+/// The last moment, in ms.
+pub const LAST_MOMENT: u64 = 1 << 62;
 /// No timer runs, or the time isn't there.
 pub const NEVER: u64 = u64::MAX;
 /// No interface.
@@ -63,15 +75,26 @@ fn verdict_number(verdict: Verdict) -> u32
     }
 }
 
-/// The number of an answer.
+/// The number of a fault after which the router has failed.
+pub fn loss_number(fault: Fault) -> u32
+    ensures { result ≡ loss_number fault }
+{
+    match fault {
+        Fault::Memory => LOST,
+        Fault::Failed => FAILED,
+        Fault::Wire => u32::from(fault.number()),
+    }
+}
+
+/// The number of an answer to what changes a router.
 pub fn answer_number(answer: Result<Result<Verdict, Refusal>, Fault>) -> u32
     ensures answer { IfOk answer (λ a. result ≡ answer_number a) }
-    ensures fault { IfErr answer (λ f. result ≡ fault_number f) }
+    ensures fault { IfErr answer (λ f. result ≡ loss_number f) }
 {
     match answer {
         Ok(Ok(verdict)) => verdict_number(verdict),
         Ok(Err(refusal)) => u32::from(refusal.number()),
-        Err(fault) => u32::from(fault.number()),
+        Err(fault) => loss_number(fault),
     }
 }
 
@@ -86,7 +109,8 @@ pub fn kept_number(runs: bool) -> u32
 #[repr(C)]
 #[derive(Drop)]
 pub struct Packet {
-    pub is_unicast: bool,
+    /// `FRAME`, `COPY` or `UNICAST`.
+    pub kind: u32,
     /// The interface on which it leaves, or 0.
     pub iface: u32,
     /// The address to which it is to be routed, or 0.
@@ -95,19 +119,35 @@ pub struct Packet {
     pub length: usize,
 }
 
-/// What a packet is, without its bytes.
-pub fn outline(emission: &Emission) -> Packet
-    ensures { result ≡ told_packet emission.now }
+/// Whether a packet leaves on an interface.
+pub fn is_on_link(emission: &Emission) -> bool
+    ensures { result ≡ is_on_link emission.now }
+{
+    match emission {
+        Emission::Link { .. } => true,
+        Emission::Unicast { .. } => false,
+    }
+}
+
+fn link_kind(is_copy: bool) -> u32
+    ensures { result ≡ link_kind is_copy }
+{
+    if is_copy { COPY } else { FRAME }
+}
+
+/// What a packet is, without its bytes. One on an interface is a copy of data or isn't.
+pub fn outline(emission: &Emission, is_copy: bool) -> Packet
+    ensures { result ≡ told_packet emission.now is_copy }
 {
     match emission {
         Emission::Link { iface, bytes } => Packet {
-            is_unicast: false,
+            kind: link_kind(is_copy),
             iface: iface.number,
             destination: 0,
             length: bytes.len(),
         },
         Emission::Unicast { destination, bytes } => Packet {
-            is_unicast: true,
+            kind: UNICAST,
             iface: 0,
             destination: destination.bits,
             length: bytes.len(),
@@ -153,7 +193,8 @@ pub struct TableRow {
     /// The winner of an assert.
     pub winner: u32,
     pub is_rpt: bool,
-    /// A group record in EXCLUDE mode; an assert that the router lost; a source that is pruned off the shared tree; SPTbit.
+    /// A group record in EXCLUDE mode; an assert that the router lost; a source that is pruned off the shared tree;
+    /// SPTbit.
     pub is_set: bool,
     /// Downstream 1 joined, 2 about to be pruned, 3 pruned; register 1 joined, 2 about to be joined, 3 pruned.
     pub state: u32,

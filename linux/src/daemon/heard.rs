@@ -4,7 +4,7 @@ use crate::packet::{as_of_nobody, fill_registered, is_pim, is_report, priority_o
 use crate::policy::registered;
 use crate::{split, stand_in, words};
 use log::{debug, info};
-use pim::{Error, Refusal};
+use viqeshor::{Error, Refusal};
 use std::collections::HashSet;
 use std::net::Ipv4Addr;
 

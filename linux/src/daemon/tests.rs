@@ -353,7 +353,7 @@ fn a_program_on_the_router_is_heard() {
     };
     happens(&mut daemon, &fake, (Source::OwnReports, kernel::Event::OwnReport(own)));
     let groups = daemon.core.rows(Table::Groups).expect("it tells");
-    assert_eq!(groups.iter().map(|row| (row.iface, row.group)).collect::<Vec<_>>(), [(1, 0xef01_0101)]);
+    assert_eq!(groups.iter().map(|row| (row.iface, row.group)).collect::<Vec<_>>(), [(1, Ipv4Addr::new(239, 1, 1, 1))]);
     assert_eq!(daemon.counters.own_reports, 1);
 }
 

@@ -87,7 +87,7 @@ impl Daemon {
         self.advance()?;
         let ranges = ranges_of(&self.settings.rps);
         if let Answer::Refused(refusal) = self.take(Event::Ranges(&ranges))? {
-            error!("the RP ranges are refused: {}", pim::Error::Refused(refusal));
+            error!("the RP ranges are refused: {}", viqeshor::Error::Refused(refusal));
         }
         self.all_unknown_may_differ();
         Ok(())
@@ -102,7 +102,7 @@ impl Daemon {
             "the router begins: {} interfaces, {} RP ranges, the library {}",
             self.ports.len(),
             self.settings.rps.len(),
-            pim::version()
+            viqeshor::version()
         );
         self.begin()?;
         while !asked.end.load(Ordering::Relaxed) {

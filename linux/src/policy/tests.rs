@@ -66,7 +66,7 @@ fn join(from: u8, groups: &[u8]) -> Vec<u8> {
 }
 
 fn row(table: Table, source: [u8; 4], group: [u8; 4]) -> (Table, Row) {
-    (table, Row { source: u32::from_be_bytes(source), group: u32::from_be_bytes(group), ..Row::default() })
+    (table, Row { source: source.into(), group: group.into(), ..Row::default() })
 }
 
 #[test]

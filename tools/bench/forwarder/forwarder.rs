@@ -7,10 +7,10 @@
 //! other, for a count of instructions in `library_batch` and `plain_batch`.
 #[allow(dead_code)]
 #[path = "../../../bindings/rust/src/lib.rs"]
-mod pim;
+mod viqeshor;
 mod plain;
 
-use pim::{Error, Interface, MOST_BYTES, Range, Route, Router, Settings, Verdict};
+use viqeshor::{Error, Interface, MOST_BYTES, Range, Route, Router, Settings, Verdict};
 use plain::{Plain, sum16};
 use std::hint::black_box;
 use std::time::Instant;
@@ -82,7 +82,7 @@ fn random(state: &mut u64) -> u32 {
 fn library_batch(router: &mut Router, batch: &Batch, room: &mut [u8; MOST_BYTES]) -> Sent {
     let mut sent = Sent::default();
     for packet in batch.bytes.chunks_exact(batch.length) {
-        let answer = router.frame(DRAW, 0, packet);
+        let answer = router.frame(0, packet, DRAW);
         assert_eq!(answer, DONE);
         router.each_packet(room, |packet, bytes| sent.take(packet.iface, bytes));
     }
@@ -120,11 +120,11 @@ impl Both {
     fn new(setup: &str, copies: u32, rows: u32) -> Both {
         let settings = Settings { limit: 1_000_000, ..Settings::default() };
         let addresses: Vec<u32> = (0..=copies).map(|iface| 0x0A00_0002 | iface << 8).collect();
-        let of = |&address: &u32| Interface { address, length: 24, priority: 1, propagation_delay: 500, override_interval: 2500 };
+        let of = |&address: &u32| Interface { address: address.into(), length: 24, priority: 1, propagation_delay: 500, override_interval: 2500 };
         let interfaces: Vec<Interface> = addresses.iter().map(of).collect();
-        let to = |prefix, length| Route { prefix, length, next_hop: 0x0A00_0001, iface: 0, preference: 110, metric: 20 };
+        let to = |prefix: u32, length| Route { prefix: prefix.into(), length, next_hop: 0x0A00_0001_u32.into(), iface: 0, preference: 110, metric: 20 };
         let routes = [to(0x0A09_0900, 24), to(0x0A80_0000, 9)];
-        let ranges = [Range { prefix: 0xE000_0000, length: 4, rp: 0x0A09_0909 }];
+        let ranges = [Range { prefix: 0xE000_0000_u32.into(), length: 4, rp: 0x0A09_0909_u32.into() }];
         let mut router = Router::new(&settings, &interfaces, &routes, &ranges).expect("a router");
         setup.lines().for_each(|line| take_line(&mut router, line));
         let mut plain = Plain::new(addresses);
@@ -141,7 +141,7 @@ impl Both {
                 (next - 1) % self.rows
             });
             let mut packets = batch.bytes.chunks_exact(batch.length);
-            assert!(packets.all(|packet| self.router.frame(DRAW, 0, packet) == DONE));
+            assert!(packets.all(|packet| self.router.frame(0, packet, DRAW) == DONE));
         }
     }
 
@@ -150,7 +150,7 @@ impl Both {
         for packet in batch.bytes.chunks_exact(batch.length) {
             let [source, group] = [12, 16].map(|at| u32::from_be_bytes(packet[at..at + 4].try_into().expect("an address")));
             assert!(self.router.cached(source.into(), group.into()).is_some_and(|it| it.has_spt_bit));
-            assert_eq!(self.router.frame(DRAW, 0, packet), DONE);
+            assert_eq!(self.router.frame(0, packet, DRAW), DONE);
             let one: Vec<(u32, Vec<u8>)> = self.router.packets().into_iter().map(|it| (it.packet.iface, it.bytes)).collect();
             let mut other = Vec::new();
             let answer = self.plain.frame(0, packet, &mut self.room, |iface, bytes| other.push((iface, bytes.to_vec())));
@@ -161,7 +161,7 @@ impl Both {
     /// A millisecond passes in both.
     fn tick(&mut self) {
         self.moment += 1;
-        assert_eq!(self.router.advance(DRAW, self.moment), DONE);
+        assert_eq!(self.router.advance(self.moment, DRAW), DONE);
         self.plain.present = self.moment;
     }
 
@@ -219,8 +219,8 @@ fn take_line(router: &mut Router, line: &str) {
     let words: Vec<&str> = line.split(' ').collect();
     let iface = words[1].parse().expect("an interface");
     let answer = match words[0] {
-        "up" => router.up(DRAW, iface),
-        _ => router.frame(DRAW, iface, &bytes_of(words[2])),
+        "up" => router.up(iface, DRAW),
+        _ => router.frame(iface, &bytes_of(words[2]), DRAW),
     };
     assert_eq!(answer, DONE, "{line}");
 }

@@ -1,8 +1,11 @@
 """Each call of the package once, and what it answers: a Join of 10.0.1.2 comes and a packet of its source, as in examples/library."""
+import gc
+import threading
 import unittest
+import weakref
 
-import pim
-from pim import Answer, Refused, Router
+import viqeshor
+from viqeshor import Answer, Closed, Refused, Router, hosts
 
 HELLO_ABOVE = "45C0001E000000000167CEAB0A000001E000000D2000DFFC00010002FFFF"
 HELLO_BELOW = "45C0001E000000000167CDAA0A000102E000000D2000DFFC00010002FFFF"
@@ -64,7 +67,7 @@ class Routers(unittest.TestCase):
 
     def test_what_the_router_knows(self):
         router = self.joined()
-        self.assertEqual([len(router.rows(letter)) for letter in pim.TABLES], [2, 0, 0, 1, 0, 1, 0, 0])
+        self.assertEqual([len(router.rows(letter)) for letter in viqeshor.TABLES], [2, 0, 0, 1, 0, 1, 0, 0])
         self.assertIn("U 225.1.1.1 10.0.3.5", " ".join(router.tables()))
         self.assertIsNotNone(router.next_moment())
         with self.assertRaises(Refused):
@@ -114,13 +117,99 @@ class Routers(unittest.TestCase):
     def test_after_its_end(self):
         with Router(INTERFACES) as router:
             self.assertIsNone(router.next_moment())
-        self.assertEqual(router.up(0), Answer.NO_ROUTER)
-        self.assertEqual(router.seen(0, "10.0.3.5", "225.1.1.1"), Answer.NO_ROUTER)
+        for call in (lambda: router.up(0), lambda: router.seen(0, "10.0.3.5", "225.1.1.1"), router.packets, router.next_moment):
+            self.assertRaises(Closed, call)
+        router.end()
+
+    def test_it_ends_with_its_last_reference(self):
+        router = Router(INTERFACES)
+        finalizer, gone = router._finalizer, weakref.ref(router)
+        del router
+        gc.collect()
+        self.assertEqual((gone(), finalizer.alive), (None, False))
+
+    def test_numbers_are_taken_whole(self):
+        router = self.router()
+        for call in (lambda: router.up(2**32 + 1), lambda: router.up(-1), lambda: router.advance(2**64), lambda: router.up(0, draw=2**32),
+                     lambda: router.set_routes([("10.9.9.0/24", "10.0.0.1", 2**32, 110, 20)]), lambda: Router(INTERFACES, limit=2**32 + 5),
+                     lambda: Router([("10.0.0.2", 2**32 + 24)]), lambda: router.keep("10.0.3.5", "225.1.1.1", 2**64)):
+            self.assertRaises(ValueError, call)
+        for call in (lambda: router.up("0"), lambda: router.up(0.5), lambda: Router(INTERFACES, limt=1), lambda: router.frame(0, "00"),
+                     lambda: router.frame(0, 5)):
+            self.assertRaises(TypeError, call)
+        self.assertRaises(ValueError, router.set_routes, [("10.9.9.0/24", "10.0.0.1", 0)])
+        self.assertEqual(router.keep("10.0.3.5", "225.1.1.1", 2**62 + 1), Answer.MOMENT_FAR)
+
+    def test_packets_as_any_bytes(self):
+        for kind in (bytes, bytearray, memoryview):
+            router = self.router()
+            self.assertEqual([router.up(0), router.frame(0, kind(bytes.fromhex(HELLO_ABOVE)))], [Answer.DONE] * 2)
+            self.assertEqual(len(router.rows("N")), 1)
+
+    def test_rows_compare(self):
+        router = self.joined()
+        join, = router.rows("D")
+        self.assertEqual(join, router.rows("D")[0])
+        self.assertEqual((join.table, join.group, join.source, join.winner, join.pending), ("D", "225.1.1.1", "10.0.3.5", None, None))
+        above, below = router.rows("N")
+        self.assertEqual((above.group, above.source, above.end), (None, "10.0.0.1", None))
+        self.assertNotEqual(above, below)
+
+    def test_time_passes_timer_by_timer(self):
+        router = self.joined()
+        sent = router.run_to(100_000)
+        self.assertEqual(sum(kind == "frame" and where == 2 and packet[9] == 103 for kind, where, packet in sent), 4)
+        self.assertGreater(router.next_moment(), 100_000)
+        self.assertRaises(Refused, router.run_to, 99_999)
+
+    def test_two_threads_lose_no_event(self):
+        router, each, copies = self.joined(), 3000, []
+        router.frame(0, bytes.fromhex(DATA))
+
+        def feed():
+            for _ in range(each):
+                with router.lock:
+                    answer, sent = router.frame(0, bytes.fromhex(DATA)), router.packets()
+                copies.append((answer, [one.kind for one in sent]))
+
+        threads = [threading.Thread(target=feed) for _ in range(2)]
+        for thread in threads:
+            thread.start()
+        for thread in threads:
+            thread.join()
+        self.assertEqual(copies, [(Answer.DONE, ["copy"])] * 2 * each)
+
+    def test_two_threads_without_the_lock(self):
+        router, group_count, answers = self.router(), 400, []
+        router.up(2)
+
+        def ask(first):
+            for number in range(first, first + group_count):
+                group = f"232.1.{number // 200}.{number % 200}"
+                answers.append(router.frame(2, hosts.join("10.0.2.7", group, "10.0.3.5")))
+
+        threads = [threading.Thread(target=ask, args=[first]) for first in (0, group_count)]
+        for thread in threads:
+            thread.start()
+        for thread in threads:
+            thread.join()
+        self.assertEqual(answers, [Answer.DONE] * 2 * group_count)
+        self.assertEqual(len(router.rows("S")), 2 * group_count)
+
+    def test_packets_of_hosts(self):
+        router = self.router()
+        router.up(2)
+        self.assertEqual(router.frame(2, hosts.join("10.0.2.7", "225.1.1.1")), Answer.DONE)
+        self.assertEqual([str(row) for row in router.rows("G")], ["G 2 225.1.1.1 exclude 260000"])
+        self.assertEqual(router.frame(2, hosts.data("10.0.2.9", "225.1.1.1", b"odd")), Answer.DONE)
+        self.assertEqual([row.source for row in router.rows("F")], ["10.0.2.9"])
+        self.assertEqual(router.frame(2, hosts.leave("10.0.2.7", "225.1.1.1")), Answer.DONE)
+        self.assertEqual([row.end for row in router.rows("G")], [2000])
 
     def test_texts(self):
-        self.assertRegex(pim.version(), r"^0\.1\.0 (not )?proved$")
-        self.assertEqual(pim.answer_text(0), "done")
-        self.assertEqual(len({pim.answer_text(answer) for answer in Answer}), len(Answer))
+        self.assertRegex(viqeshor.version(), r"^0\.1\.0 (not )?proved$")
+        self.assertEqual(viqeshor.answer_text(0), "done")
+        self.assertEqual(len({viqeshor.answer_text(answer) for answer in Answer}), len(Answer))
 
 
 if __name__ == "__main__":

@@ -1,0 +1,127 @@
+/* The calls of viqeshor.h and plane.h, each by the one of its name of crates/pim_c. What C hands on is the pointer
+ * alone, which the proved calls leave where it is: NULL is the handle that has no router. A list that is longer than
+ * any that is accepted isn't read: one that is refused for the same reason, at the same place in the order of tests,
+ * stands for it. */
+#include "core.h"
+
+#define CORE(router) (&(struct viq_core){(void *)(router), (router) != NULL})
+
+/* No prefix is longer than 32 bits. */
+static const struct viq_route no_route = {0, 33, 0, 0, 0, 0};
+static const struct viq_range no_range = {0, 33, 0};
+
+struct route_list {
+    const struct viq_route *at;
+    size_t count;
+};
+struct range_list {
+    const struct viq_range *at;
+    size_t count;
+};
+
+static struct route_list routes_of(const struct viq_route *routes, size_t count) {
+    struct route_list given = {routes, count}, refused = {&no_route, 1};
+    return count <= VIQ_MOST_ROUTES ? given : refused;
+}
+
+static struct range_list ranges_of(const struct viq_range *ranges, size_t count) {
+    struct range_list given = {ranges, count}, refused = {&no_range, 1};
+    return count <= VIQ_MOST_RANGES ? given : refused;
+}
+
+uint32_t viq_new(struct viq_router **router, uint32_t abi, const struct viq_settings *settings,
+                 const struct viq_interface *interfaces, size_t interface_count, const struct viq_route *routes,
+                 size_t route_count, const struct viq_range *ranges, size_t range_count) {
+    struct viq_core core = {NULL, false};
+    *router = NULL;
+    if (abi != VIQ_ABI) return VIQ_OTHER_ABI;
+    if (interface_count > VIQ_MOST_INTERFACES) interface_count = 0;
+    struct route_list given_routes = routes_of(routes, route_count);
+    struct range_list given_ranges = ranges_of(ranges, range_count);
+    uint32_t answer = viq_core_new(&core, settings, interfaces, interface_count, given_routes.at, given_routes.count,
+                                   given_ranges.at, given_ranges.count);
+    if (core.is_there) *router = (struct viq_router *)core.place;
+    return answer;
+}
+
+void viq_end(struct viq_router *router) { viq_core_end(CORE(router)); }
+
+uint32_t viq_advance(struct viq_router *router, uint64_t moment, struct viq_draw draw) {
+    return viq_core_advance(CORE(router), draw.bits, moment);
+}
+
+uint32_t viq_frame(struct viq_router *router, uint32_t iface, const uint8_t *packet, size_t length,
+                   struct viq_draw draw) {
+    return viq_core_frame(CORE(router), draw.bits, iface, packet, length);
+}
+
+uint32_t viq_unicast(struct viq_router *router, const uint8_t *packet, size_t length, struct viq_draw draw) {
+    return viq_core_unicast(CORE(router), draw.bits, packet, length);
+}
+
+uint32_t viq_up(struct viq_router *router, uint32_t iface, struct viq_draw draw) {
+    return viq_core_up(CORE(router), draw.bits, iface);
+}
+
+uint32_t viq_down(struct viq_router *router, uint32_t iface, struct viq_draw draw) {
+    return viq_core_down(CORE(router), draw.bits, iface);
+}
+
+uint32_t viq_routes(struct viq_router *router, const struct viq_route *routes, size_t count, struct viq_draw draw) {
+    struct route_list given = routes_of(routes, count);
+    return viq_core_routes(CORE(router), draw.bits, given.at, given.count);
+}
+
+uint32_t viq_ranges(struct viq_router *router, const struct viq_range *ranges, size_t count, struct viq_draw draw) {
+    struct range_list given = ranges_of(ranges, count);
+    return viq_core_ranges(CORE(router), draw.bits, given.at, given.count);
+}
+
+size_t viq_packets(const struct viq_router *router) { return viq_core_packets(CORE(router)); }
+
+bool viq_packet(const struct viq_router *router, size_t index, struct viq_packet *packet, uint8_t *room,
+                size_t room_length) {
+    return viq_core_packet(CORE(router), index, packet, room, room_length);
+}
+
+uint32_t viq_copies(const struct viq_router *router) { return viq_core_copies(CORE(router)); }
+
+uint64_t viq_next_moment(const struct viq_router *router) { return viq_core_next_moment(CORE(router)); }
+
+uint32_t viq_read(struct viq_router *router, uint8_t letter) { return viq_core_read(CORE(router), letter); }
+
+size_t viq_rows(const struct viq_router *router) { return viq_core_rows(CORE(router)); }
+
+bool viq_row(const struct viq_router *router, size_t index, struct viq_row *row) {
+    return viq_core_row(CORE(router), index, row);
+}
+
+bool viq_cached(const struct viq_router *router, uint32_t source, uint32_t group, struct viq_forwarding *forwarding) {
+    return viq_core_cached(CORE(router), source, group, forwarding);
+}
+
+bool viq_offload(const struct viq_router *router, uint32_t source, uint32_t group, struct viq_plane_row *row) {
+    return viq_core_offload(CORE(router), source, group, row);
+}
+
+size_t viq_changed(const struct viq_router *router) { return viq_core_changed(CORE(router)); }
+
+bool viq_changed_source(const struct viq_router *router, size_t index, struct viq_source_group *name) {
+    return viq_core_changed_source(CORE(router), index, name);
+}
+
+bool viq_may_differ(const struct viq_router *router, uint32_t source, uint32_t group) {
+    return viq_core_may_differ(CORE(router), source, group);
+}
+
+uint32_t viq_seen(struct viq_router *router, uint32_t iface, uint32_t source, uint32_t group, struct viq_draw draw) {
+    return viq_core_seen(CORE(router), draw.bits, iface, source, group);
+}
+
+uint32_t viq_keep(struct viq_router *router, uint32_t source, uint32_t group, uint64_t moment) {
+    return viq_core_keep(CORE(router), source, group, moment);
+}
+
+uint64_t viq_probes(const struct viq_router *router) { return viq_core_probes(CORE(router)); }
+
+uint64_t viq_touched(const struct viq_router *router) { return viq_core_touched(CORE(router)); }

@@ -1,0 +1,43 @@
+/* The calls of crates/pim_c, each proved, by which calls.c makes those of viqeshor.h and plane.h. A program doesn't
+ * make them. */
+#ifndef VIQESHOR_CORE_H
+#define VIQESHOR_CORE_H
+
+#include <viqeshor/plane.h>
+
+/* A router, or none: a pointer, and whether it is one. */
+struct viq_core {
+    void *place;
+    bool is_there;
+};
+
+uint32_t viq_core_new(struct viq_core *router, const struct viq_settings *settings,
+                      const struct viq_interface *interfaces, size_t interface_count, const struct viq_route *routes,
+                      size_t route_count, const struct viq_range *ranges, size_t range_count);
+void viq_core_end(struct viq_core *router);
+uint32_t viq_core_advance(struct viq_core *router, uint32_t draw, uint64_t moment);
+uint32_t viq_core_frame(struct viq_core *router, uint32_t draw, uint32_t iface, const uint8_t *packet, size_t length);
+uint32_t viq_core_unicast(struct viq_core *router, uint32_t draw, const uint8_t *packet, size_t length);
+uint32_t viq_core_up(struct viq_core *router, uint32_t draw, uint32_t iface);
+uint32_t viq_core_down(struct viq_core *router, uint32_t draw, uint32_t iface);
+uint32_t viq_core_routes(struct viq_core *router, uint32_t draw, const struct viq_route *routes, size_t count);
+uint32_t viq_core_ranges(struct viq_core *router, uint32_t draw, const struct viq_range *ranges, size_t count);
+size_t viq_core_packets(struct viq_core *router);
+bool viq_core_packet(struct viq_core *router, size_t index, struct viq_packet *packet, uint8_t *room,
+                     size_t room_length);
+uint32_t viq_core_copies(struct viq_core *router);
+uint64_t viq_core_next_moment(struct viq_core *router);
+uint32_t viq_core_read(struct viq_core *router, uint8_t letter);
+size_t viq_core_rows(struct viq_core *router);
+bool viq_core_row(struct viq_core *router, size_t index, struct viq_row *row);
+bool viq_core_cached(struct viq_core *router, uint32_t source, uint32_t group, struct viq_forwarding *forwarding);
+bool viq_core_offload(struct viq_core *router, uint32_t source, uint32_t group, struct viq_plane_row *row);
+size_t viq_core_changed(struct viq_core *router);
+bool viq_core_changed_source(struct viq_core *router, size_t index, struct viq_source_group *name);
+bool viq_core_may_differ(struct viq_core *router, uint32_t source, uint32_t group);
+uint32_t viq_core_seen(struct viq_core *router, uint32_t draw, uint32_t iface, uint32_t source, uint32_t group);
+uint32_t viq_core_keep(struct viq_core *router, uint32_t source, uint32_t group, uint64_t moment);
+uint64_t viq_core_probes(struct viq_core *router);
+uint64_t viq_core_touched(struct viq_core *router);
+
+#endif

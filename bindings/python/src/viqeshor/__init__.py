@@ -1,0 +1,587 @@
+"""A multicast router: PIM Sparse Mode (RFC 7761) and IGMPv3 (RFC 3376). It is what `include/viqeshor/viqeshor.h` describes, by ctypes.
+
+    from viqeshor import Router
+
+    with Router([("10.0.0.2", 24), ("10.0.1.1", 24)], ranges=[("224.0.0.0/4", "10.9.9.9")]) as router:
+        router.up(0)
+        router.up(1)
+        while True:
+            send(router.run_to(now()))                          # time passes, and packets leave
+            for iface, packet in received(router.next_moment()):    # until the next timer ends
+                router.frame(iface, packet)
+                send(router.packets())                          # each a kind, an interface or an address, and bytes
+
+Moments are milliseconds from any beginning, at most 2**62. The shared library is the one that is named by `library`, or by
+VIQESHOR_LIBRARY in the environment, or that the system finds as `viqeshor`. `viqeshor.hosts` writes packets of hosts.
+"""
+import ctypes
+import ctypes.util
+import enum
+import operator
+import os
+import random
+import threading
+import weakref
+from collections.abc import Iterable, Iterator
+from ctypes import POINTER, Structure, byref, c_bool, c_char_p, c_size_t, c_uint8, c_uint32, c_uint64, c_void_p
+from functools import cache
+from ipaddress import IPv4Address
+from typing import Any, NamedTuple, Self, SupportsIndex, TypeAlias
+
+__all__ = ["Answer", "Closed", "Error", "Forwarding", "Lost", "NoMemory", "OtherVersion", "PlaneRow", "Refused", "Router", "Row", "Sent",
+           "TABLES", "answer_text", "version"]
+
+# What a packet may be given as.
+Buffer: TypeAlias = bytes | bytearray | memoryview
+
+# What this package and the library have to agree on: VIQ_ABI of viqeshor.h.
+ABI = 1
+NEVER, NO_INTERFACE, MOST_BYTES = 2**64 - 1, 2**32 - 1, 1528
+# The letters of the tables.
+TABLES = "NGSDAURF"
+JOINED, REGISTERS = ["", "join", "pending", "prune"], ["-", "join", "pending", "prune"]
+
+
+class Answer(enum.IntEnum):
+    """What became of an event. `docs/SCENARIOS.md` has the refusals, 1 to 39, and the reasons to ignore, from 101. Those of 40 to 51 and
+    of 53 are raised as an `Error`."""
+    DONE = 0
+    SHORT = 1
+    BAD_VERSION = 2
+    BAD_CHECKSUM = 3
+    BAD_LENGTH = 4
+    BAD_ADDRESS = 5
+    NOT_MULTICAST = 6
+    OLD_VERSION = 7
+    UNKNOWN_TYPE = 8
+    FRAGMENT = 9
+    MOMENT_BACK = 20
+    MOMENT_FAR = 21
+    BAD_INTERFACE = 22
+    INTERFACE_DOWN = 23
+    FULL = 24
+    BAD_ROUTES = 25
+    BAD_RANGES = 26
+    INTERFACE_COUNT = 30
+    INTERFACE_ADDRESS = 31
+    INTERFACE_LENGTH = 32
+    OVERLAP = 33
+    BAD_LIMIT = 34
+    BAD_QUERIER = 35
+    BAD_DELAY = 36
+    CONFIGURED_ROUTES = 37
+    CONFIGURED_RANGES = 38
+    MEMORY = 40
+    FAILED = 41
+    LOST = 43
+    NO_ROUTER = 50
+    NO_TABLE = 51
+    NO_TIMER = 52
+    OTHER_ABI = 53
+    OWN = 101
+    NOT_FOR_ME = 102
+    OTHER_TYPE = 103
+    MASK = 104
+    LINK_LOCAL = 105
+    NO_NEIGHBOUR = 106
+    NOT_RP = 107
+    ALREADY = 108
+
+    @property
+    def is_ignored(self) -> bool:
+        return self >= Answer.OWN
+
+    @property
+    def is_refused(self) -> bool:
+        return Answer.DONE < self < Answer.MEMORY
+
+
+class Error(Exception):
+    """Why a call did nothing."""
+
+    def __init__(self, answer: Answer, text: str) -> None:
+        super().__init__(f"{text} ({answer.value})")
+        self.answer = answer
+
+
+class Refused(Error):
+    """A configuration or a table that was refused."""
+
+
+class NoMemory(Error, MemoryError):
+    """Memory was refused, and nothing has changed: the call may be made again."""
+
+
+class Lost(Error):
+    """The router is lost: memory was refused to it in the midst of a change, now (`Answer.LOST`) or before (`Answer.FAILED`)."""
+
+
+class Closed(Error, ValueError):
+    """The router was ended before."""
+
+
+class OtherVersion(Error, ImportError):
+    """The library isn't of the version that this package is for."""
+
+
+RAISED: dict[Answer, type[Error]] = {
+    Answer.MEMORY: NoMemory, Answer.LOST: Lost, Answer.FAILED: Lost, Answer.NO_ROUTER: Closed, Answer.OTHER_ABI: OtherVersion,
+}
+
+
+# ---- what C gives and takes
+
+
+def numbers(*names: str) -> list[tuple[str, Any]]:
+    return [(name, c_uint32) for name in names]
+
+
+class Draw(Structure):
+    _fields_ = numbers("bits")
+
+
+class ToldInterface(Structure):
+    _fields_ = numbers("address", "length", "priority", "propagation_delay", "override_interval")
+
+
+class ToldRoute(Structure):
+    _fields_ = numbers("prefix", "length", "next_hop", "iface", "preference", "metric")
+
+
+class ToldRange(Structure):
+    _fields_ = numbers("prefix", "length", "rp")
+
+
+class Settings(Structure):
+    _fields_ = [
+        *numbers("limit", "robustness", "query_interval", "query_response_interval", "last_member_query_interval"),
+        ("stays_on_shared_tree", c_bool),
+    ]
+
+
+class ToldPacket(Structure):
+    _fields_ = [*numbers("kind", "iface", "destination"), ("length", c_size_t)]
+
+
+class ToldRow(Structure):
+    _fields_ = [
+        *numbers("table", "iface", "group", "source", "winner"),
+        ("is_rpt", c_bool),
+        ("is_set", c_bool),
+        ("state", c_uint32),
+        ("end", c_uint64),
+        ("pending", c_uint64),
+    ]
+
+
+class Words(Structure):
+    _fields_ = [("low", c_uint64), ("high", c_uint64)]
+
+    def interfaces(self) -> frozenset[int]:
+        bits = self.high << 64 | self.low
+        return frozenset(number for number in range(128) if bits >> number & 1)
+
+
+class ToldForwarding(Structure):
+    _fields_ = [
+        ("rpf", c_uint32), ("shared_rpf", c_uint32), ("has_spt_bit", c_bool), ("has_tunnel", c_bool), ("immediate", Words),
+        ("inherited", Words), ("shared_tree", Words),
+    ]
+
+
+class ToldPlaneRow(Structure):
+    _fields_ = [("is_known", c_bool), ("incoming", c_uint32), ("outgoing", Words), ("alive", Words), ("to_core", Words)]
+
+
+class ToldName(Structure):
+    _fields_ = numbers("source", "group")
+
+
+# ---- what is told
+
+KINDS = {1: "frame", 2: "copy", 3: "unicast"}
+
+
+class Sent(NamedTuple):
+    """A packet that is to be sent: a `frame` on an interface, a `copy` of data on one, or a `unicast` to an address."""
+    kind: str
+    where: int | str
+    packet: bytes
+
+
+class Row(NamedTuple):
+    """A row of a table. What its kind of row doesn't have is None, False or 0; so is the source of (*,G), and a time that isn't there.
+    Times are in ms."""
+    table: str
+    iface: int
+    group: str | None
+    source: str | None
+    winner: str | None
+    is_rpt: bool
+    is_set: bool
+    state: int
+    end: int | None
+    pending: int | None
+
+    def __str__(self) -> str:
+        """As docs/SCENARIOS.md describes its line ("Tables")."""
+        source = self.source or "*"
+        kind = "g" if source == "*" else "rpt" if self.is_rpt else "sg"
+        words: dict[str, list[Any]] = {
+            "N": [self.iface, source, ends(self.end, "never")],
+            "G": [self.iface, self.group, "exclude" if self.is_set else "include", ends(self.end, "never")],
+            "S": [self.iface, self.group, source, ends(self.end, "-")],
+            "D": [self.iface, self.group, source, kind, JOINED[self.state], ends(self.end, "never"), ends(self.pending, "-")],
+            "A": [self.iface, self.group, source, "loser" if self.is_set else "winner", self.winner, self.end],
+            "U": [self.group, source, self.end],
+            "R": [self.group, source, "pruned" if self.is_set else "notpruned"],
+            "F": [self.group, source, ends(self.end, "-"), "spt" if self.is_set else "-", REGISTERS[self.state]],
+        }
+        return " ".join([self.table, *map(str, words[self.table])])
+
+
+class Forwarding(NamedTuple):
+    """How data of a source to a group goes: RPF_interface(S), RPF_interface(RP(G)), SPTbit(S,G), whether the register tunnel is in
+    the first two lists, and immediate_olist(S,G), inherited_olist(S,G) and inherited_olist(S,G,rpt)."""
+    rpf: int | None
+    shared_rpf: int | None
+    has_spt_bit: bool
+    has_tunnel: bool
+    immediate: frozenset[int]
+    inherited: frozenset[int]
+    shared_tree: frozenset[int]
+
+
+class PlaneRow(NamedTuple):
+    """What a data plane may do of the packets of a source to a group: whether the source has a fact, the interface on which packets
+    are accepted, where copies of these leave, where a packet shows the source alive, and where it is the router's."""
+    is_known: bool
+    incoming: int | None
+    outgoing: frozenset[int]
+    alive: frozenset[int]
+    to_core: frozenset[int]
+
+
+def ends(moment: int | None, without: str) -> str:
+    return without if moment is None else str(moment)
+
+
+def there(number: int, none: int) -> int | None:
+    return None if number == none else number
+
+
+def dotted(bits: int) -> str:
+    return str(IPv4Address(bits))
+
+
+def row_of(told: ToldRow) -> Row:
+    table = chr(told.table)
+    group, source, winner = (dotted(bits) if bits else None for bits in (told.group, told.source, told.winner))
+    return Row(table, told.iface, group, source, winner if table == "A" else None, told.is_rpt, told.is_set, told.state,
+               there(told.end, NEVER), there(told.pending, NEVER))
+
+
+# ---- the library
+
+
+def found() -> str:
+    """The library that is meant where none is named."""
+    return os.environ.get("VIQESHOR_LIBRARY") or ctypes.util.find_library("viqeshor") or "libviqeshor.so.0.1"
+
+
+LIST: list[Any] = [c_void_p, c_size_t]
+SOURCE: list[Any] = [c_uint32, c_uint32]
+# What each call takes behind the router, and what it answers.
+CALLS: dict[str, tuple[list[Any], Any]] = {
+    "end": ([], None),
+    "advance": ([c_uint64, Draw], c_uint32),
+    "frame": ([c_uint32, c_char_p, c_size_t, Draw], c_uint32),
+    "unicast": ([c_char_p, c_size_t, Draw], c_uint32),
+    "up": ([c_uint32, Draw], c_uint32),
+    "down": ([c_uint32, Draw], c_uint32),
+    "routes": ([*LIST, Draw], c_uint32),
+    "ranges": ([*LIST, Draw], c_uint32),
+    "packets": ([], c_size_t),
+    "packet": ([c_size_t, POINTER(ToldPacket), POINTER(c_uint8), c_size_t], c_bool),
+    "copies": ([], c_uint32),
+    "next_moment": ([], c_uint64),
+    "read": ([c_uint8], c_uint32),
+    "rows": ([], c_size_t),
+    "row": ([c_size_t, POINTER(ToldRow)], c_bool),
+    "cached": ([*SOURCE, POINTER(ToldForwarding)], c_bool),
+    "offload": ([*SOURCE, POINTER(ToldPlaneRow)], c_bool),
+    "changed": ([], c_size_t),
+    "changed_source": ([c_size_t, POINTER(ToldName)], c_bool),
+    "may_differ": (SOURCE, c_bool),
+    "seen": ([c_uint32, *SOURCE, Draw], c_uint32),
+    "keep": ([*SOURCE, c_uint64], c_uint32),
+    "probes": ([], c_uint64),
+    "touched": ([], c_uint64),
+}
+
+
+@cache
+def load(path: str) -> ctypes.CDLL:
+    """The library, with what its calls take and answer. Others of the program's threads go on while it works."""
+    library = ctypes.CDLL(path)
+    for name, (takes, answers) in CALLS.items():
+        call = getattr(library, f"viq_{name}")
+        call.argtypes, call.restype = [c_void_p, *takes], answers
+    library.viq_new.argtypes = [POINTER(c_void_p), c_uint32, POINTER(Settings), *LIST, *LIST, *LIST]
+    library.viq_answer_text.argtypes = [c_uint32]
+    for name, answers in (("new", c_uint32), ("abi", c_uint32), ("version", c_char_p), ("answer_text", c_char_p)):
+        getattr(library, f"viq_{name}").restype = answers
+    if library.viq_abi() != ABI:
+        raise OtherVersion(Answer.OTHER_ABI, f"{path} is {library.viq_version().decode()}, of another ABI than {ABI}")
+    return library
+
+
+def version(library: str | os.PathLike[str] | None = None) -> str:
+    """The library's version, and how it was built: `proved` or `not proved`."""
+    return load(os.fspath(library or found())).viq_version().decode()
+
+
+def answer_text(answer: int, library: str | os.PathLike[str] | None = None) -> str:
+    """What an answer says, in a few words."""
+    return load(os.fspath(library or found())).viq_answer_text(number(answer, 32, "an answer")).decode()
+
+
+# ---- what is given
+
+
+def number(value: SupportsIndex, bits: int, what: str) -> int:
+    """A number that C takes whole; a ValueError where it doesn't."""
+    whole = operator.index(value)
+    if not 0 <= whole < 1 << bits:
+        raise ValueError(f"{what} isn't from 0 to 2**{bits} - 1: {whole}")
+    return whole
+
+
+def all_numbers(kind: Any, values: Iterable[SupportsIndex]) -> Any:
+    """A value of C of these numbers, one for each field."""
+    names, given = [name for name, *_ in kind._fields_], list(values)
+    if len(given) != len(names):
+        raise ValueError(f"{len(given)} values in place of {len(names)}: {', '.join(names)}")
+    return kind(*(number(value, 32, name) for name, value in zip(names, given)))
+
+
+def address(text: str) -> int:
+    return int(IPv4Address(text))
+
+
+def prefix(text: str) -> tuple[int, int]:
+    """Its address and length; host bits are left as they are, for the router to refuse."""
+    net, length = text.split("/")
+    return address(net), int(length)
+
+
+def array(kind: Any, items: list[Any]) -> tuple[Any, int]:
+    """An array and its length, as two arguments."""
+    return (kind * len(items))(*items) if items else None, len(items)
+
+
+def interface_of(row: tuple[Any, ...]) -> ToldInterface:
+    own, length, *rest = row
+    return all_numbers(ToldInterface, [address(own), length, *(rest or (1, 500, 2500))])
+
+
+def routes_of(routes: Iterable[tuple[Any, ...]]) -> tuple[Any, int]:
+    return array(ToldRoute, [all_numbers(ToldRoute, [*prefix(net), address(hop), *rest]) for net, hop, *rest in routes])
+
+
+def ranges_of(ranges: Iterable[tuple[str, str]]) -> tuple[Any, int]:
+    return array(ToldRange, [all_numbers(ToldRange, [*prefix(net), address(rp)]) for net, rp in ranges])
+
+
+def bytes_of(packet: Buffer) -> bytes:
+    return packet if isinstance(packet, bytes) else memoryview(packet).tobytes()
+
+
+class Router:
+    """A router. Addresses are texts. An interface is `("10.0.0.1", 24)`, or has a priority and two delays besides; a route is
+    `("10.1.0.0/24", next hop, interface, preference, metric)`, a range `("239.0.0.0/8", RP)`. What takes an event answers what
+    became of it; its draw is random unless one is given.
+
+    Threads may share one: each call waits for the others. A thread that wants what its own event sent holds `lock` from the event on:
+    `with router.lock: answer, sent = router.frame(0, packet), router.packets()`. It ends with its last reference, if not before."""
+
+    def __init__(
+        self,
+        interfaces: Iterable[tuple[Any, ...]],
+        ranges: Iterable[tuple[str, str]] = (),
+        routes: Iterable[tuple[Any, ...]] = (),
+        *,
+        limit: int = 65536,
+        robustness: int = 2,
+        query_interval: int = 125,
+        query_response_interval: int = 100,
+        last_member_query_interval: int = 10,
+        stays_on_shared_tree: bool = False,
+        library: str | os.PathLike[str] | None = None,
+    ) -> None:
+        self.lock = threading.RLock()
+        self._library = load(os.fspath(library or found()))
+        times = (query_interval, query_response_interval, last_member_query_interval)
+        whole = [number(value, 32, name) for value, (name, _) in zip((limit, robustness, *times), Settings._fields_)]
+        settings, given = Settings(*whole, bool(stays_on_shared_tree)), array(ToldInterface, [interface_of(row) for row in interfaces])
+        made = c_void_p()
+        self._must(self._library.viq_new(byref(made), ABI, byref(settings), *given, *routes_of(routes), *ranges_of(ranges)))
+        self._router: c_void_p | None = made
+        self._finalizer = weakref.finalize(self, self._library.viq_end, made)
+
+    def __enter__(self) -> Self:
+        return self
+
+    def __exit__(self, *_: object) -> None:
+        self.end()
+
+    def _raise(self, answer: Answer) -> None:
+        raise RAISED.get(answer, Refused)(answer, self._library.viq_answer_text(answer).decode())
+
+    def _must(self, answer: int) -> None:
+        if answer:
+            self._raise(Answer(answer))
+
+    def _call(self, name: str, *values: Any) -> Any:
+        with self.lock:
+            if self._router is None:
+                self._raise(Answer.NO_ROUTER)
+            return getattr(self._library, f"viq_{name}")(self._router, *values)
+
+    def _answer(self, name: str, *values: Any) -> Answer:
+        answer = Answer(self._call(name, *values))
+        if answer in RAISED:
+            self._raise(answer)
+        return answer
+
+    def _event(self, name: str, draw: int | None, *values: Any) -> Answer:
+        return self._answer(name, *values, Draw(random.getrandbits(32) if draw is None else number(draw, 32, "a draw")))
+
+    def end(self) -> None:
+        """Gives its memory back. Each call raises `Closed` from then on, but this one."""
+        with self.lock:
+            self._router = None
+            self._finalizer()
+
+    # ---- events
+
+    def advance(self, moment: int, draw: int | None = None) -> Answer:
+        """Time passes up to the moment, in ms."""
+        return self._event("advance", draw, number(moment, 64, "a moment"))
+
+    def run_to(self, moment: int) -> list[Sent]:
+        """Time passes up to the moment, timer by timer, each with a draw of its own: what is to be sent meanwhile, in its order. Raises
+        `Refused` where the moment is before the present."""
+        sent = []
+        with self.lock:
+            while True:
+                ends_next = self.next_moment()
+                now = moment if ends_next is None else min(moment, ends_next)
+                self._must(self.advance(now))
+                sent += self.packets()
+                ends_next = self.next_moment()
+                if now == moment and (ends_next is None or ends_next > moment):
+                    return sent
+
+    def frame(self, iface: int, packet: Buffer, draw: int | None = None) -> Answer:
+        """A packet came on an interface, to a group."""
+        data = bytes_of(packet)
+        return self._event("frame", draw, number(iface, 32, "an interface"), data, len(data))
+
+    def unicast(self, packet: Buffer, draw: int | None = None) -> Answer:
+        """A PIM packet came for an address of the router."""
+        data = bytes_of(packet)
+        return self._event("unicast", draw, data, len(data))
+
+    def up(self, iface: int, draw: int | None = None) -> Answer:
+        return self._event("up", draw, number(iface, 32, "an interface"))
+
+    def down(self, iface: int, draw: int | None = None) -> Answer:
+        return self._event("down", draw, number(iface, 32, "an interface"))
+
+    def set_routes(self, routes: Iterable[tuple[Any, ...]], draw: int | None = None) -> Answer:
+        return self._event("routes", draw, *routes_of(routes))
+
+    def set_ranges(self, ranges: Iterable[tuple[str, str]], draw: int | None = None) -> Answer:
+        return self._event("ranges", draw, *ranges_of(ranges))
+
+    # ---- what it tells
+
+    def packets(self) -> list[Sent]:
+        """What the last event sent, in the order in which it is to leave."""
+        told, room, sent = ToldPacket(), (c_uint8 * MOST_BYTES)(), []
+        with self.lock:
+            for index in range(self._call("packets")):
+                self._call("packet", index, byref(told), room, MOST_BYTES)
+                kind = KINDS[told.kind]
+                sent.append(Sent(kind, dotted(told.destination) if kind == "unicast" else told.iface, bytes(room[: told.length])))
+        return sent
+
+    def next_moment(self) -> int | None:
+        """The moment at which the next timer ends, in ms."""
+        return there(self._call("next_moment"), NEVER)
+
+    def rows(self, letter: str) -> list[Row]:
+        """The rows of a table."""
+        told, rows = ToldRow(), []
+        with self.lock:
+            self._must(self._call("read", number(ord(letter), 8, "a letter")))
+            for index in range(self._call("rows")):
+                self._call("row", index, byref(told))
+                rows.append(row_of(told))
+        return rows
+
+    def tables(self) -> Iterator[str]:
+        """All tables as they are printed."""
+        return (str(row) for letter in TABLES for row in self.rows(letter))
+
+    def cached(self, source: str, group: str) -> Forwarding | None:
+        """How data of a source to a group goes; None where there is no fact of the source."""
+        told = ToldForwarding()
+        if not self._call("cached", address(source), address(group), byref(told)):
+            return None
+        ways = (there(way, NO_INTERFACE) for way in (told.rpf, told.shared_rpf))
+        lists = (each.interfaces() for each in (told.immediate, told.inherited, told.shared_tree))
+        return Forwarding(*ways, told.has_spt_bit, told.has_tunnel, *lists)
+
+    # ---- a data plane; include/viqeshor/plane.h says what one owes
+
+    def offload(self, source: str, group: str) -> PlaneRow | None:
+        """What a data plane may do of the packets of a source to a group; None where all are the router's."""
+        told = ToldPlaneRow()
+        if not self._call("offload", address(source), address(group), byref(told)):
+            return None
+        sets = (each.interfaces() for each in (told.outgoing, told.alive, told.to_core))
+        return PlaneRow(told.is_known, there(told.incoming, NO_INTERFACE), *sets)
+
+    def changed(self) -> list[tuple[str, str]]:
+        """The sources whose rows may have changed at the last event, each with its group; one may stand there more than once."""
+        told, names = ToldName(), []
+        with self.lock:
+            for index in range(self._call("changed")):
+                self._call("changed_source", index, byref(told))
+                names.append((dotted(told.source), dotted(told.group)))
+        return names
+
+    def may_differ(self, source: str, group: str) -> bool:
+        """Whether what `offload` tells of a source, with a fact or without one, may have changed at the last event."""
+        return self._call("may_differ", address(source), address(group))
+
+    def seen(self, iface: int, source: str, group: str, draw: int | None = None) -> Answer:
+        """An event: a data plane saw a packet of a source to a group on an interface. Its copies and its Register don't leave."""
+        return self._event("seen", draw, number(iface, 32, "an interface"), address(source), address(group))
+
+    def keep(self, source: str, group: str, moment: int) -> Answer:
+        """A data plane forwarded a packet of a source to a group at a moment: the source's keepalive timer, where it runs, ends 210 s
+        after that, or when it would end later. NO_TIMER where none runs: it is started by `seen` alone."""
+        return self._answer("keep", address(source), address(group), number(moment, 64, "a moment"))
+
+    # ---- costs
+
+    def probes(self) -> int:
+        """The trie nodes that the last event visited."""
+        return self._call("probes")
+
+    def touched(self) -> int:
+        """The rows of the forwarding cache that the last event evaluated, put in and took out."""
+        return self._call("touched")

@@ -1,0 +1,349 @@
+/* The multicast router in programs of other languages: PIM Sparse Mode (RFC 7761) and IGMPv3 (RFC 3376).
+ *
+ * A program tells the router what happens, by one call an event, and after each event sends the packets that it names.
+ * The router starts no thread, opens no socket and reads no clock. With the program's own `clock_ms`, `receive`,
+ * `wait_until` and `send`, and a `send_all` that is one line, `for (n = 0; viq_packet(router, n, &packet, room, sizeof
+ * room); n++) send(&packet, room);`:
+ *
+ *     while (viq_advance(router, clock_ms(), viq_draw(random())) == VIQ_DONE) {        time passes
+ *         send_all(router);                                                            packets out
+ *         while (receive(&iface, bytes, &length)) {                                    a packet came
+ *             answer = viq_frame(router, iface, bytes, length, viq_draw(random()));    events in
+ *             if (!viq_is_lost(answer)) send_all(router);                              packets out
+ *         }
+ *         wait_until(viq_next_moment(router));                                         or a packet comes
+ *     }
+ *
+ * moment     a time in ms from any beginning, at most 2^62: viq_advance tells the router the present one. draw       a
+ * random number of 32 bits, another one with each event: random delays come of it. fact       what the router keeps of
+ * a group or a source that is asked for, or that sends: a membership, a Join, an Assert, a
+ *            source that is kept alive. viq_settings limits how many there are.
+ * copy       a packet of data that the router forwards, as it leaves on an interface.
+ * interface  a number, from 0, as the interfaces were given to viq_new.
+ *
+ * Numbers are in the machine's order, an address too: 10.0.0.1 is 0x0a000001. Packets are whole IPv4 packets, as on the
+ * wire. examples/library of the repository has whole programs, LIBRARY.md says what the program has to do,
+ * and viqeshor/plane.h describes a kernel or a chip that forwards by itself.
+ *
+ * Pointers: each is aligned to its type, points to as many values as the parameter after it counts, and overlaps no
+ * other of its call. One that has a count of 0 after it may be NULL. A router that is NULL is answered as one that
+ * isn't there. No other may be NULL. What they point to is the program's, is read or written in the call alone, and
+ * none is kept.
+ *
+ * A router belongs to one call at a time, from whichever thread. Different routers know nothing of one another. No call
+ * aborts, blocks or calls back, and none may be made from a signal handler. Memory is taken by malloc and realloc, and
+ * given back by free: a block has to be aligned to each power of two up to 16 that divides its size. */
+#ifndef VIQESHOR_VIQESHOR_H
+#define VIQESHOR_VIQESHOR_H
+
+#include <stdbool.h>
+#include <stddef.h>
+#include <stdint.h>
+
+#ifdef __cplusplus
+extern "C" {
+#endif
+
+/* What a compiler can look for in a call: a pointer that must not be NULL, an answer that nobody reads. */
+#if defined(__GNUC__) || defined(__clang__)
+#define VIQ_NOT_NULL(place) __attribute__((nonnull(place)))
+#define VIQ_READ_ANSWER __attribute__((warn_unused_result))
+#else
+#define VIQ_NOT_NULL(place)
+#define VIQ_READ_ANSWER
+#endif
+
+/* The version of this header. While the first number is 0, each second one is another library: a program is compiled
+ * anew. */
+#define VIQ_VERSION "0.1.0"
+#define VIQ_VERSION_MAJOR 0
+#define VIQ_VERSION_MINOR 1
+#define VIQ_VERSION_PATCH 0
+
+/* What a compiled program and a library have to agree on: the values, the calls and the numbers of this header and of
+ * plane.h. It is another number wherever one of them changes. viq_new is given it, and refuses another one. */
+#define VIQ_ABI 1
+
+/* The library's number: VIQ_ABI as it was built with. */
+uint32_t viq_abi(void);
+
+/* The version of the library, a blank, and `proved` or `not proved`: how it was built. */
+const char *viq_version(void);
+
+/* A router. Who made it ends it by viq_end. */
+struct viq_router;
+
+/* A draw. It is a value of its own kind, so that no other number of an event stands in its place. */
+struct viq_draw {
+    uint32_t bits;
+};
+static inline struct viq_draw viq_draw(uint32_t bits) {
+    struct viq_draw draw;
+    draw.bits = bits;
+    return draw;
+}
+
+/* Answers. Refusals are 1 to 39 and change nothing; reasons to ignore an event are above VIQ_IGNORED and change nothing
+ * either. SCENARIOS.md has each ("Refusals", "Reasons to ignore"). */
+enum {
+    VIQ_DONE = 0,
+
+    /* of a packet */
+    VIQ_SHORT = 1,
+    VIQ_BAD_VERSION = 2,
+    VIQ_BAD_CHECKSUM = 3,
+    VIQ_BAD_LENGTH = 4,
+    VIQ_BAD_ADDRESS = 5,
+    VIQ_NOT_MULTICAST = 6,
+    VIQ_OLD_VERSION = 7,
+    VIQ_UNKNOWN_TYPE = 8,
+    VIQ_FRAGMENT = 9,
+
+    /* of an event */
+    VIQ_MOMENT_BACK = 20,
+    VIQ_MOMENT_FAR = 21,
+    VIQ_BAD_INTERFACE = 22,
+    VIQ_INTERFACE_DOWN = 23,
+    VIQ_FULL = 24,
+    VIQ_BAD_ROUTES = 25,
+    VIQ_BAD_RANGES = 26,
+
+    /* of a configuration */
+    VIQ_INTERFACE_COUNT = 30,
+    VIQ_INTERFACE_ADDRESS = 31,
+    VIQ_INTERFACE_LENGTH = 32,
+    VIQ_OVERLAP = 33,
+    VIQ_BAD_LIMIT = 34,
+    VIQ_BAD_QUERIER = 35,
+    VIQ_BAD_DELAY = 36,
+    VIQ_CONFIGURED_ROUTES = 37,
+    VIQ_CONFIGURED_RANGES = 38,
+
+    VIQ_MEMORY = 40,    /* memory was refused, and nothing has changed: the call may be made again */
+    VIQ_FAILED = 41,    /* the router was lost before: end it, and make another */
+    VIQ_LOST = 43,      /* memory was refused in the midst of a change: the router is lost, and VIQ_FAILED from now on */
+    VIQ_NO_ROUTER = 50, /* the router is NULL */
+    VIQ_NO_TABLE = 51,  /* no table has this letter */
+    VIQ_NO_TIMER = 52,  /* no keepalive timer of the source runs, and none was started */
+    VIQ_OTHER_ABI = 53, /* the program was compiled for another library than this one */
+
+    VIQ_IGNORED = 100, /* no answer: the reasons to ignore an event are above it */
+    VIQ_OWN = 101,
+    VIQ_NOT_FOR_ME = 102,
+    VIQ_OTHER_TYPE = 103,
+    VIQ_MASK = 104,
+    VIQ_LINK_LOCAL = 105,
+    VIQ_NO_NEIGHBOUR = 106,
+    VIQ_NOT_RP = 107,
+    VIQ_ALREADY = 108
+};
+
+/* Whether an event was refused, or ignored, or the router is lost: now, or before. */
+static inline bool viq_is_refused(uint32_t answer) { return answer > VIQ_DONE && answer < VIQ_MEMORY; }
+static inline bool viq_is_ignored(uint32_t answer) { return answer > VIQ_IGNORED; }
+static inline bool viq_is_lost(uint32_t answer) { return answer == VIQ_LOST || answer == VIQ_FAILED; }
+
+/* What an answer says, in a few words; never NULL. */
+const char *viq_answer_text(uint32_t answer);
+
+/* No timer runs, and a time that isn't there. */
+#define VIQ_NEVER UINT64_MAX
+
+/* No interface. */
+#define VIQ_NO_INTERFACE UINT32_MAX
+
+/* ---- the configuration */
+
+/* The most of each list. A longer one is refused by its count, and isn't read. */
+#define VIQ_MOST_INTERFACES 120
+#define VIQ_MOST_ROUTES 100000
+#define VIQ_MOST_RANGES 256
+
+struct viq_interface {
+    uint32_t address;           /* the router's, below 224.0.0.0 and not 0 */
+    uint32_t length;            /* of the subnet's prefix, 1 to 31; subnets don't overlap */
+    uint32_t priority;          /* as DR; 1 is usual */
+    uint32_t propagation_delay; /* ms, at most 32767; 500 is usual */
+    uint32_t override_interval; /* ms, at most 65535; 2500 is usual */
+};
+
+struct viq_route {
+    uint32_t prefix; /* with no host bits; each prefix once */
+    uint32_t length; /* at most 32 */
+    uint32_t next_hop; /* no address of the router */
+    uint32_t iface;
+    uint32_t preference; /* at most 0x7ffffffe; the lower is better */
+    uint32_t metric;
+};
+
+/* A range of groups, and its RP. */
+struct viq_range {
+    uint32_t prefix; /* in 224.0.0.0/4, with no host bits; each prefix once */
+    uint32_t length; /* 4 to 32 */
+    uint32_t rp;
+};
+
+struct viq_settings {
+    uint32_t limit;                      /* of facts, 1 to 1,000,000 */
+    uint32_t robustness;                 /* 2 to 7 */
+    uint32_t query_interval;             /* seconds, 1 to 31744 */
+    uint32_t query_response_interval;    /* tenths of a second, 1 to 31744, and below the query interval */
+    uint32_t last_member_query_interval; /* tenths of a second, 1 to 255 */
+    bool stays_on_shared_tree;           /* the router never changes to a source's tree */
+};
+#define VIQ_USUAL_SETTINGS {65536, 2, 125, 100, 10, false}
+
+/* Makes a router, at moment 0 and with all interfaces down: 1 to VIQ_MOST_INTERFACES interfaces, at most
+ * VIQ_MOST_ROUTES routes and VIQ_MOST_RANGES ranges. The second argument is VIQ_ABI. It answers VIQ_DONE, a refusal of
+ * 30 to 38, VIQ_MEMORY or VIQ_OTHER_ABI. What `router` points to is written, and not read: the new router, or NULL
+ * where there is none. */
+VIQ_READ_ANSWER VIQ_NOT_NULL(1) VIQ_NOT_NULL(3)
+uint32_t viq_new(struct viq_router **router, uint32_t abi, const struct viq_settings *settings,
+                 const struct viq_interface *interfaces, size_t interface_count, const struct viq_route *routes,
+                 size_t route_count, const struct viq_range *ranges, size_t range_count);
+
+/* Ends the router, and gives its memory back. Of NULL nothing happens. */
+void viq_end(struct viq_router *router);
+
+/* ---- events: each answers VIQ_DONE, a reason to ignore, a refusal of 1 to 26, VIQ_LOST, VIQ_FAILED or VIQ_NO_ROUTER
+ *
+ * Where memory is refused for an event the router is lost: VIQ_LOST, and VIQ_FAILED from then on. The event didn't
+ * happen, and nothing of it is to be sent. Routes and ranges are copied before the router takes them: where memory is
+ * refused for that alone, they answer VIQ_MEMORY, nothing has changed, and what is told below is as it was. An event
+ * that is ignored, or refused for its bytes, its moment or its interface, takes no memory, and is never answered so. */
+
+/* Time passes up to the moment, which isn't before the present: each timer that ends by then fires. */
+VIQ_READ_ANSWER
+uint32_t viq_advance(struct viq_router *router, uint64_t moment, struct viq_draw draw);
+
+/* A packet came on an interface, to a group: PIM, IGMP or data. */
+VIQ_READ_ANSWER
+uint32_t viq_frame(struct viq_router *router, uint32_t iface, const uint8_t *packet, size_t length,
+                   struct viq_draw draw);
+
+/* A PIM packet came for an address of the router: a Register or a Register-Stop. */
+VIQ_READ_ANSWER
+uint32_t viq_unicast(struct viq_router *router, const uint8_t *packet, size_t length, struct viq_draw draw);
+
+/* An interface goes up, or down. */
+VIQ_READ_ANSWER
+uint32_t viq_up(struct viq_router *router, uint32_t iface, struct viq_draw draw);
+VIQ_READ_ANSWER
+uint32_t viq_down(struct viq_router *router, uint32_t iface, struct viq_draw draw);
+
+/* All unicast routes, or all RP ranges, are replaced. */
+VIQ_READ_ANSWER
+uint32_t viq_routes(struct viq_router *router, const struct viq_route *routes, size_t count, struct viq_draw draw);
+VIQ_READ_ANSWER
+uint32_t viq_ranges(struct viq_router *router, const struct viq_range *ranges, size_t count, struct viq_draw draw);
+
+/* ---- what is to be sent: by the last event that wasn't answered VIQ_MEMORY. Of a lost router, and of NULL, there is
+ * nothing. */
+
+/* The most bytes that a packet has. */
+#define VIQ_MOST_BYTES 1528
+
+/* What a packet is. */
+enum {
+    VIQ_FRAME = 1,  /* PIM or IGMP, on the interface, to its group */
+    VIQ_COPY = 2,   /* data that is forwarded, on the interface, to its group */
+    VIQ_UNICAST = 3 /* by unicast routing to the destination */
+};
+
+struct viq_packet {
+    uint32_t kind;
+    uint32_t iface;       /* or 0 */
+    uint32_t destination; /* or 0 */
+    size_t length;        /* bytes, at most VIQ_MOST_BYTES */
+};
+
+/* How many packets there are. */
+VIQ_READ_ANSWER
+size_t viq_packets(const struct viq_router *router);
+
+/* One of them, counted from 0 in the order in which they are to leave. Its bytes go into the room, as many as it takes;
+ * the rest of the room stays. It answers false, and writes nothing, where there is none of that number. */
+VIQ_NOT_NULL(3)
+bool viq_packet(const struct viq_router *router, size_t index, struct viq_packet *packet, uint8_t *room,
+                size_t room_length);
+
+/* How many of them are copies. */
+VIQ_READ_ANSWER
+uint32_t viq_copies(const struct viq_router *router);
+
+/* The moment at which the next timer ends, or VIQ_NEVER: viq_advance is to be called then. VIQ_NEVER of a lost router,
+ * and of NULL. */
+VIQ_READ_ANSWER
+uint64_t viq_next_moment(const struct viq_router *router);
+
+/* ---- what the router knows */
+
+/* The state of a row of D, and that of its register in a row of F. */
+enum { VIQ_JOINED = 1, VIQ_PRUNE_PENDING = 2, VIQ_PRUNED = 3 };
+enum { VIQ_REGISTER_NONE = 0, VIQ_REGISTER_JOINED = 1, VIQ_REGISTER_JOIN_PENDING = 2, VIQ_REGISTER_PRUNED = 3 };
+
+/* A row of a table; SCENARIOS.md describes the tables. What its kind of row doesn't have is 0, or VIQ_NEVER for a time. */
+struct viq_row {
+    uint32_t table; /* its letter */
+    uint32_t iface;
+    uint32_t group;
+    uint32_t source; /* 0 for (*,G); a neighbour's address */
+    uint32_t winner; /* of an assert */
+    bool is_rpt;     /* (S,G,rpt) */
+    bool is_set;     /* G: EXCLUDE; A: lost; R: pruned; F: SPTbit */
+    uint32_t state;  /* D: VIQ_JOINED, VIQ_PRUNE_PENDING or VIQ_PRUNED; F: its register, a VIQ_REGISTER_.. */
+    uint64_t end;    /* ms; U: the next Join; F: the keepalive timer */
+    uint64_t pending; /* ms; D: the end of Prune-Pending */
+};
+
+/* Reads the table of a letter: N, G, S, D, A, U, R or F. It answers VIQ_DONE; VIQ_MEMORY, where nothing has changed;
+ * VIQ_FAILED, VIQ_NO_ROUTER or VIQ_NO_TABLE. */
+VIQ_READ_ANSWER
+uint32_t viq_read(struct viq_router *router, uint8_t letter);
+
+/* How many rows the last table had that was read, and one of them, counted from 0, ascending by their keys. It answers
+ * false, and writes nothing, where there is none of that number. They stay as they were read, whatever happens to the
+ * router. */
+VIQ_READ_ANSWER
+size_t viq_rows(const struct viq_router *router);
+VIQ_NOT_NULL(3)
+bool viq_row(const struct viq_router *router, size_t index, struct viq_row *row);
+
+/* A set of interfaces, as bits. */
+struct viq_interfaces {
+    uint64_t low;  /* 0 to 63, the lowest bit first */
+    uint64_t high; /* 64 to 119, the lowest bit first */
+};
+static inline bool viq_has(const struct viq_interfaces *set, uint32_t iface) {
+    return iface < 128 && ((iface < 64 ? set->low >> iface : set->high >> (iface - 64)) & 1) != 0;
+}
+
+/* How data of a source to a group goes, as the forwarding cache has it. */
+struct viq_forwarding {
+    uint32_t rpf;                      /* RPF_interface(S), or VIQ_NO_INTERFACE */
+    uint32_t shared_rpf;               /* RPF_interface(RP(G)), or VIQ_NO_INTERFACE: also at the RP itself */
+    bool has_spt_bit;                  /* SPTbit(S,G) */
+    bool has_tunnel;                   /* the register tunnel is in the first two lists */
+    struct viq_interfaces immediate;   /* immediate_olist(S,G) */
+    struct viq_interfaces inherited;   /* inherited_olist(S,G) */
+    struct viq_interfaces shared_tree; /* inherited_olist(S,G,rpt) */
+};
+
+/* Tells it. It answers false, and writes nothing, where there is no fact of the source, of a lost router, and of NULL.
+ * */
+VIQ_READ_ANSWER VIQ_NOT_NULL(4)
+bool viq_cached(const struct viq_router *router, uint32_t source, uint32_t group, struct viq_forwarding *forwarding);
+
+/* ---- costs */
+
+/* What the last event cost: the trie nodes that it visited, and the rows of the forwarding cache that it evaluated, put
+ * in and took out. 0 of a lost router, and of NULL. */
+VIQ_READ_ANSWER
+uint64_t viq_probes(const struct viq_router *router);
+VIQ_READ_ANSWER
+uint64_t viq_touched(const struct viq_router *router);
+
+#ifdef __cplusplus
+}
+#endif
+#endif
