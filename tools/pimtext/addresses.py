@@ -1,9 +1,10 @@
 """Addresses, prefixes, routes and RP ranges as a scenario writes them: all tools read them here.
 
-A text is read as the program reads it: decimal numbers without leading zeros in an address, any zeros before other numbers,
-numbers below 2^32, and between the words of a route what Unicode calls white space.
+A text is read as the program reads it: decimal numbers without leading zeros in an address, any zeros before other
+numbers, numbers below 2^32, and between the words of a route what Unicode calls white space.
 """
 import re
+from collections.abc import Iterable
 from dataclasses import dataclass
 from ipaddress import IPv4Network
 
@@ -13,17 +14,17 @@ ADDRESS = re.compile(r"(?:0|[1-9][0-9]{0,2})(?:\.(?:0|[1-9][0-9]{0,2})){3}\Z")
 WHITE_SPACE = re.compile("[\t-\r \x85\xa0\u1680\u2000-\u200a\u2028\u2029\u202f\u205f\u3000]+")
 
 
-def words_in(text):
+def words_in(text: str) -> list[str]:
     """The words of a route or a range."""
     return [word for word in WHITE_SPACE.split(text) if word]
 
 
-def number_in(text):
+def number_in(text: str) -> int | None:
     """Decimal digits without a sign, below 2^32; None of any other text."""
     return int(text) if re.fullmatch("[0-9]+", text) and int(text) < BELOW else None
 
 
-def address_in(text):
+def address_in(text: str) -> int | None:
     """An address as a number; None of any other text."""
     if not ADDRESS.match(text):
         return None
@@ -31,40 +32,40 @@ def address_in(text):
     return int.from_bytes(bytes(parts), "big") if max(parts) < 256 else None
 
 
-def prefix_in(text):
+def prefix_in(text: str) -> tuple[int, int] | None:
     """An address and a length, or None. A length is any number below 2^32 here."""
     head, slash, tail = text.partition("/")
     address, length = address_in(head), number_in(tail)
     return (address, length) if slash and address is not None and length is not None else None
 
 
-def dotted(number):
+def dotted(number: int) -> str:
     return ".".join(map(str, number.to_bytes(4, "big")))
 
 
-def is_host(address):
+def is_host(address: int) -> bool:
     """Not 0.0.0.0, and below 224.0.0.0."""
     return 0 < address < MULTICAST
 
 
-def is_group(address):
+def is_group(address: int) -> bool:
     return MULTICAST <= address <= LAST_GROUP
 
 
-def mask(length):
+def mask(length: int) -> int:
     return (BELOW - 1) << (32 - length) & (BELOW - 1)
 
 
 # ---- routes and ranges of a scenario
 
 
-def route_words(text):
+def route_words(text: str) -> tuple[str | int, ...]:
     """The parts of a route: prefix and next hop as they are written, interface, preference and metric."""
     prefix, hop, *numbers = words_in(text)
     return prefix, hop, *map(int, numbers)
 
 
-def range_words(text):
+def range_words(text: str) -> tuple[str, str]:
     """The parts of an RP range as they are written: prefix and RP."""
     prefix, rp = words_in(text)
     return prefix, rp
@@ -79,11 +80,11 @@ class Route:
     metric: int = 0
 
 
-def routes_of(texts):
+def routes_of(texts: Iterable[str]) -> list[Route]:
     """Routes that the program has taken."""
     return [Route(IPv4Network(prefix), *rest) for prefix, *rest in map(route_words, texts)]
 
 
-def ranges_of(texts):
+def ranges_of(texts: Iterable[str]) -> list[tuple[IPv4Network, str]]:
     """RP ranges that the program has taken: pairs of a prefix and an address."""
     return [(IPv4Network(prefix), rp) for prefix, rp in map(range_words, texts)]

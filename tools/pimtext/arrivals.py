@@ -3,7 +3,7 @@ followed."""
 from bisect import bisect_right
 from dataclasses import dataclass, field
 
-from pimtext import packets, words
+from pimtext import packets
 from pimtext.printed import ANY
 
 # What an event says of a stream: no longer wanted, waited for, came, came more than once, didn't come.

@@ -6,7 +6,6 @@ import os
 import shutil
 import sys
 import time
-from pathlib import Path
 
 # How many builds of one kind are kept, of the present sources and of others: those that were asked for last.
 MOST_KEPT = 40

@@ -4,7 +4,7 @@ from collections import Counter
 from dataclasses import dataclass
 from itertools import zip_longest
 
-from pimtext.functions import clauses, functions, module_of, notes_beside
+from pimtext.functions import clauses, functions, notes_beside
 
 # What the front end is to say of an edit that no type allows.
 ERROR = re.compile(r"error\[[\w-]+\]")

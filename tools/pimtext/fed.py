@@ -15,7 +15,9 @@ SETTINGS = {
 
 @dataclass(frozen=True)
 class Event:
-    """`name` is the library's call without `pim_`; `values` what it takes after the draw: numbers, bytes, or a list's texts."""
+    """`name` is the library's call without `pim_`; `values` what it takes after the draw: numbers, bytes, or a list's
+    texts.
+    """
     name: str
     draw: int
     values: tuple

@@ -7,7 +7,9 @@ ALL_BUT, ONLY = (2, 4), (1, 3, 5)
 
 
 def refreshed(body):
-    """The rows that a Join/Prune or a report refreshes where it is taken: pairs of their table and of columns with their values."""
+    """The rows that a Join/Prune or a report refreshes where it is taken: pairs of their table and of columns with
+    their values.
+    """
     if isinstance(body, packets.JoinPrune):
         for group in body.groups:
             yield from ((printed.Downstream, columns) for columns in joined_and_pruned(group))
@@ -16,11 +18,14 @@ def refreshed(body):
             if record.kind in ALL_BUT:
                 yield printed.GroupRecord, {"group": record.group}
             if record.kind in ONLY:
-                yield from ((printed.SourceRecord, {"group": record.group, "source": source}) for source in record.sources)
+                yield from ((printed.SourceRecord, {"group": record.group, "source": source})
+                    for source in record.sources)
 
 
 def joined_and_pruned(group):
-    """The columns of the rows that one group of a Join/Prune refreshes: what it joins, and what it prunes off the shared tree."""
+    """The columns of the rows that one group of a Join/Prune refreshes: what it joins, and what it prunes off the
+    shared tree.
+    """
     for entry in group.joins:
         if entry.wildcard:
             yield {"group": group.group, "source": ANY, "kind": "g"}

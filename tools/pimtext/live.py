@@ -8,7 +8,8 @@ from lab import Mistake, Network, Refused
 from pimtext import labfile, packets, playpage, view_text, views
 from pimtext.printed import ANY
 
-INTRO = """A network of multicast routers. `help` names the commands, `look` writes the page, ctrl-d ends. For a beginning:
+INTRO = """\
+A network of multicast routers. `help` names the commands, `look` writes the page, ctrl-d ends. For a beginning:
     line r1 r2 r3 / rp r2 / host camera r1 / host viewer r3 / run 10
     join viewer 239.1.1.1 / stream camera 239.1.1.1 / run 5 / look"""
 LOSS = re.compile(r"""(?P<share>\d+(?:\.\d+)?)\s*%(?:\s+of\s+(?P<kind>\S+))?\s+on\s+(?P<link>\S+)

@@ -13,7 +13,8 @@ MEANINGS = {
     "1": "the packet is shorter than its lengths and counts say: is it cut, or is an Ethernet header before it?",
     "2": "the IP version isn't 4, or PIM's isn't 2",
     "3": "a checksum is wrong: the IP header's, PIM's or IGMP's",
-    "4": "a wrong IP length; more than 1,500 bytes, 1,528 as a unicast; a Hello option of a wrong length; a query of 9 to 11 bytes",
+    "4": "a wrong IP length; more than 1,500 bytes, 1,528 as a unicast; a Hello option of a wrong length; a query of "
+         "9 to 11 bytes",
     "5": "an IP source that no host has, an encoded address of another family, or a wrong source in an Assert",
     "6": "a group field, or the destination of a registered packet, isn't in 224.0.0.0/4",
     "7": "IGMPv1 or IGMPv2, which the router doesn't speak",
@@ -25,11 +26,13 @@ MEANINGS = {
     "23": "the interface is down when the packet comes: an `up` is missing before, or the packet is lost on purpose",
     "24": "it needs more new facts than `limit` leaves room for, or is the Hello of a 65th neighbour on the interface",
     "Own": "the packet's source is an address of the router, which hears itself",
-    "NotForMe": "on a link: IGMP or data to no group, a Register or Register-Stop; as a unicast: for another router, or not one of these two",
+    "NotForMe": "on a link: IGMP or data to no group, a Register or Register-Stop; as a unicast: for another router, "
+                "or not one of these two",
     "OtherType": "a PIM message of a type that the router doesn't know, as Bootstrap",
     "Mask": "an Assert or Register-Stop for a range of groups",
     "LinkLocal": "a group in 224.0.0.0/24, which never leaves its link",
-    "NoNeighbour": "a Join/Prune, an Assert or a farewell from an address without a live Hello: the Hello is missing, or is over",
+    "NoNeighbour": "a Join/Prune, an Assert or a farewell from an address without a live Hello: the Hello is "
+                   "missing, or is over",
     "NotRp": "a Register-Stop from another address than the group's RP",
     "Already": "`up` of an interface that is up, or `down` of one that is down",
 }
@@ -158,7 +161,8 @@ class Notes:
         if sent.is_unicast():
             return f"packet {sent.number} is a unicast, which `carry` brings"
         iface = did["iface"]
-        there = f"interface {iface} is on {interfaces[iface].link}" if iface < len(interfaces) else f"it has no interface {iface}"
+        there = f"interface {iface} is on {interfaces[iface].link}" if iface < len(
+            interfaces) else f"it has no interface {iface}"
         return f"packet {sent.number} was sent on the link {sent.where}, and {there}"
 
     # ---- packets that nobody took

@@ -148,7 +148,8 @@ class Outages:
         count = f"{times(len(found), 'message')} {'was' if len(found) == 1 else 'were'} refused 24 (Full)"
         told = f": its limit is {most}, and it held {sum(held.values())} facts ({what}) {first}; {count}"
         groups = {group for _, step in found for group in groups_of(step)}
-        greeted = {packets.dotted(step.taken()[12:16]) for _, step in found if packets.is_pim(step.taken(), packets.HELLO)}
+        greeted = {packets.dotted(step.taken()[12:16]) for _,
+            step in found if packets.is_pim(step.taken(), packets.HELLO)}
 
         def covers(each):
             is_refused = each.kind in ("odd", "refused") and each.cause == "24"

@@ -27,9 +27,11 @@ def obstacles(state, group, source, number):
 
 def unserved(state, group, source, number):
     """Why what is wanted on an interface is another router's to send: an assert that was lost, or for hosts the DR."""
-    found = [f"it lost the assert of ({row.source}, {group}) to {row.winner}" for row in lost(state, group, source, number)]
+    found = [f"it lost the assert of ({row.source}, {group}) to {row.winner}"
+        for row in lost(state, group, source, number)]
     for wanted in dict.fromkeys((source, ANY)):
-        if number in trees.hosts(state, group, wanted) - trees.served(state, group, wanted) and not trees.is_dr(state, number):
+        if number in trees.hosts(state, group, wanted) - trees.served(state, group, wanted) and not trees.is_dr(state,
+            number):
             return [*found, f"it isn't the DR, which is {trees.dr_of(state, number)}"]
     return found
 
@@ -44,7 +46,9 @@ def lost(state, group, source, number):
 
 
 def reasons(state, group, source):
-    """Each interface that somebody wants the packets on: its number, whether it is in the list, the causes and the obstacles."""
+    """Each interface that somebody wants the packets on: its number, whether it is in the list, the causes and the
+    obstacles.
+    """
     there = trees.outgoing(state, group, source) - {trees.upstream_interface(state, group, source)}
     for interface in state.interfaces_up():
         why = causes(state, group, source, interface.number)
@@ -56,8 +60,11 @@ def reasons(state, group, source):
 
 
 def is_root(state, group, source):
-    """Whether a tree begins at the router, which then joins it nowhere: it is the RP, or the source is on a link of it."""
-    return state.router.has(trees.root_of(state, group, source)) or (source != ANY and trees.is_connected(state, source))
+    """Whether a tree begins at the router, which then joins it nowhere: it is the RP, or the source is on a link of
+    it.
+    """
+    return state.router.has(trees.root_of(state, group, source)) or (source != ANY
+        and trees.is_connected(state, source))
 
 
 def why_no_join(state, group, source):

@@ -10,7 +10,6 @@ from dataclasses import dataclass, field, fields
 from functools import cache
 
 from pimtext import packets, printed, story, trees, view_text, views, words
-from pimtext.printed import ANY
 from pimtext.arrivals import Arrivals
 
 # An address by itself, without the length of a subnet.

@@ -120,7 +120,8 @@ def registers_with(state, group, source, iface):
     rp = trees.rp_of(state, group)
     if not trees.is_connected(state, source) or rp is None or state.router.has(rp) or not trees.is_dr(state, iface):
         return None
-    stopped = [row for row in state.of(printed.Active, group=group, source=source) if row.register in ("prune", "pending")]
+    stopped = [row for row in state.of(printed.Active, group=group, source=source)
+        if row.register in ("prune", "pending")]
     return None if stopped else rp
 
 
@@ -182,7 +183,8 @@ def serving(world, group, source, link):
     """The router that serves the hosts of a link; else None, and why there is none."""
     here = world.ports[link]
     for state, number in here:
-        wanted = trees.included(state, group, source) | (trees.included(state, group, ANY) - trees.excluded(state, group, source))
+        wanted = trees.included(state, group,
+            source) | (trees.included(state, group, ANY) - trees.excluded(state, group, source))
         if number in wanted:
             return state, None
     if not here:
@@ -381,11 +383,13 @@ def hop_line(world, hop, group, source):
     state, how = hop.state, hop.taken
     where = "in a Register" if hop.iface is None else f"on {words.place(state.router, hop.iface)}"
     by = f", by {how.by}" if how.by and hop.iface is not None else ""
-    sent = [f"sends it on {words.place(state.router, number)}: " + ", ".join(reasons.causes(state, group, source, number))
+    sent = [f"sends it on {words.place(state.router, number)}: "
+        + ", ".join(reasons.causes(state, group, source, number))
             for number in sorted(how.out)]
     sent += [f"registers it with {world.named(how.rp)}"] if how.rp else []
     rows = state.of(printed.Active, group=group, source=source)
-    sent += ["its Registers are stopped" for row in rows if row.register in ("prune", "pending") and hop.iface is not None]
+    sent += ["its Registers are stopped" for row in rows if row.register in ("prune", "pending")
+        and hop.iface is not None]
     return f"  {state.router.name} takes it {where}{by}; " + ("; ".join(sent) or "sends it nowhere")
 
 

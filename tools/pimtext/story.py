@@ -10,7 +10,9 @@ SETTLE_LIMIT = 10_000
 
 @dataclass(frozen=True)
 class Sent:
-    """A packet that a router sent: `where` is a link, or for a unicast its destination; `moment` is the router's, in ms."""
+    """A packet that a router sent: `where` is a link, or for a unicast its destination; `moment` is the router's, in
+    ms.
+    """
     kind: str
     number: int
     where: str
@@ -29,7 +31,9 @@ class Sent:
 
 @dataclass
 class Step:
-    """A move, or a delivery of a settle: who took what, and what left. `did` is the move's table, None where it isn't known."""
+    """A move, or a delivery of a settle: who took what, and what left. `did` is the move's table, None where it isn't
+    known.
+    """
     move: int
     router: str
     verdict: str
@@ -99,7 +103,8 @@ class Teller:
     def after(self, scenario):
         """Another one that goes on where this one is, in a scenario that has more moves."""
         other = Teller(scenario)
-        other.moments, other.sent, other.taken, other.begun = dict(self.moments), list(self.sent), self.taken, self.begun
+        other.moments, other.sent, other.taken, other.begun = dict(self.moments), list(
+            self.sent), self.taken, self.begun
         return other
 
     def follow(self, steps, begun):

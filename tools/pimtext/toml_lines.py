@@ -1,7 +1,7 @@
 """Reads TOML 1.1 and keeps the line of each key and value, which the standard library's `tomllib` (TOML 1.0) doesn't.
 
-`read(text)` gives the document as a `Value` of kind "table", or raises `Unreadable` with the line and what is wrong there.
-Decimal numbers, dates and times are told from one another by their looks alone: no scenario has any.
+`read(text)` gives the document as a `Value` of kind "table", or raises `Unreadable` with the line and what is wrong
+there. Decimal numbers, dates and times are told from one another by their looks alone: no scenario has any.
 """
 import re
 from bisect import bisect_left
@@ -256,7 +256,8 @@ class Reader:
                 found = inside.held[part] = table(line, "dotted")
                 inside.key_lines[part] = line
             elif found.kind != "table" or found.origin not in ("implicit", "dotted"):
-                raise Unreadable(line, f"`{part}` stands in line {inside.key_lines[part]} already, and can't be added to")
+                raise Unreadable(line,
+                    f"`{part}` stands in line {inside.key_lines[part]} already, and can't be added to")
             found.origin = "dotted"
             inside = found
         part, line = key[-1]
@@ -276,7 +277,8 @@ class Reader:
             if found.kind == "list" and found.origin == "header":
                 found = found.held[-1]
             elif found.kind != "table" or found.origin == "closed":
-                raise Unreadable(line, f"`{part}` is a value in line {inside.key_lines[part]}, and can't be a header's table")
+                raise Unreadable(line,
+                    f"`{part}` is a value in line {inside.key_lines[part]}, and can't be a header's table")
             inside = found
         return inside
 
@@ -291,7 +293,8 @@ class Reader:
         found = inside.get(part)
         if found is None:
             inside.key_lines[part] = line
-            inside.held[part] = Value("list", [table(line, "header")], line, origin="header") if many else table(line, "header")
+            inside.held[part] = Value("list", [table(line, "header")], line, origin="header") if many else table(line,
+                "header")
         elif many and found.kind == "list" and found.origin == "header":
             found.held.append(table(line, "header"))
         elif not many and found.kind == "table" and found.origin == "implicit":
@@ -301,7 +304,8 @@ class Reader:
             is_many = found.kind == "list" and found.origin == "header"
             if many:
                 raise Unreadable(line, f"`{part}` is a {found.kind} {since}, and [[{part}]] wants a list of tables")
-            raise Unreadable(line, f"`{part}` is " + (f"a list of tables {since}: write [[{part}]]" if is_many else f"there {since} already"))
+            raise Unreadable(line, f"`{part}` is "
+                + (f"a list of tables {since}: write [[{part}]]" if is_many else f"there {since} already"))
         return path
 
     def document(self):

@@ -1,7 +1,8 @@
 """What a router makes of its facts: routes, RPs, DRs, and which interfaces carry a group's or a source's packets.
 
-This is computed from the printed tables, the routes, the RP ranges and the Hellos that came, as RFC 7761 has it in 4.1.5, 4.1.6
-and 4.3.2, by code of its own. A set of interfaces is a set of their numbers; the register tunnel is in none.
+This is computed from the printed tables, the routes, the RP ranges and the Hellos that came, as RFC 7761 has it in
+4.1.5, 4.1.6 and 4.3.2, by code of its own. A set of interfaces is a set of their numbers; the register tunnel is in
+none.
 """
 import functools
 import ipaddress
@@ -20,9 +21,10 @@ UNREACHABLE = (0x7FFFFFFF, 0xFFFFFFFE)
 
 @dataclass
 class Known:
-    """A router with what it knows: its rows, the interfaces that are up, its routes and RP ranges after all moves, what its
-    neighbours said by their last Hello, by interface and address, by interface the querier that it gave way to last, and by
-    interface, group, source and sender the last Assert that came."""
+    """A router with what it knows: its rows, the interfaces that are up, its routes and RP ranges after all moves, what
+    its neighbours said by their last Hello, by interface and address, by interface the querier that it gave way to
+    last, and by interface, group, source and sender the last Assert that came.
+    """
     router: scenario.Router
     rows: list
     up: set
@@ -87,7 +89,9 @@ class Hop:
 
 @dataclass(frozen=True)
 class Branch:
-    """A tree at a router: the interface on which it expects packets, None where they are its own, and those it sends them on."""
+    """A tree at a router: the interface on which it expects packets, None where they are its own, and those it sends
+    them on.
+    """
     group: str
     source: str
     incoming: int | None
@@ -146,7 +150,9 @@ class OtherQuerier:
 
 
 def hear_query(state, iface, moment, packet):
-    """A query from a lower address makes its sender the querier, with its values, for so long as RFC 3376 has it (8.5)."""
+    """A query from a lower address makes its sender the querier, with its values, for so long as RFC 3376 has it
+    (8.5).
+    """
     own = state.router.interfaces[iface]
     if not isinstance(packet.body, packets.Query) or not 0 < int(ip_address(packet.source)) < int(own.own.ip):
         return
@@ -178,7 +184,9 @@ def rp_of(state, group):
 
 @kept
 def route(state, address):
-    """The route to an address: none to an own one, else over a link, else the longest route where its interface is up."""
+    """The route to an address: none to an own one, else over a link, else the longest route where its interface is
+    up.
+    """
     if address is None or state.router.has(address):
         return None
     wanted = ip_address(address)
@@ -218,7 +226,8 @@ def upstream_neighbour(state, group, source):
         return None
     for row in state.of(printed.AssertState, iface=path.iface, group=group, source=source, role="loser"):
         return Hop(path.iface, row.winner, True)
-    return Hop(path.iface, path.next_hop) if state.of(printed.Neighbour, iface=path.iface, address=path.next_hop) else None
+    return Hop(path.iface, path.next_hop) if state.of(printed.Neighbour, iface=path.iface,
+        address=path.next_hop) else None
 
 
 # ---- who serves a link
@@ -232,7 +241,9 @@ def neighbours_on(state, number):
 
 @kept
 def dr_of(state, number):
-    """The address of an interface's DR: the highest priority, where all neighbours tell one, then the highest address."""
+    """The address of an interface's DR: the highest priority, where all neighbours tell one, then the highest
+    address.
+    """
     own, others = state.router.interfaces[number], neighbours_on(state, number)
     priorities = {own.address: own.priority, **{address: said.priority for address, said in others.items()}}
     is_told = None not in priorities.values()

@@ -67,16 +67,19 @@ def neighbour_row(entry):
 def group_row(entry):
     sources = [("not " if each["is_excluded"] else "") + each["source"] for each in entry["sources"]]
     whose = "yes" if entry["is_served"] else "no"
-    return [at(entry), entry["group"], entry["mode"], until(entry["until"]), ", ".join(sources) or None, entry["querier"], whose]
+    return [at(entry), entry["group"], entry["mode"], until(entry["until"]), ", ".join(sources) or None,
+        entry["querier"], whose]
 
 
 def rp_row(entry):
-    return [entry["range"], entry["rp"], "itself" if entry["is_own"] else at(entry["rpf"]), ", ".join(entry["groups"]) or None]
+    return [entry["range"], entry["rp"], "itself" if entry["is_own"] else at(entry["rpf"]),
+        ", ".join(entry["groups"]) or None]
 
 
 def tables(view):
     """What a router knows as tables: a title, headings and rows of each."""
-    yield "show ip mroute", ["Source", "Group", "Flags", "Incoming", "From", "Outgoing"], list(mroute_rows(view["mroute"]))
+    yield "show ip mroute", ["Source", "Group", "Flags", "Incoming", "From",
+        "Outgoing"], list(mroute_rows(view["mroute"]))
     heads = ["Source", "Group", "RPF", "RPF'", "State", "Join", "Kept alive until", "(S,G,rpt)"]
     yield "show ip pim upstream", heads, list(map(upstream_row, view["upstream"]))
     heads = ["Interface", "Address", "State", "DR", "IGMP querier"]

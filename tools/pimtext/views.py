@@ -25,11 +25,13 @@ def keys(state):
     rows = [row for row in state.rows if isinstance(row, KEYED) and row.group]
     found = {(row.group, ANY if isinstance(row, printed.GroupRecord) else row.source) for row in rows if is_shown(row)}
     found |= {(row.group, ANY) for row in state.of(printed.SharedTree)}
-    return sorted(found, key=lambda key: (ip_address(key[0]), key[1] != ANY, ip_address(key[1]) if key[1] != ANY else 0))
+    return sorted(found,
+        key=lambda key: (ip_address(key[0]), key[1] != ANY, ip_address(key[1]) if key[1] != ANY else 0))
 
 
 KEYED = (
-    printed.GroupRecord, printed.SourceRecord, printed.Downstream, printed.AssertState, printed.Upstream, printed.Active,
+    printed.GroupRecord, printed.SourceRecord, printed.Downstream, printed.AssertState, printed.Upstream,
+        printed.Active,
 )
 
 
@@ -66,7 +68,8 @@ def is_by_source(state, group, source):
     """Whether a source's packets are taken from its own tree: always where there is no other, else with the SPTbit."""
     if source == ANY:
         return False
-    return trees.is_source_specific(group) or trees.is_connected(state, source) or trees.has_spt_bit(state, group, source)
+    return trees.is_source_specific(group) or trees.is_connected(state, source) or trees.has_spt_bit(state, group,
+        source)
 
 
 def incoming(state, group, source):
@@ -122,7 +125,8 @@ def why_none(state, group, source, joined):
 
 
 def interface(state, each):
-    told = {**place(state, each.number), "address": str(each.own), "is_up": each.number in state.up, "priority": each.priority}
+    told = {**place(state, each.number), "address": str(each.own), "is_up": each.number in state.up,
+        "priority": each.priority}
     if not told["is_up"]:
         return told
     querier = trees.querier_of(state, each.number)

@@ -1,7 +1,7 @@
 """Whether hosts are served, by the packets that were really sent; where nobody sent, by what the routers know."""
 from dataclasses import dataclass
 
-from pimtext import died, served, streams, trace, trees, wishes, words
+from pimtext import died, served, streams, trace, trees, wishes
 from pimtext.ends import End
 from pimtext.past import Past
 

@@ -4,7 +4,8 @@ from pimtext.packets import RECORD_KINDS, Refused
 
 REFUSALS = {
     1: "Short", 2: "BadVersion", 3: "BadChecksum", 4: "BadLength", 5: "BadAddress", 6: "NotMulticast", 7: "OldVersion",
-    8: "UnknownType", 9: "Fragment", 20: "MomentBack", 21: "MomentFar", 22: "NoInterface", 23: "InterfaceDown", 24: "Full",
+    8: "UnknownType", 9: "Fragment", 20: "MomentBack", 21: "MomentFar", 22: "NoInterface", 23: "InterfaceDown",
+        24: "Full",
     25: "BadRoutes", 26: "BadRps", 27: "BadMove", 30: "InterfaceCount", 31: "InterfaceAddress", 32: "InterfaceLength",
     33: "Overlap", 34: "BadLimit", 35: "BadQuerier", 36: "BadDelay", 37: "ConfiguredRoutes", 38: "ConfiguredRps",
     39: "BadScenario",
@@ -104,7 +105,8 @@ def data(packet):
 
 
 WRITERS = {
-    packets.Hello: hello, packets.Register: register, packets.RegisterStop: register_stop, packets.JoinPrune: join_prune,
+    packets.Hello: hello, packets.Register: register, packets.RegisterStop: register_stop,
+        packets.JoinPrune: join_prune,
     packets.Assert: assert_words, packets.Query: query, packets.Report: report,
 }
 
@@ -155,7 +157,8 @@ def move(did, router, brought=None):
         case "unicast":
             return f"takes as a unicast: {bytes_given(bytes.fromhex(did['hex']), packets.MOST_IN_A_UNICAST)}"
         case "routes" | "rps":
-            return f"gets new {'routes' if did['do'] == 'routes' else 'RP ranges'}: " + ("; ".join(did["list"]) or "none")
+            return f"gets new {'routes' if did['do'] == 'routes' else 'RP ranges'}: " + ("; ".join(did["list"])
+                or "none")
         case "deliver":
             return f"takes on {place(router, did['iface'])}: packet {did['frame']}{of(brought)}"
         case "carry":

@@ -44,7 +44,8 @@ class Spoilt(unittest.TestCase):
         self.refused("a count is made in SourceTrie::get")
 
     def test_the_same_under_another_name(self):
-        self.spoil("pim_world/src/unicast.rt", "use pim_trie::Meter;", "use pim_trie::Meter as Count;\nuse pim_trie::Meter;")
+        self.spoil("pim_world/src/unicast.rt", "use pim_trie::Meter;",
+            "use pim_trie::Meter as Count;\nuse pim_trie::Meter;")
         self.refused("a count has another name")
 
     def test_a_further_way_to_make_a_meter(self):
@@ -76,7 +77,8 @@ class Spoilt(unittest.TestCase):
         self.spoil(
             "pim_fanout/src/cache.rt",
             "        let made = row(",
-            "        for other in self.all() {\n            row(world, other, meter, &mut Evaluations::none());\n        }\n"
+            "        for other in self.all() "
+            "{\n            row(world, other, meter, &mut Evaluations::none());\n        }\n"
             "        let made = row(",
         )
         self.refused("a count is made in Cache::refresh_one", "a row is evaluated in Cache::refresh_one")

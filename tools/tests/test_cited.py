@@ -99,7 +99,8 @@ impl Router {
     "crates/pim_router/specs/Standing.antt": "unfoldable pub standing : ℕ\nstanding = 1\n",
     "crates/pim_router/specs/Own.antt": "unfoldable pub own : ℕ\nown = 1\n",
     "docs/PROVED.md": "# Proved\n\n## What it means for a network\n\n| `NeverFar` | never |\n\n## Other\n\n| `Lemma` "
-                      "| so |\n\n<!-- trusted definitions -->\nx\n<!-- end -->\n\n<!-- what calls ask -->\nx\n<!-- end -->\n",
+                      "| so |\n\n<!-- trusted definitions -->\nx\n<!-- end -->\n\n<!-- what calls ask -->\nx\n<!-- "
+                      "end -->\n",
     "docs/LIBRARY.md": "# The library\n\n## What one event can bring\n\nNothing.\n",
 }
 

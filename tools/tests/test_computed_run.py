@@ -1,6 +1,7 @@
 """`tools/computed_run`: which equations it makes of a scenario, and what it makes of the kernel's answers.
 
-The kernel is a stand-in here. With KERNEL=1 in the environment the kit's own is asked too, which takes minutes the first time.
+The kernel is a stand-in here. With KERNEL=1 in the environment the kit's own is asked too, which takes minutes the
+first time.
 """
 import contextlib
 import io
@@ -87,7 +88,8 @@ class Read(unittest.TestCase):
                 run.read_case(path)
             except run.SetAside as reason:
                 aside[path.name] = str(reason)
-        known = "its text is refused, before|it ends with an error that no|isn't UTF-8|isn't TOML|two interfaces on its link"
+        known = ("its text is refused, before|it ends with an error that no|isn't UTF-8|isn't TOML|two interfaces on "
+                 "its link")
         self.assertFalse({name: why for name, why in aside.items() if not re.search(known, why)})
 
     def test_a_refused_configuration(self):
@@ -124,7 +126,8 @@ def spoilt(lines, chance):
         case 3:
             lines.insert(chance.randrange(len(lines)), lines.pop(at))
         case 4:
-            lines.insert(at, chance.choice(["", " ", lines[at] + " ", lines[at].upper(), "move 1 r done", "frame 1 n 45"]))
+            lines.insert(at,
+                chance.choice(["", " ", lines[at] + " ", lines[at].upper(), "move 1 r done", "frame 1 n 45"]))
     return lines
 
 
@@ -141,9 +144,11 @@ class Spoilt(unittest.TestCase):
                 if wrong == lines:
                     continue
                 tried += 1
-                with self.subTest(path.name, wrong=next((pair for pair in zip(wrong, lines) if pair[0] != pair[1]), "the end")):
+                with self.subTest(path.name,
+                    wrong=next((pair for pair in zip(wrong, lines) if pair[0] != pair[1]), "the end")):
                     try:
-                        self.assertNotEqual((read(text, wrong).lines, read(text, wrong).is_cut), (case.lines, case.is_cut))
+                        self.assertNotEqual((read(text, wrong).lines, read(text, wrong).is_cut),
+                            (case.lines, case.is_cut))
                     except (run.Differs, run.SetAside):
                         pass
         self.assertGreater(tried, 200)
@@ -157,7 +162,8 @@ class Spoilt(unittest.TestCase):
                 read(text, [*lines, more])
 
     def test_a_last_line_without_its_end(self):
-        with repository({"a.toml": ONE_JOIN.read_text(), "a.out": "move 1 r done"}) as room, self.assertRaises(run.Differs):
+        with repository({"a.toml": ONE_JOIN.read_text(), "a.out": "move 1 r done"}) as room, self.assertRaises(
+            run.Differs):
             run.read_case(room / "a.toml")
 
 
@@ -270,14 +276,16 @@ class Told(unittest.TestCase):
         with repository(files) as room, kit(room, script), mock.patch.object(run, "ROOT", room):
             (room / "out" / "computed_run" / "crates" / "cases").mkdir(parents=True)
             argv = ["computed_run", *words, *(str(room / name) for name in files if name.endswith(".toml"))]
-            with mock.patch.object(run, "scratch_repository"), mock.patch("sys.argv", argv), contextlib.redirect_stdout(out):
+            with mock.patch.object(run, "scratch_repository"), mock.patch("sys.argv",
+                argv), contextlib.redirect_stdout(out):
                 with self.assertRaises(SystemExit) as end:
                     run.main()
         return end.exception.code, out.getvalue().splitlines()
 
     def files(self, *names):
         lines = ONE_JOIN.with_suffix(".out").read_text()
-        return {f"{name}{ending}": text for name in names for ending, text in ((".toml", ONE_JOIN.read_text()), (".out", lines))}
+        return {f"{name}{ending}": text for name in names for ending,
+            text in ((".toml", ONE_JOIN.read_text()), (".out", lines))}
 
     def test_what_the_kernel_proves_holds(self):
         told = self.called("echo logic=checked; echo error: Canary.antt", self.files("a", "b"))
@@ -298,7 +306,8 @@ class Told(unittest.TestCase):
         files = self.files("a")
         files["a.out"] = files["a.out"].replace("move 1 r done", "move 1 r dome")
         status, lines = self.called("false", files)
-        self.assertEqual((status, lines[0]), (1, "a: does not hold: line 1 is none that is printed there: 'move 1 r dome'"))
+        self.assertEqual((status, lines[0]),
+            (1, "a: does not hold: line 1 is none that is printed there: 'move 1 r dome'"))
 
     def test_texts_that_are_none(self):
         status, lines = self.called("false", {"a.toml": "router = 5\n", "a.out": "", "b.toml": "= 3\n", "b.out": ""})
@@ -315,7 +324,8 @@ class WithTheKernel(unittest.TestCase):
         self.assertNotEqual(right, wrong)
         text = ONE_JOIN.read_text()
         with repository({"right.toml": text, "right.out": right, "wrong.toml": text, "wrong.out": wrong}) as room:
-            words = [sys.executable, stored.TOOLS / "computed_run", "--seconds", "1200", room / "right.toml", room / "wrong.toml"]
+            words = [sys.executable, stored.TOOLS / "computed_run", "--seconds", "1200", room / "right.toml",
+                room / "wrong.toml"]
             ran = subprocess.run(words, capture_output=True, text=True)
         self.assertEqual(ran.returncode, 1)
         self.assertIn("right: holds", ran.stdout)

@@ -11,7 +11,8 @@ from tests import stored
 hostile = stored.tool("hostile")
 NEIGHBOUR, OWN = "10.0.0.1", "10.0.0.2"
 HELLO = packets.write_hello(NEIGHBOUR, Hello(105, 500, 2500, 1, 9))
-JOIN = packets.write_join_prune(NEIGHBOUR, OWN, [GroupEntries("225.1.1.1", 32, (Entry("10.9.9.9", 32, True, True),), ())])
+JOIN = packets.write_join_prune(NEIGHBOUR, OWN,
+    [GroupEntries("225.1.1.1", 32, (Entry("10.9.9.9", 32, True, True),), ())])
 ASSERT = packets.write_assert(NEIGHBOUR, packets.Assert("225.1.1.1", 32, "10.9.0.1", False, 110, 20))
 REPORT = packets.write_report(NEIGHBOUR, [Record(4, "225.1.1.1", ("10.9.0.1",)), Record(6, "225.1.1.2", ())])
 ALL = {"Hello": HELLO, "Join/Prune": JOIN, "Assert": ASSERT, "report": REPORT}

@@ -28,7 +28,9 @@ def small(**words):
 
 
 def received(**words):
-    """The numbers of a stream's packets that a viewer received, in their order, and when the first one came after it was sent."""
+    """The numbers of a stream's packets that a viewer received, in their order, and when the first one came after it
+    was sent.
+    """
     net = Network(**words)
     net.line("r1", "r2")
     camera, viewer = net.host("camera", "r1"), net.host("viewer", "r2")
@@ -51,7 +53,8 @@ class Routes(unittest.TestCase):
         net.link("b", "c", cost=1)
         net.link("a", "c", cost=5)
         net.host("far", "c")
-        self.assertEqual(topology.routes(net.routers["a"]), ["10.0.2.0/24 10.0.1.2 0 110 2", "10.0.4.0/24 10.0.1.2 0 110 12"])
+        self.assertEqual(topology.routes(net.routers["a"]),
+            ["10.0.2.0/24 10.0.1.2 0 110 2", "10.0.4.0/24 10.0.1.2 0 110 12"])
 
     def test_fixed_routes_take_the_place_of_others(self):
         net = Network()
@@ -134,7 +137,8 @@ class Links(unittest.TestCase):
             steps, tables = story.played(read, scenario.run_text(net.scenario()))
             again = [(sent.number, sent.where, sent.data, sent.move) for step in steps for sent in step.sent]
             self.assertEqual(again, [(sent.number, sent.where, sent.data, sent.move) for sent in net.sent])
-            self.assertEqual({name: table.rows for name, table in tables.items()}, {n: t.rows for n, t in net.tables().items()})
+            self.assertEqual({name: table.rows for name, table in tables.items()},
+                {n: t.rows for n, t in net.tables().items()})
 
     def test_a_seed_says_it_all(self):
         seen = []
@@ -176,7 +180,8 @@ class Calls(unittest.TestCase):
             net.run(5)
             camera.stream(GROUP, times=20)
             net.run(60)
-        self.assertEqual([set(viewer.payloads()) for viewer in viewers], 4 * [{str(number).encode() for number in range(1, 21)}])
+        self.assertEqual([set(viewer.payloads()) for viewer in viewers],
+            4 * [{str(number).encode() for number in range(1, 21)}])
         self.assertLessEqual(played.call_count, 10)
 
 
@@ -217,7 +222,9 @@ class Odd(unittest.TestCase):
 
 
 def broken(how, times=3, **host):
-    """The payloads that come to a viewer behind three routers, the RP in the middle, and the network: `how` breaks it."""
+    """The payloads that come to a viewer behind three routers, the RP in the middle, and the network: `how` breaks
+    it.
+    """
     net = Network()
     net.line("a", "b", "c")
     net.rp("b")
@@ -336,7 +343,8 @@ WRONG = [
     ('net.run(1); net.packets("Hello")', "'Hello' is no kind of packet: it is the class of this name, without quotes"),
     ('net.run(1); net.packets("Helo")', "'Helo' is no kind of packet; is Hello meant?"),
     ('net.run(1); net.tree("239.1.1.1", "somebody")', "'somebody' is no source"),
-    ('net.run(1); viewer.served("239.1.1.1", "10.99.0.1")', "the source 10.99.0.1 is in the subnet of no link that is up"),
+    ('net.run(1); viewer.served("239.1.1.1", "10.99.0.1")',
+        "the source 10.99.0.1 is in the subnet of no link that is up"),
     ('net.tables()', "nothing has run yet"),
     ('net.save("net.toml")', "nothing has run yet"),
     ('net.run(1); net.save("/nowhere/net.toml")', "/nowhere/net.toml can't be written: No such file or directory"),
@@ -349,8 +357,10 @@ WRONG = [
     ('Network(delay=(2, 1))', "the delay (2, 1) begins with the longer one"),
     ('Network(step=0)', "0 is no step: it is a number from 0.001 on"),
     ('net.link("a", "b", cost="x")', "'x' is no cost of a link: it is a whole number from 1 on"),
-    ('net.link("a", "b", "c", subnet="10.9.9.0/30")', "the subnet 10.9.9.0/30 is too small: c would have its address 3"),
-    ('net.host("x", net.link("a", subnet="10.9.9.0/26"))', "the subnet 10.9.9.0/26 is too small: x would have its address 101"),
+    ('net.link("a", "b", "c", subnet="10.9.9.0/30")',
+        "the subnet 10.9.9.0/30 is too small: c would have its address 3"),
+    ('net.host("x", net.link("a", subnet="10.9.9.0/26"))',
+        "the subnet 10.9.9.0/26 is too small: x would have its address 101"),
     ('net.ring("a")', "a line has two routers or more, and a ring too"),
     ('camera.send("239.1.1.1", "one")', "'one' is no payload: it is bytes, as b\"one\""),
     ('camera.send("239.1.1.1", bytes(1473))', "a payload of 1473 bytes is too long: a packet takes 1472"),
@@ -400,14 +410,16 @@ class Mistakes(unittest.TestCase):
 
     def test_a_file_that_is_not_there(self):
         ran = subprocess.run([stored.TOOLS / "lab", "nowhere.py"], capture_output=True, text=True)
-        self.assertEqual((ran.returncode, ran.stderr), (1, "tools/lab: nowhere.py can't be read: No such file or directory\n"))
+        self.assertEqual((ran.returncode, ran.stderr),
+            (1, "tools/lab: nowhere.py can't be read: No such file or directory\n"))
 
     def test_what_is_odd_is_told_where_it_is_asked(self):
         text = BEFORE + 'net.rp("hub")\nnet.run(10)\ncamera.send("239.1.1.1")\nnet.run(1)\n'
         self.assertEqual(self.ran(text), (0, "", ""))
         status, out, err = self.ran(text, "--why")
         self.assertEqual((status, out), (0, ""))
-        self.assertRegex(err, r"\Anet.py:7: move [0-9]+ \(frame\), router west: nobody asks for 239.1.1.1 in this run\n\Z")
+        self.assertRegex(err,
+            r"\Anet.py:7: move [0-9]+ \(frame\), router west: nobody asks for 239.1.1.1 in this run\n\Z")
 
 
 class Examples(unittest.TestCase):

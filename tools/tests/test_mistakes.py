@@ -28,7 +28,8 @@ class Mistakes(unittest.TestCase):
     def test_another_rp_than_the_other_routers_have(self):
         network = Network()
         network.router("east")["rps"] = ["239.0.0.0/8 10.0.1.1"]
-        self.told(network, network.line("east"), f"the RP of {GROUP} is 10.0.1.1 here, and {RP} at router west (line 2)")
+        self.told(network, network.line("east"),
+            f"the RP of {GROUP} is 10.0.1.1 here, and {RP} at router west (line 2)")
 
     def test_a_dr_without_an_rp(self):
         network = Network()

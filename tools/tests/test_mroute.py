@@ -35,7 +35,8 @@ class Shown(unittest.TestCase):
     def test_mroutes(self):
         shared, own = self.view("east")["mroute"]
         self.assertEqual((shared["source"], shared["group"], shared["flags"]), ("*", GROUP, "SC"))
-        self.assertEqual((shared["incoming"], shared["rpf_neighbour"]), ({"interface": 0, "link": "hub-east"}, "10.0.2.2"))
+        self.assertEqual((shared["incoming"], shared["rpf_neighbour"]),
+            ({"interface": 0, "link": "hub-east"}, "10.0.2.2"))
         self.assertEqual(shared["outgoing"], [{"interface": 1, "link": "home", "why": [f"hosts want (*, {GROUP})"]}])
         self.assertEqual((own["source"], own["by"]), (SOURCE, "shared tree"))
         (first,) = self.view("west")["mroute"]
@@ -43,7 +44,8 @@ class Shown(unittest.TestCase):
 
     def test_whether_a_join_leaves(self):
         shared, own = self.view("east")["upstream"]
-        self.assertEqual((shared["sends_joins"], shared["rpf_neighbour"], shared["next_join"]), (True, "10.0.2.2", 65000))
+        self.assertEqual((shared["sends_joins"], shared["rpf_neighbour"], shared["next_join"]),
+            (True, "10.0.2.2", 65000))
         self.assertEqual((own["joined"], own["rpt"], own["kept_alive_until"]), (True, "notpruned", 215000))
         (first,) = self.view("west")["upstream"]
         self.assertEqual((first["sends_joins"], first["why_none"]), (False, "the tree begins here"))
@@ -82,7 +84,8 @@ class Shown(unittest.TestCase):
         status, out, _ = called(self.path, "--router", "east")
         self.assertEqual(status, 0)
         lines = [line.split() for line in out.splitlines()]
-        self.assertIn(["*", GROUP, "SC", "0", "hub-east", "10.0.2.2", "1", "home", "(hosts", "want", "(*,", f"{GROUP}))"], lines)
+        self.assertIn(
+            ["*", GROUP, "SC", "0", "hub-east", "10.0.2.2", "1", "home", "(hosts", "want", "(*,", f"{GROUP}))"], lines)
         self.assertIn(["1", "home", GROUP, "exclude", "265.000", "s", "-", "10.8.0.1", "yes"], lines)
         for title in ("mroute", "pim upstream", "pim interface", "pim neighbor", "igmp groups", "pim rp-info"):
             self.assertIn(f"  show ip {title}", out.splitlines())

@@ -50,7 +50,8 @@ class Written(unittest.TestCase):
     def test_what_routers_and_hosts_sent(self):
         read, steps = self.network()
         written = list(packets_in(b"".join(pcap.capture(read, pcap.seen(read, steps, True)))))
-        hosts = [(list(read.links())[number], comment) for number, _, comment in written if comment.startswith("given to")]
+        hosts = [(list(read.links())[number], comment) for number, _,
+            comment in written if comment.startswith("given to")]
         self.assertEqual([link for link, _ in hosts], ["home", "studio"])
         self.assertIn(f"TO_EX {GROUP}", hosts[0][1])
         self.assertIn(f"{SOURCE} > {GROUP}: data", hosts[1][1])
@@ -58,7 +59,8 @@ class Written(unittest.TestCase):
         self.assertIn(bytes.fromhex(data()["hex"]), [content for _, content, _ in written])
 
     def test_what_several_routers_take_is_one_packet(self):
-        both = [report(TO_EX, GROUP, router=name, iface=number, host="10.0.2.77") for name, number in (("hub", 1), ("east", 0))]
+        both = [report(TO_EX, GROUP, router=name, iface=number, host="10.0.2.77") for name,
+            number in (("hub", 1), ("east", 0))]
         for said, count in ((both, 1), (both + both, 2), (both[:1] * 3, 3)):
             read, steps = self.network(*said)
             self.assertEqual(sum(each.comment.startswith("given to") for each in pcap.seen(read, steps, True)), count)
@@ -68,12 +70,14 @@ class Written(unittest.TestCase):
             read, steps = self.network({"do": "frame", "router": "east", "iface": 1, "hex": text})
             (given,) = [each for each in pcap.seen(read, steps, True) if each.comment.startswith("given to")]
             self.assertIn("malformed", given.comment)
-            self.assertIn(bytes.fromhex(text), [content for _, content, _ in packets_in(b"".join(pcap.capture(read, [given])))])
+            self.assertIn(bytes.fromhex(text),
+                [content for _, content, _ in packets_in(b"".join(pcap.capture(read, [given])))])
 
     def test_a_file_that_cannot_be_written(self):
         words = [stored.TOOLS / "pcap", stored.EXAMPLES / "one_join.toml", "/nowhere/run.pcapng"]
         ran = subprocess.run(words, capture_output=True, text=True)
-        self.assertEqual((ran.returncode, ran.stderr), (1, "/nowhere/run.pcapng can't be written: No such file or directory\n"))
+        self.assertEqual((ran.returncode, ran.stderr),
+            (1, "/nowhere/run.pcapng can't be written: No such file or directory\n"))
 
 
 def fields(path, *names, where="frame"):

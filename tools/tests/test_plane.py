@@ -1,4 +1,6 @@
-"""tools/plane: a plane that keeps its duties sends what the router alone sends, and one that forgets any of them doesn't."""
+"""tools/plane: a plane that keeps its duties sends what the router alone sends, and one that forgets any of them
+doesn't.
+"""
 import os
 import shutil
 import sys

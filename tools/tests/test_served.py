@@ -197,7 +197,8 @@ class Asked(unittest.TestCase):
         with tempfile.TemporaryDirectory() as room:
             path = Path(room) / "net.toml"
             path.write_text(network.text())
-            ran = subprocess.run([sys.executable, stored.TOOLS / "why", path, "--served", *words], capture_output=True, text=True)
+            ran = subprocess.run([sys.executable, stored.TOOLS / "why", path, "--served", *words], capture_output=True,
+                text=True)
         return ran.returncode, ran.stdout, ran.stderr
 
     def test_status_and_last_line(self):
@@ -212,7 +213,8 @@ class Asked(unittest.TestCase):
         self.assertIn(f"{HOST} isn't served: east has no RP for {GROUP}\n  cause: ", out)
 
     def test_words_that_are_no_addresses(self):
-        for words, told in ((["home"], "home is no host's address"), ([HOST, SOURCE], f"{SOURCE} is no group's address")):
+        for words, told in ((["home"], "home is no host's address"),
+            ([HOST, SOURCE], f"{SOURCE} is no group's address")):
             status, _, err = self.called(Network(), *words)
             self.assertEqual((status, err), (1, f"tools/why: {told}\n"))
 

@@ -1,4 +1,5 @@
-"""What is computed of a router's tables is what the router does: where data leave, and with which RP they are registered.
+"""What is computed of a router's tables is what the router does: where data leave, and with which RP they are
+registered.
 
 PLACES and SEED in the environment ask for another number of the stored scenarios' packets (40) and for others.
 """
@@ -99,7 +100,8 @@ class Joined(unittest.TestCase):
         played = scenario.scenario_of({"router": network.routers, "move": network.moves()})
         known = trees.known(played, *story.played(played, scenario.run_text(network.text())))
         found = {(name, branch.source): branch for name, state in known.items() for branch in trees.branches(state)}
-        shared = {name: (branch.incoming, set(branch.outgoing)) for (name, source), branch in found.items() if source == "*"}
+        shared = {name: (branch.incoming, set(branch.outgoing)) for (name, source),
+            branch in found.items() if source == "*"}
         self.assertEqual(shared, {"hub": (None, {1}), "east": (0, {1})})
         self.assertEqual({name for name, source in found if source == SOURCE}, {"west", "hub", "east"})
 

@@ -76,7 +76,8 @@ module _ (n : ℕ) where
 
 
 def listed(code, lemmas="", others=""):
-    files = {"crates/kin/src/lib.rt": code, "crates/kin/proofs/Lemmas.antt": lemmas, "crates/kin/proofs/Others.antt": others}
+    files = {"crates/kin/src/lib.rt": code, "crates/kin/proofs/Lemmas.antt": lemmas,
+        "crates/kin/proofs/Others.antt": others}
     # What was built is no part of it.
     files["crates/kin/src/out/lib.rt"] = "fn built() {\n}\n"
     with repository(files) as room, mock.patch.object(unused, "TOP", room):
@@ -88,7 +89,8 @@ class Listed(unittest.TestCase):
         self.assertEqual(listed(CODE), ["function left", "function in_a_clause"])
 
     def test_what_is_called_from_another_crate_is_used(self):
-        self.assertEqual(listed(CODE + "fn last() -> u32 {\n    left() + in_a_clause() + last()\n}\n"), ["function last"])
+        self.assertEqual(listed(CODE + "fn last() -> u32 {\n    left() + in_a_clause() + last()\n}\n"),
+            ["function last"])
 
     def test_what_c_calls_is_used(self):
         self.assertNotIn("function pim_call", listed(CODE))
@@ -121,17 +123,21 @@ class Listed(unittest.TestCase):
         self.assertEqual(found, ["inner_forgotten", "last"])
 
     def test_an_import_is_no_use_in_groups_of_groups_too(self):
-        imports = "use Rattle.kin.proofs.{Lemmas.{forgotten, IsRoute}, Deep.{forgotten as old, Deeper.{inner_forgotten}}}\n"
+        imports = ("use Rattle.kin.proofs.{Lemmas.{forgotten, IsRoute}, "
+                   "Deep.{forgotten as old, Deeper.{inner_forgotten}}}\n")
         self.assertEqual(listed("", imports + LEMMAS), ["forgotten", "inner_forgotten"])
-        self.assertEqual(listed("", imports + LEMMAS + "\nlast : ℕ\nlast = forgotten last\n"), ["inner_forgotten", "last"])
+        self.assertEqual(listed("", imports + LEMMAS + "\nlast : ℕ\nlast = forgotten last\n"),
+            ["inner_forgotten", "last"])
 
     def test_a_record_that_nothing_names(self):
-        self.assertEqual(listed("", LEMMAS.replace("→ IsRoute n", "→ n ≡ n")), ["IsRoute", "forgotten", "inner_forgotten"])
+        self.assertEqual(listed("", LEMMAS.replace("→ IsRoute n", "→ n ≡ n")),
+            ["IsRoute", "forgotten", "inner_forgotten"])
 
     def test_places(self):
         with repository({"crates/kin/src/lib.rt": CODE}) as room, mock.patch.object(unused, "TOP", room):
             first = next(iter(unused.unused_functions()))
-        self.assertEqual(first, f"crates/kin/src/lib.rt:{CODE[:CODE.index('pub fn left')].count(chr(10)) + 1}: function left")
+        self.assertEqual(first,
+            f"crates/kin/src/lib.rt:{CODE[:CODE.index('pub fn left')].count(chr(10)) + 1}: function left")
 
 
 class Here(unittest.TestCase):

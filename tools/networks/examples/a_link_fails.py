@@ -1,4 +1,6 @@
-"""A square: the link on the way to the RP fails, and the tree goes round it; it comes again, and the tree comes back."""
+"""A square: the link on the way to the RP fails, and the tree goes round it; it comes again, and the tree comes
+back.
+"""
 from lab import Network
 
 net = Network()

@@ -1,4 +1,6 @@
-"""Two routers on the viewers' LAN: the one with the higher priority serves them, and when it falls silent the other one does."""
+"""Two routers on the viewers' LAN: the one with the higher priority serves them, and when it falls silent the other one
+does.
+"""
 from lab import Network
 
 net = Network()

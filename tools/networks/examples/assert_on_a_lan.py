@@ -1,4 +1,6 @@
-"""Two routers send onto one LAN: the first packet comes twice, then an Assert leaves it to the one with the better route."""
+"""Two routers send onto one LAN: the first packet comes twice, then an Assert leaves it to the one with the better
+route.
+"""
 from lab import AssertState, Network
 from pimtext.packets import Assert
 

@@ -1,4 +1,6 @@
-"""A triangle: the first packet comes by the RP, later ones straight from the source's router, unless that is switched off."""
+"""A triangle: the first packet comes by the RP, later ones straight from the source's router, unless that is switched
+off.
+"""
 from lab import Network
 from pimtext.packets import Register, RegisterStop
 

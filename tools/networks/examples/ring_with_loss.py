@@ -1,7 +1,8 @@
 """A ring of ten routers that loses a tenth of all packets: every receiver is served all the same.
 
-A lost Hello is sent again after half a minute, a lost Join after a minute: once that has passed, the trees stand. What is lost
-of the data itself is lost. It takes some seconds, for what is lost at one moment decides what happens at later ones.
+A lost Hello is sent again after half a minute, a lost Join after a minute: once that has passed, the trees stand. What
+is lost of the data itself is lost. It takes some seconds, for what is lost at one moment decides what happens at later
+ones.
 """
 from lab import Network
 

@@ -15,10 +15,10 @@
     assert viewer.payloads() == [b"one"]
     assert net.tree("239.1.1.1").path(viewer) == ["r2", "r3"]
 
-Unicast routes are computed by shortest path. Time passes for all routers together, in steps; after each step all that was
-sent is delivered. With `loss`, `delay` or `reorder` the packets between routers suffer, by chance from `seed`: the same
-network with the same seed does the same. Hosts speak IGMPv3 and answer queries. Times that one gives are seconds; moments
-that one reads are ms, as in the tables.
+Unicast routes are computed by shortest path. Time passes for all routers together, in steps; after each step all that
+was sent is delivered. With `loss`, `delay` or `reorder` the packets between routers suffer, by chance from `seed`: the
+same network with the same seed does the same. Hosts speak IGMPv3 and answer queries. Times that one gives are seconds;
+moments that one reads are ms, as in the tables.
 
 `tools/lab FILE.py` runs such a file; tools/networks/examples has some.
 """
@@ -27,10 +27,12 @@ from lab.mistakes import Mistake
 from lab.network import Network
 from lab.topology import Link, Router
 from lab.tree import Tree
-from pimtext.printed import NEVER, Active, AssertState, Downstream, GroupRecord, Neighbour, SharedTree, SourceRecord, Upstream
+from pimtext.printed import (NEVER, Active, AssertState, Downstream, GroupRecord, Neighbour, SharedTree, SourceRecord,
+                             Upstream)
 from pimtext.scenario import Refused
 
 __all__ = [
-    "NEVER", "Active", "AssertState", "Downstream", "GroupRecord", "Host", "Link", "Mistake", "Neighbour", "Network", "Received",
+    "NEVER", "Active", "AssertState", "Downstream", "GroupRecord", "Host", "Link", "Mistake", "Neighbour", "Network",
+        "Received",
     "Refused", "Router", "SharedTree", "SourceRecord", "Tree", "Upstream",
 ]

@@ -9,7 +9,8 @@ from pimtext.addresses import address_in, is_group, is_host
 TABLES = list(printed.ROWS.values())
 LINK_LOCAL = IPv4Network("224.0.0.0/24")
 KINDS = [
-    packets.Hello, packets.Register, packets.RegisterStop, packets.JoinPrune, packets.Assert, packets.Query, packets.Report,
+    packets.Hello, packets.Register, packets.RegisterStop, packets.JoinPrune, packets.Assert, packets.Query,
+        packets.Report,
     packets.Data,
 ]
 
@@ -54,7 +55,8 @@ def group_given(group):
     """A group's address, or a sentence."""
     address = address_in(group) if isinstance(group, str) else None
     if address is None or not is_group(address):
-        raise Mistake(f"{shown(group)} is no group: it is an address from 224.0.0.0 to 239.255.255.255, as \"239.1.1.1\"")
+        raise Mistake(
+            f"{shown(group)} is no group: it is an address from 224.0.0.0 to 239.255.255.255, as \"239.1.1.1\"")
     if packets.octets(group)[:3] == LINK_LOCAL.network_address.packed[:3]:
         raise Mistake(f"{group} is in {LINK_LOCAL}, and no router forwards its packets")
     return group
@@ -113,7 +115,8 @@ def delay_given(delay):
         raise Mistake(f"{shown(delay)} is no delay: it is the least and the most seconds, as (0.01, 0.05)")
     least, most = (ms_given(seconds, "number of seconds") for seconds in delay)
     if least > most:
-        raise Mistake(f"the delay {delay!r} begins with the longer one: it is the least and the most seconds, as (0.01, 0.05)")
+        raise Mistake(
+            f"the delay {delay!r} begins with the longer one: it is the least and the most seconds, as (0.01, 0.05)")
     return least, most
 
 

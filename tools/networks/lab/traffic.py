@@ -53,7 +53,8 @@ class Traffic:
 
     def copy(self):
         """Another one for guesses."""
-        return Traffic(self.net, self.read, self.chances, dict(self.dues), dict(self.latest), dict(self.content), self.habits,
+        return Traffic(self.net, self.read, self.chances, dict(self.dues), dict(self.latest), dict(self.content),
+            self.habits,
                        self.last)
 
     # ---- what is due

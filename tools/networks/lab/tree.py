@@ -8,7 +8,9 @@ from pimtext.words import tree as tree_name
 
 @dataclass(frozen=True)
 class Tree:
-    """By router: the name of the link on which it expects the packets, None where it is the root, and those it sends them on."""
+    """By router: the name of the link on which it expects the packets, None where it is the root, and those it sends
+    them on.
+    """
     group: str
     source: str
     incoming: dict
@@ -28,7 +30,8 @@ class Tree:
     def path(self, host):
         """The names of the routers from the root to a host; empty where the tree doesn't reach it."""
         found, link = [], host.link.name
-        while router := next((name for name, links in self.outgoing.items() if link in links and name not in found), None):
+        while router := next((name for name, links in self.outgoing.items() if link in links and name not in found),
+            None):
             found.insert(0, router)
             link = self.incoming[router]
         return found
