@@ -3,10 +3,10 @@ use crate::error::Fatal;
 use crate::mroute::Key;
 use crate::plane::Row;
 use crate::settings::{RpSettings, Settings};
-use viqeshor::{Error, Packet, Range, Refusal, Route, Router, Sent, Table, Verdict, MOST_BYTES};
 use rand::rngs::{OsRng, StdRng};
 use rand::{RngCore, SeedableRng};
 use std::net::Ipv4Addr;
+use viqeshor::{Error, Packet, Range, Refusal, Route, Router, Sent, Table, Verdict, MOST_BYTES};
 
 /// What happens to the router.
 #[derive(Clone, Copy, Debug)]

@@ -18,10 +18,10 @@ use crate::routes::Counts;
 use crate::settings::Settings;
 use crate::{stand_in, words};
 use log::{debug, info, warn};
-use viqeshor::{Route, Table};
 use std::collections::{BTreeMap, BTreeSet};
 use std::net::Ipv4Addr;
 use std::path::{Path, PathBuf};
+use viqeshor::{Route, Table};
 
 /// A line of a kind that may come often, at most so often, in ms.
 const SAY_EVERY: u64 = 10_000;

@@ -14,10 +14,10 @@
 //! What comes on another interface is a stray for the kernel, which drops it and hands up one in three seconds, whole.
 use crate::mroute::{Forwarded, Key, REGISTER_VIF};
 use crate::netlink::Used;
-use viqeshor::{Interfaces, PlaneRow};
 use std::collections::{BTreeSet, HashMap};
 use std::io;
 use std::net::Ipv4Addr;
+use viqeshor::{Interfaces, PlaneRow};
 
 /// Told so long after a source's last packet that it was alive, the router would let it go.
 pub const KEEPALIVE: u64 = 210_000;

@@ -7,10 +7,10 @@ use crate::mroute::Key;
 use crate::packet::{address, is_pim, Packet, IGMP};
 use crate::split;
 use log::warn;
-use viqeshor::{Row, Table};
 use std::collections::{BTreeMap, HashMap, HashSet};
 use std::fmt;
 use std::net::Ipv4Addr;
+use viqeshor::{Row, Table};
 
 pub mod lists;
 mod refusals;

@@ -4,8 +4,8 @@
 //! the kernel has for a prefix (a blackhole, an interface that isn't the router's, another subnet on a link, a next
 //! hop in IPv6) is a hole: there a shorter route has to end, so it is told as the prefixes around the hole.
 use crate::settings::{mask, RouteSettings, Subnet};
-use viqeshor::Route;
 use std::collections::HashMap;
+use viqeshor::Route;
 
 pub const MOST_ROUTES: usize = 100_000;
 

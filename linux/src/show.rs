@@ -7,16 +7,17 @@ use crate::plane::Entry;
 use crate::ports::{Port, Standing};
 use crate::routes::{longest, Counts};
 use crate::settings::{mask, RpSettings};
-use viqeshor::{Interfaces, Row, Table};
 use serde_json::{json, Map, Value};
 use std::collections::{BTreeMap, BTreeSet, HashMap};
 use std::net::Ipv4Addr;
+use viqeshor::{Interfaces, Row, Table};
 
 pub const TOPICS: [&str; 6] = ["mroute", "neighbors", "igmp", "rp", "interfaces", "counters"];
 const SSM: (u32, u8) = (0xe800_0000, 8);
 /// States of `Table::Downstream`.
 const PRUNED: u32 = 3;
-const REGISTER_STATES: [&str; 4] = ["none", "join", "join pending", "prune"];
+/// The state of `Table::Active` in which data is registered.
+const REGISTER_JOIN: u32 = 1;
 
 /// Named values, in the order in which a table of text has them.
 type Cells = Vec<(&'static str, Value)>;
@@ -227,52 +228,138 @@ fn igmp(daemon: &mut Daemon) -> Result<Rows, Fatal> {
         ]
     };
     let key = |row: &Row| (row.iface, u32::from(row.group), u32::from(row.source));
-    let mut all: BTreeMap<_, _> = groups.iter().map(|row| ((row.iface, u32::from(row.group), 0), of_group(row))).collect();
+    let mut all: BTreeMap<_, _> =
+        groups.iter().map(|row| ((row.iface, u32::from(row.group), 0), of_group(row))).collect();
     all.extend(sources.iter().map(|row| (key(row), of_source(row))));
     Ok(all.into_values().collect())
 }
 
 // ---- the forwarding cache
 
-fn names(daemon: &Daemon, set: Interfaces) -> Vec<String> {
-    set.iter().map(|iface| daemon.name(iface).to_string()).collect()
+/// Where packets of an entry leave.
+fn leaving(daemon: &Daemon, entry: &Entry) -> Vec<String> {
+    let accepted = entry.way.accepted;
+    let outgoing = entry.row.filter(|_| accepted.is_some()).map(|row| row.outgoing);
+    let leaves = outgoing.iter().flat_map(|set: &Interfaces| set.iter()).filter(|iface| Some(*iface) != accepted);
+    leaves.map(|iface| daemon.name(iface).to_string()).collect()
+}
+
+/// The interfaces where somebody asks for a group's sources, or for one of them: by group and source, 0 for all.
+type Asking = BTreeMap<(u32, u32), BTreeSet<u32>>;
+
+/// Whether the hosts of an interface are this router's: it is the designated one and lost no assert, or it won one.
+fn serves(daemon: &Daemon, asserts: &[Row], iface: u32, group: u32, source: u32) -> bool {
+    let port = &daemon.ports[iface as usize];
+    let of_it = |row: &&Row| (row.iface, u32::from(row.group), u32::from(row.source)) == (iface, group, source);
+    asserts.iter().find(of_it).map_or_else(|| Some(designated(daemon, port)) == port.address(), |row| !row.is_set)
+}
+
+/// Hosts that the router serves.
+fn asking_hosts(daemon: &mut Daemon) -> Result<Asking, Fatal> {
+    let (groups, sources) = (rows_of(daemon, Table::Groups)?, rows_of(daemon, Table::Sources)?);
+    let asserts = rows_of(daemon, Table::Asserts)?;
+    let excluding: BTreeSet<_> =
+        groups.iter().filter(|row| row.is_set).map(|row| (row.iface, u32::from(row.group))).collect();
+    let of_all = excluding.iter().map(|(iface, group)| (*iface, *group, 0));
+    // A source that has no time is excluded; where a group is excluded the others are asked for with it.
+    let is_asked = |row: &&Row| row.end != u64::MAX && !excluding.contains(&(row.iface, u32::from(row.group)));
+    let of_one = sources.iter().filter(is_asked).map(|row| (row.iface, u32::from(row.group), u32::from(row.source)));
+    let mut asking = Asking::new();
+    for (iface, group, source) in of_all.chain(of_one).filter(|it| serves(daemon, &asserts, it.0, it.1, it.2)) {
+        asking.entry((group, source)).or_default().insert(iface);
+    }
+    Ok(asking)
+}
+
+/// Routers that joined.
+fn asking_routers(daemon: &mut Daemon) -> Result<Asking, Fatal> {
+    let mut asking = Asking::new();
+    for row in rows_of(daemon, Table::Downstream)?.iter().filter(|row| !row.is_rpt && row.state != PRUNED) {
+        asking.entry((u32::from(row.group), u32::from(row.source))).or_default().insert(row.iface);
+    }
+    Ok(asking)
+}
+
+/// Who asks for which groups and sources.
+struct Askers {
+    hosts: Asking,
+    routers: Asking,
+}
+
+impl Askers {
+    fn read(daemon: &mut Daemon) -> Result<Askers, Fatal> {
+        Ok(Askers { hosts: asking_hosts(daemon)?, routers: asking_routers(daemon)? })
+    }
+
+    /// A source is also asked for by those who ask for all of its group.
+    fn is_asked(asking: &Asking, (group, source): (u32, u32)) -> bool {
+        asking.contains_key(&(group, 0)) || asking.contains_key(&(group, source))
+    }
+
+    fn in_words(&self, place: (u32, u32)) -> Vec<&'static str> {
+        let kinds = [("hosts", &self.hosts), ("routers", &self.routers)];
+        kinds.into_iter().filter(|(_, asking)| Askers::is_asked(asking, place)).map(|(name, _)| name).collect()
+    }
+}
+
+/// What the flags of `show mroute` say, in the order of their letters.
+#[derive(Clone, Copy, Default)]
+struct Flags {
+    /// Hosts that the router serves ask for it.
+    has_hosts: bool,
+    /// It goes to an interface, or to the RP in Registers.
+    is_sent: bool,
+    /// The source is pruned off the shared tree.
+    is_pruned: bool,
+    is_registering: bool,
+    has_spt_bit: bool,
+}
+
+impl Flags {
+    fn letters(self) -> String {
+        let Flags { has_hosts, is_sent, is_pruned, is_registering, has_spt_bit } = self;
+        let flags = [
+            ('S', true),
+            ('C', has_hosts),
+            ('P', !is_sent),
+            ('R', is_pruned),
+            ('F', is_registering),
+            ('T', has_spt_bit),
+        ];
+        flags.into_iter().filter(|(_, is_set)| *is_set).map(|(letter, _)| letter).collect()
+    }
 }
 
 /// The shared trees: each group that a host or a router asked for.
-fn shared_trees(daemon: &mut Daemon) -> Result<BTreeMap<(u32, u32), Cells>, Fatal> {
-    let mut wanted: BTreeMap<u32, BTreeSet<String>> = BTreeMap::new();
-    for row in rows_of(daemon, Table::Downstream)?.iter().filter(|row| u32::from(row.source) == 0 && row.state != PRUNED) {
-        wanted.entry(u32::from(row.group)).or_default().insert(daemon.name(row.iface).to_string());
+fn shared_trees(daemon: &Daemon, askers: &Askers) -> BTreeMap<(u32, u32), Cells> {
+    let mut wanted: BTreeMap<u32, BTreeSet<u32>> = BTreeMap::new();
+    for ((group, _), ifaces) in askers.hosts.iter().chain(&askers.routers).filter(|((_, source), _)| *source == 0) {
+        wanted.entry(*group).or_default().extend(ifaces);
     }
-    let joined: BTreeSet<_> = wanted.keys().copied().collect();
-    let mut hosts = BTreeSet::new();
-    for row in rows_of(daemon, Table::Groups)?.iter().filter(|row| row.is_set) {
-        hosts.insert(u32::from(row.group));
-        let port = &daemon.ports[row.iface as usize];
-        if Some(designated(daemon, port)) == port.address() {
-            wanted.entry(u32::from(row.group)).or_default().insert(port.settings.name.clone());
-        }
-    }
-    let row = |(group, outgoing): (&u32, &BTreeSet<String>)| {
+    let row = |(group, outgoing): (&u32, &BTreeSet<u32>)| {
         let rp = rp_of(&daemon.settings.rps, *group);
         let is_here = daemon.ports.iter().any(|port| port.address() == rp);
-        let way = rp.filter(|_| !is_here).and_then(|rp| way(daemon, rp));
-        let hosts = if hosts.contains(group) { "C" } else { "" };
-        let routers = if joined.contains(group) { "J" } else { "" };
+        let way = rp.filter(|_| !is_here).and_then(|rp| way(daemon, rp)).map(|(iface, _)| iface);
+        let leaves: BTreeSet<_> =
+            outgoing.iter().filter(|iface| Some(**iface) != way).map(|iface| daemon.name(*iface)).collect();
+        let place = (*group, 0);
+        let has_hosts = Askers::is_asked(&askers.hosts, place);
+        let flags = Flags { has_hosts, is_sent: !leaves.is_empty(), ..Flags::default() };
         let cells = vec![
             ("source", json!("*")),
             ("group", address(*group)),
-            ("flags", json!(format!("S{hosts}{routers}"))),
-            ("incoming", way.map_or(Value::Null, |(iface, _)| json!(daemon.name(iface)))),
-            ("outgoing", json!(outgoing)),
+            ("flags", json!(flags.letters())),
+            ("asked_by", json!(askers.in_words(place))),
+            ("incoming", way.map_or(Value::Null, |iface| json!(daemon.name(iface)))),
+            ("outgoing", json!(leaves)),
             ("forwarding", json!(if is_here { "this is the RP" } else { "by each source's entry" })),
             ("packets", Value::Null),
             ("bytes", Value::Null),
             ("stray", Value::Null),
         ];
-        ((*group, 0), cells)
+        (place, cells)
     };
-    Ok(wanted.iter().map(row).collect())
+    wanted.iter().map(row).collect()
 }
 
 /// Who forwards packets of an entry.
@@ -300,28 +387,31 @@ fn used(daemon: &Daemon) -> HashMap<Key, Used> {
 fn mroute(daemon: &mut Daemon) -> Result<Rows, Fatal> {
     let used = used(daemon);
     let active = rows_of(daemon, Table::Active)?;
-    let states: BTreeMap<_, _> = active.iter().map(|row| ((u32::from(row.group), u32::from(row.source)), row)).collect();
-    let mut all = shared_trees(daemon)?;
+    let states: BTreeMap<_, _> =
+        active.iter().map(|row| ((u32::from(row.group), u32::from(row.source)), row)).collect();
+    let trees = rows_of(daemon, Table::Trees)?;
+    let pruned: BTreeSet<_> =
+        trees.iter().filter(|row| row.is_set).map(|row| (u32::from(row.group), u32::from(row.source))).collect();
+    let askers = Askers::read(daemon)?;
+    let mut all = shared_trees(daemon, &askers);
     for (key, entry) in daemon.plane.entries() {
         let place = (u32::from(key.group), u32::from(key.source));
         let state = states.get(&place);
-        let flag = |letter: char, is_set: bool| if is_set { letter.to_string() } else { String::new() };
-        let register = state.map_or("none", |row| REGISTER_STATES.get(row.state as usize).copied().unwrap_or("?"));
-        let flags = flag('T', state.map_or(false, |row| row.is_set))
-            + &flag('F', register == "join")
-            + &flag('U', !entry.is_known());
-        let row = entry.row.filter(|_| entry.way.accepted.is_some());
+        let outgoing = leaving(daemon, entry);
+        let is_registering = state.map_or(false, |row| row.state == REGISTER_JOIN);
+        let flags = Flags {
+            has_hosts: Askers::is_asked(&askers.hosts, place),
+            is_sent: is_registering || !outgoing.is_empty(),
+            is_pruned: pruned.contains(&place),
+            is_registering,
+            has_spt_bit: state.map_or(false, |row| row.is_set),
+        };
         let used = used.get(key);
-        let outgoing = row.map_or(Vec::new(), |row| {
-            names(daemon, row.outgoing)
-                .into_iter()
-                .filter(|name| Some(name.as_str()) != entry.way.accepted.map(|iface| daemon.name(iface)))
-                .collect()
-        });
         let cells = vec![
             ("source", address(place.1)),
             ("group", address(place.0)),
-            ("flags", json!(flags)),
+            ("flags", json!(flags.letters())),
+            ("asked_by", json!(askers.in_words(place))),
             ("incoming", entry.way.accepted.map_or(Value::Null, |iface| json!(daemon.name(iface)))),
             ("outgoing", json!(outgoing)),
             ("forwarding", json!(forwarding(entry))),
@@ -421,6 +511,27 @@ mod tests {
         let ranges = [range("224.0.0.0/4", 1), range("239.0.0.0/8", 2)];
         let rp = |text: &str| rp_of(&ranges, text.parse::<Ipv4Addr>().unwrap().into()).map(|rp| rp.octets()[3]);
         assert_eq!([rp("239.1.1.1"), rp("225.1.1.1"), rp("232.1.1.1")], [Some(2), Some(1), None]);
+    }
+
+    #[test]
+    fn a_flag_has_one_letter_for_a_group_and_for_a_source() {
+        let told = Flags { has_hosts: true, is_sent: true, is_pruned: true, is_registering: true, has_spt_bit: true };
+        assert_eq!(told.letters(), "SCRFT");
+        assert_eq!(Flags::default().letters(), "SP");
+        assert_eq!(Flags { is_sent: true, ..Flags::default() }.letters(), "S");
+        assert_eq!(Flags { is_registering: true, is_sent: true, ..Flags::default() }.letters(), "SF");
+    }
+
+    #[test]
+    fn a_source_is_asked_for_by_those_who_ask_for_its_group() {
+        let asking = |places: &[(u32, u32)]| places.iter().map(|place| (*place, BTreeSet::from([3]))).collect();
+        let askers = Askers { hosts: asking(&[(1, 0), (2, 9)]), routers: asking(&[(2, 0)]) };
+        assert_eq!(askers.in_words((1, 0)), ["hosts"]);
+        assert_eq!(askers.in_words((1, 9)), ["hosts"]);
+        assert_eq!(askers.in_words((2, 0)), ["routers"]);
+        assert_eq!(askers.in_words((2, 9)), ["hosts", "routers"]);
+        assert_eq!(askers.in_words((2, 8)), ["routers"]);
+        assert!(askers.in_words((3, 9)).is_empty());
     }
 
     #[test]

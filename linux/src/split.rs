@@ -3,10 +3,10 @@
 //! By the rules a message is taken whole or not at all. So where one names what is known beside what is new, a router
 //! at its limit would let the known end too. Offered part by part, the known is refreshed, and the new alone refused.
 use crate::packet::{address, is_pim, put_checksum, two, with_content, Packet, IGMP};
-use viqeshor::Row;
 use std::fmt;
 use std::net::Ipv4Addr;
 use std::ops::Range;
+use viqeshor::Row;
 
 const JOIN_PRUNE: u8 = 3;
 /// The PIM header, the upstream neighbour, a byte, the number of groups, the holdtime.

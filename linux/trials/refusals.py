@@ -168,7 +168,6 @@ def list_of_registers(net):
     net.reload(net.with_policy('register = [{ groups = "239.2.8.4/32", permit = false }, {}]\n'))
     for group in ("239.2.8.4", "239.2.8.5"):
         net.send("source", group, SOURCE, 10, 10).wait()
-    known = lambda group: net.entry(SOURCE, group)["flags"] not in ("", "U")
     heard = net.counter("unicasts heard")
     until("a Register is refused", 5, lambda: net.refused("`register` doesn't permit") > 0)
     said = is_refused(net, "`register` doesn't permit", f"of {heard} unicasts")

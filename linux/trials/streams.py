@@ -4,7 +4,7 @@ import time
 from trials.network import HOST, SOURCE, Failed, ended, first_after, ip, received, until
 
 # A join to a running stream is to have its first packet within so many ms.
-SOON = 1000
+SOON = 500
 SIZES = (100, 1480, 9000, 60_000)
 
 
@@ -39,7 +39,7 @@ def long_packets(net):
         ):
             receiver = net.receive(receiving, group, address, 60, 20, size)
             time.sleep(2)
-            sender = net.send(sending, group, source, 60, 20, size)
+            sender = net.send(sending, group, source, 60, 10, size)
             came, of, twice = received(receiver)
             sender.wait()
             said.append(f"{size} bytes {sending} to {receiving}: {came} of {of}, {twice} twice")

@@ -4,9 +4,9 @@ use crate::packet::{as_of_nobody, fill_registered, is_pim, is_report, priority_o
 use crate::policy::registered;
 use crate::{split, stand_in, words};
 use log::{debug, info};
-use viqeshor::{Error, Refusal};
 use std::collections::HashSet;
 use std::net::Ipv4Addr;
+use viqeshor::{Error, Refusal};
 
 /// The most bytes of a packet that the library reads.
 const MOST_READ: usize = 1500;
