@@ -21,7 +21,9 @@ fn main() {
         println!("cargo:rustc-link-lib=viqeshor");
     } else {
         eprintln!("viqeshor: there is no library {}", archive.display());
-        eprintln!("viqeshor: `tools/library --unproved` of the repository makes it; VIQESHOR_LIB_DIR may name another folder");
+        eprintln!(
+            "viqeshor: `tools/library --unproved` of the repository makes it; VIQESHOR_LIB_DIR may name another folder"
+        );
         exit(1);
     }
 }

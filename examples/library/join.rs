@@ -5,7 +5,9 @@ use viqeshor::{Error, Interface, Kind, Range, Route, Router, Settings, Verdict};
 fn bytes_of(hex: &str) -> Vec<u8> {
     let digit = |at: usize| hex.as_bytes()[at] as char;
     let nibble = |at| digit(at).to_digit(16).unwrap_or(0) as u8;
-    (0..hex.len() / 2).map(|at| nibble(2 * at) << 4 | nibble(2 * at + 1)).collect()
+    (0..hex.len() / 2)
+        .map(|at| nibble(2 * at) << 4 | nibble(2 * at + 1))
+        .collect()
 }
 
 #[derive(Default)]
@@ -21,17 +23,29 @@ impl Printer {
         match answer {
             Ok(Verdict::Done) => println!("move {} r done", self.moves),
             Ok(Verdict::Ignored(reason)) => println!("move {} r ignored {reason:?}", self.moves),
-            Err(Error::Refused(refusal)) => println!("move {} r refused {}", self.moves, refusal as u32),
+            Err(Error::Refused(refusal)) => {
+                println!("move {} r refused {}", self.moves, refusal as u32)
+            }
             Err(fault) => return Err(fault),
         }
         for sent in router.packets() {
             self.frames += 1;
-            let hex: String = sent.bytes.iter().map(|byte| format!("{byte:02x}")).collect();
+            let hex: String = sent
+                .bytes
+                .iter()
+                .map(|byte| format!("{byte:02x}"))
+                .collect();
             let (number, packet) = (self.frames, sent.packet);
             match packet.kind {
                 Kind::Unicast => println!("unicast {number} {} {hex}", packet.destination),
-                Kind::Copy => println!("copy {number} {} {hex}", ["n", "m", "o"][packet.iface as usize]),
-                _ => println!("frame {number} {} {hex}", ["n", "m", "o"][packet.iface as usize]),
+                Kind::Copy => println!(
+                    "copy {number} {} {hex}",
+                    ["n", "m", "o"][packet.iface as usize]
+                ),
+                _ => println!(
+                    "frame {number} {} {hex}",
+                    ["n", "m", "o"][packet.iface as usize]
+                ),
             }
         }
         Ok(())
@@ -39,10 +53,16 @@ impl Printer {
 }
 
 fn main() -> Result<(), Error> {
-    let interfaces = [[10, 0, 0, 2], [10, 0, 1, 1], [10, 0, 2, 1]].map(|own: [u8; 4]| Interface::new(own.into(), 24));
+    let interfaces = [[10, 0, 0, 2], [10, 0, 1, 1], [10, 0, 2, 1]]
+        .map(|own: [u8; 4]| Interface::new(own.into(), 24));
     let next_hop = Ipv4Addr::new(10, 0, 0, 1);
-    let routes = [[10, 9, 9, 0], [10, 0, 3, 0]].map(|prefix: [u8; 4]| Route::new(prefix.into(), 24, next_hop, 0));
-    let ranges = [Range::new(Ipv4Addr::new(224, 0, 0, 0), 4, Ipv4Addr::new(10, 9, 9, 9))];
+    let routes = [[10, 9, 9, 0], [10, 0, 3, 0]]
+        .map(|prefix: [u8; 4]| Route::new(prefix.into(), 24, next_hop, 0));
+    let ranges = [Range::new(
+        Ipv4Addr::new(224, 0, 0, 0),
+        4,
+        Ipv4Addr::new(10, 9, 9, 9),
+    )];
     let mut router = Router::new(&Settings::default(), &interfaces, &routes, &ranges)?;
     let mut printer = Printer::default();
     for iface in 0..3 {
