@@ -1,0 +1,304 @@
+-- No event's own change has the group's Join timer end later, but another router's Join to the same neighbour.
+use Rattle.std.proofs.Common.{◌≡◌, ◌∙◌, ℕ, ◌+◌, ◌≤◌, ◌==◌, nat_lt, ◌&&◌, ◌||◌, not, max, min, Bool, true, false, cond, List, [], ◌∷◌, filter, fold, map, Option, Some, None, refl, sym, ap, subst, arith, eq-eqb, eqb-true}
+use Rattle.std.proofs.lemmas.Bool.{both_ways}
+use Rattle.std.proofs.lemmas.Bool.Decides.{nat_tests}
+use Rattle.std.specs.List.{list_any}
+use Rattle.std.specs.Option.{option_map_or}
+use Rattle.pim_types.specs.Keys.{key_cmp, rpt_key, same_key, source_key, star_key}
+use Rattle.pim_types.specs.declared.config.IfaceId.{IfaceId}
+use Rattle.pim_types.specs.declared.fact.JoinTimerRow.{JoinTimerRow}
+use Rattle.pim_types.specs.declared.fact.Key.{Key}
+use Rattle.pim_types.specs.declared.path.Hop.{Hop}
+use Rattle.pim_types.proofs.Keys.{equal_keys, same_key_same}
+use Rattle.pim_wire.specs.Values.{Encapsulated, JoinPrune, Null}
+use Rattle.pim_wire.specs.declared.hello.Hello.{Hello as HelloValue}
+use Rattle.pim_wire.specs.declared.join_prune.EntryKind.{EntryKind}
+use Rattle.pim_model.specs.declared.accepted.Accepted.{Accepted}
+use Rattle.pim_model.specs.Desires.{rpf_source, rpf_star}
+use Rattle.pim_model.specs.Downstream.{Named, accepted_joins, accepted_prunes, is_named, joined_keys, key_by, keys_taken, named_key, to_me}
+use Rattle.pim_model.specs.Forwarding.{source_here}
+use Rattle.pim_model.specs.Hellos.{hello_received, hello_triggered, is_generation_changed, neighbour_replaced, neighbour_restarted, upstream_of}
+use Rattle.pim_model.specs.Neighbours.{is_neighbour, t_override}
+use Rattle.pim_model.specs.Querier.{querier_up, querying}
+use Rattle.pim_model.specs.Registers.{register_stop_seen, settle_register, with_keepalive}
+use Rattle.pim_model.specs.Seen.{cancel_override_timer, is_star_entry, is_unpruned_towards, join_seen, lower_join_timer, lower_override_timer, lowered_row, override_end, lower_source_timer, lower_star_timer, lower_tree_timer, prune_seen, raise_join_timer, seen, sources_joined_towards, suppressed_end}
+use Rattle.pim_model.specs.State.{State}
+use Rattle.pim_model.specs.Step.{change, iface_down, iface_up, rps_replaced}
+use Rattle.pim_model.specs.Tables.{Table, hop_at, row_at, same_hop, set_row}
+use Rattle.pim_laws.proofs.ListLaws.{by_cond}
+use Rattle.pim_laws.proofs.TurnLaws.{kept_by_fold}
+use Rattle.pim_promises.proofs.Lasting.{Lasting, Whole, assert_whole, lasting, whole, data_whole, query_lasting, register_whole, report_lasting}
+use Rattle.pim_stream.proofs.Rows.{set_good}
+use Rattle.pim_stream.proofs.Tests.{neither}
+use Rattle.pim_in_time.specs.Joins.{is_suppressed}
+use Rattle.pim_in_time.proofs.Timers.{EndsBy, Towards, differ, is_after, no_source, other_star}
+
+module _ (g b : ℕ) where
+  abbrev By : State → Type 0
+  By s = EndsBy g b s
+
+  by_table : (s t : State) → t.join_timers ≡ s.join_timers → By s → By t
+  by_table s t e f = ap (λ (x : Table JoinTimerRow). is_after b (row_at x (star_key 0 g))) e ∙ f
+
+  both_swapped : (x y u v : ℕ) → ((x == y) && (u == v)) ≡ ((y == x) && (v == u))
+  both_swapped x y u v = grind (arith, nat_tests)
+
+  -- ---- a timer that is lowered
+
+  lower_is : (e n : ℕ) → nat_lt b e ≡ false → nat_lt b (min e n) ≡ false
+  lower_is e n f = grind (arith, nat_tests, f)
+
+  lowered_by : (s : State) (k : Key) (end : ℕ) → By s → By (lower_join_timer s k end)
+  unfolding lower_join_timer
+  lowered_by s k end f =
+      set_good (is_after b) refl k (star_key 0 g) _ s.join_timers
+      (λ same. go (row_at s.join_timers k)
+      (subst (λ (q : Key). is_after b (row_at s.join_timers q) ≡ false) (equal_keys (star_key 0 g) k same) f)) f
+    where
+      go : (o : Option JoinTimerRow) → is_after b o ≡ false → is_after b (lowered_row end o) ≡ false
+      go None e = e
+      go (Some r) e = lower_is r.end end e
+
+  raised_by : (s : State) (k : Key) (end : ℕ) → (same_key (star_key 0 g) k ≡ true → ⊥) → By s → By (raise_join_timer s k end)
+  unfolding raise_join_timer
+  raised_by s k end off f = set_good (is_after b) refl k (star_key 0 g) _ s.join_timers (λ same. absurd (off same)) f
+
+  -- ---- a Hello
+
+  -- rows that are lowered in their places
+  mapped_by : (change : Key × JoinTimerRow → Key × JoinTimerRow) → ((e : Key × JoinTimerRow) → (change e).0 ≡ e.0)
+      → ((e : Key × JoinTimerRow) → nat_lt b (e.1).end ≡ false → nat_lt b ((change e).1).end ≡ false)
+      → (t : Table JoinTimerRow) → is_after b (row_at t (star_key 0 g)) ≡ false
+      → is_after b (row_at (map change t) (star_key 0 g)) ≡ false
+  unfolding row_at
+  mapped_by change keys lowers [] f = f
+  mapped_by change keys lowers (x ∷ xs) f =
+      go (same_key (star_key 0 g) x.0) refl f (mapped_by change keys lowers xs)
+    where
+      go : (c : Bool) → same_key (star_key 0 g) x.0 ≡ c
+          → is_after b (cond c (Some x.1) (row_at xs (star_key 0 g))) ≡ false
+          → (is_after b (row_at xs (star_key 0 g)) ≡ false → is_after b (row_at (map change xs) (star_key 0 g)) ≡ false)
+          → is_after b (row_at (change x ∷ map change xs) (star_key 0 g)) ≡ false
+      go true same e later = rw (keys x, same) (lowers x e)
+      go false off e later = rw (keys x, off) (later e)
+
+  restarted_by : (o : State) (i address w : ℕ) (s : State) → By s → By (neighbour_restarted o i address w s)
+  unfolding neighbour_restarted
+  restarted_by o i address w s f = mapped_by _ stays lowers s.join_timers f
+    where
+      end : ℕ
+      end = s.present + t_override s i w
+
+      stays : (e : Key × JoinTimerRow)
+          → (cond (same_hop (upstream_of o e.0) (Some (hop_at i address))) (e.0, record { end = min (e.1).end end }) e).0 ≡ e.0
+      stays e = go (same_hop (upstream_of o e.0) (Some (hop_at i address)))
+        where
+          go : (c : Bool) → (cond c (e.0, record { end = min (e.1).end end }) e).0 ≡ e.0
+          go true = refl
+          go false = refl
+
+      lowers : (e : Key × JoinTimerRow) → nat_lt b (e.1).end ≡ false
+          → nat_lt b ((cond (same_hop (upstream_of o e.0) (Some (hop_at i address))) (e.0, record { end = min (e.1).end end }) e).1).end ≡ false
+      lowers e f = go (same_hop (upstream_of o e.0) (Some (hop_at i address)))
+        where
+          go : (c : Bool) → nat_lt b ((cond c (e.0, record { end = min (e.1).end end }) e).1).end ≡ false
+          go true = lower_is (e.1).end end f
+          go false = f
+
+  module _ (s : State) (i address : ℕ) (h : HelloValue) (w : ℕ) where
+    abbrev replaced : Bool → State
+    replaced c = neighbour_replaced (cond (c || not (is_neighbour s i address)) (hello_triggered s i w) s) i address h
+
+    replaced_same : (c : Bool) → (replaced c).join_timers ≡ s.join_timers
+    unfolding neighbour_replaced hello_triggered
+    replaced_same c = grind arith
+
+    hello_by : By s → By (hello_received s i address h w)
+    unfolding hello_received
+    hello_by f = go (is_generation_changed s i address h)
+      where
+        go : (c : Bool) → By (cond c (neighbour_restarted s i address w (replaced c)) (replaced c))
+        go true = restarted_by s i address w (replaced true) (by_table s (replaced true) (replaced_same true) f)
+        go false = by_table s (replaced false) (replaced_same false) f
+
+  -- ---- a Join/Prune between other routers
+
+  module _ (s : State) (w : ℕ) (hop : Hop) where
+    -- a Join of the group to the next hop
+    abbrev raises : Named → Bool
+    raises n = (is_star_entry n && (n.0 == g)) && same_hop (rpf_star s g) (Some hop)
+
+    join_by : (holdtime : ℕ) (t : State) (n : Named) → raises n ≡ false → By t → By (join_seen s holdtime w hop t n)
+    unfolding join_seen
+    join_by holdtime t n off f = go (n.1).kind (n.1).address.bits (suppressed_end s hop.iface.number w holdtime) refl
+      where
+        star : (end : ℕ) → (n.1).kind ≡ EntryKind.Star
+            → By (cond (same_hop (rpf_star s n.0) (Some hop)) (raise_join_timer t (star_key 0 n.0) end) t)
+        star end is = own (n.0 == g) refl
+          where
+            own : (c : Bool) → (n.0 == g) ≡ c
+                → By (cond (same_hop (rpf_star s n.0) (Some hop)) (raise_join_timer t (star_key 0 n.0) end) t)
+            own false other =
+                by_cond By _ _ t (raised_by t (star_key 0 n.0) end (other_star g n.0 other) f) f
+            own true same =
+                let it : n.0 ≡ g = eqb-true n.0 g same in
+                let elsewhere : same_hop (rpf_star s g) (Some hop) ≡ false = kept off in
+                subst (λ (c : Bool). By (cond c (raise_join_timer t (star_key 0 n.0) end) t))
+                (sym (ap (λ (x : ℕ). same_hop (rpf_star s x) (Some hop)) it ∙ elsewhere)) f
+              where
+                kept : raises n ≡ false → same_hop (rpf_star s g) (Some hop) ≡ false
+                kept e = rw (same, is) e
+
+        go : (kind : EntryKind) (src end : ℕ) → (n.1).kind ≡ kind → By (elim kind [
+          | EntryKind.Star ↦ cond (same_hop (rpf_star s n.0) (Some hop)) (raise_join_timer t (star_key 0 n.0) end) t
+          | EntryKind.Source ↦ cond (same_hop (rpf_source s n.0 src) (Some hop)) (raise_join_timer t (source_key 0 n.0 src) end) t
+          | EntryKind.SourceRpt ↦ cond (is_unpruned_towards s hop n.0 src) (cancel_override_timer t (rpt_key 0 n.0 src)) t
+        ])
+        go EntryKind.Star src end is = star end is
+        go EntryKind.Source src end is =
+            by_cond By _ _ t (raised_by t (source_key 0 n.0 src) end (no_source g n.0 src) f) f
+        go EntryKind.SourceRpt src end is = by_cond By _ _ t (cancelled f) f
+          where
+            cancelled : By t → By (cancel_override_timer t (rpt_key 0 n.0 src))
+            unfolding cancel_override_timer
+            cancelled e = e
+
+    joins_by : (holdtime : ℕ) (p : Named → Bool) (ns : List Named) (t : State) → list_any raises ns ≡ false → By t
+        → By (fold (join_seen s holdtime w hop) t (filter p ns))
+    joins_by holdtime p [] t off f = f
+    joins_by holdtime p (n ∷ ns) t off f =
+        let two = neither (raises n) (list_any raises ns) off in
+        go (p n) (join_by holdtime t n two.first f) (λ u. joins_by holdtime p ns u two.second)
+      where
+        go : (c : Bool) → By (join_seen s holdtime w hop t n)
+            → ((u : State) → By u → By (fold (join_seen s holdtime w hop) u (filter p ns)))
+            → By (fold (join_seen s holdtime w hop) t (cond c (n ∷ filter p ns) (filter p ns)))
+        go true first later = later (join_seen s holdtime w hop t n) first
+        go false first later = later t f
+
+  -- which entries would
+  none_raises : (s : State) (hop : Hop) (w i : ℕ) (ns : List Named)
+      → (same_hop (rpf_star s g) (Some hop) && is_named (map (named_key i) ns) (star_key i g)) ≡ false
+      → list_any (raises s w hop) ns ≡ false
+  unfolding is_named
+  none_raises s hop w i ns off = go (same_hop (rpf_star s g) (Some hop)) refl ns off
+    where
+      drop : (c : Bool) → (c && false) ≡ false
+      drop true = refl
+      drop false = refl
+
+      go : (c : Bool) → same_hop (rpf_star s g) (Some hop) ≡ c → (xs : List Named)
+          → (c && list_any (same_key (star_key i g)) (map (named_key i) xs)) ≡ false → list_any (raises s w hop) xs ≡ false
+      go c is [] e = refl
+      go false is (x ∷ xs) e = rw (is, drop (is_star_entry x && (x.0 == g))) (go false is xs e)
+      go true is (x ∷ xs) e =
+          let two = neither (same_key (star_key i g) (named_key i x)) _ e in
+          rw (is, one x two.first) (go true is xs two.second)
+        where
+          one : (x : Named) → same_key (star_key i g) (named_key i x) ≡ false
+              → ((is_star_entry x && (x.0 == g)) && true) ≡ false
+          one x f = by (x.1).kind refl (x.0 == g) refl
+            where
+              by : (kind : EntryKind) → (x.1).kind ≡ kind → (d : Bool) → (x.0 == g) ≡ d
+                  → ((is_star_entry x && d) && true) ≡ false
+              by EntryKind.Source k d h = rw k refl
+              by EntryKind.SourceRpt k d h = rw k refl
+              by EntryKind.Star k false h = drop2 (is_star_entry x)
+                where
+                  drop2 : (c : Bool) → ((c && false) && true) ≡ false
+                  drop2 true = refl
+                  drop2 false = refl
+              by EntryKind.Star k true h =
+                  absurd (both_ways (same_key (star_key i g) (star_key i g)) (itself (eqb-true x.0 g h)) (same_key_same (star_key i g)))
+                where
+                  named : named_key i x ≡ star_key i x.0
+                  named = rw k refl
+
+                  itself : x.0 ≡ g → same_key (star_key i g) (star_key i g) ≡ false
+                  itself it =
+                      ap (λ (y : ℕ). same_key (star_key i g) (star_key i y)) (sym it)
+                      ∙ (ap (same_key (star_key i g)) (sym named) ∙ f)
+
+  -- ---- its prunes
+
+  module _ (s : State) (w : ℕ) (hop : Hop) where
+    source_by : (n src : ℕ) (t : State) → By t → By (lower_source_timer s w hop n src t)
+    source_by n src t f = by_cond By _ _ t (lowered_by t (source_key 0 n src) (override_end s hop.iface.number w) f) f
+
+    star_by : (n : ℕ) (t : State) → By t → By (lower_star_timer s w hop n t)
+    star_by n t f = by_cond By _ _ t (lowered_by t (star_key 0 n) (override_end s hop.iface.number w) f) f
+
+    tree_by : (n src : ℕ) (t : State) → By t → By (lower_tree_timer s w hop n src t)
+    unfolding lower_override_timer
+    tree_by n src t f = by_cond By _ _ t f f
+
+    prune_by : (t : State) (n : Named) → By t → By (prune_seen s w hop t n)
+    unfolding prune_seen
+    prune_by t n f = go (n.1).kind (n.1).address.bits
+      where
+        go : (kind : EntryKind) (src : ℕ) → By (elim kind [
+          | EntryKind.Star ↦
+              fold (λ u x. lower_source_timer s w hop n.0 x u) (lower_star_timer s w hop n.0 t) (sources_joined_towards s hop n.0)
+          | EntryKind.Source ↦ lower_tree_timer s w hop n.0 src (lower_source_timer s w hop n.0 src t)
+          | EntryKind.SourceRpt ↦ lower_tree_timer s w hop n.0 src (lower_source_timer s w hop n.0 src t)
+        ])
+        go EntryKind.Star src =
+            kept_by_fold (λ u x. lower_source_timer s w hop n.0 x u) By (λ u x h. source_by n.0 x u h)
+            (sources_joined_towards s hop n.0) (lower_star_timer s w hop n.0 t) (star_by n.0 t f)
+        go EntryKind.Source src = tree_by n.0 src _ (source_by n.0 src t f)
+        go EntryKind.SourceRpt src = tree_by n.0 src _ (source_by n.0 src t f)
+
+  pub seen_by : (s : State) (w i : ℕ) (m : JoinPrune)
+      → (same_hop (rpf_star s g) (Some (hop_at i m.upstream)) && is_named (joined_keys s i m) (star_key i g)) ≡ false
+      → By s → By (seen s w i m)
+  unfolding seen joined_keys
+  seen_by s w i m off f =
+      let hop : Hop = hop_at i m.upstream in
+      let none = none_raises s hop w i (accepted_joins s m) off in
+      kept_by_fold (prune_seen s w hop) By (prune_by s w hop) (accepted_prunes m) _
+      (joins_by s w hop m.holdtime (λ n. not (is_star_entry n)) (accepted_joins s m) _ none
+      (joins_by s w hop m.holdtime is_star_entry (accepted_joins s m) s none f))
+
+  -- ---- every event
+
+  module _ (s : State) (w rp : ℕ) (hop : Hop) (towards : Towards g rp hop s) (f : By s) where
+    by_lasting : (t : State) → lasting t ≡ lasting s → By t
+    by_lasting t e = by_table s t (ap (λ (x : Lasting). x.join_timers) e) f
+
+    by_whole : (t : State) → whole t ≡ whole s → By t
+    by_whole t e = by_lasting t (ap (λ (x : Whole). x.lasting) e)
+
+    from_here : (n src iif : ℕ) → (source_here s n src iif).join_timers ≡ s.join_timers
+    unfolding source_here settle_register with_keepalive
+    from_here n src iif = grind arith
+
+    seen_if : (i : IfaceId) (m : JoinPrune) → is_suppressed s g hop (Some (Accepted.JoinPruneSeen i m)) ≡ false
+        → By (seen s w i.number m)
+    seen_if i m off = seen_by s w i.number m (rw towards.upstream (swapped off)) f
+      where
+        swapped : is_suppressed s g hop (Some (Accepted.JoinPruneSeen i m)) ≡ false
+            → (same_hop (Some hop) (Some (hop_at i.number m.upstream)) && is_named (joined_keys s i.number m) (star_key i.number g)) ≡ false
+        swapped e =
+            ap (λ (c : Bool). c && is_named (joined_keys s i.number m) (star_key i.number g))
+            (both_swapped hop.iface.number i.number hop.address.bits m.upstream) ∙ e
+
+    pub change_by : (a : Accepted) → is_suppressed s g hop (Some a) ≡ false → By (change s w a).state
+    unfolding change iface_up querier_up querying iface_down rps_replaced to_me keys_taken register_stop_seen
+    change_by (Accepted.Advance moment) e = f
+    change_by (Accepted.Up i) e = f
+    change_by (Accepted.Down i) e = f
+    change_by (Accepted.Routes routes) e = f
+    change_by (Accepted.Rps ranges) e = f
+    change_by (Accepted.Hello i from h) e = hello_by s i.number from.bits h w f
+    change_by (Accepted.JoinPruneToMe i m) e = f
+    change_by (Accepted.JoinPruneSeen i m) e = seen_if i m e
+    change_by (Accepted.Assert i from a) e = by_whole _ (assert_whole s i.number from.bits a)
+    change_by (Accepted.Query i from q) e = by_lasting _ (query_lasting s i.number from.bits q)
+    change_by (Accepted.Report i records) e = by_lasting _ (report_lasting s i.number records)
+    change_by (Accepted.Data i p) e =
+        by_table s _ (ap (λ (x : Whole). (x.lasting).join_timers) (data_whole s p.destination p.source i.number)
+        ∙ from_here p.destination p.source i.number) f
+    change_by (Accepted.Register p (Encapsulated inner)) e =
+        by_whole _ (register_whole s p inner.destination inner.source false)
+    change_by (Accepted.Register p (Null source group)) e = by_whole _ (register_whole s p group source true)
+    change_by (Accepted.RegisterStop from r) e = f

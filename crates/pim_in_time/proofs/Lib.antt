@@ -1,0 +1,4 @@
+pub mod Timers
+pub mod Changes
+pub mod Turns
+pub mod Firings
