@@ -28,10 +28,11 @@ use Rattle.pim_model.specs.Tables.{Table, hop_at, row_at, same_hop, set_row}
 use Rattle.pim_laws.proofs.ListLaws.{by_cond}
 use Rattle.pim_laws.proofs.TurnLaws.{kept_by_fold}
 use Rattle.pim_promises.proofs.Lasting.{Lasting, Whole, assert_whole, lasting, whole, data_whole, query_lasting, register_whole, report_lasting}
+use Rattle.pim_served.proofs.Climbs.{swapped}
 use Rattle.pim_stream.proofs.Rows.{set_good}
 use Rattle.pim_stream.proofs.Tests.{neither}
 use Rattle.pim_in_time.specs.Joins.{is_suppressed}
-use Rattle.pim_in_time.proofs.Timers.{EndsBy, Towards, differ, is_after, no_source, other_star}
+use Rattle.pim_in_time.proofs.Timers.{EndsBy, Towards, is_after, no_source, other_star}
 
 module _ (g b : ℕ) where
   abbrev By : State → Type 0
@@ -41,7 +42,7 @@ module _ (g b : ℕ) where
   by_table s t e f = ap (λ (x : Table JoinTimerRow). is_after b (row_at x (star_key 0 g))) e ∙ f
 
   both_swapped : (x y u v : ℕ) → ((x == y) && (u == v)) ≡ ((y == x) && (v == u))
-  both_swapped x y u v = grind (arith, nat_tests)
+  both_swapped x y u v = rw (swapped x y, swapped u v) refl
 
   -- ---- a timer that is lowered
 
@@ -62,6 +63,10 @@ module _ (g b : ℕ) where
   raised_by : (s : State) (k : Key) (end : ℕ) → (same_key (star_key 0 g) k ≡ true → ⊥) → By s → By (raise_join_timer s k end)
   unfolding raise_join_timer
   raised_by s k end off f = set_good (is_after b) refl k (star_key 0 g) _ s.join_timers (λ same. absurd (off same)) f
+
+  cancelled_by : (s : State) (k : Key) → By s → By (cancel_override_timer s k)
+  unfolding cancel_override_timer
+  cancelled_by s k f = f
 
   -- ---- a Hello
 
@@ -142,12 +147,11 @@ module _ (g b : ℕ) where
                 by_cond By _ _ t (raised_by t (star_key 0 n.0) end (other_star g n.0 other) f) f
             own true same =
                 let it : n.0 ≡ g = eqb-true n.0 g same in
-                let elsewhere : same_hop (rpf_star s g) (Some hop) ≡ false = kept off in
                 subst (λ (c : Bool). By (cond c (raise_join_timer t (star_key 0 n.0) end) t))
-                (sym (ap (λ (x : ℕ). same_hop (rpf_star s x) (Some hop)) it ∙ elsewhere)) f
-              where
-                kept : raises n ≡ false → same_hop (rpf_star s g) (Some hop) ≡ false
-                kept e = rw (same, is) e
+                (sym (ap (λ (x : ℕ). same_hop (rpf_star s x) (Some hop)) it ∙ (sym (only_hop same) ∙ off))) f
+
+            only_hop : (n.0 == g) ≡ true → raises n ≡ same_hop (rpf_star s g) (Some hop)
+            only_hop same = rw (same, is) refl
 
         go : (kind : EntryKind) (src end : ℕ) → (n.1).kind ≡ kind → By (elim kind [
           | EntryKind.Star ↦ cond (same_hop (rpf_star s n.0) (Some hop)) (raise_join_timer t (star_key 0 n.0) end) t
@@ -157,11 +161,7 @@ module _ (g b : ℕ) where
         go EntryKind.Star src end is = star end is
         go EntryKind.Source src end is =
             by_cond By _ _ t (raised_by t (source_key 0 n.0 src) end (no_source g n.0 src) f) f
-        go EntryKind.SourceRpt src end is = by_cond By _ _ t (cancelled f) f
-          where
-            cancelled : By t → By (cancel_override_timer t (rpt_key 0 n.0 src))
-            unfolding cancel_override_timer
-            cancelled e = e
+        go EntryKind.SourceRpt src end is = by_cond By _ _ t (cancelled_by t (rpt_key 0 n.0 src) f) f
 
     joins_by : (holdtime : ℕ) (p : Named → Bool) (ns : List Named) (t : State) → list_any raises ns ≡ false → By t
         → By (fold (join_seen s holdtime w hop) t (filter p ns))
@@ -177,47 +177,65 @@ module _ (g b : ℕ) where
         go false first later = later t f
 
   -- which entries would
-  none_raises : (s : State) (hop : Hop) (w i : ℕ) (ns : List Named)
-      → (same_hop (rpf_star s g) (Some hop) && is_named (map (named_key i) ns) (star_key i g)) ≡ false
-      → list_any (raises s w hop) ns ≡ false
-  unfolding is_named
-  none_raises s hop w i ns off = go (same_hop (rpf_star s g) (Some hop)) refl ns off
+  or_false : (x y : Bool) → x ≡ false → y ≡ false → (x || y) ≡ false
+  or_false true y e f = cc e
+  or_false false y e f = f
+
+  left_false : (x y : Bool) → x ≡ false → (x && y) ≡ false
+  left_false true y e = cc e
+  left_false false y e = refl
+
+  right_false : (x y : Bool) → y ≡ false → (x && y) ≡ false
+  right_false true y e = e
+  right_false false y e = refl
+
+  -- an entry that doesn't name the group's key is no Join of it
+  other_entry : (i : ℕ) (n : Named) → same_key (star_key i g) (named_key i n) ≡ false
+      → (is_star_entry n && (n.0 == g)) ≡ false
+  other_entry i n off = by (n.1).kind refl (n.0 == g) refl
     where
-      drop : (c : Bool) → (c && false) ≡ false
-      drop true = refl
-      drop false = refl
+      named : (n.1).kind ≡ EntryKind.Star → named_key i n ≡ star_key i n.0
+      named e = rw e refl
 
-      go : (c : Bool) → same_hop (rpf_star s g) (Some hop) ≡ c → (xs : List Named)
-          → (c && list_any (same_key (star_key i g)) (map (named_key i) xs)) ≡ false → list_any (raises s w hop) xs ≡ false
-      go c is [] e = refl
-      go false is (x ∷ xs) e = rw (is, drop (is_star_entry x && (x.0 == g))) (go false is xs e)
-      go true is (x ∷ xs) e =
-          let two = neither (same_key (star_key i g) (named_key i x)) _ e in
-          rw (is, one x two.first) (go true is xs two.second)
-        where
-          one : (x : Named) → same_key (star_key i g) (named_key i x) ≡ false
-              → ((is_star_entry x && (x.0 == g)) && true) ≡ false
-          one x f = by (x.1).kind refl (x.0 == g) refl
-            where
-              by : (kind : EntryKind) → (x.1).kind ≡ kind → (d : Bool) → (x.0 == g) ≡ d
-                  → ((is_star_entry x && d) && true) ≡ false
-              by EntryKind.Source k d h = rw k refl
-              by EntryKind.SourceRpt k d h = rw k refl
-              by EntryKind.Star k false h = drop2 (is_star_entry x)
-                where
-                  drop2 : (c : Bool) → ((c && false) && true) ≡ false
-                  drop2 true = refl
-                  drop2 false = refl
-              by EntryKind.Star k true h =
-                  absurd (both_ways (same_key (star_key i g) (star_key i g)) (itself (eqb-true x.0 g h)) (same_key_same (star_key i g)))
-                where
-                  named : named_key i x ≡ star_key i x.0
-                  named = rw k refl
+      itself : (n.1).kind ≡ EntryKind.Star → n.0 ≡ g → same_key (star_key i g) (star_key i g) ≡ false
+      itself e it =
+          ap (λ (y : ℕ). same_key (star_key i g) (star_key i y)) (sym it)
+          ∙ (ap (same_key (star_key i g)) (sym (named e)) ∙ off)
 
-                  itself : x.0 ≡ g → same_key (star_key i g) (star_key i g) ≡ false
-                  itself it =
-                      ap (λ (y : ℕ). same_key (star_key i g) (star_key i y)) (sym it)
-                      ∙ (ap (same_key (star_key i g)) (sym named) ∙ f)
+      by : (kind : EntryKind) → (n.1).kind ≡ kind → (d : Bool) → (n.0 == g) ≡ d → (is_star_entry n && d) ≡ false
+      by EntryKind.Source k d h = rw k refl
+      by EntryKind.SourceRpt k d h = rw k refl
+      by EntryKind.Star k false h = right_false (is_star_entry n) false refl
+      by EntryKind.Star k true h =
+          absurd (both_ways (same_key (star_key i g) (star_key i g)) (itself k (eqb-true n.0 g h)) (same_key_same (star_key i g)))
+
+  module _ (s : State) (hop : Hop) (w i : ℕ) where
+    abbrev towards_hop : Bool
+    towards_hop = same_hop (rpf_star s g) (Some hop)
+
+    none_elsewhere : towards_hop ≡ false → (ns : List Named) → list_any (raises s w hop) ns ≡ false
+    none_elsewhere off [] = refl
+    none_elsewhere off (n ∷ ns) =
+        or_false (raises s w hop n) (list_any (raises s w hop) ns)
+        (right_false (is_star_entry n && (n.0 == g)) towards_hop off) (none_elsewhere off ns)
+
+    none_named : (ns : List Named) → list_any (same_key (star_key i g)) (map (named_key i) ns) ≡ false
+        → list_any (raises s w hop) ns ≡ false
+    none_named [] e = refl
+    none_named (n ∷ ns) e =
+        let two = neither (same_key (star_key i g) (named_key i n)) _ e in
+        or_false (raises s w hop n) (list_any (raises s w hop) ns)
+        (left_false (is_star_entry n && (n.0 == g)) towards_hop (other_entry i n two.first)) (none_named ns two.second)
+
+    none_raises : (ns : List Named) → (towards_hop && is_named (map (named_key i) ns) (star_key i g)) ≡ false
+        → list_any (raises s w hop) ns ≡ false
+    unfolding is_named
+    none_raises ns e = go towards_hop refl e
+      where
+        go : (c : Bool) → towards_hop ≡ c → (c && list_any (same_key (star_key i g)) (map (named_key i) ns)) ≡ false
+            → list_any (raises s w hop) ns ≡ false
+        go true is f = none_named ns f
+        go false is f = none_elsewhere is ns
 
   -- ---- its prunes
 
@@ -254,7 +272,7 @@ module _ (g b : ℕ) where
   unfolding seen joined_keys
   seen_by s w i m off f =
       let hop : Hop = hop_at i m.upstream in
-      let none = none_raises s hop w i (accepted_joins s m) off in
+      let none : list_any (raises s w hop) (accepted_joins s m) ≡ false = none_raises s hop w i (accepted_joins s m) off in
       kept_by_fold (prune_seen s w hop) By (prune_by s w hop) (accepted_prunes m) _
       (joins_by s w hop m.holdtime (λ n. not (is_star_entry n)) (accepted_joins s m) _ none
       (joins_by s w hop m.holdtime is_star_entry (accepted_joins s m) s none f))
@@ -274,11 +292,11 @@ module _ (g b : ℕ) where
 
     seen_if : (i : IfaceId) (m : JoinPrune) → is_suppressed s g hop (Some (Accepted.JoinPruneSeen i m)) ≡ false
         → By (seen s w i.number m)
-    seen_if i m off = seen_by s w i.number m (rw towards.upstream (swapped off)) f
+    seen_if i m off = seen_by s w i.number m (rw towards.upstream (turned off)) f
       where
-        swapped : is_suppressed s g hop (Some (Accepted.JoinPruneSeen i m)) ≡ false
+        turned : is_suppressed s g hop (Some (Accepted.JoinPruneSeen i m)) ≡ false
             → (same_hop (Some hop) (Some (hop_at i.number m.upstream)) && is_named (joined_keys s i.number m) (star_key i.number g)) ≡ false
-        swapped e =
+        turned e =
             ap (λ (c : Bool). c && is_named (joined_keys s i.number m) (star_key i.number g))
             (both_swapped hop.iface.number i.number hop.address.bits m.upstream) ∙ e
 

@@ -233,34 +233,39 @@ winner_none : (o : Option AssertRow) (i : ℕ) → is_loser o ≡ false → winn
 winner_none None i e = refl
 winner_none (Some r) i e = rw e refl
 
+no_next : (rows : Table NeighbourRow) (hop : Hop) → nbr_among rows None ≡ Some hop → ⊥
+unfolding nbr_among
+no_next rows hop e = cc e
+
 pub goes_there : (t : State) (g : ℕ) (hop : Hop) → nbr t (rp_route t g) ≡ Some hop
     → is_loser (assert_star t g hop.iface.number) ≡ false → rpf_star t g ≡ Some hop
 unfolding rpf_star rpf_interface_rp nbr
 goes_there t g hop next unlost = go (rp_route t g) refl next
   where
     go : (o : Option Path) → rp_route t g ≡ o → nbr_among t.neighbours o ≡ Some hop → rpf_star t g ≡ Some hop
-    unfolding rpf_star rpf_interface_rp nbr
-    go None is e = absurd (none_there e)
-      where
-        none_there : nbr_among t.neighbours None ≡ Some hop → ⊥
-        unfolding nbr_among
-        none_there f = cc f
+    go None is e = absurd (no_next t.neighbours hop e)
     go (Some p) is e =
         let same : made t.neighbours hop p ≡ hop = (hop_of t.neighbours hop p e).1 in
         let kept : is_loser (assert_star t g p.iface.number) ≡ false =
         ap (λ (h : Hop). is_loser (assert_star t g h.iface.number)) same ∙ unlost in
         rw (is, winner_none (assert_star t g p.iface.number) p.iface.number kept) e
 
+-- a Join to the next hop is sent
+pub record SendsJoin (g rp from : ℕ) (hop : Hop) (sent : List Emission) : Type 0 where
+  pub pruned : List ℕ
+  pub is_sent : Contains sent
+      (on_link hop.iface.number (join_packet from hop.address.bits g (entry EntryKind.Star rp) (map (entry EntryKind.SourceRpt) pruned)))
+
 -- ---- at each firing
 
 module _ (g rp m from : ℕ) (hop : Hop) (b : State) (own : my_address b hop.iface.number ≡ from)
     (rp_known : rp_of b g ≡ Some rp) (next : nbr b (rp_route b g) ≡ Some hop) where
-  record Base (t : State) : Type 0 where
-    ground : SameGround b t
-    unlost : is_loser (assert_star t g hop.iface.number) ≡ false
-    lawful : IsLawful t
-    quiet : IsQuiet t
-    timed : AreTimed t
+  pub record Base (t : State) : Type 0 where
+    pub ground : SameGround b t
+    pub unlost : is_loser (assert_star t g hop.iface.number) ≡ false
+    pub lawful : IsLawful t
+    pub quiet : IsQuiet t
+    pub timed : AreTimed t
 
   abbrev there : State → Bool
   there t = has_row t.neighbours (hop_key hop)
@@ -275,11 +280,8 @@ module _ (g rp m from : ℕ) (hop : Hop) (b : State) (own : my_address b hop.ifa
         ∙ there_again b.neighbours hop t.neighbours (rp_route b g) next here) unlost;
   }
 
-  -- a Join to the next hop is sent
-  pub record Has (sent : List Emission) : Type 0 where
-    pub pruned : List ℕ
-    pub is_sent : Contains sent
-        (on_link hop.iface.number (join_packet from hop.address.bits g (entry EntryKind.Star rp) (map (entry EntryKind.SourceRpt) pruned)))
+  abbrev Has : List Emission → Type 0
+  Has sent = SendsJoin g rp from hop sent
 
   by_address : (cs : List InterfaceConfig) (sent : List Emission) (pruned : List ℕ) → cs ≡ b.configured
       → Contains sent (on_link hop.iface.number (join_packet (address_among cs hop.iface.number) hop.address.bits g (entry EntryKind.Star rp) (map (entry EntryKind.SourceRpt) pruned)))
@@ -319,7 +321,7 @@ module _ (g rp m from : ℕ) (hop : Hop) (b : State) (own : my_address b hop.ifa
           up = λ i. fired_up 0 0 0 b opened d.timer.kind d.timer.key i ∙ (f.ground).up i;
         }
 
-    base_then : Base u
+    pub base_then : Base u
     base_then = record {
       ground = ground_again b c.0 u own_ground (worse).ground;
       unlost = (worse).group (fired_unlost 0 0 0 b (star_key hop.iface.number g) opened d.timer.kind d.timer.key f.unlost);
@@ -328,7 +330,7 @@ module _ (g rp m from : ℕ) (hop : Hop) (b : State) (own : my_address b hop.ifa
       timed = firing_keeps_timed w t d f.timed;
     }
 
-    fewer : there u ≡ true → there t ≡ true
+    pub fewer : there u ≡ true → there t ≡ true
     unfolding fire_once
     fewer e =
         fired_fewer (hop_key hop) opened d.timer.key d.timer.kind

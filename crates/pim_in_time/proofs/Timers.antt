@@ -47,12 +47,12 @@ IsBefore b Cancel = Unit {0}
 IsBefore b (SetTo e) = e ≤ b
 IsBefore b (LowerTo e) = ⊥
 
-not_after : (b e : ℕ) → e ≤ b → nat_lt b e ≡ false
+pub not_after : (b e : ℕ) → e ≤ b → nat_lt b e ≡ false
 not_after b e le = grind (arith, nat_tests, le)
 
 -- ---- keys apart
 
-other_star : (g n : ℕ) → (n == g) ≡ false → same_key (star_key 0 g) (star_key 0 n) ≡ true → ⊥
+pub other_star : (g n : ℕ) → (n == g) ≡ false → same_key (star_key 0 g) (star_key 0 n) ≡ true → ⊥
 other_star g n off same =
     both_ways (n == g) off
     (ap (λ k. n == group_in k) (equal_keys (star_key 0 g) (star_key 0 n) same) ∙ eq-eqb n n refl)
@@ -60,7 +60,7 @@ other_star g n off same =
 differ : false ≡ true → ⊥
 differ e = cc e
 
-no_source : (g n src : ℕ) → same_key (star_key 0 g) (source_key 0 n src) ≡ true → ⊥
+pub no_source : (g n src : ℕ) → same_key (star_key 0 g) (source_key 0 n src) ≡ true → ⊥
 no_source g n src same =
     differ (ap (λ (k : Key). is_some k.source) (equal_keys (star_key 0 g) (source_key 0 n src) same))
 

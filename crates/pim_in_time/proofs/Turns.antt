@@ -7,8 +7,8 @@ module _ {S D E : Type 0} (next : S → Option D) (once : S → D → S × List 
     (first : (xs ys : List E) → Has xs → Has (xs ++ ys)) (second : (xs ys : List E) → Has ys → Has (xs ++ ys))
     (turns : (s : S) (d : D) → next s ≡ Some d → Before s → Before (once s d).0 ⊎ (Has (once s d).1 × After (once s d).0))
     (stays : (s : S) (d : D) → After s → next s ≡ Some d → After (once s d).0) where
-  abbrev Either : S × List E → Type 0
-  Either (s, es) = Before s ⊎ (Has es × After s)
+  abbrev pub Either : S × List E → Type 0
+  Either p = Before p.0 ⊎ (Has p.1 × After p.0)
 
   one_turn : (n : ℕ) → ((s : S) → Before s → Either (until_none next once n s)) → (s : S) (o : Option D) → next s ≡ o → Before s
       → Either (after_next next once (λ t. until_none next once n t) s o)

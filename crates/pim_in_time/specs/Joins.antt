@@ -172,6 +172,7 @@ pub record IsCovered (g d : ℕ) (started : ℕ → ℕ) (c : Pair) (n : Network
   pub above : Station
   pub above_is : station_at n c.upper ≡ Some above
   pub end : ℕ
+  pub later : (above.state).present < end
   pub holds : HoldsStar above.state c.down g (Some end)
   pub lasts : (row : JoinTimerRow) → row_at (below.state).join_timers (star_key 0 g) ≡ Some row
       → row.end + started c.lower + 2 * d < end + started c.upper

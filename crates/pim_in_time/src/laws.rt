@@ -1,8 +1,13 @@
 //! What is sent in time keeps what it asks for. Laws of the definitions, each the contract of a function with nothing to do.
 
-ghost use Rattle.pim_in_time.specs.Joins.{JoinsComeInTime};
+ghost use Rattle.pim_in_time.specs.Joins.{JoinsComeInTime, WayStaysJoined};
 
 /// Where what a router sends to its next hop is delivered soon, its Join there never expires while it wants the group.
 pub fn joins_come_in_time()
     ensures { JoinsComeInTime }
+{}
+
+/// So along a way no router's Join expires while the first wants the group.
+pub fn way_stays_joined()
+    ensures { WayStaysJoined }
 {}

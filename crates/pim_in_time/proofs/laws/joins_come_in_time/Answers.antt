@@ -1,8 +1,5 @@
-use Rattle.pim_in_time.proofs.Timers.{unwanted_by}
-use Rattle.pim_in_time.proofs.Changes.{change_by}
-use Rattle.pim_in_time.proofs.Turns.{to_the_end}
-use Rattle.pim_in_time.proofs.Firings.{turn}
+use Rattle.pim_in_time.proofs.Pairs.{joins_come_in_time}
 use Rattle.pim_in_time.proofs.laws.joins_come_in_time.Goals as goal
 
 pub returns : goal.returns
-returns c = ?
+returns c = joins_come_in_time
