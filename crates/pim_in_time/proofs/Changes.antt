@@ -28,7 +28,6 @@ use Rattle.pim_model.specs.Tables.{Table, hop_at, row_at, same_hop, set_row}
 use Rattle.pim_laws.proofs.ListLaws.{by_cond}
 use Rattle.pim_laws.proofs.TurnLaws.{kept_by_fold}
 use Rattle.pim_promises.proofs.Lasting.{Lasting, Whole, assert_whole, lasting, whole, data_whole, query_lasting, register_whole, report_lasting}
-use Rattle.pim_served.proofs.Climbs.{swapped}
 use Rattle.pim_stream.proofs.Rows.{set_good}
 use Rattle.pim_stream.proofs.Tests.{neither}
 use Rattle.pim_in_time.specs.Joins.{is_suppressed}
@@ -41,8 +40,18 @@ module _ (g b : ℕ) where
   by_table : (s t : State) → t.join_timers ≡ s.join_timers → By s → By t
   by_table s t e f = ap (λ (x : Table JoinTimerRow). is_after b (row_at x (star_key 0 g))) e ∙ f
 
+  eq_swapped : (x y : ℕ) → (x == y) ≡ (y == x)
+  eq_swapped x y = go (x == y) refl (y == x) refl
+    where
+      go : (p : Bool) → (x == y) ≡ p → (q : Bool) → (y == x) ≡ q → (x == y) ≡ (y == x)
+      go true e true f = e ∙ sym f
+      go false e false f = e ∙ sym f
+      go true e false f = absurd (both_ways (y == x) f (eq-eqb y x (sym (eqb-true x y e))))
+      go false e true f = absurd (both_ways (x == y) e (eq-eqb x y (sym (eqb-true y x f))))
+
   both_swapped : (x y u v : ℕ) → ((x == y) && (u == v)) ≡ ((y == x) && (v == u))
-  both_swapped x y u v = rw (swapped x y, swapped u v) refl
+  both_swapped x y u v =
+      ap (λ (p : Bool). p && (u == v)) (eq_swapped x y) ∙ ap (λ (p : Bool). (y == x) && p) (eq_swapped u v)
 
   -- ---- a timer that is lowered
 
