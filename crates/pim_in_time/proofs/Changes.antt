@@ -14,12 +14,13 @@ use Rattle.pim_wire.specs.Values.{Encapsulated, JoinPrune, Null}
 use Rattle.pim_wire.specs.declared.hello.Hello.{Hello as HelloValue}
 use Rattle.pim_wire.specs.declared.join_prune.EntryKind.{EntryKind}
 use Rattle.pim_model.specs.declared.accepted.Accepted.{Accepted}
+use Rattle.pim_model.specs.Asserts.{assert_received}
 use Rattle.pim_model.specs.Desires.{rpf_source, rpf_star}
 use Rattle.pim_model.specs.Downstream.{Named, accepted_joins, accepted_prunes, is_named, joined_keys, key_by, keys_taken, named_key, to_me}
-use Rattle.pim_model.specs.Forwarding.{source_here}
+use Rattle.pim_model.specs.Forwarding.{forwarded, register_received, source_here}
 use Rattle.pim_model.specs.Hellos.{hello_received, hello_triggered, is_generation_changed, neighbour_replaced, neighbour_restarted, upstream_of}
 use Rattle.pim_model.specs.Neighbours.{is_neighbour, t_override}
-use Rattle.pim_model.specs.Querier.{querier_up, querying}
+use Rattle.pim_model.specs.Querier.{querier_up, query_seen, querying, report_seen}
 use Rattle.pim_model.specs.Registers.{register_stop_seen, settle_register, with_keepalive}
 use Rattle.pim_model.specs.Seen.{cancel_override_timer, is_star_entry, is_unpruned_towards, join_seen, lower_join_timer, lower_override_timer, lowered_row, override_end, lower_source_timer, lower_star_timer, lower_tree_timer, prune_seen, raise_join_timer, seen, sources_joined_towards, suppressed_end}
 use Rattle.pim_model.specs.State.{State}
@@ -150,6 +151,9 @@ module _ (g b : ℕ) where
             → By (cond (same_hop (rpf_star s n.0) (Some hop)) (raise_join_timer t (star_key 0 n.0) end) t)
         star end is = own (n.0 == g) refl
           where
+            only_hop : (n.0 == g) ≡ true → raises n ≡ same_hop (rpf_star s g) (Some hop)
+            only_hop same = rw (same, is) refl
+
             own : (c : Bool) → (n.0 == g) ≡ c
                 → By (cond (same_hop (rpf_star s n.0) (Some hop)) (raise_join_timer t (star_key 0 n.0) end) t)
             own false other =
@@ -158,9 +162,6 @@ module _ (g b : ℕ) where
                 let it : n.0 ≡ g = eqb-true n.0 g same in
                 subst (λ (c : Bool). By (cond c (raise_join_timer t (star_key 0 n.0) end) t))
                 (sym (ap (λ (x : ℕ). same_hop (rpf_star s x) (Some hop)) it ∙ (sym (only_hop same) ∙ off))) f
-
-            only_hop : (n.0 == g) ≡ true → raises n ≡ same_hop (rpf_star s g) (Some hop)
-            only_hop same = rw (same, is) refl
 
         go : (kind : EntryKind) (src end : ℕ) → (n.1).kind ≡ kind → By (elim kind [
           | EntryKind.Star ↦ cond (same_hop (rpf_star s n.0) (Some hop)) (raise_join_timer t (star_key 0 n.0) end) t
@@ -319,13 +320,16 @@ module _ (g b : ℕ) where
     change_by (Accepted.Hello i from h) e = hello_by s i.number from.bits h w f
     change_by (Accepted.JoinPruneToMe i m) e = f
     change_by (Accepted.JoinPruneSeen i m) e = seen_if i m e
-    change_by (Accepted.Assert i from a) e = by_whole _ (assert_whole s i.number from.bits a)
-    change_by (Accepted.Query i from q) e = by_lasting _ (query_lasting s i.number from.bits q)
-    change_by (Accepted.Report i records) e = by_lasting _ (report_lasting s i.number records)
+    change_by (Accepted.Assert i from a) e = by_whole (assert_received s i.number from.bits a).0 (assert_whole s i.number from.bits a)
+    change_by (Accepted.Query i from q) e = by_lasting (query_seen s i.number from.bits q) (query_lasting s i.number from.bits q)
+    change_by (Accepted.Report i records) e = by_lasting (report_seen s i.number records).0 (report_lasting s i.number records)
     change_by (Accepted.Data i p) e =
-        by_table s _ (ap (λ (x : Whole). (x.lasting).join_timers) (data_whole s p.destination p.source i.number)
+        by_table s (forwarded s p.destination p.source i.number).state
+        (ap (λ (x : Whole). (x.lasting).join_timers) (data_whole s p.destination p.source i.number)
         ∙ from_here p.destination p.source i.number) f
     change_by (Accepted.Register p (Encapsulated inner)) e =
-        by_whole _ (register_whole s p inner.destination inner.source false)
-    change_by (Accepted.Register p (Null source group)) e = by_whole _ (register_whole s p group source true)
+        by_whole (register_received s p inner.destination inner.source false).state
+        (register_whole s p inner.destination inner.source false)
+    change_by (Accepted.Register p (Null source group)) e =
+        by_whole (register_received s p group source true).state (register_whole s p group source true)
     change_by (Accepted.RegisterStop from r) e = f

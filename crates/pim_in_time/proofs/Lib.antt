@@ -5,3 +5,4 @@ pub mod Firings
 pub mod Lower
 pub mod Upper
 pub mod Pairs
+pub mod Streams

@@ -167,6 +167,7 @@ module _ (g rp from : ℕ) (hop : Hop) (s : State) (e : Event) (rests : IsAtRest
 
   module _ (x : ℕ) (by : EndsBy g x s) where
     by_time : (m : ℕ) → Goes g rp from hop (advanced s e.draw m).state → Lasts x (advanced s e.draw m)
+    unfolding nbr
     by_time m to =
         time_turns g rp m from hop s f.own f.rp_known f.next e.draw s 
         (is_there ((advanced s e.draw m).state).neighbours hop (rp_route (advanced s e.draw m).state g) to.next) x (begins x m by)

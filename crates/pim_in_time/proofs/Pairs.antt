@@ -99,7 +99,7 @@ ready_then r n m f = go (one_router n m r f.station f.there)
       timed = step_keeps_timed (f.station).state s.event f.timed;
     }
 
-same_station : {n : Network} {r : ℕ} {a b : Station} → station_at n r ≡ Some a → station_at n r ≡ Some b → a ≡ b
+pub same_station : {o : Option Station} {a b : Station} → o ≡ Some a → o ≡ Some b → a ≡ b
 same_station e f = some_same (sym e ∙ f)
   where
     some_same : {a b : Station} → Some a ≡ Some b → a ≡ b
@@ -464,16 +464,38 @@ module _ (g rp d : ℕ) (started : ℕ → ℕ) (c : Pair) (isg : IsGroup g rp) 
             (moved n m).1 ms t.outs t.chain;
       }
 
-    pub one_move : Now (moved n m).1 ms
-    one_move =
-        go (pass n m ms (λ limit f. last n m ms now.lower_ready here there wants wanted in_time limit f)
-        ((now.held).end + started c.upper) now.outs now.chain)
+    abbrev After : Type 0
+    After = Passed n m ms ((now.held).end + started c.upper) ⊎ Taken n m ms
+
+    after_it : After
+    after_it =
+        pass n m ms (λ limit f. last n m ms now.lower_ready here there wants wanted in_time limit f)
+        ((now.held).end + started c.upper) now.outs now.chain
+
+    -- its time isn't past the end of the Join that it held
+    later_now : u.present < (now.held).end
+    later_now = subst (λ (x : Station). (x.state).present < (now.held).end) same_above (now.held).later
+
+    pub early_anyway : (y : Station) → station_at (moved n m).1 c.upper ≡ Some y → (y.state).present < (now.held).end
+    early_anyway y at = go after_it
       where
-        go : Passed n m ms ((now.held).end + started c.upper) ⊎ Taken n m ms → Now (moved n m).1 ms
+        less : (a b q : ℕ) → a + q < b + q → a < b
+        less a b q e = omega (arith, e)
+
+        go : After → (y.state).present < (now.held).end
+        go (inl p) = less (y.state).present (now.held).end (started c.upper) (p.early y at)
+        go (inr t) =
+            subst (λ (z : Station). (z.state).present < (now.held).end) (same_station (steps t).here at)
+            (subst (λ (p : ℕ). p < (now.held).end) (sym (present_then t)) later_now)
+
+    pub one_move : Now (moved n m).1 ms
+    one_move = go after_it
+      where
+        go : After → Now (moved n m).1 ms
         go (inl p) = passed p (one_router n m c.upper above here.above_is)
         go (inr t) = taken_now t
 
-  first_of : (P : Network → Type 0) (n : Network) (ms : List Move) → Always P n ms → P n
+  pub first_of : (P : Network → Type 0) (n : Network) (ms : List Move) → Always P n ms → P n
   first_of P n [] f = f
   first_of P n (m ∷ ms) f = f.0
 
@@ -492,7 +514,7 @@ module _ (g rp d : ℕ) (started : ℕ → ℕ) (c : Pair) (n : Network) (ms : L
   abbrev coming : IsCovered g d started c n
   coming = f.covered
 
-  begins : Now g rp d started c isg few f.apart n ms
+  pub begins : Now g rp d started c isg few f.apart n ms
   begins = record {
     lower_ready = f.lower_ready;
     upper_ready = f.upper_ready;

@@ -45,7 +45,7 @@ module _ (s : State) (e : Event) where
   t = (step s e).state
 
   -- the present after an Advance
-  moves_on : (m : ℕ) → done_as (happens s e) ≡ Some (Accepted.Advance m) → (t).present ≡ m
+  pub moves_on : (m : ℕ) → done_as (happens s e) ≡ Some (Accepted.Advance m) → (t).present ≡ m
   unfolding taken advanced
   moves_on m is = ap (λ (a : Answered). (a.state).present) (step_taken s e (Accepted.Advance m) is)
 

@@ -1,6 +1,7 @@
 //! What is sent in time keeps what it asks for. Laws of the definitions, each the contract of a function with nothing to do.
 
 ghost use Rattle.pim_in_time.specs.Joins.{JoinsComeInTime, WayStaysJoined};
+ghost use Rattle.pim_in_time.specs.Streams.{JoinsKeepStream};
 
 /// Where what a router sends to its next hop is delivered soon, its Join there never expires while it wants the group.
 pub fn joins_come_in_time()
@@ -10,4 +11,9 @@ pub fn joins_come_in_time()
 /// So along a way no router's Join expires while the first wants the group.
 pub fn way_stays_joined()
     ensures { WayStaysJoined }
+{}
+
+/// And a router passes a stream on to the one below, whose Joins come in time, until something else ends it.
+pub fn joins_keep_stream()
+    ensures { JoinsKeepStream }
 {}
