@@ -1,10 +1,9 @@
 -- No event's own change has the group's Join timer end later, but another router's Join to the same neighbour.
-use Rattle.std.proofs.Common.{◌≡◌, ◌∙◌, ℕ, ◌+◌, ◌≤◌, ◌==◌, nat_lt, ◌&&◌, ◌||◌, not, max, min, Bool, true, false, cond, List, [], ◌∷◌, filter, fold, map, Option, Some, None, refl, sym, ap, subst, arith, eq-eqb, eqb-true}
+use Rattle.std.proofs.Common.{◌≡◌, ◌∙◌, ℕ, ◌+◌, ◌==◌, nat_lt, ◌&&◌, ◌||◌, not, min, Bool, true, false, cond, List, [], ◌∷◌, filter, fold, map, Option, Some, None, refl, sym, ap, subst, arith, eq-eqb, eqb-true}
 use Rattle.std.proofs.lemmas.Bool.{both_ways}
 use Rattle.std.proofs.lemmas.Bool.Decides.{nat_tests}
 use Rattle.std.specs.List.{list_any}
-use Rattle.std.specs.Option.{option_map_or}
-use Rattle.pim_types.specs.Keys.{key_cmp, rpt_key, same_key, source_key, star_key}
+use Rattle.pim_types.specs.Keys.{rpt_key, same_key, source_key, star_key}
 use Rattle.pim_types.specs.declared.config.IfaceId.{IfaceId}
 use Rattle.pim_types.specs.declared.fact.JoinTimerRow.{JoinTimerRow}
 use Rattle.pim_types.specs.declared.fact.Key.{Key}
@@ -16,7 +15,7 @@ use Rattle.pim_wire.specs.declared.join_prune.EntryKind.{EntryKind}
 use Rattle.pim_model.specs.declared.accepted.Accepted.{Accepted}
 use Rattle.pim_model.specs.Asserts.{assert_received}
 use Rattle.pim_model.specs.Desires.{rpf_source, rpf_star}
-use Rattle.pim_model.specs.Downstream.{Named, accepted_joins, accepted_prunes, is_named, joined_keys, key_by, keys_taken, named_key, to_me}
+use Rattle.pim_model.specs.Downstream.{Named, accepted_joins, accepted_prunes, is_named, joined_keys, keys_taken, named_key, to_me}
 use Rattle.pim_model.specs.Forwarding.{forwarded, register_received, source_here}
 use Rattle.pim_model.specs.Hellos.{hello_received, hello_triggered, is_generation_changed, neighbour_replaced, neighbour_restarted, upstream_of}
 use Rattle.pim_model.specs.Neighbours.{is_neighbour, t_override}
@@ -25,7 +24,7 @@ use Rattle.pim_model.specs.Registers.{register_stop_seen, settle_register, with_
 use Rattle.pim_model.specs.Seen.{cancel_override_timer, is_star_entry, is_unpruned_towards, join_seen, lower_join_timer, lower_override_timer, lowered_row, override_end, lower_source_timer, lower_star_timer, lower_tree_timer, prune_seen, raise_join_timer, seen, sources_joined_towards, suppressed_end}
 use Rattle.pim_model.specs.State.{State}
 use Rattle.pim_model.specs.Step.{change, iface_down, iface_up, rps_replaced}
-use Rattle.pim_model.specs.Tables.{Table, hop_at, row_at, same_hop, set_row}
+use Rattle.pim_model.specs.Tables.{Table, hop_at, row_at, same_hop}
 use Rattle.pim_laws.proofs.ListLaws.{by_cond}
 use Rattle.pim_laws.proofs.TurnLaws.{kept_by_fold}
 use Rattle.pim_promises.proofs.Lasting.{Lasting, Whole, assert_whole, lasting, whole, data_whole, query_lasting, register_whole, report_lasting}

@@ -1,7 +1,5 @@
 -- Time at the lower router: its Join timer ends no later, or a Join leaves, and then it ends within 60 s.
-use Rattle.std.proofs.Common.{◌≡◌, ◌∙◌, ℕ, ◌+◌, ◌-◌, ◌≤◌, ◌&&◌, not, Bool, true, false, cond, List, [], ◌++◌, ◌⊎◌, inl, inr, length, map, take, filter, Option, Some, None, is_some, refl, sym, ap, subst, arith}
-use Rattle.std.proofs.lemmas.Bool.{both_ways}
-use Rattle.std.proofs.lemmas.List.Elements.{Contains-append_left, Contains-append_right}
+use Rattle.std.proofs.Common.{◌≡◌, ◌∙◌, ℕ, ◌+◌, ◌≤◌, ◌&&◌, not, Bool, true, false, cond, List, [], ◌⊎◌, inl, inr, map, take, filter, Option, Some, None, refl, sym, ap, subst, arith}
 use Rattle.std.specs.List.{Contains}
 use Rattle.std.specs.Option.{option_map_or}
 use Rattle.std.specs.Prelude.{option_and_then}
@@ -9,7 +7,6 @@ use Rattle.pim_types.specs.Keys.{neighbour_key, same_key, star_key}
 use Rattle.pim_types.specs.declared.config.InterfaceConfig.{InterfaceConfig}
 use Rattle.pim_types.specs.declared.config.RpRange.{RpRange}
 use Rattle.pim_types.specs.declared.fact.AssertRow.{AssertRow}
-use Rattle.pim_types.specs.declared.fact.DownstreamRow.{DownstreamRow}
 use Rattle.pim_types.specs.declared.fact.JoinTimerRow.{JoinTimerRow}
 use Rattle.pim_types.specs.declared.fact.Key.{Key}
 use Rattle.pim_types.specs.declared.fact.NeighbourRow.{NeighbourRow}
@@ -19,10 +16,9 @@ use Rattle.pim_types.specs.declared.path.Path.{Path}
 use Rattle.pim_types.specs.declared.timer.TimerKind.{TimerKind}
 use Rattle.pim_types.proofs.Keys.{equal_keys}
 use Rattle.pim_wire.specs.declared.join_prune.EntryKind.{EntryKind}
-use Rattle.pim_model.specs.Asserts.{assert_due, assert_forgotten, wins_again}
 use Rattle.pim_model.specs.Desires.{join_desired_star, rpf_star, winner_hop}
-use Rattle.pim_model.specs.Downstream.{downstream_expired, prune_pending_due}
-use Rattle.pim_model.specs.Firing.{fire_all, fire_instant, fire_once, fire_row, fired, keepalive_due, settled}
+use Rattle.pim_model.specs.Downstream.{downstream_expired}
+use Rattle.pim_model.specs.Firing.{fire_once, fire_row, fired, keepalive_due, settled}
 use Rattle.pim_model.specs.Hellos.{hello_due, neighbour_due}
 use Rattle.pim_model.specs.Messages.{Message, entry}
 use Rattle.pim_model.specs.Neighbours.{nbr, nbr_among}
@@ -31,14 +27,12 @@ use Rattle.pim_model.specs.Reach.{own_firing}
 use Rattle.pim_model.specs.Records.{with_members, with_repeats_of_rows}
 use Rattle.pim_model.specs.Registers.{register_due}
 use Rattle.pim_model.specs.Sets.{assert_star, is_loser}
-use Rattle.pim_model.specs.State.{State, address_among, is_up, my_address}
-use Rattle.pim_model.specs.Step.{advanced}
-use Rattle.pim_model.specs.Tables.{Table, change_row, drop_at, has_row, row_at}
-use Rattle.pim_model.specs.Timers.{Ending, ending, next_due, timers}
+use Rattle.pim_model.specs.State.{State, address_among, my_address}
+use Rattle.pim_model.specs.Tables.{Table, has_row, row_at}
+use Rattle.pim_model.specs.Timers.{Ending, ending}
 use Rattle.pim_model.specs.Unicast.{route, rp_among, rp_of, rp_route, rpf_interface_rp}
-use Rattle.pim_model.specs.Upstream.{fact_keys, is_pruned_with_star, join_timer_due, most_pruned, override_timer_due, periodic_end, pruned_with_star, sources_of}
+use Rattle.pim_model.specs.Upstream.{fact_keys, is_pruned_with_star, join_timer_due, most_pruned, override_timer_due, pruned_with_star, sources_of}
 use Rattle.pim_model.specs.Writing.{on_link}
-use Rattle.pim_laws.proofs.FiringLaws.{next_is_due}
 use Rattle.pim_laws.proofs.RowLaws.{has_row_without, row_change_away}
 use Rattle.pim_locality.specs.Locality.{IsQuiet}
 use Rattle.pim_ready.specs.Ready.{IsLawful}
@@ -47,7 +41,7 @@ use Rattle.pim_ready.proofs.LawfulFiring.{one_firing_is_lawful}
 use Rattle.pim_ready.proofs.Unsettled.{Unsettled, settling_leaves}
 use Rattle.pim_promises.proofs.Lasting.{Lasting, assert_lasting, pending_lasting}
 use Rattle.pim_reach.proofs.Configured.{Ground, firing_ground, ground}
-use Rattle.pim_served.specs.Joins.{ComesToWantStar, SendsAgain, SendsStar, join_packet, join_to}
+use Rattle.pim_served.specs.Joins.{SendsAgain, SendsStar, join_packet, join_to}
 use Rattle.pim_served.specs.Timed.{AreTimed}
 use Rattle.pim_served.proofs.Leaves.{star_join_leaves_in_time}
 use Rattle.pim_served.proofs.Repeats.{star_join_is_repeated}
@@ -55,11 +49,9 @@ use Rattle.pim_served.proofs.Taken.{apart_keys}
 use Rattle.pim_served.proofs.Timed.{firing_keeps_timed}
 use Rattle.pim_served.proofs.Timers.{fired_keeps}
 use Rattle.pim_stream.proofs.Fires.{fired_unlost, fired_up}
-use Rattle.pim_stream.proofs.Rows.{changed_good}
 use Rattle.pim_stream.proofs.Settles.{NoWorse, settling_no_worse}
-use Rattle.pim_stream.proofs.Ways.{SameGround, ground_again, ground_itself, same_route}
+use Rattle.pim_stream.proofs.Ways.{SameGround, ground_again, same_route}
 use Rattle.pim_in_time.proofs.Timers.{EndsBy, Towards, begins_by, goes_on_by, is_after, none_runs, not_after, unwanted_by}
-use Rattle.pim_in_time.proofs.Turns.{to_the_end}
 
 -- ---- what a timer's end leaves alone
 
@@ -376,7 +368,7 @@ module _ (g rp m from : ℕ) (hop : Hop) (b : State) (own : my_address b hop.ifa
           inr (
             by_address u.configured (fire_once w t d).1 sends.pruned ((base_then).ground).configured sends.is_sent,
             begins_by t c w g rp hop old new (m + 60000) off on (subst (λ (n : ℕ). n + 60000 ≤ m + 60000) (sym now) soon)
-            (none_runs c.0 g (m + 60000) none),
+                (none_runs c.0 g (m + 60000) none),
           )
 
       -- its own Join timer ends

@@ -1,5 +1,5 @@
 -- Each event at the lower router has its Join timer end no later, or sends a Join.
-use Rattle.std.proofs.Common.{◌≡◌, ◌∙◌, ℕ, ◌+◌, ◌-◌, ◌≤◌, Bool, true, false, List, ◌++◌, ◌⊎◌, inl, inr, length, Ok, Err, Option, Some, refl, sym, ap, subst, arith}
+use Rattle.std.proofs.Common.{◌≡◌, ◌∙◌, ℕ, ◌+◌, ◌-◌, ◌≤◌, Bool, true, false, List, ◌++◌, ◌⊎◌, inl, inr, length, Ok, Err, Some, refl, sym, ap, arith}
 use Rattle.std.proofs.lemmas.Bool.{both_ways}
 use Rattle.std.proofs.lemmas.List.Elements.{Contains-append_left, Contains-append_right}
 use Rattle.pim_types.specs.declared.event.Event.{Event}
@@ -12,7 +12,6 @@ use Rattle.pim_model.specs.Desires.{join_desired_star}
 use Rattle.pim_model.specs.Firing.{fire_all, fire_instant, fire_once}
 use Rattle.pim_model.specs.Full.{is_full}
 use Rattle.pim_model.specs.Judging.{Judged, judged}
-use Rattle.pim_model.specs.Messages.{Message}
 use Rattle.pim_model.specs.Neighbours.{nbr}
 use Rattle.pim_model.specs.Sets.{assert_star, is_loser}
 use Rattle.pim_model.specs.State.{State, my_address}
@@ -169,7 +168,7 @@ module _ (g rp from : ℕ) (hop : Hop) (s : State) (e : Event) (rests : IsAtRest
     by_time : (m : ℕ) → Goes g rp from hop (advanced s e.draw m).state → Lasts x (advanced s e.draw m)
     unfolding nbr
     by_time m to =
-        time_turns g rp m from hop s f.own f.rp_known f.next e.draw s 
+        time_turns g rp m from hop s f.own f.rp_known f.next e.draw s
         (is_there ((advanced s e.draw m).state).neighbours hop (rp_route (advanced s e.draw m).state g) to.next) x (begins x m by)
 
     by_change : (a : Accepted) → is_suppressed s g hop (Some a) ≡ false

@@ -1,25 +1,20 @@
 -- Two routers on a link, move after move: the Joins that are under way, and the one that is held.
-use Rattle.std.proofs.Common.{◌≡◌, ◌∙◌, ℕ, ◌+◌, ◌*◌, ◌<◌, ◌≤◌, ◌==◌, nat_lt, Bool, true, false, List, [], ◌∷◌, ◌⊎◌, inl, inr, length, Option, Some, None, is_some, refl, sym, ap, subst, arith}
-use Rattle.std.proofs.lemmas.Bool.{both_ways}
+use Rattle.std.proofs.Common.{◌≡◌, ◌∙◌, ℕ, ◌+◌, ◌*◌, ◌<◌, ◌≤◌, ◌==◌, nat_lt, Bool, true, false, List, [], ◌∷◌, ◌⊎◌, inl, inr, Option, Some, None, is_some, refl, sym, ap, subst, arith}
 use Rattle.std.proofs.lemmas.Bool.Decides.{nat_tests}
 use Rattle.std.proofs.lemmas.Grind.{common_steps}
-use Rattle.std.specs.Option.{option_map_or}
 use Rattle.pim_types.specs.Keys.{star_key}
 use Rattle.pim_types.specs.declared.event.Event.{Event}
 use Rattle.pim_types.specs.declared.fact.JoinTimerRow.{JoinTimerRow}
-use Rattle.pim_types.specs.declared.path.Hop.{Hop}
 use Rattle.pim_wire.specs.declared.join_prune.EntryKind.{EntryKind}
-use Rattle.pim_model.specs.Cause.{done_as}
 use Rattle.pim_model.specs.Desires.{join_desired_star}
 use Rattle.pim_model.specs.Messages.{entry}
-use Rattle.pim_model.specs.Network.{Deliver, Move, Network, Sent, Station, bad_move, event_of, frame_at, moved, moved_at, network_ran, station_at, stepped}
+use Rattle.pim_model.specs.Network.{Move, Network, Sent, Station, event_of, frame_at, moved, moved_at, network_ran, station_at, stepped}
 use Rattle.pim_model.specs.Sets.{assert_star, is_loser}
 use Rattle.pim_model.specs.State.{State, is_up}
 use Rattle.pim_model.specs.Step.{step}
 use Rattle.pim_model.specs.Tables.{has_row, row_at}
 use Rattle.pim_locality.specs.Rest.{IsAtRest}
 use Rattle.pim_locality.proofs.Rest.{step_is_at_rest}
-use Rattle.pim_promises.specs.Copies.{happens}
 use Rattle.pim_served.specs.Joins.{Hears, HoldsStar, IsWritable}
 use Rattle.pim_served.specs.Timed.{AreTimed}
 use Rattle.pim_served.specs.Ways.{IsGroup}
@@ -27,8 +22,7 @@ use Rattle.pim_served.proofs.Deliveries.{IsNewOn, IsStepped, is_delivered, is_st
 use Rattle.pim_served.proofs.Taken.{listed_star, wanted_star}
 use Rattle.pim_served.proofs.Timed.{step_keeps_timed}
 use Rattle.pim_stream.proofs.Climbing.{frames_stay}
-use Rattle.pim_in_time.specs.Joins.{Always, AreHeld, AreInTime, AreThere, ComeInTime, ComesBy, GoesUp, IsBy, IsCovered, IsHeld, IsInTime, IsReady, IsTaken, IsUnlost, IsWayUp, JoinsComeInTime, Listens, Pair, Wants, WayStaysJoined, frame_of, prunes_of, time_at}
-use Rattle.pim_in_time.proofs.Firings.{SendsJoin}
+use Rattle.pim_in_time.specs.Joins.{Always, AreInTime, AreThere, ComeInTime, ComesBy, GoesUp, IsBy, IsCovered, IsHeld, IsInTime, IsReady, IsTaken, IsUnlost, JoinsComeInTime, Pair, Wants, WayStaysJoined, frame_of, prunes_of, time_at}
 use Rattle.pim_in_time.proofs.Lower.{Goes, Lasts, each_event}
 use Rattle.pim_in_time.proofs.Timers.{EndsBy, is_after}
 use Rattle.pim_in_time.proofs.Upper.{join_event, now_held, same_now, still_held}
@@ -160,12 +154,15 @@ module _ (g rp d : ℕ) (started : ℕ → ℕ) (c : Pair) (isg : IsGroup g rp) 
     where
       below : (x a b : ℕ) → x < a → a ≤ b → x < b
       below x a b e f = omega (arith, e, f)
-  longer a b le n ms (j ∷ js) f = (record {
-    soon = below (j.sent + d) a b (f.0).soon le;
-    writable = (f.0).writable;
-    there = (f.0).there;
-    comes = (f.0).comes;
-  }, f.1)
+  longer a b le n ms (j ∷ js) f = (
+    record {
+      soon = below (j.sent + d) a b (f.0).soon le;
+      writable = (f.0).writable;
+      there = (f.0).there;
+      comes = (f.0).comes;
+    },
+    f.1,
+  )
     where
       below : (x a b : ℕ) → x < a → a ≤ b → x < b
       below x a b e f = omega (arith, e, f)
@@ -210,12 +207,15 @@ module _ (g rp d : ℕ) (started : ℕ → ℕ) (c : Pair) (isg : IsGroup g rp) 
         })
         go (inr (by, comes)) (inl p) = inl (record {
           outs = j ∷ p.outs;
-          chain = (record {
-            soon = (f.0).soon;
-            writable = (f.0).writable;
-            there = frame_stays n m j.number _ (f.0).there;
-            comes = comes;
-          }, p.chain);
+          chain = (
+            record {
+              soon = (f.0).soon;
+              writable = (f.0).writable;
+              there = frame_stays n m j.number _ (f.0).there;
+              comes = comes;
+            },
+            p.chain,
+          );
           early = λ st at. before (time_at started c.upper st) (j.sent + d) limit (by st at) (f.0).soon;
         })
 
@@ -300,17 +300,20 @@ module _ (g rp d : ℕ) (started : ℕ → ℕ) (c : Pair) (isg : IsGroup g rp) 
           let low : sent ≤ row.end + started c.lower + d = late.0 t at in
           record {
             outs = record { number = number; sent = sent; pruned = pruned } ∷ [];
-            chain = (record {
-              soon = sooner sent (row.end + started c.lower) limit low (room);
-              writable = comes.0;
-              there = (new.on).is;
-              comes = comes.1;
-            }, λ x r there found.
-            let same : x ≡ t = same_station there at in
-            let less : r.end ≤ (t.state).present + 60000 =
-            ends_no_later g ((t.state).present + 60000) t.state r by
-            (subst (λ (y : Station). row_at (y.state).join_timers (star_key 0 g) ≡ Some r) same found) in
-            within r.end (t.state).present (started c.lower) less few);
+            chain = (
+              record {
+                soon = sooner sent (row.end + started c.lower) limit low (room);
+                writable = comes.0;
+                there = (new.on).is;
+                comes = comes.1;
+              },
+              λ x r there found.
+                  let same : x ≡ t = same_station there at in
+                  let less : r.end ≤ (t.state).present + 60000 =
+                  ends_no_later g ((t.state).present + 60000) t.state r by
+                  (subst (λ (y : Station). row_at (y.state).join_timers (star_key 0 g) ≡ Some r) same found) in
+                  within r.end (t.state).present (started c.lower) less few,
+            );
             early = early;
           }
         where
@@ -505,8 +508,8 @@ module _ (g rp d : ℕ) (started : ℕ → ℕ) (c : Pair) (isg : IsGroup g rp) 
   all_moves (m ∷ ms) n now there wants in_time = (
     now.held,
     all_moves ms (moved n m).1
-    (one_move n m ms now there.0 (first_of (AreThere g rp c) (moved n m).1 ms there.1) wants.0 (first_of (Wants g c.lower) (moved n m).1 ms wants.1) in_time.0)
-    there.1 wants.1 in_time.1,
+        (one_move n m ms now there.0 (first_of (AreThere g rp c) (moved n m).1 ms there.1) wants.0 (first_of (Wants g c.lower) (moved n m).1 ms wants.1) in_time.0)
+        there.1 wants.1 in_time.1,
   )
 
 module _ (g rp d : ℕ) (started : ℕ → ℕ) (c : Pair) (n : Network) (ms : List Move) (isg : IsGroup g rp) (few : d < 75000)
@@ -564,9 +567,8 @@ pub way_stays_joined : WayStaysJoined
 way_stays_joined g rp d started n ms r [] isg few way wants = tt
 way_stays_joined g rp d started n ms r (c ∷ cs) isg few way wants =
     let held : Always (IsHeld g c) n ms =
-    joins_come_in_time g rp d started c n ms isg few way.1 (subst (λ (q : ℕ). Always (Wants g q) n ms) (sym way.0) wants) in
-    (
+    joins_come_in_time g rp d started c n ms isg few way.1 (subst (λ (q : ℕ). Always (Wants g q) n ms) (sym way.0) wants) in (
       held,
       way_stays_joined g rp d started n ms c.upper cs isg few way.3
-      (all_want g rp c ms n held way.2 (way.1).there),
+          (all_want g rp c ms n held way.2 (way.1).there),
     )

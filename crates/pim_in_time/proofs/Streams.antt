@@ -1,5 +1,5 @@
 -- While its Joins come in time a stream goes on.
-use Rattle.std.proofs.Common.{◌≡◌, ◌∙◌, ℕ, ◌<◌, ◌==◌, nat_le, ◌&&◌, ◌||◌, Bool, true, false, List, [], ◌∷◌, ◌⊎◌, inl, inr, Option, Some, None, refl, sym, ap, subst, arith}
+use Rattle.std.proofs.Common.{◌≡◌, ℕ, ◌<◌, ◌==◌, nat_le, ◌&&◌, ◌||◌, Bool, true, false, List, [], ◌∷◌, ◌⊎◌, inl, inr, Option, Some, None, refl, subst, arith}
 use Rattle.std.proofs.lemmas.Bool.Decides.{nat_tests}
 use Rattle.pim_types.specs.Keys.{rpt_key, star_key}
 use Rattle.pim_types.specs.declared.event.Event.{Event}
@@ -14,11 +14,11 @@ use Rattle.pim_model.specs.Step.{step}
 use Rattle.pim_promises.specs.Copies.{happens}
 use Rattle.pim_served.specs.Joins.{HoldsStar}
 use Rattle.pim_served.specs.Ways.{IsGroup}
-use Rattle.pim_stream.specs.InTime.{PassesUntil, ends_in_time, is_late}
+use Rattle.pim_stream.specs.InTime.{ends_in_time, is_late}
 use Rattle.pim_stream.specs.Passing.{Passes, Receiver, Tree, leaves_tree, takes_effect, takes_link}
 use Rattle.pim_stream.proofs.InTime.{event_keeps_passing_until}
 use Rattle.pim_stream.proofs.Tests.{Four, none_of_four}
-use Rattle.pim_in_time.specs.Joins.{Always, AreInTime, AreThere, ComeInTime, IsHeld, IsInTime, Pair, Wants, prunes_group}
+use Rattle.pim_in_time.specs.Joins.{Always, AreInTime, AreThere, IsInTime, Pair, Wants, prunes_group}
 use Rattle.pim_in_time.specs.Streams.{IsPassing, JoinsKeepStream, NoneEndsOtherwise, ends_otherwise, prunes_source}
 use Rattle.pim_in_time.proofs.Pairs.{Now, Steps, begins, early_anyway, first_of, one_move, one_router, same_station}
 use Rattle.pim_in_time.proofs.Upper.{moves_on}
@@ -100,12 +100,11 @@ module _ (tree : Tree) (g rp d src up : ℕ) (started : ℕ → ℕ) (c : Pair) 
   all_passing (m ∷ ms) n now there wants in_time f off =
       let next : Network = (moved n m).1 in
       let there_next : AreThere g rp c next = first_of g rp d started c isg few apart (AreThere g rp c) next ms there.1 in
-      let wants_next : Wants g c.lower next = first_of g rp d started c isg few apart (Wants g c.lower) next ms wants.1 in
-      (
+      let wants_next : Wants g c.lower next = first_of g rp d started c isg few apart (Wants g c.lower) next ms wants.1 in (
         f,
         all_passing ms next
-        (one_move g rp d started c isg few apart n m ms now there.0 there_next wants.0 wants_next in_time.0) there.1 wants.1
-        in_time.1 (passing_then n m ms now there.0 there_next wants.0 wants_next in_time.0 f off.0) off.1,
+            (one_move g rp d started c isg few apart n m ms now there.0 there_next wants.0 wants_next in_time.0) there.1 wants.1
+            in_time.1 (passing_then n m ms now there.0 there_next wants.0 wants_next in_time.0 f off.0) off.1,
       )
 
 pub joins_keep_stream : JoinsKeepStream

@@ -1,18 +1,15 @@
 -- The Join timer of a group: who wants it, and goes on to the same next hop, has it end no later, or sends the Join.
-use Rattle.std.proofs.Common.{◌≡◌, ◌∙◌, ℕ, ◌+◌, ◌≤◌, ◌==◌, nat_lt, ◌&&◌, ◌||◌, not, max, min, Bool, true, false, cond, List, [], ◌∷◌, ◌++◌, filter, fold, map, Option, option_map, Some, None, is_some, refl, sym, ap, subst, arith, eq-eqb, eqb-true}
+use Rattle.std.proofs.Common.{◌≡◌, ◌∙◌, ℕ, ◌+◌, ◌≤◌, ◌==◌, nat_lt, Bool, true, false, List, ◌++◌, Option, option_map, Some, None, is_some, refl, sym, ap, subst, arith, eq-eqb, eqb-true}
 use Rattle.std.proofs.lemmas.Bool.{both_ways}
 use Rattle.std.proofs.lemmas.Bool.Decides.{nat_tests}
-use Rattle.std.proofs.lemmas.Grind.{common_steps}
-use Rattle.std.specs.List.{list_any}
 use Rattle.std.specs.Option.{option_map_or}
 use Rattle.pim_ip.specs.Addr.{addr}
-use Rattle.pim_ip.specs.declared.addr.Addr.{Addr}
-use Rattle.pim_types.specs.Keys.{group_in, is_star, rpt_key, same_key, source_key, star_key}
+use Rattle.pim_types.specs.Keys.{group_in, rpt_key, same_key, source_key, star_key}
 use Rattle.pim_types.specs.declared.fact.JoinTimerRow.{JoinTimerRow}
 use Rattle.pim_types.specs.declared.fact.Key.{Key}
 use Rattle.pim_types.specs.declared.path.Hop.{Hop}
 use Rattle.pim_types.specs.declared.upstream.StarView.{StarView}
-use Rattle.pim_types.proofs.Keys.{equal_keys, same_key_same}
+use Rattle.pim_types.proofs.Keys.{equal_keys}
 use Rattle.pim_model.specs.Asserts.{assert_forgotten, without_spt_bit}
 use Rattle.pim_model.specs.Clearing.{clear}
 use Rattle.pim_model.specs.Desires.{join_desired_star, rpf_star}
@@ -20,9 +17,9 @@ use Rattle.pim_model.specs.Firing.{settled}
 use Rattle.pim_model.specs.Messages.{Message}
 use Rattle.pim_model.specs.Registers.{settle_registers}
 use Rattle.pim_model.specs.State.{State}
-use Rattle.pim_model.specs.Tables.{Table, has_row, row_at}
+use Rattle.pim_model.specs.Tables.{has_row, row_at}
 use Rattle.pim_model.specs.Unicast.{rp_of}
-use Rattle.pim_model.specs.Upstream.{Cancel, Keep, LowerTo, SetTo, TimerChange, changed_end, fact_keys, group_upstream, groups_of, join_star_to, moved_join_timer, moved_override_timer, nothing_told, periodic_end, source_upstream, sources_of, star_stays, star_told, star_view, upstream, with_join_timer, with_override_timer}
+use Rattle.pim_model.specs.Upstream.{Cancel, Keep, LowerTo, SetTo, TimerChange, changed_end, fact_keys, group_upstream, groups_of, moved_join_timer, moved_override_timer, periodic_end, source_upstream, sources_of, star_stays, star_told, star_view, upstream, with_join_timer, with_override_timer}
 use Rattle.pim_model.specs.Writing.{write_all}
 use Rattle.pim_laws.proofs.SettlingLaws.{kept_by_clearing}
 use Rattle.pim_laws.proofs.TurnLaws.{kept_in_turn}
@@ -141,8 +138,17 @@ module _ (a : State) (w g rp : ℕ) (hop : Hop) (old new : StarView)
   stays_told : old.is_desired ≡ true → new.is_desired ≡ true → (star_told a w g old new).timer ≡ Keep
   unfolding star_told star_stays
   stays_told e f =
-      rw (e, f, was, is, rp_was, rp_is, eq-eqb hop.iface.number hop.iface.number refl,
-      eq-eqb hop.address.bits hop.address.bits refl, eq-eqb rp rp refl) refl
+      rw (
+        e,
+        f,
+        was,
+        is,
+        rp_was,
+        rp_is,
+        eq-eqb hop.iface.number hop.iface.number refl,
+        eq-eqb hop.address.bits hop.address.bits refl,
+        eq-eqb rp rp refl,
+      ) refl
 
 begins_told : (a : State) (w g : ℕ) (old new : StarView) → old.is_desired ≡ false → new.is_desired ≡ true
     → (star_told a w g old new).timer ≡ SetTo (periodic_end a)

@@ -1,5 +1,5 @@
 -- A repetition in which at some turn something is sent: what holds until then, and what holds from then on.
-use Rattle.std.proofs.Common.{◌≡◌, ℕ, zero, suc, List, [], ◌++◌, ◌⊎◌, inl, inr, Option, Some, None, refl}
+use Rattle.std.proofs.Common.{◌≡◌, ℕ, zero, suc, List, ◌++◌, ◌⊎◌, inl, inr, Option, Some, None, refl}
 use Rattle.pim_model.specs.Repeat.{after_next, and_then, until_none}
 use Rattle.pim_laws.proofs.TurnLaws.{kept_to_the_end}
 
