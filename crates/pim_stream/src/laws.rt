@@ -2,6 +2,7 @@
 //! a function with nothing to do.
 
 ghost use Rattle.pim_stream.specs.Begun.{BegunStreamIsServed, EachOfBegunStreamIsServed, HostBeginsStream, JoinBeginsSending};
+ghost use Rattle.pim_stream.specs.Bits.{JoinKeepsSptBit};
 ghost use Rattle.pim_stream.specs.Climbing.{FramesStay, JoinBeginsStream, JoinClimbsOver};
 ghost use Rattle.pim_stream.specs.InTime.{EventKeepsPassingUntil, JoinsInTimeKeepPassing};
 ghost use Rattle.pim_stream.specs.Passing.{EventKeepsPassing, PassingServes, RunKeepsPassing};
@@ -96,4 +97,9 @@ pub fn event_keeps_passing_until()
 /// While each Join(*,G) comes before the holdtime of the one before is over, the stream goes on.
 pub fn joins_in_time_keep_passing()
     ensures { JoinsInTimeKeepPassing }
+{}
+
+/// What follows of a change clears no SPTbit while a router joins the source on an interface where no assert is lost.
+pub fn join_keeps_spt_bit()
+    ensures { JoinKeepsSptBit }
 {}

@@ -1,0 +1,133 @@
+-- While a router joins the source nothing that follows of a change clears its SPTbit.
+use Rattle.std.proofs.Common.{◌≡◌, ◌∙◌, ℕ, ◌<◌, ◌&&◌, not, Bool, true, false, cond, List, [], ◌∷◌, filter, find, length, Option, option_map, Some, None, refl, sym, ap, subst}
+use Rattle.std.proofs.lemmas.Bool.{both_ways}
+use Rattle.std.specs.Cmp.{second_so}
+use Rattle.std.specs.Option.{option_or}
+use Rattle.pim_types.specs.Keys.{group_in, same_key, source_in, source_key}
+use Rattle.pim_types.specs.declared.config.InterfaceConfig.{InterfaceConfig}
+use Rattle.pim_types.specs.declared.fact.AssertRow.{AssertRow}
+use Rattle.pim_types.specs.declared.fact.DownstreamRow.{DownstreamRow}
+use Rattle.pim_types.specs.declared.fact.Key.{Key}
+use Rattle.pim_types.specs.declared.fact.SourceRow.{SourceRow}
+use Rattle.pim_types.proofs.Keys.{equal_keys}
+use Rattle.pim_model.specs.Asserts.{assert_forgotten, without_spt, without_spt_bit}
+use Rattle.pim_model.specs.Clearing.{ClearAssert, ClearSptBit, Cleared, assert_must_go, assert_to_clear, clear, clear_all, clearable_count, cleared, first_by, is_assert_first, spt_must_go, spt_to_clear, to_clear}
+use Rattle.pim_model.specs.Desires.{is_immediate_empty, join_desired}
+use Rattle.pim_model.specs.Firing.{settled}
+use Rattle.pim_model.specs.Messages.{Message}
+use Rattle.pim_model.specs.Registers.{settle_registers}
+use Rattle.pim_model.specs.Sets.{assert_source, immediate_olist, is_beaten, is_loser, joins, lost_assert, spt_bit}
+use Rattle.pim_model.specs.State.{State, iface_count}
+use Rattle.pim_model.specs.Tables.{Table, change_row, has_row, row_at}
+use Rattle.pim_model.specs.Unicast.{is_rpf_interface}
+use Rattle.pim_laws.proofs.RowLaws.{row_change_away}
+use Rattle.pim_laws.proofs.TurnLaws.{kept_to_the_end}
+use Rattle.pim_ready.proofs.Unsettled.{Untold, cleared_in_the_end}
+use Rattle.pim_served.proofs.Taken.{apart_keys, not_empty}
+use Rattle.pim_stream.specs.Bits.{HasJoined, JoinKeepsSptBit}
+use Rattle.pim_stream.proofs.Rows.{dropped_good}
+use Rattle.pim_stream.proofs.Settles.{bit_of}
+
+-- what is found passes
+found_passes : {X : Type 0} (p : X → Bool) (xs : List X) (x : X) → find p xs ≡ Some x → p x ≡ true
+found_passes p [] x e = cc e
+found_passes p (y ∷ ys) x e = go (p y) refl e (found_passes p ys x)
+  where
+    go : (b : Bool) → p y ≡ b → cond b (Some y) (find p ys) ≡ Some x → (find p ys ≡ Some x → p x ≡ true) → p x ≡ true
+    go true is f later = let same : y ≡ x = cc f in subst (λ z. p z ≡ true) same is
+    go false is f later = later f
+
+not_true : (b : Bool) → not b ≡ true → b ≡ false
+not_true true e = cc e
+not_true false e = refl
+
+-- a source whose SPTbit is to be cleared isn't wanted
+bit_is_unwanted : (u : State) (k : Key) → spt_to_clear u ≡ Some (ClearSptBit k) → join_desired u (group_in k) (source_in k) ≡ false
+unfolding spt_to_clear
+bit_is_unwanted u k e = go (find (spt_must_go u) u.sources) refl e
+  where
+    go : (x : Option (Key × SourceRow)) → find (spt_must_go u) u.sources ≡ x
+        → option_map (λ (e : Key × SourceRow). ClearSptBit e.0) x ≡ Some (ClearSptBit k) → join_desired u (group_in k) (source_in k) ≡ false
+    go None is f = cc f
+    go (Some x) is f =
+        let same : x.0 ≡ k = cc f in
+        subst (λ (q : Key). join_desired u (group_in q) (source_in q) ≡ false) same
+        (not_true _ (second_so (x.1).spt _ (found_passes (spt_must_go u) u.sources x is)))
+
+no_assert : (k : Key) (p : Option (Key × AssertRow)) → option_map (λ (e : Key × AssertRow). ClearAssert e.0 e.1) p ≡ Some (ClearSptBit k) → ⊥
+no_assert k None f = cc
+no_assert k (Some d) f = cc
+
+unwanted : (o u : State) (k : Key) → to_clear o u ≡ Some (ClearSptBit k) → join_desired u (group_in k) (source_in k) ≡ false
+unfolding to_clear assert_to_clear
+unwanted o u k e = go (first_by is_assert_first (filter (assert_must_go o u) u.asserts)) e
+  where
+    go : (p : Option (Key × AssertRow))
+        → option_or (option_map (λ (e : Key × AssertRow). ClearAssert e.0 e.1) p) (spt_to_clear u) ≡ Some (ClearSptBit k)
+        → join_desired u (group_in k) (source_in k) ≡ false
+    go None f = bit_is_unwanted u k f
+    go (Some d) f = absurd (no_assert k (Some d) f)
+
+-- a source that is joined where no assert of it is lost is wanted
+on_list : (u : State) (g src i : ℕ) → has_row u.downstream (source_key i g src) ≡ true
+    → is_loser (assert_source u g src i) ≡ false → immediate_olist u g src i ≡ true
+unfolding immediate_olist joins lost_assert
+on_list u g src i there unlost = rw (there, unlost) (last (not (is_rpf_interface u src i)) (is_beaten u g src i))
+  where
+    last : (b c : Bool) → not (b && false && c) ≡ true
+    last true c = refl
+    last false c = refl
+
+is_wanted : (u : State) (g src i : ℕ) → i < iface_count u → immediate_olist u g src i ≡ true → join_desired u g src ≡ true
+unfolding join_desired is_immediate_empty
+is_wanted u g src i within e = rw (not_empty u (immediate_olist u g src) i within e) refl
+
+module _ (g src i : ℕ) (cs : List InterfaceConfig) (rows : Table DownstreamRow) (within : i < length cs)
+    (there : has_row rows (source_key i g src) ≡ true) where
+  record Kept (u : State) : Type 0 where
+    configured : u.configured ≡ cs
+    downstream : u.downstream ≡ rows
+    unlost : is_loser (assert_source u g src i) ≡ false
+    set : bit_of (row_at u.sources (source_key 0 g src)) ≡ true
+
+  wanted : (u : State) → Kept u → join_desired u g src ≡ true
+  wanted u f =
+      is_wanted u g src i (subst (λ (xs : List InterfaceConfig). i < length xs) (sym f.configured) within)
+      (on_list u g src i (ap (λ (t : Table DownstreamRow). has_row t (source_key i g src)) f.downstream ∙ there) f.unlost)
+
+  one_cleared : (o u : State) (x : Cleared) → Kept u → to_clear o u ≡ Some x → Kept (cleared u x).0
+  unfolding cleared assert_forgotten without_spt_bit
+  one_cleared o u (ClearAssert k r) f next = record {
+    configured = f.configured;
+    downstream = f.downstream;
+    unlost = dropped_good is_loser refl k (source_key i g src) u.asserts f.unlost;
+    set = f.set;
+  }
+  one_cleared o u (ClearSptBit k) f next = record {
+    configured = f.configured;
+    downstream = f.downstream;
+    unlost = f.unlost;
+    set = go (same_key (source_key 0 g src) k) refl;
+  }
+    where
+      go : (b : Bool) → same_key (source_key 0 g src) k ≡ b
+          → bit_of (row_at (change_row without_spt k u.sources) (source_key 0 g src)) ≡ true
+      go true same =
+          let is : source_key 0 g src ≡ k = equal_keys (source_key 0 g src) k same in
+          absurd (both_ways (join_desired u g src)
+          (subst (λ (q : Key). join_desired u (group_in q) (source_in q) ≡ false) (sym is) (unwanted o u k next)) (wanted u f))
+      go false off =
+          ap bit_of (row_change_away k (source_key 0 g src) (apart_keys k (source_key 0 g src) off) without_spt u.sources) ∙ f.set
+
+  all_cleared : (o u : State) → Kept u → Kept (clear o u).0
+  unfolding clear clear_all settle_registers
+  all_cleared o u f =
+      kept_to_the_end (to_clear o) cleared Kept (λ v x h next. one_cleared o v x h next) (clearable_count (settle_registers u))
+      (settle_registers u) (record { configured = f.configured; downstream = f.downstream; unlost = f.unlost; set = f.set })
+
+pub join_keeps_spt_bit : JoinKeepsSptBit
+unfolding spt_bit
+join_keeps_spt_bit o c w g src i has set =
+    ap (λ (u : Untold). bit_of (row_at u.sources (source_key 0 g src))) (cleared_in_the_end o c w)
+    ∙ (all_cleared g src i (c.0).configured (c.0).downstream has.configured has.joined o c.0
+    (record { configured = refl; downstream = refl; unlost = has.unlost; set = set })).set

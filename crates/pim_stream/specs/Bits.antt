@@ -1,0 +1,20 @@
+-- SPTbit(S,G) isn't cleared while a router on a link joins the source.
+use Rattle.std.specs.Prelude.{List, false, true, ℕ, ◌<◌, ◌≡◌}
+use Rattle.pim_types.specs.Keys.{source_key}
+use Rattle.pim_model.specs.Firing.{settled}
+use Rattle.pim_model.specs.Messages.{Message}
+use Rattle.pim_model.specs.Sets.{assert_source, is_loser, spt_bit}
+use Rattle.pim_model.specs.State.{State, iface_count}
+use Rattle.pim_model.specs.Tables.{has_row}
+
+-- a router joined (S,G) on an interface, and no assert of it is lost there
+pub record HasJoined (s : State) (g src i : ℕ) : Type 0 where
+  pub configured : i < iface_count s
+  pub joined : has_row s.downstream (source_key i g src) ≡ true
+  pub unlost : is_loser (assert_source s g src i) ≡ false
+
+-- then what follows of a change, of an event or of the end of a timer, leaves SPTbit(S,G) set, whatever the change is; o is
+-- the state before it
+abbrev pub JoinKeepsSptBit : Type 0
+JoinKeepsSptBit = (o : State) (change : State × List Message) (w g src i : ℕ) → HasJoined change.0 g src i
+    → spt_bit change.0 g src ≡ true → spt_bit (settled o change w).0 g src ≡ true
