@@ -13,8 +13,6 @@ use Rattle.pim_types.proofs.Keys.{equal_keys}
 use Rattle.pim_model.specs.Asserts.{assert_forgotten, without_spt, without_spt_bit}
 use Rattle.pim_model.specs.Clearing.{ClearAssert, ClearSptBit, Cleared, assert_must_go, assert_to_clear, clear, clear_all, clearable_count, cleared, first_by, is_assert_first, spt_must_go, spt_to_clear, to_clear}
 use Rattle.pim_model.specs.Desires.{is_immediate_empty, join_desired}
-use Rattle.pim_model.specs.Firing.{settled}
-use Rattle.pim_model.specs.Messages.{Message}
 use Rattle.pim_model.specs.Registers.{settle_registers}
 use Rattle.pim_model.specs.Sets.{assert_source, immediate_olist, is_beaten, is_loser, joins, lost_assert, spt_bit}
 use Rattle.pim_model.specs.State.{State, iface_count}
@@ -24,7 +22,7 @@ use Rattle.pim_laws.proofs.RowLaws.{row_change_away}
 use Rattle.pim_laws.proofs.TurnLaws.{kept_to_the_end}
 use Rattle.pim_ready.proofs.Unsettled.{Untold, cleared_in_the_end}
 use Rattle.pim_served.proofs.Taken.{apart_keys, not_empty}
-use Rattle.pim_stream.specs.Bits.{HasJoined, JoinKeepsSptBit}
+use Rattle.pim_stream.specs.Bits.{JoinKeepsSptBit}
 use Rattle.pim_stream.proofs.Rows.{dropped_good}
 use Rattle.pim_stream.proofs.Settles.{bit_of}
 
