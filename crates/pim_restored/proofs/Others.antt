@@ -1,13 +1,10 @@
--- What is accepted of a frame or a packet is neither routes nor RP ranges. (The first half is that of Judgements in pim_ready,
--- whose parts aren't public, and whose Admits lets routes come of any kind of event.)
-use Rattle.std.proofs.Common.{ℕ, ◌<◌, ◌==◌, Bool, true, false, nat_le, not, List, Ok, Err, Result, ◌≡◌, refl, subst, arith}
-use Rattle.std.proofs.lemmas.Bool.Decides.{nat_tests}
+-- What is accepted of a frame or a packet is neither routes nor RP ranges. The tests in their order are those of
+-- Judgements in pim_ready, which lets routes come of any kind of event.
+use Rattle.std.proofs.Common.{ℕ, ◌==◌, Bool, true, false, List, Ok, Err, Result}
 use Rattle.pim_ip.specs.declared.addr.Addr.{Addr}
 use Rattle.pim_ip.specs.declared.refusal.Refusal.{Refusal}
 use Rattle.pim_ip.specs.Ipv4.{Packet, ipv4_reading}
 use Rattle.pim_types.specs.declared.config.IfaceId.{IfaceId}
-use Rattle.pim_types.specs.declared.config.Route.{Route}
-use Rattle.pim_types.specs.declared.config.RpRange.{RpRange}
 use Rattle.pim_types.specs.declared.event.EventKind.{EventKind}
 use Rattle.pim_types.specs.declared.outcome.Ignored.{Ignored}
 use Rattle.pim_types.specs.declared.outcome.Stop.{Stop}
@@ -21,8 +18,8 @@ use Rattle.igmp_wire.specs.Messages.{igmp_reading}
 use Rattle.igmp_wire.specs.Values.{Query, Record}
 use Rattle.igmp_wire.specs.declared.view.IgmpView.{IgmpView}
 use Rattle.pim_model.specs.declared.accepted.Accepted.{Accepted}
-use Rattle.pim_model.specs.Judging.{Judged, advance_judged, assert_judged, data_judged, down_judged, frame_judged, hello_judged, igmp_accepted, igmp_judged, igmp_message_judged, ignore_if, join_prune_judged, judged, of_read, packet_judged, pim_judged, pim_message_judged, pim_to_me_judged, refuse_if, register_judged, register_stop_judged, routes_judged, rps_judged, unicast_judged, unicast_packet_judged, up_judged, ◌>>◌}
-use Rattle.pim_model.specs.State.{State, iface_count, is_up, my_address}
+use Rattle.pim_model.specs.Judging.{Judged, advance_judged, assert_judged, data_judged, down_judged, frame_judged, hello_judged, igmp_accepted, igmp_judged, igmp_message_judged, ignore_if, join_prune_judged, judged, of_read, packet_judged, pim_judged, pim_message_judged, pim_to_me_judged, refuse_if, register_judged, register_stop_judged, unicast_judged, unicast_packet_judged, up_judged, ◌>>◌}
+use Rattle.pim_model.specs.State.{State, my_address}
 use Rattle.pim_laws.proofs.ListLaws.{by_cond}
 
 -- what is accepted passes a test that each kind of message passes
@@ -45,16 +42,6 @@ module _ (P : Accepted → Type 0) where
   refuse_then : (b : Bool) (refusal : Refusal) (next : Judged) → IsJudged next → IsJudged (refuse_if b refusal >> next)
   refuse_then true refusal next f = stops (Stop.Refuse refusal)
   refuse_then false refusal next f = f
-
-  held_then : (b : Bool) (refusal : Refusal) (next : Judged) → (b ≡ false → IsJudged next)
-      → IsJudged (refuse_if b refusal >> next)
-  held_then true refusal next f = stops (Stop.Refuse refusal)
-  held_then false refusal next f = f refl
-
-  up_then : (b : Bool) (refusal : Refusal) (next : Judged) → (b ≡ true → IsJudged next)
-      → IsJudged (refuse_if (not b) refusal >> next)
-  up_then false refusal next f = stops (Stop.Refuse refusal)
-  up_then true refusal next f = f refl
 
   ignore_then : (b : Bool) (reason : Ignored) (next : Judged) → IsJudged next → IsJudged (ignore_if b reason >> next)
   ignore_then true reason next f = stops (Stop.Ignore reason)

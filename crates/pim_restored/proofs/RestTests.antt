@@ -1,14 +1,11 @@
 -- The test of rest decides it.
-use Rattle.std.proofs.Common.{◌≡◌, ◌&&◌, Bool, true, false, [], ◌∷◌, refl}
-use Rattle.std.specs.Prelude.{List, Ok}
-use Rattle.pim_types.specs.declared.config.Config.{Config}
-use Rattle.pim_types.specs.declared.event.Event.{Event}
-use Rattle.pim_model.specs.Limits.{config_test}
+use Rattle.std.proofs.Common.{◌≡◌, Bool, true, false, [], ◌∷◌, refl}
+use Rattle.std.specs.Prelude.{List}
 use Rattle.pim_model.specs.State.{State, opening}
 use Rattle.pim_model.specs.Step.{state_after}
 use Rattle.pim_model.specs.Tables.{keys_in}
-use Rattle.pim_laws.specs.Laws.{IsAhead, IsFirable}
-use Rattle.pim_ready.specs.Ready.{IsOrdered, IsSettled, IsTidy}
+use Rattle.pim_laws.specs.Laws.{IsFirable}
+use Rattle.pim_ready.specs.Ready.{IsOrdered, IsTidy}
 use Rattle.pim_locality.specs.Locality.{IsQuiet}
 use Rattle.pim_locality.specs.Rest.{IsAtRest}
 use Rattle.pim_locality.proofs.Rest.{opening_is_at_rest, run_is_at_rest}

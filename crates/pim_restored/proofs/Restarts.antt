@@ -1,13 +1,11 @@
 -- A run in two parts.
-use Rattle.std.proofs.Common.{◌≡◌, List, [], ◌∷◌, ◌++◌, Ok, refl, sym, ap, subst, ◌∙◌}
+use Rattle.std.proofs.Common.{◌≡◌, List, [], ◌∷◌, ◌++◌, refl, sym, ap, subst, ◌∙◌}
 use Rattle.pim_types.specs.declared.event.Event.{Event}
 use Rattle.pim_types.specs.declared.outcome.Outcome.{Outcome}
 use Rattle.pim_asked.proofs.Steps.{run_is_asked}
 use Rattle.pim_model.specs.Cause.{OutcomesAreAsked, Past, past_after}
 use Rattle.pim_model.specs.State.{State, opening}
 use Rattle.pim_model.specs.Step.{outcome_of, ran, run, state_after, step}
-use Rattle.pim_saved.specs.Reading.{reading}
-use Rattle.pim_saved.specs.Text.{text}
 use Rattle.pim_saved.proofs.Spelled.{ok_is}
 use Rattle.pim_saved.proofs.SpelledStates.{text_is_read}
 use Rattle.pim_restored.specs.Restart.{LaterRunIsAsked, LaterStateIsReached, RestartChangesNothing, RestartIsAsked}

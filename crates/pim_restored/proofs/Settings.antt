@@ -13,7 +13,6 @@ use Rattle.pim_model.specs.Sets.{immediate_olist, immediate_olist_star, inherite
 use Rattle.pim_model.specs.Timers.{timers}
 use Rattle.pim_model.specs.Unicast.{is_connected, route, rp_of, rp_route, rpf_interface, rpf_interface_rp}
 use Rattle.pim_locality.specs.Locality.{IsQuiet}
-use Rattle.pim_locality.specs.Rest.{IsAtRest}
 use Rattle.pim_ready.specs.Ready.{IsSettled}
 use Rattle.pim_restored.specs.Reload.{FreshSettingsKeepRest, IsSetting}
 

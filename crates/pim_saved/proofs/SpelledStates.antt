@@ -1,5 +1,5 @@
 -- Tables, and the whole state.
-use Rattle.std.proofs.Common.{Some, None, ◌≡◌, ℕ, zero, suc, ◌<◌, ◌^◌, arith, Bool, true, false, cond, eqb, List, [], ◌∷◌, ◌++◌, ◌&&◌, Result, Ok, Err, refl, sym, ap, subst, ◌∙◌, append_assoc}
+use Rattle.std.proofs.Common.{Some, ◌≡◌, ℕ, arith, Bool, true, false, cond, eqb, List, [], ◌∷◌, ◌++◌, ◌&&◌, Ok, Err, refl, sym, ap, subst, ◌∙◌}
 use Rattle.std.proofs.lemmas.Bool.{eqb-true}
 use Rattle.std.proofs.lemmas.List.{append-nil}
 use Rattle.std.specs.List.{AllByRecursion}
@@ -13,11 +13,11 @@ use Rattle.pim_types.specs.declared.fact.Key.{Key}
 use Rattle.pim_model.specs.State.{State}
 use Rattle.pim_model.specs.Tables.{Table, keys_in}
 use Rattle.pim_saved.specs.declared.refusal.SavedRefusal.{SavedRefusal}
-use Rattle.pim_saved.specs.Fits.{FitsEntry, FitsGround, FitsHalf, FitsLink, FitsList, FitsRecord, FitsState, FitsTable, FitsTree, FitsWord}
+use Rattle.pim_saved.specs.Fits.{FitsEntry, FitsGround, FitsLink, FitsList, FitsRecord, FitsState, FitsTable, FitsTree}
 use Rattle.pim_saved.specs.Laws.{AreBytes, ReadingIsText, TextIsRead}
-use Rattle.pim_saved.specs.Parts.{StateParts, parts_of, state_of}
-use Rattle.pim_saved.specs.Reading.{Reader, ◌>>=◌, at_end, ground_at, half_at, in_order, in_turn, key_at, links_at, list_at, made, magic_at, parts_at, reading, records_at, rise, rise_after, table_at, trees_at, version_at, word_at}
-use Rattle.pim_saved.specs.Text.{body_text, entry_text, ground_text, half_text, links_text, list_text, magic, records_text, table_text, text, trees_text, version, word_text}
+use Rattle.pim_saved.specs.Parts.{parts_of, state_of}
+use Rattle.pim_saved.specs.Reading.{Reader, at_end, ground_at, half_at, in_order, in_turn, key_at, links_at, list_at, made, magic_at, parts_at, reading, records_at, rise, rise_after, table_at, trees_at, version_at, word_at}
+use Rattle.pim_saved.specs.Text.{body_text, ground_text, half_text, links_text, magic, records_text, table_text, text, trees_text, version, word_text}
 use Rattle.pim_saved.proofs.Spelled.{IsSpelled, Takes, bind_ok, both, half, list, made_of, moment, ok_is, passed, word}
 use Rattle.pim_saved.proofs.SpelledRows.{asserted, downstream, group_record, group_repeat, interface, join_timer, key, neighbour, override_timer, querier, range, register, route, sending, settings, source, source_record, source_repeat, up}
 

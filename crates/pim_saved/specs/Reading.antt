@@ -65,7 +65,8 @@ option_at item (suc (suc b) ∷ rest) = Err SavedRefusal.OutOfRange
 
 unfoldable pub items_at : {A : Type 0} → Reader A → ℕ → Reader (List A)
 items_at item zero bytes = Ok ([], bytes)
-items_at item (suc n) bytes = item bytes >>= λ first. items_at item n first.1 >>= λ others. Ok (first.0 ∷ others.0, others.1)
+items_at item (suc n) bytes =
+    item bytes >>= λ first. items_at item n first.1 >>= λ others. Ok (first.0 ∷ others.0, others.1)
 
 abbrev pub list_at : {A : Type 0} → Reader A → Reader (List A)
 list_at item bytes = moment_at bytes >>= λ n. items_at item n.0 n.1
@@ -269,7 +270,8 @@ version_at bytes = half_at bytes >>= λ v. if v.0 == version then Ok v else Err 
 
 unfoldable pub ground_at : Reader GroundParts
 ground_at bytes =
-    in_turn settings_at (in_turn (list_at interface_at) (in_turn moment_at (in_turn (list_at route_at) (list_at range_at)))) bytes
+    in_turn settings_at (in_turn (list_at interface_at) (in_turn moment_at
+    (in_turn (list_at route_at) (list_at range_at)))) bytes
 
 unfoldable pub links_at : Reader LinkParts
 links_at bytes =
@@ -277,11 +279,13 @@ links_at bytes =
 
 unfoldable pub records_at : Reader RecordParts
 records_at bytes =
-    in_turn (table_at group_record_at) (in_turn (table_at source_record_at) (in_turn (table_at group_repeat_at) (in_turn (table_at source_repeat_at) (table_at sending_at)))) bytes
+    in_turn (table_at group_record_at) (in_turn (table_at source_record_at) (in_turn (table_at group_repeat_at)
+    (in_turn (table_at source_repeat_at) (table_at sending_at)))) bytes
 
 unfoldable pub trees_at : Reader TreeParts
 trees_at bytes =
-    in_turn (table_at downstream_at) (in_turn (table_at assert_at) (in_turn (table_at join_timer_at) (in_turn (table_at override_timer_at) (in_turn (table_at source_at) (table_at register_at))))) bytes
+    in_turn (table_at downstream_at) (in_turn (table_at assert_at) (in_turn (table_at join_timer_at) (in_turn
+    (table_at override_timer_at) (in_turn (table_at source_at) (table_at register_at))))) bytes
 
 unfoldable pub parts_at : Reader StateParts
 parts_at bytes = in_turn ground_at (in_turn links_at (in_turn records_at trees_at)) bytes
