@@ -1,14 +1,16 @@
-//! Why nothing was read.
+//! Why no state was read.
 ghost use Rattle.std.specs.Prelude.{◌≡◌};
 ghost use Rattle.pim_saver.specs.declared.fault.ReadFault.TheVariants.{Memory};
 
 use pim_saved::SavedRefusal;
 use std::alloc::{AllocError, AllocFailed};
 
-/// Why nothing was read.
+/// Why no state was read.
 #[derive(Debug, Drop)]
 pub enum ReadFault {
+    /// Memory was refused.
     Memory,
+    /// The bytes are no saved state of this version.
     Refused(SavedRefusal),
 }
 
