@@ -1,12 +1,13 @@
 #!/usr/bin/env python3
-"""A multicast router for Linux, around the library: an example, and no data plane, since each packet goes through Python.
+"""A multicast router for Linux, around the library: an example, and no data plane, since each packet goes through
+Python.
 
     router.py --library LIBRARY --rp GROUPS=ADDRESS [--rp ..] [--quiet] INTERFACE ..
 
-It hears on the interfaces by packet sockets, takes the time of the machine's clock and its random numbers, reads the kernel's IPv4
-routes once and whenever they change, and sends what the router names, copies of data included. It prints what comes and what leaves
-in words, and its tables where it is sent SIGUSR1. It needs the right to open packet sockets (root, in a network namespace of its own:
-`try_with_frr` makes some).
+It hears on the interfaces by packet sockets, takes the time of the machine's clock and its random numbers, reads the
+kernel's IPv4 routes once and whenever they change, and sends what the router names, copies of data included. It prints
+what comes and what leaves in words, and its tables where it is sent SIGUSR1. It needs the right to open packet sockets
+(root, in a network namespace of its own: `try_with_frr` makes some).
 """
 import argparse
 import fcntl
@@ -95,7 +96,14 @@ class Port:
         if source[2] == PACKET_OUTGOING or len(packet) < 20:
             return None
         packet = packet[: int.from_bytes(packet[2:4], "big")]
-        status = next((int.from_bytes(value[:4], sys.byteorder) for level, kind, value in told if (level, kind) == (SOL_PACKET, PACKET_AUXDATA)), 0)
+        status = next(
+            (
+                int.from_bytes(value[:4], sys.byteorder)
+                for level, kind, value in told
+                if (level, kind) == (SOL_PACKET, PACKET_AUXDATA)
+            ),
+            0,
+        )
         return filled(packet) if status & TP_STATUS_CSUMNOTREADY else packet
 
     def send(self, packet):
@@ -135,7 +143,9 @@ class Machine:
         for route in asked("route", "show"):
             if "gateway" in route and route.get("dev") in numbers:
                 net = "0.0.0.0/0" if route["dst"] == "default" else str(ipaddress.IPv4Network(route["dst"]))
-                found.setdefault(net, (net, route["gateway"], numbers[route["dev"]], PREFERENCE, route.get("metric", 0)))
+                found.setdefault(
+                    net, (net, route["gateway"], numbers[route["dev"]], PREFERENCE, route.get("metric", 0))
+                )
         return list(found.values())
 
     def done(self, answer, what):

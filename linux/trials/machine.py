@@ -1,4 +1,5 @@
-"""What the machine does to the router: interfaces and addresses that come and go, want of memory, links of each kind."""
+"""What the machine does to the router: interfaces and addresses that come and go, want of memory, links of each
+kind."""
 import socket
 import subprocess
 import sys

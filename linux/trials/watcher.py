@@ -29,7 +29,12 @@ def joined(packet):
 
 
 def main():
-    interface, sender, count, patience = sys.argv[1], socket.inet_aton(sys.argv[2]), int(sys.argv[3]), float(sys.argv[4])
+    interface, sender, count, patience = (
+        sys.argv[1],
+        socket.inet_aton(sys.argv[2]),
+        int(sys.argv[3]),
+        float(sys.argv[4]),
+    )
     link = socket.socket(socket.AF_PACKET, socket.SOCK_DGRAM, socket.htons(0x0800))
     link.setsockopt(socket.SOL_SOCKET, SO_RCVBUFFORCE, 64 << 20)
     link.setsockopt(socket.SOL_SOCKET, SO_TIMESTAMPNS, 1)

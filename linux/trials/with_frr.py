@@ -5,7 +5,7 @@ import subprocess
 import sys
 import time
 
-from trials.network import (ASKER, HOST, RPS, SOURCE, Failed, ended, goes_on, inside, ip, received, until)
+from trials.network import (ASKER, HOST, RPS, SOURCE, Failed, ended, goes_on, ip, received, until)
 
 def neighbours(net):
     """both sides know each other as neighbours"""

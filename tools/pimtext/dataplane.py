@@ -1,11 +1,10 @@
-"""A router behind a data plane, which forwards by itself what the router's rows decide, as include/viqeshor/plane.h says. Each duty of a plane
-has a name, and may be forgotten."""
+"""A router behind a data plane, which forwards by itself what the router's rows decide, as include/viqeshor/plane.h
+says. Each duty of a plane has a name, and may be forgotten."""
 from dataclasses import dataclass
 
 import viqeshor
 from viqeshor import Answer
 from pimtext import packets
-from pimtext.packets import Refused
 
 KEEPALIVE_PERIOD = 210_000
 LAST_MOMENT = 2**62
@@ -184,7 +183,9 @@ class Plane:
                 self.rows.clear()
             return got
         if self.minds("unknown"):
-            self.rows = {name: row for name, row in self.rows.items() if row.is_known or not self.router.may_differ(*name)}
+            self.rows = {
+                name: row for name, row in self.rows.items() if row.is_known or not self.router.may_differ(*name)
+            }
         told, self.behind = (self.router.changed(), []) if self.minds("order") else (self.behind, self.router.changed())
         if self.minds("changed"):
             for name in dict.fromkeys(told):
@@ -205,7 +206,9 @@ class Plane:
         """Whether nothing ends by then: no timer of the router, nor one that a note will have started."""
         ends = self.router.next_moment() if self.minds("next") else None
         by_notes = all(moment < noted + KEEPALIVE_PERIOD for noted, _ in self.noted.values())
-        return not self.has_failed and self.now <= moment <= LAST_MOMENT and (ends is None or moment < ends) and by_notes
+        return (
+            not self.has_failed and self.now <= moment <= LAST_MOMENT and (ends is None or moment < ends) and by_notes
+        )
 
     def take(self, event):
         """What comes of an event."""

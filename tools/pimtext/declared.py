@@ -1,5 +1,5 @@
-"""What the library's archive declares, as C: the functions and values of crates/pim_c, and assertions that the headers have the
-same; and what a compiled program and a library have to agree on, as lines."""
+"""What the library's archive declares, as C: the functions and values of crates/pim_c, and assertions that the headers
+have the same; and what a compiled program and a library have to agree on, as lines."""
 import re
 from pathlib import Path
 
@@ -68,7 +68,8 @@ def called(header):
 
 
 def agreed(headers):
-    """What a compiled program and a library have to agree on: values field by field, calls and numbers, each as a line."""
+    """What a compiled program and a library have to agree on: values field by field, calls and numbers, each as a
+    line."""
     code = without_comments("\n".join(headers))
     for name, body in C_STRUCT.findall(code):
         yield f"struct {name}: {'; '.join(' '.join(field.split()) for field in body.split(';') if field.strip())}"
@@ -87,7 +88,8 @@ def abi_text(headers):
 
 
 def store_abi():
-    """Keeps what the number stands for now. It has to be another number than that which is kept, where anything else differs."""
+    """Keeps what the number stands for now. It has to be another number than that which is kept, where anything else
+    differs."""
     headers = [path.read_text() for path in HEADERS]
     text, kept = abi_text(headers), ABI.read_text() if ABI.exists() else ""
     if kept and kept != text and kept.splitlines()[0] == text.splitlines()[0]:
@@ -101,8 +103,10 @@ def fields_hold(name, fields):
     yield f'_Static_assert(sizeof(struct {name}) == sizeof(struct own_{name}), "size of {name}");'
     for field, kind in fields:
         where = f"{name}.{field}"
-        yield f'_Static_assert(offsetof(struct {name}, {field}) == offsetof(struct own_{name}, {field}), "place of {where}");'
-        yield f'_Static_assert(__builtin_types_compatible_p(__typeof__(((struct {name} *)0)->{field}), {kind}), "type of {where}");'
+        own = f"offsetof(struct own_{name}, {field})"
+        yield f'_Static_assert(offsetof(struct {name}, {field}) == {own}, "place of {where}");'
+        type_of = f"__typeof__(((struct {name} *)0)->{field})"
+        yield f'_Static_assert(__builtin_types_compatible_p({type_of}, {kind}), "type of {where}");'
 
 
 def assertions():

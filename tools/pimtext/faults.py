@@ -176,7 +176,10 @@ class Judge:
             told = f"`{what}` is one table: a list of tables is wanted, whose headers have double brackets, [[{what}]]"
             return self.fault(value.line, "", told) or []
         if value.kind != "list":
-            return self.fault(value.line, "", f"`{what}` is {found(value)}, and a list of tables is wanted: [[{what}]]") or []
+            return (
+                self.fault(value.line, "", f"`{what}` is {found(value)}, and a list of tables is wanted: [[{what}]]")
+                or []
+            )
         for at, inner in enumerate(value.held):
             if inner.kind != "table":
                 self.fault(inner.line, f"{what} {at}", f"it is {found(inner)}, and a table is wanted")
@@ -233,7 +236,9 @@ class Judge:
         if text is not None:
             made.line = table.get("address").line
             if prefix_in(text) is None:
-                self.fault(made.line, where, f'`address` is "{text}": {why_no_prefix(text)}; wanted is {FORMS["address"]}')
+                self.fault(
+                    made.line, where, f'`address` is "{text}": {why_no_prefix(text)}; wanted is {FORMS["address"]}'
+                )
             made.address, made.length = prefix_in(text) or (None, None)
         self.number(table, "priority", 1, where)
         delays = (("propagation", 500), ("override", 2500))
@@ -249,7 +254,9 @@ class Judge:
         for at, inner in enumerate(self.wanted(table, key, "list", where, form) or []):
             place = f"{where}, `{key}` {at}"
             if inner.kind != "text":
-                self.fault(inner.line, place, f"it is {found(inner)}, and a text is wanted: {form.partition('each ')[2]}")
+                self.fault(
+                    inner.line, place, f"it is {found(inner)}, and a text is wanted: {form.partition('each ')[2]}"
+                )
                 continue
             made += [route for route in [read(words_in(inner.held), inner, place)] if route]
         return made
@@ -267,7 +274,11 @@ class Judge:
         if prefix is None:
             self.fault(inner.line, place, f'"{inner.held}": the prefix is wrong: {why_no_prefix(words[0])}')
         if next_hop is None:
-            self.fault(inner.line, place, f'"{inner.held}": the next hop `{words[1]}` is no address: {why_no_address(words[1])}')
+            self.fault(
+                inner.line,
+                place,
+                f'"{inner.held}": the next hop `{words[1]}` is no address: {why_no_address(words[1])}',
+            )
         self.numbers(words[2:], ("interface", "preference", "metric"), inner, place)
         iface, preference, metric = map(number_in, words[2:])
         if None in (prefix, next_hop, iface, preference, metric):
@@ -276,12 +287,16 @@ class Judge:
 
     def rp(self, words, inner, place):
         if len(words) != 2:
-            return self.fault(inner.line, place, f'"{inner.held}" has {count(words)}, and an RP range has two: {RP_FORM}')
+            return self.fault(
+                inner.line, place, f'"{inner.held}" has {count(words)}, and an RP range has two: {RP_FORM}'
+            )
         prefix, rp = prefix_in(words[0]), address_in(words[1])
         if prefix is None:
             self.fault(inner.line, place, f'"{inner.held}": the prefix is wrong: {why_no_prefix(words[0])}')
         if rp is None:
-            self.fault(inner.line, place, f'"{inner.held}": the RP `{words[1]}` is no address: {why_no_address(words[1])}')
+            self.fault(
+                inner.line, place, f'"{inner.held}": the RP `{words[1]}` is no address: {why_no_address(words[1])}'
+            )
         return Route(inner.line, inner.held, *prefix, rp) if prefix and rp is not None else None
 
     # ---- moves
@@ -389,12 +404,15 @@ def iface_faults(router):
     """Tests 30 to 33 and 36 of a router's interfaces, as (number, line, where, what)."""
     ifaces, where = router["ifaces"], router["where"]
     if not 1 <= len(ifaces) <= MOST_IFACES:
-        yield 30, router["table"].get("iface").line, where, f"it has {len(ifaces)} interfaces: 1 to {MOST_IFACES} may be"
+        yield 30, router["table"].get(
+            "iface"
+        ).line, where, f"it has {len(ifaces)} interfaces: 1 to {MOST_IFACES} may be"
     for at, iface in enumerate(ifaces):
         place = f"{where}, interface {at}"
         shown = f"{dotted(iface.address)}/{iface.length}"
         if not is_host(iface.address):
-            yield 31, iface.line, place, f"{dotted(iface.address)} is no host's address: 0.0.0.0, or 224.0.0.0 and above"
+            why = f"{dotted(iface.address)} is no host's address: 0.0.0.0, or 224.0.0.0 and above"
+            yield 31, iface.line, place, why
         if not 1 <= iface.length <= 31:
             way = f"; for an address alone write {dotted(iface.address)}/31" if iface.length == 32 else ""
             yield 32, iface.line, place, f"the prefix length of {shown} is {iface.length}: 1 to 31 may be{way}"

@@ -1,5 +1,5 @@
-"""Random events of one router: neighbours, hosts and sources on its links, sources and RPs behind others, routes and ranges that
-change, links that go down, and time. All of it comes of one seed."""
+"""Random events of one router: neighbours, hosts and sources on its links, sources and RPs behind others, routes and
+ranges that change, links that go down, and time. All of it comes of one seed."""
 import random
 from collections import deque
 from dataclasses import dataclass, replace
@@ -17,13 +17,27 @@ PREFIXES = ("10.80.0.0/16", "10.90.0.0/16", "10.90.1.0/24", "10.91.0.0/16", "0.0
 HOLDTIMES = (0xFFFF,) * 8 + (105, 20, 3, 0)
 JOINED_FOR = (0xFFFF,) * 4 + (210,) * 4 + (60, 3, 0)
 # What is wrong with a packet that claims to be data.
-SPOILT = ("version", "header", "total", "short", "long", "checksum", "fragment", "source", "own", "unicast", "local", "igmp", "pim")
+SPOILT = (
+    "version",
+    "header",
+    "total",
+    "short",
+    "long",
+    "checksum",
+    "fragment",
+    "source",
+    "own",
+    "unicast",
+    "local",
+    "igmp",
+    "pim",
+)
 
 
 @dataclass(frozen=True)
 class Event:
-    """`call` is the method of `viqeshor.Router`, `values` what it takes before the draw, `words` what it is. Meanwhile memory may be
-    refused."""
+    """`call` is the method of `viqeshor.Router`, `values` what it takes before the draw, `words` what it is. Meanwhile
+    memory may be refused."""
     call: str
     values: tuple
     draw: int
@@ -89,7 +103,9 @@ class Happenings:
         return self.draws.choice(self.all_neighbours())
 
     def source(self):
-        return self.draws.choice((*FAR_SOURCES, *(f"10.0.{at}.{last}" for at in range(self.count) for last in (50, 51))))
+        return self.draws.choice(
+            (*FAR_SOURCES, *(f"10.0.{at}.{last}" for at in range(self.count) for last in (50, 51)))
+        )
 
     def some_flow(self):
         """A source and a group."""
@@ -110,7 +126,8 @@ class Happenings:
         return next((rp for prefix, rp in reversed(self.ranges) if IPv4Address(group) in IPv4Network(prefix)), FAR_RP)
 
     def way(self, source, group):
-        """An interface on which packets come: that towards the source, that towards the RP, or any; now and then one that isn't."""
+        """An interface on which packets come: that towards the source, that towards the RP, or any; now and then one
+        that isn't."""
         if self.draws.random() < 0.01:
             return self.count
         return self.draws.choice([self.towards(source)] * 4 + [self.towards(self.rp(group))] * 2 + [self.iface()])
@@ -149,7 +166,9 @@ class Happenings:
         hello = Hello(self.draws.choice(HOLDTIMES), None, None, self.draws.choice((None, 0, 1, 7)), generation)
         if self.draws.random() < 0.5:
             hello = Hello(hello.holdtime, 500, 2500, hello.priority, generation)
-        return self.frame(iface, packets.write_hello(whom, hello), f"Hello of {whom}, {hello.holdtime} s, priority {hello.priority}")
+        return self.frame(
+            iface, packets.write_hello(whom, hello), f"Hello of {whom}, {hello.holdtime} s, priority {hello.priority}"
+        )
 
     def hello(self):
         return self.hello_of(*self.neighbour(), generation=self.draws.choice((1, 1, 1, 2)))
@@ -252,14 +271,18 @@ class Happenings:
         is_null = self.draws.random() < 0.3
         inner = packets.write_data(source, group, bytes(4), self.draws.choice((64, 2, 1)))
         inner = packets.write(packets.UDP, source, group, 64, b"") if is_null else inner
-        whom, to = self.draws.choice(("10.80.0.1", "10.90.0.1")), self.draws.choice([self.own(at) for at in range(self.count)])
+        whom, to = self.draws.choice(("10.80.0.1", "10.90.0.1")), self.draws.choice(
+            [self.own(at) for at in range(self.count)]
+        )
         data = packets.write_pim(packets.REGISTER, whom, to, 64, bytes([0x40 * is_null, 0, 0, 0]) + inner)
         return self.event("unicast", (data,), f"{'Null-' * is_null}Register of {whom} to {to}: {source} to {group}")
 
     def register_stop(self):
         source, group = self.flow()
         whom = self.draws.choice(self.rps)
-        content = packets.encoded_group(group, 32) + packets.encoded_unicast(self.draws.choice((source, source, "0.0.0.0")))
+        content = packets.encoded_group(group, 32) + packets.encoded_unicast(
+            self.draws.choice((source, source, "0.0.0.0"))
+        )
         data = packets.write_pim(packets.REGISTER_STOP, whom, self.own(self.iface()), 64, content)
         return self.event("unicast", (data,), f"Register-Stop of {whom}: {source} to {group}")
 
@@ -273,15 +296,33 @@ class Happenings:
     def wait(self):
         """Time passes: for a moment, up to the next timer's end or just before it, or for long."""
         ends = self.next_moment if self.next_moment is not None else self.present + 1
-        to = self.draws.choice((
-            self.present + self.draws.randint(1, 3000), ends, ends - 1, self.present + self.draws.randint(3000, 70_000),
-            self.present + self.draws.randint(3000, 70_000), self.present + self.draws.randint(180_000, 215_000), self.present - 1,
-        ))
+        to = self.draws.choice(
+            (
+                self.present + self.draws.randint(1, 3000),
+                ends,
+                ends - 1,
+                self.present + self.draws.randint(3000, 70_000),
+                self.present + self.draws.randint(3000, 70_000),
+                self.present + self.draws.randint(180_000, 215_000),
+                self.present - 1,
+            )
+        )
         return self.advance(max(to, 0))
 
     CHANCES = {
-        "data": 20, "wait": 14, "join_prune": 12, "report": 9, "hello": 4, "assert_": 5, "register": 4, "spoilt": 4, "link": 2,
-        "register_stop": 3, "query": 1, "new_routes": 2, "new_ranges": 1,
+        "data": 20,
+        "wait": 14,
+        "join_prune": 12,
+        "report": 9,
+        "hello": 4,
+        "assert_": 5,
+        "register": 4,
+        "spoilt": 4,
+        "link": 2,
+        "register_stop": 3,
+        "query": 1,
+        "new_routes": 2,
+        "new_ranges": 1,
         "refusal": 0.05,
     }
 

@@ -1,4 +1,5 @@
-"""The library: one archive of the router, the kit's few lines of C around malloc and our own (bindings/c), and what is made of it."""
+"""The library: one archive of the router, the kit's few lines of C around malloc and our own (bindings/c), and what is
+made of it."""
 import hashlib
 import os
 import re
@@ -20,7 +21,8 @@ CC = os.environ.get("CC", "cc")
 HEADERS = ["viqeshor.h", "plane.h"]
 DOCS = TOP / "docs"
 VERSION = re.search(r'#define VIQ_VERSION "(.*)"', (INCLUDE / "viqeshor" / "viqeshor.h").read_text())[1]
-# What stays the same where a newer library may take an older one's place: while the first number is 0, the second one too.
+# What stays the same where a newer library may take an older one's place: while the first number is 0, the second one
+# too.
 SERIES = ".".join(VERSION.split(".")[:2 if VERSION.startswith("0.") else 1])
 # What the shared library is called by the programs that are linked with it.
 SONAME = f"libviqeshor.so.{SERIES}"
@@ -72,12 +74,20 @@ def libraries():
 
 
 def prove_over_gate():
-    """Proves and builds the archive over the libraries that `rt ci` has proved just now. It keeps them for no other command of its own,
-    which would prove them again. Where a clone has older ones they are left to `rt lib`, which knows which are up to date."""
+    """Proves and builds the archive over the libraries that `rt ci` has proved just now. It keeps them for no other
+    command of its own, which would prove them again. Where a clone has older ones they are left to `rt lib`, which
+    knows which are up to date."""
     if any((TOP / "crates" / name / "out" / "rlib" / "stamp").exists() for name in crates_of("pim_c")):
         return
     where = kit.kit()
-    words = ["--antt-project", where / "rattle" / "logic" / "antt-project.json", "--logic-built", where / "logic_built", "--jobs", "2"]
+    words = [
+        "--antt-project",
+        where / "rattle" / "logic" / "antt-project.json",
+        "--logic-built",
+        where / "logic_built",
+        "--jobs",
+        "2",
+    ]
     words += ["--links", "pim_c=", "--crate-type", "staticlib", "--toolchain", where / "toolchain", "-o", PROVED]
     ran([where / "bin" / "rattle", "build", "--crate-name", "pim_c", "src/lib.rt", *libraries(), *words], cwd=CRATE)
     PROVED_OF.write_text(sum_of_proved())
@@ -119,8 +129,8 @@ def archiver():
 
 
 def archive(router, how):
-    """The archive, of a router's, that says how it was built. The kit's few lines of C around malloc are in it, or are put
-    there."""
+    """The archive, of a router's, that says how it was built. The kit's few lines of C around malloc are in it, or are
+    put there."""
     made, tool = ROOM / "libviqeshor.a", archiver()
     made.unlink(missing_ok=True)
     shutil.copyfile(router, made)
@@ -140,8 +150,8 @@ def names_of_calls():
 
 
 class Library:
-    """The library in out/library, proved unless another archive of the router is given, or the unproved one is asked for,
-    which is taken from a folder that is named if it is there."""
+    """The library in out/library, proved unless another archive of the router is given, or the unproved one is asked
+    for, which is taken from a folder that is named if it is there."""
 
     def __init__(self, given=None, is_proved=True, folder=None):
         ROOM.mkdir(parents=True, exist_ok=True)
@@ -156,7 +166,13 @@ class Library:
         """A shared library of all of it."""
         made, names = ROOM / "libviqeshor.so", ROOM / "names"
         names.write_text(f"{{ global: {'; '.join(names_of_calls())}; local: *; }};\n")
-        flags = [f"-Wl,-soname,{SONAME}", f"-Wl,--version-script={names}", "-Wl,--whole-archive", self.archive, "-Wl,--no-whole-archive"]
+        flags = [
+            f"-Wl,-soname,{SONAME}",
+            f"-Wl,--version-script={names}",
+            "-Wl,--whole-archive",
+            self.archive,
+            "-Wl,--no-whole-archive",
+        ]
         ran([CC, "-shared", "-o", beside(made), *flags])
         beside(made).replace(made)
         # The kit takes no links below the repository, not even in what is built.
@@ -166,7 +182,23 @@ class Library:
     def program(self, source, *flags):
         """A C program with it."""
         made = ROOM / source.stem
-        ran([CC, "-std=c99", "-Wall", "-Wextra", "-Werror", "-O2", "-I", INCLUDE, "-o", made, source, self.archive, *flags])
+        ran(
+            [
+                CC,
+                "-std=c99",
+                "-Wall",
+                "-Wextra",
+                "-Werror",
+                "-O2",
+                "-I",
+                INCLUDE,
+                "-o",
+                made,
+                source,
+                self.archive,
+                *flags,
+            ]
+        )
         return made
 
     def rust_program(self, source):
@@ -204,7 +236,8 @@ def beside(path):
 
 
 def put(path, content, mode=0o644):
-    """Writes a file beside its path, and gives it its name then. What runs by an older file of that name goes on by it."""
+    """Writes a file beside its path, and gives it its name then. What runs by an older file of that name goes on by
+    it."""
     made = beside(path)
     made.write_bytes(content)
     made.chmod(mode)
@@ -244,7 +277,8 @@ foreach(kind STATIC SHARED)
   endif()
 endforeach()
 set_target_properties(viqeshor::static PROPERTIES IMPORTED_LOCATION "${VIQ_PREFIX}/lib/libviqeshor.a")
-set_target_properties(viqeshor::shared PROPERTIES IMPORTED_LOCATION "${VIQ_PREFIX}/lib/libviqeshor.so" IMPORTED_SONAME "@SONAME@")
+set_target_properties(viqeshor::shared PROPERTIES
+    IMPORTED_LOCATION "${VIQ_PREFIX}/lib/libviqeshor.so" IMPORTED_SONAME "@SONAME@")
 """
 
 # A newer version takes the place of an older one with the same first number, and second one while the first is 0.

@@ -1,8 +1,8 @@
 """IPv4, PIM version 2 and IGMP version 3 packets, read and written.
 
 Readings are strict, by the formats of RFC 791, RFC 7761 (4.9) and RFC 3376 (4): the first test that fails is raised as
-`Refused` with the number of the refusal, as docs/SCENARIOS.md lists them. They stand on no code of the router. Addresses
-are dotted text.
+`Refused` with the number of the refusal, as docs/SCENARIOS.md lists them. They stand on no code of the router.
+Addresses are dotted text.
 """
 from dataclasses import dataclass
 
@@ -12,7 +12,8 @@ ALL_PIM_ROUTERS = bytes((224, 0, 0, 13))
 # The type of service of routing protocols, and the option that routers look at.
 ROUTING = 0xC0
 ROUTER_ALERT = b"\x94\x04\0\0"
-# The longest packet that comes on a link, and the longest one that comes as a unicast: a Register with such a one in it.
+# The longest packet that comes on a link, and the longest one that comes as a unicast: a Register with such a one in
+# it.
 MOST_IN_A_FRAME, MOST_IN_A_UNICAST = 1500, 1528
 HELLO, REGISTER, REGISTER_STOP, JOIN_PRUNE, ASSERT = 0, 1, 2, 3, 5
 RECORD_KINDS = {1: "IS_IN", 2: "IS_EX", 3: "TO_IN", 4: "TO_EX", 5: "ALLOW", 6: "BLOCK"}
@@ -332,7 +333,13 @@ def read_header(data, limit):
     expect(sum16(data[:header]) == 0, CHECKSUM)
     expect(word(data, 6) & 0x3FFF == 0, FRAGMENT)
     expect(data[12] < 224 and (any(data[12:16]) or data[9] == IGMP), ADDRESS)
-    head = {"source": dotted(data[12:16]), "destination": dotted(data[16:20]), "ttl": data[8], "protocol": data[9], "size": total}
+    head = {
+        "source": dotted(data[12:16]),
+        "destination": dotted(data[16:20]),
+        "ttl": data[8],
+        "protocol": data[9],
+        "size": total,
+    }
     return head, data[header:total]
 
 
@@ -472,7 +479,9 @@ def write_join_prune(source, upstream, groups, holdtime=210):
 def encoded_entries(group):
     """A group of a Join/Prune with its sources."""
     counts = len(group.joins).to_bytes(2, "big") + len(group.prunes).to_bytes(2, "big")
-    return encoded_group(group.group, group.mask) + counts + b"".join(map(encoded_source, (*group.joins, *group.prunes)))
+    return (
+        encoded_group(group.group, group.mask) + counts + b"".join(map(encoded_source, (*group.joins, *group.prunes)))
+    )
 
 
 def write_assert(source, told):

@@ -91,7 +91,12 @@ def run_once(words):
 
 def version():
     """The version of the repository, as `include/viqeshor/viqeshor.h` has it."""
-    return (TOP / "include" / "viqeshor" / "viqeshor.h").read_text().partition('#define VIQ_VERSION "')[2].partition('"')[0]
+    return (
+        (TOP / "include" / "viqeshor" / "viqeshor.h")
+        .read_text()
+        .partition('#define VIQ_VERSION "')[2]
+        .partition('"')[0]
+    )
 
 
 def run(words):

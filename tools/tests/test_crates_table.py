@@ -40,7 +40,9 @@ class Printed(unittest.TestCase):
     def test_every_crate_has_a_line(self):
         text = (stored.TOOLS.parent / "crates.txt").read_text()
         folders = sorted(path.parent.name for path in (stored.TOOLS.parent / "crates").glob("*/src"))
-        self.assertEqual(sorted(line.split("`")[1] for line in crates_table.table(text) if line.startswith("| `")), folders)
+        self.assertEqual(
+            sorted(line.split("`")[1] for line in crates_table.table(text) if line.startswith("| `")), folders
+        )
 
 
 class Compared(unittest.TestCase):

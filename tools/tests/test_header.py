@@ -1,5 +1,6 @@
-"""The headers declare what the library's crate does: its calls, and each value's size, places and types. What a compiled program and a
-library have to agree on has a number, which is another one wherever any of it changes. The headers stand beside FRR's."""
+"""The headers declare what the library's crate does: its calls, and each value's size, places and types. What a
+compiled program and a library have to agree on has a number, which is another one wherever any of it changes. The
+headers stand beside FRR's."""
 import os
 import shutil
 import subprocess
@@ -52,7 +53,17 @@ def complaint(header=None, plane=None, core=None):
 def compiled(text, *flags):
     with tempfile.TemporaryDirectory() as room:
         (Path(room) / "program.c").write_text(text)
-        words = [CC, "-std=gnu11", *flags, "-I", declared.TOP / "include", "-c", "-o", f"{room}/program.o", f"{room}/program.c"]
+        words = [
+            CC,
+            "-std=gnu11",
+            *flags,
+            "-I",
+            declared.TOP / "include",
+            "-c",
+            "-o",
+            f"{room}/program.o",
+            f"{room}/program.c",
+        ]
         return subprocess.run(words, capture_output=True, text=True)
 
 
@@ -75,7 +86,11 @@ class Header(unittest.TestCase):
         changes = [
             ("core", "uint32_t draw, uint32_t iface, const uint8_t", "uint32_t draw, uint64_t iface, const uint8_t"),
             ("core", "bool viq_core_cached(", "uint32_t viq_core_cached("),
-            ("core", "draw, const struct viq_range *ranges, size_t count", "draw, struct viq_range *ranges, size_t count"),
+            (
+                "core",
+                "draw, const struct viq_range *ranges, size_t count",
+                "draw, struct viq_range *ranges, size_t count",
+            ),
             ("header", "uint32_t prefix; /* with", "uint64_t prefix; /* with"),
             ("header", "    bool has_tunnel;                   /*", "    uint8_t has_tunnel;                /*"),
             ("plane", "    bool is_known;  ", "    uint8_t is_known;  "),
@@ -87,7 +102,10 @@ class Header(unittest.TestCase):
                 self.assertIn("static assertion failed", complaint(**{where: text.replace(old, new)}))
 
     def test_fields_that_changed_places_are_found(self):
-        low, high = "    uint64_t low;  /* 0 to 63, the lowest bit first */\n", "    uint64_t high; /* 64 to 119, the lowest bit first */\n"
+        low, high = (
+            "    uint64_t low;  /* 0 to 63, the lowest bit first */\n",
+            "    uint64_t high; /* 64 to 119, the lowest bit first */\n",
+        )
         self.assertIn(low + high, self.header)
         self.assertIn("static assertion failed", complaint(self.header.replace(low + high, high + low)))
 
@@ -96,7 +114,8 @@ class Abi(unittest.TestCase):
     headers = [path.read_text() for path in declared.HEADERS]
 
     def test_the_number_stands_for_what_the_headers_have(self):
-        """Where it fails: raise VIQ_ABI, and ABI in both bindings; then `python3 -m pimtext.declared` in tools keeps what it stands for."""
+        """Where it fails: raise VIQ_ABI, and ABI in both bindings; then `python3 -m pimtext.declared` in tools keeps
+        what it stands for."""
         self.assertEqual(declared.abi_text(self.headers), declared.ABI.read_text())
 
     def test_the_bindings_have_the_same_number(self):
@@ -106,20 +125,31 @@ class Abi(unittest.TestCase):
 
     def test_each_change_is_found(self):
         header, plane = self.headers
-        for old, new in (("    uint32_t rpf;  ", "    uint64_t rpf;  "), ("VIQ_FULL = 24", "VIQ_FULL = 29"), ("#define VIQ_MOST_BYTES 1528",
-                         "#define VIQ_MOST_BYTES 1600"), ("struct viq_router *router, uint32_t iface, struct viq_draw draw);",
-                         "struct viq_router *router, uint64_t iface, struct viq_draw draw);"), ("    bool is_rpt; ", "    bool is_tree; ")):
+        for old, new in (
+            ("    uint32_t rpf;  ", "    uint64_t rpf;  "),
+            ("VIQ_FULL = 24", "VIQ_FULL = 29"),
+            ("#define VIQ_MOST_BYTES 1528", "#define VIQ_MOST_BYTES 1600"),
+            (
+                "struct viq_router *router, uint32_t iface, struct viq_draw draw);",
+                "struct viq_router *router, uint64_t iface, struct viq_draw draw);",
+            ),
+            ("    bool is_rpt; ", "    bool is_tree; "),
+        ):
             with self.subTest(new):
                 self.assertIn(old, header)
                 self.assertNotEqual(declared.abi_text([header.replace(old, new), plane]), declared.ABI.read_text())
 
     def test_comments_are_no_change(self):
         header, plane = self.headers
-        self.assertEqual(declared.abi_text([header.replace("/* An interface goes up, or down. */", "/* Up, or down. */"), plane]),
-                         declared.ABI.read_text())
+        self.assertEqual(
+            declared.abi_text([header.replace("/* An interface goes up, or down. */", "/* Up, or down. */"), plane]),
+            declared.ABI.read_text(),
+        )
 
     def test_the_version_is_the_three_numbers(self):
-        numbers = (self.headers[0].partition(f"VIQ_VERSION_{part} ")[2].split()[0] for part in ("MAJOR", "MINOR", "PATCH"))
+        numbers = (
+            self.headers[0].partition(f"VIQ_VERSION_{part} ")[2].split()[0] for part in ("MAJOR", "MINOR", "PATCH")
+        )
         self.assertIn(f'#define VIQ_VERSION "{".".join(numbers)}"', self.headers[0])
 
 
@@ -132,9 +162,24 @@ class BesideFrr(unittest.TestCase):
     def test_the_headers_of_frr_stand_beside(self):
         top = next((path for path in FRR if (path / "pimd" / "pim_iface.h").exists()), None)
         if top is None:
-            self.skipTest("there are no headers of FRR's pimd; FRR_SOURCES may name a folder that has them, and FRR_CFLAGS what they want")
-        flags = ["-I", top, "-I", top / "lib", "-I", top / "pimd", "-include", top / "config.h", "-DHAVE_CONFIG_H", "-D_GNU_SOURCE",
-                 "-DPIM_IPV=4", *os.environ.get("FRR_CFLAGS", "").split()]
+            self.skipTest(
+                "there are no headers of FRR's pimd; FRR_SOURCES may name a folder that has them, "
+                "and FRR_CFLAGS what they want"
+            )
+        flags = [
+            "-I",
+            top,
+            "-I",
+            top / "lib",
+            "-I",
+            top / "pimd",
+            "-include",
+            top / "config.h",
+            "-DHAVE_CONFIG_H",
+            "-D_GNU_SOURCE",
+            "-DPIM_IPV=4",
+            *os.environ.get("FRR_CFLAGS", "").split(),
+        ]
         alone = compiled(FRR_HEADERS, *flags)
         if alone.returncode:
             self.skipTest(f"FRR's headers don't compile by themselves: {alone.stderr[:300]}")
@@ -148,7 +193,8 @@ class Misused(unittest.TestCase):
     """What a compiler has to say of calls that are wrong."""
 
     def said(self, call, before="return "):
-        text = f"uint32_t f(struct viq_router *router, uint32_t iface, uint32_t draw) {{ {before}{call}; return iface + draw; }}"
+        body = f"{before}{call}; return iface + draw;"
+        text = f"uint32_t f(struct viq_router *router, uint32_t iface, uint32_t draw) {{ {body} }}"
         return compiled(f"#include <viqeshor/plane.h>\n{text}", "-Wall", "-Werror").stderr
 
     def test_a_draw_is_no_interface(self):

@@ -207,11 +207,35 @@ FILES = [
     ("move.do = 'settle'\n", 39),
     ("[[move]]\n do = 'settle'\n[[move.do]]\n", 39),
     ("move = [" + "[" * 90 + "]" * 90 + "]\n", 39),
-    ("".join(f'[[router]]\nname = "r{n}"\niface = [{{ link = "l{n}", address = "10.{n}.0.1/24" }}]\n' for n in range(64)), 0),
-    ("".join(f'[[router]]\nname = "r{n}"\niface = [{{ link = "l{n}", address = "10.{n}.0.1/24" }}]\n' for n in range(65)), 39),
-    ('[[router]]\nname = "a"\niface = [' + "".join(f'{{ link = "x", address = "10.{n}.0.1/24" }},' for n in range(120)) + "]\n", 0),
-    ('[[router]]\nname = "a"\niface = [' + "".join(f'{{ link = "x", address = "10.{n}.0.1/24" }},' for n in range(121)) + "]\n", 30),
-    ('[[router]]\nname = "a"\nlimit = 0\niface = [{ link = "x", address = "10.0.0.1/24" }]\n[[router]]\nname = "b"\niface = []\n', 34),
+    (
+        "".join(
+            f'[[router]]\nname = "r{n}"\niface = [{{ link = "l{n}", address = "10.{n}.0.1/24" }}]\n' for n in range(64)
+        ),
+        0,
+    ),
+    (
+        "".join(
+            f'[[router]]\nname = "r{n}"\niface = [{{ link = "l{n}", address = "10.{n}.0.1/24" }}]\n' for n in range(65)
+        ),
+        39,
+    ),
+    (
+        '[[router]]\nname = "a"\niface = ['
+        + "".join(f'{{ link = "x", address = "10.{n}.0.1/24" }},' for n in range(120))
+        + "]\n",
+        0,
+    ),
+    (
+        '[[router]]\nname = "a"\niface = ['
+        + "".join(f'{{ link = "x", address = "10.{n}.0.1/24" }},' for n in range(121))
+        + "]\n",
+        30,
+    ),
+    (
+        '[[router]]\nname = "a"\nlimit = 0\niface = [{ link = "x", address = "10.0.0.1/24" }]\n'
+        '[[router]]\nname = "b"\niface = []\n',
+        34,
+    ),
 ]
 
 
@@ -240,7 +264,24 @@ def breaks():
         yield "\n".join([*lines[:at], *lines[at + 1 :]]) + "\n", None, None
 
 
-VALUES = ['"up"', '""', "0", "-1", "4294967295", "4294967296", "1.5", "true", "[]", "{}", "2026-01-01", "01", '"10.0.0.1/24"', "[1]", "nothing", ""]
+VALUES = [
+    '"up"',
+    '""',
+    "0",
+    "-1",
+    "4294967295",
+    "4294967296",
+    "1.5",
+    "true",
+    "[]",
+    "{}",
+    "2026-01-01",
+    "01",
+    '"10.0.0.1/24"',
+    "[1]",
+    "nothing",
+    "",
+]
 
 
 def broken(text, random_of):
@@ -355,26 +396,67 @@ move = [
   { do = "advance", router = "hub", moment = 5000 },
   { do = "advance", router = "edge", moment = 5000 },
   { do = "settle" },
-  { do = "frame", router = "edge", iface = 1, hex = "46c0002800000000010239aa0a03004de0000016940400002200e9fb0000000104000000ef010101" },
+  { do = "frame", router = "edge", iface = 1, \
+hex = "46c0002800000000010239aa0a03004de0000016940400002200e9fb0000000104000000ef010101" },
   { do = "settle" },
 ]
 """
 # What is changed in it, and what is noted then.
 ODD = [
     ('{ do = "advance", router = "hub", moment = 5000 },\n', "", "2: router hub is never advanced"),
-    ('{ do = "advance", router = "hub", moment = 5000 },\n', "", "hub (10.0.0.2) on lan, the next hop of edge towards the RP 10.0.0.2, is no neighbour"),
-    ('"hub", moment = 5000', '"hub", moment = 1', "no Hello has left interface 0: it leaves by moment 5000, and the router was advanced to 1"),
+    (
+        '{ do = "advance", router = "hub", moment = 5000 },\n',
+        "",
+        "hub (10.0.0.2) on lan, the next hop of edge towards the RP 10.0.0.2, is no neighbour",
+    ),
+    (
+        '"hub", moment = 5000',
+        '"hub", moment = 1',
+        "no Hello has left interface 0: it leaves by moment 5000, and the router was advanced to 1",
+    ),
     ('{ do = "up", router = "edge", iface = 1, draw = 3 },\n', "", "interface 1 (link home) never goes up"),
-    ('{ do = "up", router = "edge", iface = 1, draw = 3 },\n', "", "move 6 (frame), router edge: it was refused 23 (InterfaceDown)"),
+    (
+        '{ do = "up", router = "edge", iface = 1, draw = 3 },\n',
+        "",
+        "move 6 (frame), router edge: it was refused 23 (InterfaceDown)",
+    ),
     ('iface = 1, draw = 3', "iface = 0, draw = 3", "it was ignored (Already)"),
-    ('iface = 1, draw = 3', "iface = 2, draw = 3", "refused 22 (NoInterface): the router has no interface of this number; they are counted from 0, and it has 2"),
-    ('"edge", rps = ["239.0.0.0/8', '"edge", rps = ["238.0.0.0/8', "router edge has no RP for 239.1.1.1, which other routers have"),
-    ('"edge", rps = ["239.0.0.0/8 10.0.0.2', '"edge", rps = ["239.0.0.0/8 10.9.9.9', "no router has the address 10.9.9.9, and edge no route to it"),
-    ('  { do = "settle" },\n]', '  { do = "deliver", router = "hub", iface = 0, frame = 99 },\n]', "there is no packet 99 yet: 8 were sent before"),
-    ('  { do = "settle" },\n]', '  { do = "deliver", router = "hub", iface = 0, frame = 3 },\n]', "packet 3 was sent on the link home, and interface 0 is on lan"),
+    (
+        'iface = 1, draw = 3',
+        "iface = 2, draw = 3",
+        "refused 22 (NoInterface): the router has no interface of this number; they are counted from 0, and it has 2",
+    ),
+    (
+        '"edge", rps = ["239.0.0.0/8',
+        '"edge", rps = ["238.0.0.0/8',
+        "router edge has no RP for 239.1.1.1, which other routers have",
+    ),
+    (
+        '"edge", rps = ["239.0.0.0/8 10.0.0.2',
+        '"edge", rps = ["239.0.0.0/8 10.9.9.9',
+        "no router has the address 10.9.9.9, and edge no route to it",
+    ),
+    (
+        '  { do = "settle" },\n]',
+        '  { do = "deliver", router = "hub", iface = 0, frame = 99 },\n]',
+        "there is no packet 99 yet: 8 were sent before",
+    ),
+    (
+        '  { do = "settle" },\n]',
+        '  { do = "deliver", router = "hub", iface = 0, frame = 3 },\n]',
+        "packet 3 was sent on the link home, and interface 0 is on lan",
+    ),
     ('  { do = "settle" },\n]', "]", "2 packets reach nobody"),
-    ('  { do = "settle" },\n]', '  { do = "routes", router = "hub", list = ["10.3.0.1/24 10.0.0.1 0 1 1"] },\n]', "10.3.0.1/24 has host bits set: 10.3.0.0/24 is the prefix"),
-    ('  { do = "settle" },\n]', '  { do = "rps", router = "hub", list = ["10.0.0.0/8 10.0.0.2"] },\n]', "10.0.0.0/8 isn't inside 224.0.0.0/4"),
+    (
+        '  { do = "settle" },\n]',
+        '  { do = "routes", router = "hub", list = ["10.3.0.1/24 10.0.0.1 0 1 1"] },\n]',
+        "10.3.0.1/24 has host bits set: 10.3.0.0/24 is the prefix",
+    ),
+    (
+        '  { do = "settle" },\n]',
+        '  { do = "rps", router = "hub", list = ["10.0.0.0/8 10.0.0.2"] },\n]',
+        "10.0.0.0/8 isn't inside 224.0.0.0/4",
+    ),
 ]
 
 
@@ -402,7 +484,9 @@ class Odd(unittest.TestCase):
         moves = [{"do": "up", "router": name, "iface": 0} for name in names]
         moves += [{"do": "advance", "router": name, "moment": 40_000} for name in names]
         said = self.noted(scenario.text_of(routers, [*moves, {"do": "settle"}]))
-        self.assertTrue(any("move 129 (settle) stopped at its limit of 10000 deliveries" in note for note in said), said)
+        self.assertTrue(
+            any("move 129 (settle) stopped at its limit of 10000 deliveries" in note for note in said), said
+        )
 
     def test_what_a_refusal_by_the_limit_took_along_is_noted(self):
         wanted = {
@@ -411,7 +495,9 @@ class Odd(unittest.TestCase):
             "a_stream_without_a_fact_is_cut": None,
         }
         for name, rows in wanted.items():
-            said = [note for note in self.noted((stored.DATA / f"{name}.toml").read_text()) if "refused 24 (Full)" in note]
+            said = [
+                note for note in self.noted((stored.DATA / f"{name}.toml").read_text()) if "refused 24 (Full)" in note
+            ]
             with self.subTest(name):
                 self.assertEqual(len(said), 1)
                 self.assertEqual(said[0].splitlines()[0].partition("as if it hadn't come: ")[2], rows or "")
@@ -429,7 +515,9 @@ class Words(unittest.TestCase):
         scenarios = (stored.TOOLS.parent / "docs" / "SCENARIOS.md").read_text()
         refusals = scenarios.partition("## Refusals")[2].partition("## Reasons")[0]
         numbers = {number for number in re.findall(r"^\| (\d+) \|", refusals, re.M) if int(number) < 25}
-        reasons = set(re.findall(r"^\| `([A-Z]\w+)` \| ", scenarios.partition("## Reasons to ignore")[2].partition("##")[0], re.M))
+        reasons = set(
+            re.findall(r"^\| `([A-Z]\w+)` \| ", scenarios.partition("## Reasons to ignore")[2].partition("##")[0], re.M)
+        )
         self.assertEqual(set(notes.MEANINGS), numbers | reasons)
 
 

@@ -1,4 +1,5 @@
-"""tools/wrong_definitions: each stands where it says, changes what is there once, and is judged by the prover's lines."""
+"""tools/wrong_definitions: each stands where it says, changes what is there once, and is judged by the prover's
+lines."""
 import unittest
 from importlib.machinery import SourceFileLoader
 from importlib.util import module_from_spec, spec_from_loader

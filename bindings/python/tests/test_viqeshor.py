@@ -1,4 +1,5 @@
-"""Each call of the package once, and what it answers: a Join of 10.0.1.2 comes and a packet of its source, as in examples/library."""
+"""Each call of the package once, and what it answers: a Join of 10.0.1.2 comes and a packet of its source, as in
+examples/library."""
 import gc
 import threading
 import unittest
@@ -117,7 +118,12 @@ class Routers(unittest.TestCase):
     def test_after_its_end(self):
         with Router(INTERFACES) as router:
             self.assertIsNone(router.next_moment())
-        for call in (lambda: router.up(0), lambda: router.seen(0, "10.0.3.5", "225.1.1.1"), router.packets, router.next_moment):
+        for call in (
+            lambda: router.up(0),
+            lambda: router.seen(0, "10.0.3.5", "225.1.1.1"),
+            router.packets,
+            router.next_moment,
+        ):
             self.assertRaises(Closed, call)
         router.end()
 
@@ -130,12 +136,24 @@ class Routers(unittest.TestCase):
 
     def test_numbers_are_taken_whole(self):
         router = self.router()
-        for call in (lambda: router.up(2**32 + 1), lambda: router.up(-1), lambda: router.advance(2**64), lambda: router.up(0, draw=2**32),
-                     lambda: router.set_routes([("10.9.9.0/24", "10.0.0.1", 2**32, 110, 20)]), lambda: Router(INTERFACES, limit=2**32 + 5),
-                     lambda: Router([("10.0.0.2", 2**32 + 24)]), lambda: router.keep("10.0.3.5", "225.1.1.1", 2**64)):
+        for call in (
+            lambda: router.up(2**32 + 1),
+            lambda: router.up(-1),
+            lambda: router.advance(2**64),
+            lambda: router.up(0, draw=2**32),
+            lambda: router.set_routes([("10.9.9.0/24", "10.0.0.1", 2**32, 110, 20)]),
+            lambda: Router(INTERFACES, limit=2**32 + 5),
+            lambda: Router([("10.0.0.2", 2**32 + 24)]),
+            lambda: router.keep("10.0.3.5", "225.1.1.1", 2**64),
+        ):
             self.assertRaises(ValueError, call)
-        for call in (lambda: router.up("0"), lambda: router.up(0.5), lambda: Router(INTERFACES, limt=1), lambda: router.frame(0, "00"),
-                     lambda: router.frame(0, 5)):
+        for call in (
+            lambda: router.up("0"),
+            lambda: router.up(0.5),
+            lambda: Router(INTERFACES, limt=1),
+            lambda: router.frame(0, "00"),
+            lambda: router.frame(0, 5),
+        ):
             self.assertRaises(TypeError, call)
         self.assertRaises(ValueError, router.set_routes, [("10.9.9.0/24", "10.0.0.1", 0)])
         self.assertEqual(router.keep("10.0.3.5", "225.1.1.1", 2**62 + 1), Answer.MOMENT_FAR)
@@ -150,7 +168,9 @@ class Routers(unittest.TestCase):
         router = self.joined()
         join, = router.rows("D")
         self.assertEqual(join, router.rows("D")[0])
-        self.assertEqual((join.table, join.group, join.source, join.winner, join.pending), ("D", "225.1.1.1", "10.0.3.5", None, None))
+        self.assertEqual(
+            (join.table, join.group, join.source, join.winner, join.pending), ("D", "225.1.1.1", "10.0.3.5", None, None)
+        )
         above, below = router.rows("N")
         self.assertEqual((above.group, above.source, above.end), (None, "10.0.0.1", None))
         self.assertNotEqual(above, below)

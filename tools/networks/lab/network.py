@@ -52,7 +52,13 @@ class Network:
     def __init__(self, seed=0, loss=0.0, delay=(0.0, 0.0), reorder=0.0, step=1.0):
         self.chance = random.Random(seed)
         self.loss, self.step, self.order = share_given(loss, "are lost"), ms_given(step, "step", 0.001), count()
-        self.routers, self.links, self.hosts, self.ranges, self.fixed = Named("router"), Named("link"), Named("host"), [], {}
+        self.routers, self.links, self.hosts, self.ranges, self.fixed = (
+            Named("router"),
+            Named("link"),
+            Named("host"),
+            [],
+            {},
+        )
         self.now = self.present = self.stepped = 0
         self.alone = set()
         self.player, self.sent, self.paths, self.odd = None, [], {}, []
@@ -75,8 +81,8 @@ class Network:
         return self.routers[name]
 
     def link(self, *routers, name=None, subnet=None, addresses=(), cost=10, loss=None):
-        """A link of routers, or of one for its hosts. They are told by name too, and are made where they are new. `addresses` are
-        theirs, in their order; where it ends, the network gives them."""
+        """A link of routers, or of one for its hosts. They are told by name too, and are made where they are new.
+        `addresses` are theirs, in their order; where it ends, the network gives them."""
         routers = [self.find(router) for router in routers]
         name = name or "-".join(router.name for router in routers)
         self.is_new(name, self.links)
@@ -171,7 +177,13 @@ class Network:
     def table(self, router):
         """A router's table in the scenario file."""
         ports = [port.table() for port in router.ports]
-        return {"name": router.name, "iface": ports, "routes": self.routes_of(router), "rps": self.rps(), **router.options}
+        return {
+            "name": router.name,
+            "iface": ports,
+            "routes": self.routes_of(router),
+            "rps": self.rps(),
+            **router.options,
+        }
 
     # ---- what changes
 
@@ -216,8 +228,8 @@ class Network:
         self.schedule(Action([self.news(do, router, listing(router)) for router in here]), self.now)
 
     def routes(self, router, *texts, alone=False):
-        """Routes that go before those by shortest path, as `PREFIX NEXTHOP IFACE PREFERENCE METRIC`. With `alone` the router has no
-        other ones: those stay, whatever fails."""
+        """Routes that go before those by shortest path, as `PREFIX NEXTHOP IFACE PREFERENCE METRIC`. With `alone` the
+        router has no other ones: those stay, whatever fails."""
         router = self.known_router(router)
         self.fixed[router] = self.fixed.get(router, ()) + texts
         self.alone |= {router} if alone else set()
@@ -379,14 +391,17 @@ class Network:
         """What routers refused or ignored, in words."""
         played = self.running().played
         return [
-            f"at {words.seconds(moment)} {step.router}: {words.step(step, played)}: {words.answer(step.verdict, step.cause)}"
+            f"at {words.seconds(moment)} {step.router}: {words.step(step, played)}: "
+            f"{words.answer(step.verdict, step.cause)}"
             for moment, step in self.odd
         ]
 
     def scenario(self):
         """The text of the scenario that was played, for `pimlab` and the other tools."""
         player = self.running()
-        last = [{"do": "advance", "router": name, "moment": self.now, "draw": draw} for name, draw in player.draws.items()]
+        last = [
+            {"do": "advance", "router": name, "moment": self.now, "draw": draw} for name, draw in player.draws.items()
+        ]
         return text_of(player.routers, player.moves + last)
 
     def save(self, path):

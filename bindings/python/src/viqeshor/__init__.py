@@ -1,4 +1,5 @@
-"""A multicast router: PIM Sparse Mode (RFC 7761) and IGMPv3 (RFC 3376). It is what `include/viqeshor/viqeshor.h` describes, by ctypes.
+"""A multicast router: PIM Sparse Mode (RFC 7761) and IGMPv3 (RFC 3376). It is what `include/viqeshor/viqeshor.h`
+describes, by ctypes.
 
     from viqeshor import Router
 
@@ -11,8 +12,9 @@
                 router.frame(iface, packet)
                 send(router.packets())                          # each a kind, an interface or an address, and bytes
 
-Moments are milliseconds from any beginning, at most 2**62. The shared library is the one that is named by `library`, or by
-VIQESHOR_LIBRARY in the environment, or that the system finds as `viqeshor`. `viqeshor.hosts` writes packets of hosts.
+Moments are milliseconds from any beginning, at most 2**62. The shared library is the one that is named by `library`, or
+by VIQESHOR_LIBRARY in the environment, or that the system finds as `viqeshor`. `viqeshor.hosts` writes packets of
+hosts.
 """
 import ctypes
 import ctypes.util
@@ -28,8 +30,23 @@ from functools import cache
 from ipaddress import IPv4Address
 from typing import Any, NamedTuple, Self, SupportsIndex, TypeAlias
 
-__all__ = ["Answer", "Closed", "Error", "Forwarding", "Lost", "NoMemory", "OtherVersion", "PlaneRow", "Refused", "Router", "Row", "Sent",
-           "TABLES", "answer_text", "version"]
+__all__ = [
+    "Answer",
+    "Closed",
+    "Error",
+    "Forwarding",
+    "Lost",
+    "NoMemory",
+    "OtherVersion",
+    "PlaneRow",
+    "Refused",
+    "Router",
+    "Row",
+    "Sent",
+    "TABLES",
+    "answer_text",
+    "version",
+]
 
 # What a packet may be given as.
 Buffer: TypeAlias = bytes | bytearray | memoryview
@@ -43,8 +60,8 @@ JOINED, REGISTERS = ["", "join", "pending", "prune"], ["-", "join", "pending", "
 
 
 class Answer(enum.IntEnum):
-    """What became of an event. `docs/SCENARIOS.md` has the refusals, 1 to 39, and the reasons to ignore, from 101. Those of 40 to 51 and
-    of 53 are raised as an `Error`."""
+    """What became of an event. `docs/SCENARIOS.md` has the refusals, 1 to 39, and the reasons to ignore, from 101.
+    Those of 40 to 51 and of 53 are raised as an `Error`."""
     DONE = 0
     SHORT = 1
     BAD_VERSION = 2
@@ -113,7 +130,8 @@ class NoMemory(Error, MemoryError):
 
 
 class Lost(Error):
-    """The router is lost: memory was refused to it in the midst of a change, now (`Answer.LOST`) or before (`Answer.FAILED`)."""
+    """The router is lost: memory was refused to it in the midst of a change, now (`Answer.LOST`) or before
+    (`Answer.FAILED`)."""
 
 
 class Closed(Error, ValueError):
@@ -125,7 +143,11 @@ class OtherVersion(Error, ImportError):
 
 
 RAISED: dict[Answer, type[Error]] = {
-    Answer.MEMORY: NoMemory, Answer.LOST: Lost, Answer.FAILED: Lost, Answer.NO_ROUTER: Closed, Answer.OTHER_ABI: OtherVersion,
+    Answer.MEMORY: NoMemory,
+    Answer.LOST: Lost,
+    Answer.FAILED: Lost,
+    Answer.NO_ROUTER: Closed,
+    Answer.OTHER_ABI: OtherVersion,
 }
 
 
@@ -184,8 +206,13 @@ class Words(Structure):
 
 class ToldForwarding(Structure):
     _fields_ = [
-        ("rpf", c_uint32), ("shared_rpf", c_uint32), ("has_spt_bit", c_bool), ("has_tunnel", c_bool), ("immediate", Words),
-        ("inherited", Words), ("shared_tree", Words),
+        ("rpf", c_uint32),
+        ("shared_rpf", c_uint32),
+        ("has_spt_bit", c_bool),
+        ("has_tunnel", c_bool),
+        ("immediate", Words),
+        ("inherited", Words),
+        ("shared_tree", Words),
     ]
 
 
@@ -210,8 +237,8 @@ class Sent(NamedTuple):
 
 
 class Row(NamedTuple):
-    """A row of a table. What its kind of row doesn't have is None, False or 0; so is the source of (*,G), and a time that isn't there.
-    Times are in ms."""
+    """A row of a table. What its kind of row doesn't have is None, False or 0; so is the source of (*,G), and a time
+    that isn't there. Times are in ms."""
     table: str
     iface: int
     group: str | None
@@ -231,7 +258,15 @@ class Row(NamedTuple):
             "N": [self.iface, source, ends(self.end, "never")],
             "G": [self.iface, self.group, "exclude" if self.is_set else "include", ends(self.end, "never")],
             "S": [self.iface, self.group, source, ends(self.end, "-")],
-            "D": [self.iface, self.group, source, kind, JOINED[self.state], ends(self.end, "never"), ends(self.pending, "-")],
+            "D": [
+                self.iface,
+                self.group,
+                source,
+                kind,
+                JOINED[self.state],
+                ends(self.end, "never"),
+                ends(self.pending, "-"),
+            ],
             "A": [self.iface, self.group, source, "loser" if self.is_set else "winner", self.winner, self.end],
             "U": [self.group, source, self.end],
             "R": [self.group, source, "pruned" if self.is_set else "notpruned"],
@@ -241,8 +276,8 @@ class Row(NamedTuple):
 
 
 class Forwarding(NamedTuple):
-    """How data of a source to a group goes: RPF_interface(S), RPF_interface(RP(G)), SPTbit(S,G), whether the register tunnel is in
-    the first two lists, and immediate_olist(S,G), inherited_olist(S,G) and inherited_olist(S,G,rpt)."""
+    """How data of a source to a group goes: RPF_interface(S), RPF_interface(RP(G)), SPTbit(S,G), whether the register
+    tunnel is in the first two lists, and immediate_olist(S,G), inherited_olist(S,G) and inherited_olist(S,G,rpt)."""
     rpf: int | None
     shared_rpf: int | None
     has_spt_bit: bool
@@ -253,8 +288,9 @@ class Forwarding(NamedTuple):
 
 
 class PlaneRow(NamedTuple):
-    """What a data plane may do of the packets of a source to a group: whether the source has a fact, the interface on which packets
-    are accepted, where copies of these leave, where a packet shows the source alive, and where it is the router's."""
+    """What a data plane may do of the packets of a source to a group: whether the source has a fact, the interface on
+    which packets are accepted, where copies of these leave, where a packet shows the source alive, and where it is the
+    router's."""
     is_known: bool
     incoming: int | None
     outgoing: frozenset[int]
@@ -398,12 +434,13 @@ def bytes_of(packet: Buffer) -> bytes:
 
 
 class Router:
-    """A router. Addresses are texts. An interface is `("10.0.0.1", 24)`, or has a priority and two delays besides; a route is
-    `("10.1.0.0/24", next hop, interface, preference, metric)`, a range `("239.0.0.0/8", RP)`. What takes an event answers what
-    became of it; its draw is random unless one is given.
+    """A router. Addresses are texts. An interface is `("10.0.0.1", 24)`, or has a priority and two delays besides; a
+    route is `("10.1.0.0/24", next hop, interface, preference, metric)`, a range `("239.0.0.0/8", RP)`. What takes an
+    event answers what became of it; its draw is random unless one is given.
 
-    Threads may share one: each call waits for the others. A thread that wants what its own event sent holds `lock` from the event on:
-    `with router.lock: answer, sent = router.frame(0, packet), router.packets()`. It ends with its last reference, if not before."""
+    Threads may share one: each call waits for the others. A thread that wants what its own event sent holds `lock` from
+    the event on: `with router.lock: answer, sent = router.frame(0, packet), router.packets()`. It ends with its last
+    reference, if not before."""
 
     def __init__(
         self,
@@ -423,9 +460,13 @@ class Router:
         self._library = load(os.fspath(library or found()))
         times = (query_interval, query_response_interval, last_member_query_interval)
         whole = [number(value, 32, name) for value, (name, _) in zip((limit, robustness, *times), Settings._fields_)]
-        settings, given = Settings(*whole, bool(stays_on_shared_tree)), array(ToldInterface, [interface_of(row) for row in interfaces])
+        settings, given = Settings(*whole, bool(stays_on_shared_tree)), array(
+            ToldInterface, [interface_of(row) for row in interfaces]
+        )
         made = c_void_p()
-        self._must(self._library.viq_new(byref(made), ABI, byref(settings), *given, *routes_of(routes), *ranges_of(ranges)))
+        self._must(
+            self._library.viq_new(byref(made), ABI, byref(settings), *given, *routes_of(routes), *ranges_of(ranges))
+        )
         self._router: c_void_p | None = made
         self._finalizer = weakref.finalize(self, self._library.viq_end, made)
 
@@ -470,8 +511,8 @@ class Router:
         return self._event("advance", draw, number(moment, 64, "a moment"))
 
     def run_to(self, moment: int) -> list[Sent]:
-        """Time passes up to the moment, timer by timer, each with a draw of its own: what is to be sent meanwhile, in its order. Raises
-        `Refused` where the moment is before the present."""
+        """Time passes up to the moment, timer by timer, each with a draw of its own: what is to be sent meanwhile, in
+        its order. Raises `Refused` where the moment is before the present."""
         sent = []
         with self.lock:
             while True:
@@ -514,7 +555,11 @@ class Router:
             for index in range(self._call("packets")):
                 self._call("packet", index, byref(told), room, MOST_BYTES)
                 kind = KINDS[told.kind]
-                sent.append(Sent(kind, dotted(told.destination) if kind == "unicast" else told.iface, bytes(room[: told.length])))
+                sent.append(
+                    Sent(
+                        kind, dotted(told.destination) if kind == "unicast" else told.iface, bytes(room[: told.length])
+                    )
+                )
         return sent
 
     def next_moment(self) -> int | None:
@@ -555,7 +600,8 @@ class Router:
         return PlaneRow(told.is_known, there(told.incoming, NO_INTERFACE), *sets)
 
     def changed(self) -> list[tuple[str, str]]:
-        """The sources whose rows may have changed at the last event, each with its group; one may stand there more than once."""
+        """The sources whose rows may have changed at the last event, each with its group; one may stand there more than
+        once."""
         told, names = ToldName(), []
         with self.lock:
             for index in range(self._call("changed")):
@@ -568,12 +614,14 @@ class Router:
         return self._call("may_differ", address(source), address(group))
 
     def seen(self, iface: int, source: str, group: str, draw: int | None = None) -> Answer:
-        """An event: a data plane saw a packet of a source to a group on an interface. Its copies and its Register don't leave."""
+        """An event: a data plane saw a packet of a source to a group on an interface. Its copies and its Register don't
+        leave."""
         return self._event("seen", draw, number(iface, 32, "an interface"), address(source), address(group))
 
     def keep(self, source: str, group: str, moment: int) -> Answer:
-        """A data plane forwarded a packet of a source to a group at a moment: the source's keepalive timer, where it runs, ends 210 s
-        after that, or when it would end later. NO_TIMER where none runs: it is started by `seen` alone."""
+        """A data plane forwarded a packet of a source to a group at a moment: the source's keepalive timer, where it
+        runs, ends 210 s after that, or when it would end later. NO_TIMER where none runs: it is started by `seen`
+        alone."""
         return self._answer("keep", address(source), address(group), number(moment, 64, "a moment"))
 
     # ---- costs

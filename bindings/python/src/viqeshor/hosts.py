@@ -1,4 +1,5 @@
-"""Packets of hosts: reports of IGMPv3 by which they ask for groups, and data by UDP. Each is a whole IPv4 packet, with its checksums."""
+"""Packets of hosts: reports of IGMPv3 by which they ask for groups, and data by UDP. Each is a whole IPv4 packet, with
+its checksums."""
 from collections.abc import Iterable
 from enum import IntEnum
 from ipaddress import IPv4Address
@@ -43,10 +44,17 @@ def with_checksum(data: bytes, place: int) -> bytes:
     return data[:place] + checksum(data).to_bytes(2, "big") + data[place + 2 :]
 
 
-def ipv4(protocol: int, source: str, destination: str, ttl: int, body: bytes, options: bytes = b"", service: int = 0) -> bytes:
+def ipv4(
+    protocol: int, source: str, destination: str, ttl: int, body: bytes, options: bytes = b"", service: int = 0
+) -> bytes:
     """An IPv4 packet. The options are whole words."""
     size = 20 + len(options)
-    head = bytes([0x40 | size // 4, service]) + (size + len(body)).to_bytes(2, "big") + b"\0\0\0\0" + bytes([ttl, protocol, 0, 0])
+    head = (
+        bytes([0x40 | size // 4, service])
+        + (size + len(body)).to_bytes(2, "big")
+        + b"\0\0\0\0"
+        + bytes([ttl, protocol, 0, 0])
+    )
     return with_checksum(head + octets(source) + octets(destination) + options, 10) + body
 
 
