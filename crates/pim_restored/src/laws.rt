@@ -1,0 +1,59 @@
+//! The laws.
+ghost use Rattle.pim_restored.specs.Restart.{LaterRunIsAsked, LaterStateIsReached, RestartChangesNothing, RestartIsAsked, SavedIsAccepted, SavedIsAtRest};
+ghost use Rattle.pim_restored.specs.Reload.{FreshSettingsKeepRest, ReloadIsAtRest, SameConfigurationChangesNothing};
+ghost use Rattle.pim_restored.specs.Resting.{NextTellsAhead, RestIsDecided};
+
+/// The test of rest passes exactly where a state is at rest.
+pub fn rest_is_decided()
+    ensures { RestIsDecided }
+{}
+
+/// After any events of an accepted configuration the test passes.
+pub fn saved_is_at_rest()
+    ensures { SavedIsAtRest }
+{}
+
+/// A restart between two events changes no later outcome.
+pub fn restart_changes_nothing()
+    ensures { RestartChangesNothing }
+{}
+
+/// Other settings leave a state at rest.
+pub fn fresh_settings_keep_rest()
+    ensures { FreshSettingsKeepRest }
+{}
+
+/// What any accepted configuration leaves, once all that follows of it is done, is at rest.
+pub fn reload_is_at_rest()
+    ensures { ReloadIsAtRest }
+{}
+
+/// A reload with the configuration that there is changes nothing, and sends nothing.
+pub fn same_configuration_changes_nothing()
+    ensures { SameConfigurationChangesNothing }
+{}
+
+/// Over a restart too each copy of a packet has its cause in an earlier event.
+pub fn restart_is_asked()
+    ensures { RestartIsAsked }
+{}
+
+/// So has each copy in the run of a state that earlier events led to.
+pub fn later_run_is_asked()
+    ensures { LaterRunIsAsked }
+{}
+
+/// What a restored state leads to, the opening leads to.
+pub fn later_state_is_reached()
+    ensures { LaterStateIsReached }
+{}
+
+/// Whether all ends lie ahead is whether the next one does.
+pub fn next_tells_ahead()
+    ensures { NextTellsAhead }
+{}
+
+/// A state of a run is under a configuration that is accepted.
+pub fn saved_is_accepted()
+    ensures { SavedIsAccepted }
+{}

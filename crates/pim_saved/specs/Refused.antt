@@ -1,0 +1,12 @@
+-- The numbers by which refusals of bytes are known.
+use Rattle.std.specs.Prelude.{ℕ}
+use Rattle.pim_saved.specs.declared.refusal.SavedRefusal.{SavedRefusal}
+use Rattle.pim_saved.specs.declared.refusal.SavedRefusal.TheVariants.{NotOurs, OtherVersion, CutShort, OutOfRange, KeysDontRise, LeftOver}
+
+abbrev pub saved_refusal_number : SavedRefusal → ℕ
+saved_refusal_number NotOurs = 50
+saved_refusal_number OtherVersion = 51
+saved_refusal_number CutShort = 52
+saved_refusal_number OutOfRange = 53
+saved_refusal_number KeysDontRise = 54
+saved_refusal_number LeftOver = 55
