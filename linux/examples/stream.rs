@@ -48,8 +48,11 @@ fn send_some(
 fn send(group: Ipv4Addr, from: Ipv4Addr, count: u64, rate: u64, bytes: usize) -> io::Result<()> {
     let began = Instant::now();
     std::thread::scope(|scope| {
-        let some = |first| scope.spawn(move || send_some(group, from, (first..count).step_by(SENDERS), rate, bytes));
-        let senders: Vec<_> = (0..SENDERS as u64).map(some).collect();
+        let mut senders = Vec::new();
+        for first in 0..SENDERS as u64 {
+            let numbers = (first..count).step_by(SENDERS);
+            senders.push(scope.spawn(move || send_some(group, from, numbers, rate, bytes)));
+        }
         senders.into_iter().try_for_each(|sender| sender.join().unwrap_or_else(|_| Err(io::ErrorKind::Other.into())))
     })?;
     let seconds = began.elapsed().as_secs_f64();
@@ -80,7 +83,7 @@ fn receive(group: Ipv4Addr, at: Ipv4Addr, count: u64, seconds: u64, bytes: usize
         }
         let now = Instant::now();
         gap = if first.is_some() { gap.max(now - last) } else { gap };
-        first = first.or(Some(now - joined));
+        first.get_or_insert(now - joined);
         last = now;
         let mut number = [0; 8];
         number.copy_from_slice(&packet[..8]);

@@ -138,7 +138,7 @@ impl Port {
     pub fn told(&self) -> viqeshor::Interface {
         let subnet = self.told_subnet();
         viqeshor::Interface {
-            address: subnet.address.into(),
+            address: subnet.address,
             length: u32::from(subnet.length),
             priority: self.settings.priority,
             propagation_delay: self.settings.propagation,

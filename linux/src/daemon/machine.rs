@@ -151,7 +151,8 @@ impl Daemon {
         for change in changes {
             debug!("the kernel tells {change:?}");
             // What goes down takes routes with it of which the kernel says nothing.
-            self.routing.due = self.routing.due.or(Some(self.now() + self.routing.settle));
+            let due = self.now() + self.routing.settle;
+            self.routing.due.get_or_insert(due);
             match change {
                 Change::Routes => {}
                 Change::Lost => self.read_machine()?,
