@@ -46,6 +46,7 @@ query_response = 2.0
 
 """ + "".join(f'[[interface]]\nname = "to-{port}"\n\n' for port in ("first", "second", "hosts", "lan")) + "".join(
     f'[[rp]]\ngroups = "{groups}"\naddress = "{address}"\n\n' for groups, address in RPS)
+PRIORITY = -10
 SOURCE, HOST = "10.1.0.50", "10.5.0.77"
 # With the rights of the unit file alone.
 NOBODY, RIGHTS = 65534, "-all,+net_raw,+net_admin"
@@ -63,6 +64,11 @@ class Failed(Exception):
 
 def run(*words, **how):
     return subprocess.run([str(word) for word in words], check=True, **how)
+
+
+def hurry():
+    """From here on this program, and what it starts, runs before other work of the machine."""
+    os.setpriority(os.PRIO_PROCESS, 0, min(PRIORITY, os.getpriority(os.PRIO_PROCESS, 0)))
 
 
 def inside(place, *words):

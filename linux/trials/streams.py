@@ -16,7 +16,7 @@ def join_to_running_stream(net):
         time.sleep(3)
         times = []
         for _ in range(8):
-            receiver = net.receive("hosts", group, HOST, 1, 8)
+            receiver = net.receive("hosts", group, HOST, 1, 4)
             times.append(first_after(receiver))
             # Its leave takes two queries for the last member.
             until("nobody asks", 15, lambda: "to-hosts" not in net.entry("*", group)["outgoing"])
@@ -39,7 +39,7 @@ def long_packets(net):
         ):
             receiver = net.receive(receiving, group, address, 60, 20, size)
             time.sleep(2)
-            sender = net.send(sending, group, source, 60, 10, size)
+            sender = net.send(sending, group, source, 60, 20, size)
             came, of, twice = received(receiver)
             sender.wait()
             said.append(f"{size} bytes {sending} to {receiving}: {came} of {of}, {twice} twice")

@@ -92,8 +92,6 @@ def change_to_source_tree(net):
     return f"{came} of {of} came, {twice} twice"
 
 
-# So often a stream is sent where other work of the machine keeps its sender from the rate that is wanted.
-SENDINGS = 4
 FEWER_BYTES = 99
 
 
@@ -106,21 +104,19 @@ def carried(net, group, sending, source, receiving, receiver_address):
     time.sleep(2)
     net.send(sending, group, source, 30, 10, FEWER_BYTES).wait()
     try:
-        for _ in range(SENDINGS):
-            receiver = net.receive(receiving, group, receiver_address, count, 60)
-            until("the kernel forwards", 15, lambda: net.entry(source, group)["forwarding"] == "kernel")
-            time.sleep(1)
-            whole = net.counter("packets that the kernel handed up whole")
-            said = net.send(sending, group, source, count, rate).communicate()[0].strip()
-            came, of, twice = received(receiver)
-            if came < of or twice:
-                raise Failed(f"{came} of {of} came, {twice} twice; {said}")
-            if int(said.split()[-3]) >= least:
-                whole = net.counter("packets that the kernel handed up whole") - whole
-                return f"{came} of {of} came, none twice; {said}; {whole} came to the router"
+        receiver = net.receive(receiving, group, receiver_address, count, 60)
+        until("the kernel forwards", 15, lambda: net.entry(source, group)["forwarding"] == "kernel")
+        time.sleep(1)
+        whole = net.counter("packets that the kernel handed up whole")
+        said = net.send(sending, group, source, count, rate).communicate()[0].strip()
+        came, of, twice = received(receiver)
+        whole = net.counter("packets that the kernel handed up whole") - whole
     finally:
         ended(keeper)
-    raise Failed(f"the sender was too slow, {SENDINGS} times: {said}")
+    said = f"{came} of {of} came, {twice} twice; {said}; {whole} came to the router"
+    if came < of or twice or int(said.split(" a second")[0].split()[-1]) < least:
+        raise Failed(said)
+    return said
 
 
 def stream_as_last_hop(net):
