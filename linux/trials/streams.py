@@ -43,8 +43,9 @@ def long_packets(net):
             came, of, twice = received(receiver)
             sender.wait()
             said.append(f"{size} bytes {sending} to {receiving}: {came} of {of}, {twice} twice")
-            # As with short ones FRR loses the first where it has no entry, and a change of trees costs one of each way.
-            if came < of - 4:
+            # FRR's RP loses the first, and its DR registers the first fragment of it alone; a change of trees costs the
+            # packet some of whose fragments came by each way.
+            if came < of - 3:
                 raise Failed("; ".join(said))
     return "; ".join(said)
 
@@ -84,7 +85,7 @@ def whole_long_packets(net):
             sender.wait()
             stood_in = net.counter("fragments and long packets that a short one stood for") - stood_in
             said.append(f"{sending} to {receiving}: {came} of {of}, {twice} twice, {stood_in} by the router")
-            if came < of - 4 or not stood_in:
+            if came < of - 3 or not stood_in:
                 raise Failed("; ".join(said))
     finally:
         for place, port in ends:
