@@ -10,7 +10,7 @@ use crate::core::{Answer, Core, Event};
 use crate::error::Fatal;
 use crate::kernel::Kernel;
 use crate::mroute::Key;
-use crate::packet::{is_pim, Packet};
+use crate::packet::{is_pim, with_holdtime, Packet};
 use crate::plane::{Placed, Plane, Row, Ways};
 use crate::policy::{Books, Gate, Policy};
 use crate::ports::{self, Machine, Port};
@@ -392,9 +392,13 @@ fn send_on(kernel: &mut dyn Kernel, port: Option<&mut Port>, is_passive: bool, b
     if is_passive && packet.map_or(false, Packet::is_pim_of_link) {
         return;
     }
+    let hello =
+        packet.filter(|packet| is_pim(*packet, 0)).and_then(|_| with_holdtime(bytes, port.settings.hello.holdtime));
+    let bytes = hello.as_deref().unwrap_or(bytes);
     debug!("sends on {}: {}", port.settings.name, words::of(bytes));
-    if packet.map_or(false, |packet| is_pim(packet, 0)) {
-        port.hello = Some(bytes.to_vec());
+    if hello.is_some() {
+        port.hello_due = port.settings.hello.repeated().map(|interval| kernel.now() + interval);
+        port.hello = hello.clone();
     }
     match kernel.send_on(index, bytes) {
         Ok(()) if packet.map_or(false, Packet::is_data) => port.passed.copies += 1,

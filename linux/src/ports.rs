@@ -106,6 +106,8 @@ pub struct Port {
     pub standing: Standing,
     /// The last Hello that left.
     pub hello: Option<Vec<u8>>,
+    /// When it leaves again, in ms, where the library's own come too seldom.
+    pub hello_due: Option<u64>,
     pub passed: Passed,
 }
 
@@ -126,6 +128,7 @@ impl Port {
             is_removed: false,
             standing: Standing::Down("it hasn't come up yet".to_string()),
             hello: None,
+            hello_due: None,
             passed: Passed::default(),
         }
     }

@@ -83,6 +83,26 @@ impl Subnet {
     }
 }
 
+/// When Hellos leave an interface, and for how long they hold. The library's own leave each 30 s, and hold for 105 s
+/// (RFC 7761, 4.11).
+#[derive(Clone, Copy, Debug, PartialEq, Eq)]
+pub struct HelloSettings {
+    /// In tenths of a second.
+    pub interval: u32,
+    /// In seconds.
+    pub holdtime: u16,
+}
+
+/// Hello_Period, in tenths of a second.
+const HELLO_PERIOD: u32 = 300;
+
+impl HelloSettings {
+    /// In ms; `None` where the library's own are enough.
+    pub fn repeated(self) -> Option<u64> {
+        (self.interval < HELLO_PERIOD).then(|| u64::from(self.interval) * 100)
+    }
+}
+
 #[derive(Clone, Debug, PartialEq, Eq)]
 pub struct InterfaceSettings {
     pub name: String,
@@ -93,6 +113,7 @@ pub struct InterfaceSettings {
     pub propagation: u32,
     /// In ms.
     pub override_interval: u32,
+    pub hello: HelloSettings,
     pub policy: InterfacePolicy,
     /// Where it stands in the file.
     pub line: usize,
@@ -213,6 +234,8 @@ struct InterfaceTable {
     propagation: Whole,
     #[serde(rename = "override")]
     override_interval: Whole,
+    hello_interval: Option<Spanned<f64>>,
+    hello_holdtime: Whole,
     passive: Option<bool>,
     neighbors: Option<Vec<Spanned<String>>>,
     join: Option<Vec<RuleTable>>,
@@ -394,6 +417,14 @@ impl Check<'_> {
         }
     }
 
+    fn hello(&mut self, table: &InterfaceTable) -> HelloSettings {
+        let interval = self.tenths("hello_interval", &table.hello_interval, HELLO_PERIOD, HELLO_PERIOD);
+        // 3.5 times the interval, as the RFC has it, and longer than the interval at least.
+        let (usual, least) = ((interval * 7 + 19) / 20, interval / 10 + 1);
+        let holdtime = self.within("hello_holdtime", &table.hello_holdtime, usual, least, u32::from(u16::MAX));
+        HelloSettings { interval, holdtime: holdtime as u16 }
+    }
+
     fn interface(&mut self, table: &InterfaceTable, of_all: &PolicyTable, usual: &UsualQuotas) -> InterfaceSettings {
         let address = table.address.as_ref().and_then(|given| {
             let subnet = self.subnet(given, "the address")?;
@@ -408,6 +439,7 @@ impl Check<'_> {
             priority: table.priority.unwrap_or(1),
             propagation: self.within("propagation", &table.propagation, 500, 0, 32767),
             override_interval: self.within("override", &table.override_interval, 2500, 0, 65535),
+            hello: self.hello(table),
             policy: self.policy(table, of_all, usual),
             line: self.line(table.name.start()),
         }
@@ -621,6 +653,15 @@ mod tests {
             (1, 500, 2500, None, 2)
         );
         assert_eq!((it.routes.table, it.routes.preference_of(188)), (254, 110));
+        assert_eq!(eth0.hello, HelloSettings { interval: 300, holdtime: 105 });
+    }
+
+    #[test]
+    fn a_hello_holds_three_and_a_half_times_its_interval() {
+        let holdtime = |interval: &str| {
+            read(&format!("{SMALL}hello_interval = {interval}\n")).unwrap().interfaces[0].hello.holdtime
+        };
+        assert_eq!(["0.1", "0.3", "1", "5", "30"].map(holdtime), [1, 2, 4, 18, 105]);
     }
 
     #[test]
@@ -628,7 +669,7 @@ mod tests {
         let text = "limit = 9\nspt = \"never\"\nlog = \"debug\"\nsocket = \"/run/x\"\n[igmp]\nrobustness = 3\n\
             query_interval = 20\nquery_response = 1.5\nlast_member_query = 2\n\
             [routes]\ntable = 7\npreference = 5\n[routes.preferences]\nstatic = 1\n\
-            [[interface]]\nname = \"a\"\naddress = \"10.0.0.1/24\"\npriority = 7\npropagation = 1\noverride = 2\n\
+            [[interface]]\nname = \"a\"\naddress = \"10.0.0.1/24\"\npriority = 7\npropagation = 1\noverride = 2\nhello_interval = 0.3\nhello_holdtime = 1\n\
             [[rp]]\ngroups = \"239.0.0.0/8\"\naddress = \"10.0.0.1\"\n";
         let it = read(text).unwrap();
         assert_eq!(
@@ -643,6 +684,7 @@ mod tests {
             priority: 7,
             propagation: 1,
             override_interval: 2,
+            hello: HelloSettings { interval: 3, holdtime: 1 },
             policy: it.interfaces[0].policy.clone(),
             line: 16,
         };
@@ -662,6 +704,11 @@ mod tests {
         );
         assert_eq!(only(&format!("{SMALL}address = \"10.0.0.1\"\n")).0, 3);
         assert_eq!(only(&format!("{SMALL}propagation = 32768\n")).0, 3);
+        assert_eq!(only(&format!("{SMALL}hello_interval = 31\n")).0, 3);
+        assert_eq!(
+            only(&format!("{SMALL}hello_interval = 2\nhello_holdtime = 2\n")),
+            (4, "hello_holdtime is 2; it is to be 3 to 65535".to_string())
+        );
         assert_eq!(only(&format!("{SMALL}[[rp]]\ngroups = \"239.0.0.1/8\"\naddress = \"10.0.0.1\"\n")).0, 4);
         assert_eq!(only(&format!("{SMALL}[[rp]]\ngroups = \"239.0.0.0/8\"\naddress = \"rp\"\n")).0, 5);
         assert_eq!(only(&format!("{SMALL}[[rp]]\ngroups = \"239.0.0.0/8\"\naddress = \"224.0.0.1\"\n")).0, 5);

@@ -80,6 +80,7 @@ impl Daemon {
         let was_up = self.ports[number].standing.is_up();
         warn!("{} is down: {why}", self.ports[number].settings.name);
         self.ports[number].standing = Standing::Down(why);
+        self.ports[number].hello_due = None;
         if let Some(vif) = self.ports[number].vif.take() {
             // The kernel has let it go by itself where the link is gone.
             let _ = self.kernel.remove_vif(vif);

@@ -3,7 +3,7 @@ use super::{Answer, Daemon, Event, Fatal};
 use crate::control::Control;
 use crate::core::ranges_of;
 use crate::kernel::{self, Source};
-use crate::packet::goodbye;
+use crate::packet::with_holdtime;
 use crate::{settings, show, words};
 use log::{debug, error, info, warn};
 use nix::poll::{poll, PollFd, PollFlags};
@@ -70,6 +70,7 @@ impl Daemon {
         self.settings = new;
         crate::ports::take_settings(&mut self.ports, &self.settings.interfaces);
         self.set_policy();
+        self.repeat_hellos_anew();
         if is_router_new {
             self.make_anew("the settings differ")?;
         } else if are_rps_new {
@@ -142,6 +143,7 @@ impl Daemon {
             due.anew,
             due.learned,
             control.due().map(|left| self.kernel.now() + left),
+            self.ports.iter().filter_map(|port| port.hello_due).min(),
         ];
         let next = times.into_iter().flatten().fold(due.look, u64::min);
         match poll(&mut waits, next.saturating_sub(self.now()).min(LOOK_EVERY) as i32) {
@@ -216,16 +218,38 @@ impl Daemon {
         if is_due(self.due.unset) {
             self.set_again();
         }
+        self.repeat_hellos();
         if self.neighbours.are_stale {
             self.watch_neighbours()?;
         }
         Ok(())
     }
 
+    /// Hellos go by the settings at once.
+    fn repeat_hellos_anew(&mut self) {
+        let now = self.now();
+        self.ports.iter_mut().for_each(|port| port.hello_due = port.hello.as_ref().map(|_| now));
+    }
+
+    /// The last Hello of an interface leaves again, where the library's own come too seldom for the settings.
+    fn repeat_hellos(&mut self) {
+        let now = self.now();
+        let Daemon { kernel, ports, policy, .. } = self;
+        for port in ports.iter_mut().filter(|port| port.hello_due.map_or(false, |due| due <= now)) {
+            port.hello_due = None;
+            if let Some(hello) = port.hello.clone().filter(|_| port.standing.is_up()) {
+                let is_passive = policy.is_passive(port.number);
+                super::send_on(kernel.as_mut(), Some(port), is_passive, &hello);
+            }
+        }
+    }
+
     /// Each neighbour is told at once that the router goes.
     fn say_goodbye(&mut self) {
         for port in self.ports.iter().filter(|port| port.standing.is_up()) {
-            if let (Some(said), Some(index)) = (port.hello.as_deref().and_then(goodbye), port.index) {
+            if let (Some(said), Some(index)) =
+                (port.hello.as_deref().and_then(|hello| with_holdtime(hello, 0)), port.index)
+            {
                 debug!("sends on {}: {}", port.settings.name, words::of(&said));
                 let _ = self.kernel.send_on(index, &said);
             }
