@@ -46,7 +46,7 @@ query_response = 2.0
 
 """ + "".join(f'[[interface]]\nname = "to-{port}"\n\n' for port in ("first", "second", "hosts", "lan")) + "".join(
     f'[[rp]]\ngroups = "{groups}"\naddress = "{address}"\n\n' for groups, address in RPS)
-PRIORITY = -10
+PRIORITY = -15
 SOURCE, HOST = "10.1.0.50", "10.5.0.77"
 # With the rights of the unit file alone.
 NOBODY, RIGHTS = 65534, "-all,+net_raw,+net_admin"

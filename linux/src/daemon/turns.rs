@@ -13,8 +13,11 @@ use std::os::unix::net::UnixStream;
 use std::sync::atomic::{AtomicBool, Ordering};
 use std::sync::Arc;
 
-/// How often the kernel's counts are read, in ms.
+/// How often the kernel's counts are read, in ms; where reading them takes long, for a part of the time.
 const LOOK_EVERY: u64 = 10_000;
+const PART_OF_TIME: u64 = 10;
+/// So many sources that were refused are asked for again after a look: of a flood each would cost a packet anew.
+const MOST_ASKED_AGAIN: usize = 1_024;
 /// A source without a fact of which nothing comes for so long has no entry, in ms.
 const IDLE: u64 = 60_000;
 /// So many messages of a socket are taken before the others have their turn.
@@ -208,11 +211,11 @@ impl Daemon {
             self.read_routes()?;
         }
         if self.due.look <= now {
-            self.due.look = now + LOOK_EVERY;
             self.look()?;
+            self.due.look = now + LOOK_EVERY.max(PART_OF_TIME * (self.now() - now));
             self.plane.idle(IDLE).into_iter().for_each(|key| self.withdraw(key));
             // There may be room for it by now: its next packet asks again.
-            self.plane.untold().into_iter().for_each(|key| self.withdraw(key));
+            self.plane.untold(MOST_ASKED_AGAIN).into_iter().for_each(|key| self.withdraw(key));
         }
         self.refresh_unknown();
         if is_due(self.due.unset) {
