@@ -46,6 +46,11 @@ impl Machine {
         self.links.values().find(|link| link.name == name)
     }
 
+    /// The most bytes of a packet that a link takes; 0 where there is no such link.
+    pub fn mtu(&self, index: u32) -> usize {
+        self.links.get(&index).map_or(0, |link| link.mtu as usize)
+    }
+
     pub fn addresses(&self, index: u32) -> &[Subnet] {
         self.addresses.get(&index).map_or(&[], Vec::as_slice)
     }

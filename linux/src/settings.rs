@@ -157,6 +157,8 @@ pub struct Settings {
     pub routes: RouteSettings,
     pub level: LevelFilter,
     pub socket: PathBuf,
+    /// Join/Prunes to a neighbour leave together.
+    pub packs: bool,
 }
 
 // ---- the file as it stands
@@ -171,6 +173,7 @@ struct File {
     spt: Text,
     log: Text,
     socket: Option<PathBuf>,
+    pack: Option<bool>,
     #[serde(default)]
     igmp: IgmpTable,
     #[serde(default)]
@@ -561,6 +564,7 @@ impl Check<'_> {
             routes: self.routes(&file.routes),
             level: self.one_of("log", &file.log, &LEVELS),
             socket: file.socket.clone().unwrap_or_else(|| USUAL_SOCKET.into()),
+            packs: file.pack.unwrap_or(true),
         }
     }
 }
@@ -646,7 +650,7 @@ mod tests {
             (it.limit, it.robustness, it.query_interval, it.query_response, it.last_member_query),
             (65536, 2, 125, 100, 10)
         );
-        assert!(!it.stays_on_shared_tree);
+        assert!(!it.stays_on_shared_tree && it.packs);
         let eth0 = &it.interfaces[0];
         assert_eq!(
             (eth0.priority, eth0.propagation, eth0.override_interval, eth0.address, eth0.line),
@@ -666,15 +670,15 @@ mod tests {
 
     #[test]
     fn all_that_can_be_said_is_taken() {
-        let text = "limit = 9\nspt = \"never\"\nlog = \"debug\"\nsocket = \"/run/x\"\n[igmp]\nrobustness = 3\n\
+        let text = "limit = 9\nspt = \"never\"\nlog = \"debug\"\nsocket = \"/run/x\"\npack = false\n[igmp]\nrobustness = 3\n\
             query_interval = 20\nquery_response = 1.5\nlast_member_query = 2\n\
             [routes]\ntable = 7\npreference = 5\n[routes.preferences]\nstatic = 1\n\
             [[interface]]\nname = \"a\"\naddress = \"10.0.0.1/24\"\npriority = 7\npropagation = 1\noverride = 2\nhello_interval = 0.3\nhello_holdtime = 1\n\
             [[rp]]\ngroups = \"239.0.0.0/8\"\naddress = \"10.0.0.1\"\n";
         let it = read(text).unwrap();
         assert_eq!(
-            (it.limit, it.stays_on_shared_tree, it.level, it.socket),
-            (9, true, LevelFilter::Debug, "/run/x".into())
+            (it.limit, it.stays_on_shared_tree, it.level, it.socket, it.packs),
+            (9, true, LevelFilter::Debug, "/run/x".into(), false)
         );
         assert_eq!((it.robustness, it.query_interval, it.query_response, it.last_member_query), (3, 20, 15, 20));
         let subnet = Subnet { address: Ipv4Addr::new(10, 0, 0, 1), length: 24 };
@@ -686,7 +690,7 @@ mod tests {
             override_interval: 2,
             hello: HelloSettings { interval: 3, holdtime: 1 },
             policy: it.interfaces[0].policy.clone(),
-            line: 16,
+            line: 17,
         };
         assert_eq!(it.interfaces, [a]);
         assert_eq!((it.routes.table, it.routes.preference_of(196), it.routes.preference_of(188)), (7, 1, 5));

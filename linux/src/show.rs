@@ -451,6 +451,7 @@ fn counters(daemon: &mut Daemon) -> Result<Rows, Fatal> {
         ("packets that the kernel handed up whole", it.whole),
         ("fragments and long packets that a short one stood for", it.stood_in),
         ("checksums filled in", it.checksums_filled),
+        ("Join/Prunes that left in a packet with others", it.packed),
         ("entries in the kernel's forwarding cache", daemon.plane.len() as u64),
         ("rows told to the kernel", it.entries_written),
         ("rows withdrawn from the kernel", it.entries_removed),
