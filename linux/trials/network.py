@@ -36,7 +36,14 @@ RPS = [("239.1.0.0/16", "10.4.0.2"), ("239.2.0.0/16", "10.5.0.1"), ("239.4.0.0/1
 WITH_PIM = {"first": ("source", "router", "second", "lan"), "second": ("first", "router")}
 PIMD = {place: "".join(f"interface to-{port}\n ip pim\n ip pim hello 5\n" for port in ports)
         for place, ports in WITH_PIM.items()}
-PIMD["second"] += "interface to-viewer\n ip pim\n ip igmp\n"
+# As last hop of the router's groups it stays on the RP's tree: what its viewer gets of them goes by the router.
+PIMD["second"] += """interface to-viewer
+ ip pim
+ ip igmp
+exit
+ip prefix-list by-the-rp permit 239.2.0.0/16 le 32
+ip pim spt-switchover infinity-and-beyond prefix-list by-the-rp
+"""
 SETTINGS = """log = "debug"
 socket = "{room}/router/control"
 

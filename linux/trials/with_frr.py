@@ -107,14 +107,15 @@ def carried(net, group, sending, source, receiving, receiver_address):
         receiver = net.receive(receiving, group, receiver_address, count, 60)
         until("the kernel forwards", 15, lambda: net.entry(source, group)["forwarding"] == "kernel")
         time.sleep(1)
-        whole = net.counter("packets that the kernel handed up whole")
+        whole, before = net.counter("packets that the kernel handed up whole"), net.entry(source, group)["packets"]
         said = net.send(sending, group, source, count, rate).communicate()[0].strip()
         came, of, twice = received(receiver)
         whole = net.counter("packets that the kernel handed up whole") - whole
+        forwarded = net.entry(source, group)["packets"] - before
     finally:
         ended(keeper)
-    said = f"{came} of {of} came, {twice} twice; {said}; {whole} came to the router"
-    if came < of or twice or int(said.split(" a second")[0].split()[-1]) < least:
+    said = f"{came} of {of} came, {twice} twice; {said}; the kernel forwarded {forwarded}, {whole} came to the router"
+    if came < of or twice or forwarded < of or int(said.split(" a second")[0].split()[-1]) < least:
         raise Failed(said)
     return said
 
