@@ -1,7 +1,7 @@
 //! Sends numbered packets to a group at a rate, or counts those that arrive.
 //!
 //!     stream send GROUP ADDRESS COUNT RATE [BYTES]          from the interface that has the address
-//!     stream receive GROUP ADDRESS COUNT SECONDS [BYTES]    until all have come, or for so long
+//!     stream receive GROUP ADDRESS COUNT SECONDS [BYTES]    until a second after the last one came, or for so long
 //!
 //! The receiver prints `joined` once it has, and at the end how many came, how many of these twice, how many ms after
 //! it had joined the first one came, and the longest time between two of them.
@@ -17,6 +17,8 @@ const MOST_BYTES: usize = 65_507;
 /// So many threads send, since the kernel carries a packet through all namespaces before a call returns.
 const SENDERS: usize = 8;
 const ROOM: i32 = 64 << 20;
+/// So long after the last one came the receiver still takes those that come late, and those that come twice.
+const AFTERWARDS: Duration = Duration::from_secs(1);
 
 /// Sends the packets of some numbers, each when it is due at the rate of all.
 fn send_some(
@@ -48,8 +50,11 @@ fn send_some(
 fn send(group: Ipv4Addr, from: Ipv4Addr, count: u64, rate: u64, bytes: usize) -> io::Result<()> {
     let began = Instant::now();
     std::thread::scope(|scope| {
-        let some = |first| scope.spawn(move || send_some(group, from, (first..count).step_by(SENDERS), rate, bytes));
-        let senders: Vec<_> = (0..SENDERS as u64).map(some).collect();
+        let mut senders = Vec::new();
+        for first in 0..SENDERS as u64 {
+            let numbers = (first..count).step_by(SENDERS);
+            senders.push(scope.spawn(move || send_some(group, from, numbers, rate, bytes)));
+        }
         senders.into_iter().try_for_each(|sender| sender.join().unwrap_or_else(|_| Err(io::ErrorKind::Other.into())))
     })?;
     let seconds = began.elapsed().as_secs_f64();
@@ -69,29 +74,33 @@ fn receive(group: Ipv4Addr, at: Ipv4Addr, count: u64, seconds: u64, bytes: usize
     socket.set_read_timeout(Some(Duration::from_millis(200)))?;
     println!("joined");
     let joined = Instant::now();
-    let end = joined + Duration::from_secs(seconds);
+    let mut end = joined + Duration::from_secs(seconds);
     let (mut seen, mut all, mut packet) = (vec![false; count as usize], 0u64, vec![0u8; MOST_BYTES]);
     let (mut first, mut last, mut gap) = (None, joined, Duration::ZERO);
-    let mut left = count;
-    while left > 0 && Instant::now() < end {
+    let (mut left, mut is_over) = (count, false);
+    while Instant::now() < end {
         match socket.recv(&mut packet) {
             Ok(length) if length == bytes => {}
             _ => continue,
         }
         let now = Instant::now();
         gap = if first.is_some() { gap.max(now - last) } else { gap };
-        first = first.or(Some(now - joined));
+        first.get_or_insert(now - joined);
         last = now;
         let mut number = [0; 8];
         number.copy_from_slice(&packet[..8]);
+        let number = u64::from_be_bytes(number);
         all += 1;
-        if let Some(place) = seen.get_mut(u64::from_be_bytes(number) as usize).filter(|place| !**place) {
+        if let Some(place) = seen.get_mut(number as usize).filter(|place| !**place) {
             *place = true;
             left -= 1;
         }
+        if !is_over && number + 1 == count {
+            (is_over, end) = (true, end.min(now + AFTERWARDS));
+        }
     }
-    // Where the stream ended, until now.
-    gap = if left > 0 && first.is_some() { gap.max(last.elapsed()) } else { gap };
+    // Where the stream ended before its last packet, until now.
+    gap = if !is_over && first.is_some() { gap.max(last.elapsed()) } else { gap };
     let first = first.map_or_else(|| "never".to_string(), |first| format!("after {} ms", first.as_millis()));
     let (came, gap) = (count - left, gap.as_millis());
     println!("received {came} of {count}, and {} twice, the first {first}, the longest gap {gap} ms", all - came);

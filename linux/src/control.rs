@@ -199,7 +199,8 @@ mod tests {
         let (mut control, path) = opened("silent");
         let silent: Vec<_> = (0..MOST_CLIENTS).map(|_| UnixStream::connect(&path).unwrap()).collect();
         control.serve(&mut |_| String::new());
-        assert_eq!(control.clients.len(), silent.len());
+        assert_eq!(control.clients.len(), MOST_CLIENTS);
         assert_eq!(asked(&mut control, &path, "yes"), "show rp: yes");
+        drop(silent);
     }
 }

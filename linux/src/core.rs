@@ -124,6 +124,6 @@ impl Core {
 
     /// Each neighbour with its interface.
     pub fn neighbours(&mut self) -> Result<Vec<(u32, Ipv4Addr)>, Fatal> {
-        Ok(self.rows(Table::Neighbours)?.iter().map(|row| (row.iface, row.source.into())).collect())
+        Ok(self.rows(Table::Neighbours)?.iter().map(|row| (row.iface, row.source)).collect())
     }
 }

@@ -7,6 +7,7 @@ mod kernel;
 mod log;
 mod mroute;
 mod netlink;
+mod packed;
 mod packet;
 mod plane;
 mod policy;

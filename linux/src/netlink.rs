@@ -42,6 +42,9 @@ const NHA_OIF: u16 = 5;
 const NHA_GATEWAY: u16 = 6;
 const RTA_NH_ID: u16 = 30;
 const RTNLGRP_NEXTHOP: u32 = 32;
+/// The kernel fills messages of up to 32 KiB where it was read with so much room, and for each begins at the start of
+/// its table: with little room a long table takes it seconds.
+const ROOM: usize = 64 << 10;
 /// The header of each message, and what is before the attributes of a link and of a next hop.
 const HEADER: usize = 16;
 const LINK_HEAD: usize = 16;
@@ -240,9 +243,12 @@ impl Netlink {
     fn dump(&mut self, asked: impl FnOnce(u32) -> Vec<u8>) -> io::Result<Vec<Message>> {
         self.sequence += 1;
         self.asks.send(&asked(self.sequence), 0)?;
-        let mut found = Vec::new();
+        let (mut found, mut bytes) = (Vec::new(), Vec::with_capacity(ROOM));
         loop {
-            let (bytes, _) = self.asks.recv_from_full()?;
+            bytes.clear();
+            if self.asks.recv(&mut bytes, libc::MSG_TRUNC)? > bytes.len() {
+                return Err(io::Error::new(io::ErrorKind::InvalidData, "a message of the kernel is too long"));
+            }
             for (_, message) in messages(&bytes).into_iter().filter(|(sequence, _)| *sequence == self.sequence) {
                 match message {
                     Message::Failed(error) => return Err(error),

@@ -189,12 +189,12 @@ pub fn priority_of(hello: Packet) -> Option<u32> {
     found.map(|(_, value)| address(message, value.start).into())
 }
 
-/// The same Hello with holdtime 0, which says goodbye; `None` where the packet is no Hello.
-pub fn goodbye(hello: &[u8]) -> Option<Vec<u8>> {
+/// The same Hello with another holdtime, in seconds; 0 says goodbye. `None` where the packet is no Hello.
+pub fn with_holdtime(hello: &[u8], holdtime: u16) -> Option<Vec<u8>> {
     let packet = Packet::read(hello).filter(|packet| is_pim(*packet, 0))?;
     let mut content = packet.content().to_vec();
     for (_, value) in options(&content).into_iter().filter(|(kind, value)| *kind == HOLDTIME && value.len() == 2) {
-        content[value].fill(0);
+        content[value].copy_from_slice(&holdtime.to_be_bytes());
     }
     put_checksum(&mut content, 2);
     Some(with_content(packet.header(), &content))
@@ -270,11 +270,11 @@ mod tests {
     #[test]
     fn a_goodbye_is_the_hello_without_its_time() {
         let hello = [0x20, 0, 0xdf, 0xfc, 0, 1, 0, 2, 0, 105, 0, 20, 0, 4, 1, 2, 3, 4];
-        let said = goodbye(&packet(PIM, [224, 0, 0, 13], &hello)).unwrap();
+        let said = with_holdtime(&packet(PIM, [224, 0, 0, 13], &hello), 0).unwrap();
         let content = Packet::read(&said).unwrap().content();
         assert_eq!(&content[4..], [0, 1, 0, 2, 0, 0, 0, 20, 0, 4, 1, 2, 3, 4]);
         assert_eq!(sum(&[content]), 0xffff);
-        assert_eq!(goodbye(&udp(0)), None);
+        assert_eq!(with_holdtime(&udp(0), 0), None);
     }
 
     #[test]

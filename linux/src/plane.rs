@@ -189,10 +189,13 @@ impl Plane {
         self.unknown.iter().map(|(group, source)| Key { source: *source, group: *group }).collect()
     }
 
-    /// Those of which the router tells nothing, since it is full, or refuses them.
-    pub fn untold(&self) -> Vec<Key> {
-        let is_untold = |key: &Key| self.entries.get(key).map_or(false, |entry| entry.row.is_none());
-        self.unknown().into_iter().filter(is_untold).collect()
+    /// Those of which the router tells nothing, since it is full, or refuses them: at most so many, those first that
+    /// were asked for the longest time ago.
+    pub fn untold(&self, most: usize) -> Vec<Key> {
+        let told = |key: &Key| self.entries.get(key).filter(|entry| entry.row.is_none()).map(|entry| entry.told);
+        let mut found: Vec<_> = self.unknown().into_iter().filter_map(|key| Some((told(&key)?, key))).collect();
+        found.sort_unstable();
+        found.into_iter().take(most).map(|(_, key)| key).collect()
     }
 
     /// Those of a group.

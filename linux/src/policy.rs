@@ -151,19 +151,19 @@ impl Policy {
         }
         let mut held: BTreeMap<u32, Held> = BTreeMap::new();
         for row in books.rows(Table::Neighbours) {
-            held.entry(row.iface).or_default().neighbours.insert(row.source.into());
+            held.entry(row.iface).or_default().neighbours.insert(row.source);
         }
         for row in books.rows(Table::Groups) {
-            held.entry(row.iface).or_default().groups.entry(row.group.into()).or_default();
+            held.entry(row.iface).or_default().groups.entry(row.group).or_default();
         }
         for row in books.rows(Table::Sources) {
-            held.entry(row.iface).or_default().add_source(row.group.into(), row.source.into());
+            held.entry(row.iface).or_default().add_source(row.group, row.source);
         }
         for row in books.rows(Table::Downstream) {
             held.entry(row.iface).or_default().joins.insert(split::JoinKey::of_row(&row));
         }
         for row in books.rows(Table::Asserts) {
-            held.entry(row.iface).or_default().asserts.insert((row.group.into(), row.source.into()));
+            held.entry(row.iface).or_default().asserts.insert((row.group, row.source));
         }
         self.held = held;
         self.read_due = books.now() + READ_EVERY.max(PART_OF_TIME * books.now().saturating_sub(began));

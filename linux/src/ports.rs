@@ -46,6 +46,11 @@ impl Machine {
         self.links.values().find(|link| link.name == name)
     }
 
+    /// The most bytes of a packet that a link takes; 0 where there is no such link.
+    pub fn mtu(&self, index: u32) -> usize {
+        self.links.get(&index).map_or(0, |link| link.mtu as usize)
+    }
+
     pub fn addresses(&self, index: u32) -> &[Subnet] {
         self.addresses.get(&index).map_or(&[], Vec::as_slice)
     }
@@ -106,6 +111,8 @@ pub struct Port {
     pub standing: Standing,
     /// The last Hello that left.
     pub hello: Option<Vec<u8>>,
+    /// When it leaves again, in ms, where the library's own come too seldom.
+    pub hello_due: Option<u64>,
     pub passed: Passed,
 }
 
@@ -126,6 +133,7 @@ impl Port {
             is_removed: false,
             standing: Standing::Down("it hasn't come up yet".to_string()),
             hello: None,
+            hello_due: None,
             passed: Passed::default(),
         }
     }
@@ -138,7 +146,7 @@ impl Port {
     pub fn told(&self) -> viqeshor::Interface {
         let subnet = self.told_subnet();
         viqeshor::Interface {
-            address: subnet.address.into(),
+            address: subnet.address,
             length: u32::from(subnet.length),
             priority: self.settings.priority,
             propagation_delay: self.settings.propagation,

@@ -218,15 +218,7 @@ mod tests {
     }
 
     fn told(routes: &[KernelRoute]) -> Vec<String> {
-        let words = |route: Route| {
-            format!(
-                "{}/{} {} {}",
-                Ipv4Addr::from(route.prefix),
-                route.length,
-                Ipv4Addr::from(route.next_hop),
-                route.iface
-            )
-        };
+        let words = |route: Route| format!("{}/{} {} {}", route.prefix, route.length, route.next_hop, route.iface);
         taken(routes, &ours(), &settings()).0.into_iter().map(words).collect()
     }
 

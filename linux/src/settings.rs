@@ -83,6 +83,26 @@ impl Subnet {
     }
 }
 
+/// When Hellos leave an interface, and for how long they hold. The library's own leave each 30 s, and hold for 105 s
+/// (RFC 7761, 4.11).
+#[derive(Clone, Copy, Debug, PartialEq, Eq)]
+pub struct HelloSettings {
+    /// In tenths of a second.
+    pub interval: u32,
+    /// In seconds.
+    pub holdtime: u16,
+}
+
+/// Hello_Period, in tenths of a second.
+const HELLO_PERIOD: u32 = 300;
+
+impl HelloSettings {
+    /// In ms; `None` where the library's own are enough.
+    pub fn repeated(self) -> Option<u64> {
+        (self.interval < HELLO_PERIOD).then(|| u64::from(self.interval) * 100)
+    }
+}
+
 #[derive(Clone, Debug, PartialEq, Eq)]
 pub struct InterfaceSettings {
     pub name: String,
@@ -93,6 +113,7 @@ pub struct InterfaceSettings {
     pub propagation: u32,
     /// In ms.
     pub override_interval: u32,
+    pub hello: HelloSettings,
     pub policy: InterfacePolicy,
     /// Where it stands in the file.
     pub line: usize,
@@ -136,6 +157,8 @@ pub struct Settings {
     pub routes: RouteSettings,
     pub level: LevelFilter,
     pub socket: PathBuf,
+    /// Join/Prunes to a neighbour leave together.
+    pub packs: bool,
 }
 
 // ---- the file as it stands
@@ -150,6 +173,7 @@ struct File {
     spt: Text,
     log: Text,
     socket: Option<PathBuf>,
+    pack: Option<bool>,
     #[serde(default)]
     igmp: IgmpTable,
     #[serde(default)]
@@ -213,6 +237,8 @@ struct InterfaceTable {
     propagation: Whole,
     #[serde(rename = "override")]
     override_interval: Whole,
+    hello_interval: Option<Spanned<f64>>,
+    hello_holdtime: Whole,
     passive: Option<bool>,
     neighbors: Option<Vec<Spanned<String>>>,
     join: Option<Vec<RuleTable>>,
@@ -394,6 +420,14 @@ impl Check<'_> {
         }
     }
 
+    fn hello(&mut self, table: &InterfaceTable) -> HelloSettings {
+        let interval = self.tenths("hello_interval", &table.hello_interval, HELLO_PERIOD, HELLO_PERIOD);
+        // 3.5 times the interval, as the RFC has it, and longer than the interval at least.
+        let (usual, least) = ((interval * 7 + 19) / 20, interval / 10 + 1);
+        let holdtime = self.within("hello_holdtime", &table.hello_holdtime, usual, least, u32::from(u16::MAX));
+        HelloSettings { interval, holdtime: holdtime as u16 }
+    }
+
     fn interface(&mut self, table: &InterfaceTable, of_all: &PolicyTable, usual: &UsualQuotas) -> InterfaceSettings {
         let address = table.address.as_ref().and_then(|given| {
             let subnet = self.subnet(given, "the address")?;
@@ -408,6 +442,7 @@ impl Check<'_> {
             priority: table.priority.unwrap_or(1),
             propagation: self.within("propagation", &table.propagation, 500, 0, 32767),
             override_interval: self.within("override", &table.override_interval, 2500, 0, 65535),
+            hello: self.hello(table),
             policy: self.policy(table, of_all, usual),
             line: self.line(table.name.start()),
         }
@@ -529,6 +564,7 @@ impl Check<'_> {
             routes: self.routes(&file.routes),
             level: self.one_of("log", &file.log, &LEVELS),
             socket: file.socket.clone().unwrap_or_else(|| USUAL_SOCKET.into()),
+            packs: file.pack.unwrap_or(true),
         }
     }
 }
@@ -614,26 +650,35 @@ mod tests {
             (it.limit, it.robustness, it.query_interval, it.query_response, it.last_member_query),
             (65536, 2, 125, 100, 10)
         );
-        assert!(!it.stays_on_shared_tree);
+        assert!(!it.stays_on_shared_tree && it.packs);
         let eth0 = &it.interfaces[0];
         assert_eq!(
             (eth0.priority, eth0.propagation, eth0.override_interval, eth0.address, eth0.line),
             (1, 500, 2500, None, 2)
         );
         assert_eq!((it.routes.table, it.routes.preference_of(188)), (254, 110));
+        assert_eq!(eth0.hello, HelloSettings { interval: 300, holdtime: 105 });
+    }
+
+    #[test]
+    fn a_hello_holds_three_and_a_half_times_its_interval() {
+        let holdtime = |interval: &str| {
+            read(&format!("{SMALL}hello_interval = {interval}\n")).unwrap().interfaces[0].hello.holdtime
+        };
+        assert_eq!(["0.1", "0.3", "1", "5", "30"].map(holdtime), [1, 2, 4, 18, 105]);
     }
 
     #[test]
     fn all_that_can_be_said_is_taken() {
-        let text = "limit = 9\nspt = \"never\"\nlog = \"debug\"\nsocket = \"/run/x\"\n[igmp]\nrobustness = 3\n\
+        let text = "limit = 9\nspt = \"never\"\nlog = \"debug\"\nsocket = \"/run/x\"\npack = false\n[igmp]\nrobustness = 3\n\
             query_interval = 20\nquery_response = 1.5\nlast_member_query = 2\n\
             [routes]\ntable = 7\npreference = 5\n[routes.preferences]\nstatic = 1\n\
-            [[interface]]\nname = \"a\"\naddress = \"10.0.0.1/24\"\npriority = 7\npropagation = 1\noverride = 2\n\
+            [[interface]]\nname = \"a\"\naddress = \"10.0.0.1/24\"\npriority = 7\npropagation = 1\noverride = 2\nhello_interval = 0.3\nhello_holdtime = 1\n\
             [[rp]]\ngroups = \"239.0.0.0/8\"\naddress = \"10.0.0.1\"\n";
         let it = read(text).unwrap();
         assert_eq!(
-            (it.limit, it.stays_on_shared_tree, it.level, it.socket),
-            (9, true, LevelFilter::Debug, "/run/x".into())
+            (it.limit, it.stays_on_shared_tree, it.level, it.socket, it.packs),
+            (9, true, LevelFilter::Debug, "/run/x".into(), false)
         );
         assert_eq!((it.robustness, it.query_interval, it.query_response, it.last_member_query), (3, 20, 15, 20));
         let subnet = Subnet { address: Ipv4Addr::new(10, 0, 0, 1), length: 24 };
@@ -643,8 +688,9 @@ mod tests {
             priority: 7,
             propagation: 1,
             override_interval: 2,
+            hello: HelloSettings { interval: 3, holdtime: 1 },
             policy: it.interfaces[0].policy.clone(),
-            line: 16,
+            line: 17,
         };
         assert_eq!(it.interfaces, [a]);
         assert_eq!((it.routes.table, it.routes.preference_of(196), it.routes.preference_of(188)), (7, 1, 5));
@@ -662,6 +708,11 @@ mod tests {
         );
         assert_eq!(only(&format!("{SMALL}address = \"10.0.0.1\"\n")).0, 3);
         assert_eq!(only(&format!("{SMALL}propagation = 32768\n")).0, 3);
+        assert_eq!(only(&format!("{SMALL}hello_interval = 31\n")).0, 3);
+        assert_eq!(
+            only(&format!("{SMALL}hello_interval = 2\nhello_holdtime = 2\n")),
+            (4, "hello_holdtime is 2; it is to be 3 to 65535".to_string())
+        );
         assert_eq!(only(&format!("{SMALL}[[rp]]\ngroups = \"239.0.0.1/8\"\naddress = \"10.0.0.1\"\n")).0, 4);
         assert_eq!(only(&format!("{SMALL}[[rp]]\ngroups = \"239.0.0.0/8\"\naddress = \"rp\"\n")).0, 5);
         assert_eq!(only(&format!("{SMALL}[[rp]]\ngroups = \"239.0.0.0/8\"\naddress = \"224.0.0.1\"\n")).0, 5);

@@ -133,17 +133,14 @@ fn rp(daemon: &mut Daemon) -> Result<Rows, Fatal> {
     let row = |range: &RpSettings| {
         let is_here = daemon.ports.iter().any(|port| port.address() == Some(range.address));
         let way = way(daemon, range.address).filter(|_| !is_here);
-        let used: Vec<_> = groups
-            .iter()
-            .filter(|group| rp_of(ranges, **group) == Some(range.address) && range.groups.contains(**group))
-            .collect();
+        let is_used = |group: &&u32| rp_of(ranges, **group) == Some(range.address) && range.groups.contains(**group);
         vec![
             ("groups", json!(range.groups.to_string())),
             ("rp", json!(range.address.to_string())),
             ("is_here", json!(is_here)),
             ("interface", way.map_or(Value::Null, |(iface, _)| json!(daemon.name(iface)))),
             ("next_hop", way.map_or(Value::Null, |(_, hop)| json!(hop.to_string()))),
-            ("used_by", json!(used.len())),
+            ("used_by", json!(groups.iter().filter(is_used).count())),
         ]
     };
     Ok(ranges.iter().map(row).collect())
@@ -454,6 +451,7 @@ fn counters(daemon: &mut Daemon) -> Result<Rows, Fatal> {
         ("packets that the kernel handed up whole", it.whole),
         ("fragments and long packets that a short one stood for", it.stood_in),
         ("checksums filled in", it.checksums_filled),
+        ("Join/Prunes that left in a packet with others", it.packed),
         ("entries in the kernel's forwarding cache", daemon.plane.len() as u64),
         ("rows told to the kernel", it.entries_written),
         ("rows withdrawn from the kernel", it.entries_removed),

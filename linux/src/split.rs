@@ -154,7 +154,7 @@ impl JoinKey {
     /// Of a row of the downstream table.
     pub fn of_row(row: &Row) -> JoinKey {
         let source = (!row.source.is_unspecified()).then_some(row.source);
-        JoinKey { group: row.group.into(), source, is_rpt: row.is_rpt }
+        JoinKey { group: row.group, source, is_rpt: row.is_rpt }
     }
 }
 

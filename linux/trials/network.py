@@ -36,7 +36,14 @@ RPS = [("239.1.0.0/16", "10.4.0.2"), ("239.2.0.0/16", "10.5.0.1"), ("239.4.0.0/1
 WITH_PIM = {"first": ("source", "router", "second", "lan"), "second": ("first", "router")}
 PIMD = {place: "".join(f"interface to-{port}\n ip pim\n ip pim hello 5\n" for port in ports)
         for place, ports in WITH_PIM.items()}
-PIMD["second"] += "interface to-viewer\n ip pim\n ip igmp\n"
+# As last hop of the router's groups it stays on the RP's tree: what its viewer gets of them goes by the router.
+PIMD["second"] += """interface to-viewer
+ ip pim
+ ip igmp
+exit
+ip prefix-list by-the-rp permit 239.2.0.0/16 le 32
+ip pim spt-switchover infinity-and-beyond prefix-list by-the-rp
+"""
 SETTINGS = """log = "debug"
 socket = "{room}/router/control"
 
@@ -46,6 +53,7 @@ query_response = 2.0
 
 """ + "".join(f'[[interface]]\nname = "to-{port}"\n\n' for port in ("first", "second", "hosts", "lan")) + "".join(
     f'[[rp]]\ngroups = "{groups}"\naddress = "{address}"\n\n' for groups, address in RPS)
+PRIORITY = -15
 SOURCE, HOST = "10.1.0.50", "10.5.0.77"
 # With the rights of the unit file alone.
 NOBODY, RIGHTS = 65534, "-all,+net_raw,+net_admin"
@@ -63,6 +71,11 @@ class Failed(Exception):
 
 def run(*words, **how):
     return subprocess.run([str(word) for word in words], check=True, **how)
+
+
+def hurry():
+    """From here on this program, and what it starts, runs before other work of the machine."""
+    os.setpriority(os.PRIO_PROCESS, 0, min(PRIORITY, os.getpriority(os.PRIO_PROCESS, 0)))
 
 
 def inside(place, *words):

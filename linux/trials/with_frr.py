@@ -5,7 +5,7 @@ import subprocess
 import sys
 import time
 
-from trials.network import (ASKER, HOST, RPS, SOURCE, Failed, ended, goes_on, ip, received, until)
+from trials.network import ASKER, HOST, RPS, SENDER, SOURCE, Failed, ended, goes_on, inside, ip, received, until
 
 def neighbours(net):
     """both sides know each other as neighbours"""
@@ -92,8 +92,6 @@ def change_to_source_tree(net):
     return f"{came} of {of} came, {twice} twice"
 
 
-# So often a stream is sent where other work of the machine keeps its sender from the rate that is wanted.
-SENDINGS = 4
 FEWER_BYTES = 99
 
 
@@ -106,21 +104,20 @@ def carried(net, group, sending, source, receiving, receiver_address):
     time.sleep(2)
     net.send(sending, group, source, 30, 10, FEWER_BYTES).wait()
     try:
-        for _ in range(SENDINGS):
-            receiver = net.receive(receiving, group, receiver_address, count, 60)
-            until("the kernel forwards", 15, lambda: net.entry(source, group)["forwarding"] == "kernel")
-            time.sleep(1)
-            whole = net.counter("packets that the kernel handed up whole")
-            said = net.send(sending, group, source, count, rate).communicate()[0].strip()
-            came, of, twice = received(receiver)
-            if came < of or twice:
-                raise Failed(f"{came} of {of} came, {twice} twice; {said}")
-            if int(said.split()[-3]) >= least:
-                whole = net.counter("packets that the kernel handed up whole") - whole
-                return f"{came} of {of} came, none twice; {said}; {whole} came to the router"
+        receiver = net.receive(receiving, group, receiver_address, count, 60)
+        until("the kernel forwards", 15, lambda: net.entry(source, group)["forwarding"] == "kernel")
+        time.sleep(1)
+        whole, before = net.counter("packets that the kernel handed up whole"), net.entry(source, group)["packets"]
+        said = net.send(sending, group, source, count, rate).communicate()[0].strip()
+        came, of, twice = received(receiver)
+        whole = net.counter("packets that the kernel handed up whole") - whole
+        forwarded = net.entry(source, group)["packets"] - before
     finally:
         ended(keeper)
-    raise Failed(f"the sender was too slow, {SENDINGS} times: {said}")
+    said = f"{came} of {of} came, {twice} twice; {said}; the kernel forwarded {forwarded}, {whole} came to the router"
+    if came < of or twice or forwarded < of or int(said.split(" a second")[0].split()[-1]) < least:
+        raise Failed(said)
+    return said
 
 
 def stream_as_last_hop(net):
@@ -292,6 +289,53 @@ def restart_of_frr(net):
     ended(receiver)
 
 
+def holdtime_at_first(net):
+    """In seconds, as FRR heard it of the router; None where it doesn't know it."""
+    known = json.loads(net.frr("first", "show ip pim neighbor json") or "{}").get("to-router", {})
+    return known.get("10.2.0.2", {}).get("holdTimeMax")
+
+
+def hello_times(net):
+    """Hellos leave as often and hold as long as the settings say, so that FRR misses a router that is killed at once"""
+    net.reload_interface("to-first", "hello_interval = 0.3\nhello_holdtime = 1\n")
+    until("first has heard of it", 10, lambda: holdtime_at_first(net) == 1)
+    # Longer than a Hello holds: others come meanwhile.
+    for _ in range(15):
+        time.sleep(0.2)
+        if holdtime_at_first(net) is None:
+            raise Failed("first lost the router")
+    net.router.kill()
+    killed = time.monotonic()
+    until("first misses it", 5, lambda: holdtime_at_first(net) is None)
+    missed = time.monotonic() - killed
+    net.router.wait()
+    net.start_router()
+    until("first knows it again", 40, lambda: holdtime_at_first(net) == 105)
+    if missed > 2:
+        raise Failed(f"first missed it after {missed:.1f} s")
+    return f"it missed it after {missed:.1f} s"
+
+
+def packed_joins(net):
+    """Join/Prunes to a neighbour leave together, and FRR takes as many of them as where each leaves by itself"""
+    said = []
+    for number, setting in enumerate(("pack = true\n", "pack = false\n")):
+        net.reload(setting + net.settings)
+        groups = [f"239.1.{30 + number}.{last}" for last in range(150)]
+        sent = lambda: next(row["sent"] for row in net.show("interfaces") if row["interface"] == "to-second")
+        before = sent()
+        words = inside("hosts", sys.executable, SENDER, "to-router", HOST, "report", *groups)
+        subprocess.run(words, check=True, stdout=subprocess.DEVNULL)
+        joined = lambda: len(frr_joined(net, "second", f"239.1.{30 + number}."))
+        until("second has the Joins", 20, lambda: joined() == len(groups))
+        said.append(sent() - before)
+    net.reload(net.settings)
+    # The Hellos and queries of these seconds are among them.
+    if said[0] > 20 or said[1] < len(groups):
+        raise Failed(f"{said[0]} packets together, {said[1]} each by itself")
+    return f"{len(groups)} groups in {said[0]} packets, and in {said[1]} where each leaves by itself"
+
+
 def reload(net):
     """SIGHUP takes new RP ranges, says what needs a restart, and refuses a wrong file, as --check does"""
     file = net.room / "router.toml"
@@ -371,4 +415,4 @@ def limit(net):
 
 TRIALS = [neighbours, joins_to_frr, joins_from_frr, register_to_frr, checksum, register_from_frr, change_to_source_tree,
           stream_as_last_hop, stream_as_dr, stream_as_rp, assert_lost, assert_won, prunes, link_down, link_deleted,
-          another_address, restart_of_router, restart_of_frr, reload, routes, reroute, limit]
+          another_address, restart_of_router, restart_of_frr, hello_times, packed_joins, reload, routes, reroute, limit]

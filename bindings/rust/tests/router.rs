@@ -45,6 +45,12 @@ fn joined() -> Router {
     router
 }
 
+/// The one that there is.
+fn only<One>(mut all: Vec<One>) -> One {
+    assert_eq!(all.len(), 1);
+    all.remove(0)
+}
+
 #[test]
 fn configurations_that_are_refused() {
     let none: [Interface; 0] = [];
@@ -83,7 +89,7 @@ fn a_join_a_packet_and_its_copy() {
     assert_eq!(sent.len(), 2);
     assert!(sent.iter().all(|sent| sent.packet.kind == Kind::Frame && sent.packet.iface == 0));
     assert_eq!(router.frame(0, &bytes_of(DATA), 0), DONE);
-    let [copy] = &router.packets()[..] else { panic!("one packet") };
+    let copy = only(router.packets());
     assert!(copy.packet.is_copy() && copy.packet.iface == 1 && copy.packet.length == copy.bytes.len());
     assert_eq!(copy.bytes[8], 63);
     assert_eq!(router.copies(), 1);
@@ -98,7 +104,7 @@ fn what_the_router_knows() {
     let mut router = joined();
     let counts = Table::ALL.map(|table| router.rows(table).unwrap().len());
     assert_eq!(counts, [2, 0, 0, 1, 0, 1, 0, 0]);
-    let [join] = &router.rows(Table::Downstream).unwrap()[..] else { panic!("one row") };
+    let join = only(router.rows(Table::Downstream).unwrap());
     assert_eq!((join.table, join.iface, join.group, join.state), (u32::from(b'D'), 1, address([225, 1, 1, 1]), JOINED));
     assert!(router.next_moment().is_some());
 }
@@ -150,7 +156,7 @@ fn what_a_data_plane_tells() {
     let (source, group) = (address([10, 0, 3, 5]), address([225, 1, 1, 1]));
     assert_eq!(router.frame(0, &bytes_of(DATA), 0), DONE);
     assert_eq!(router.keep(source, group, 1000), Ok(true));
-    let [active] = &router.rows(Table::Active).unwrap()[..] else { panic!("one row") };
+    let active = only(router.rows(Table::Active).unwrap());
     assert_eq!(active.end, 211_000);
     assert_eq!(router.seen(0, source, group, 0), DONE);
     assert_eq!(router.changed(), []);

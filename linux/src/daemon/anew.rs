@@ -90,6 +90,8 @@ impl Daemon {
         self.routing.told.clear();
         for port in self.ports.iter_mut().filter(|port| port.standing.is_up()) {
             port.standing = Standing::Down("the router is made anew".to_string());
+            // Its generation is over.
+            port.hello_due = None;
         }
         let flows: Vec<_> = self.plane.entries().map(|(key, entry)| (*key, entry.flows())).collect();
         flows.iter().filter(|(_, flows)| !flows).for_each(|(key, _)| self.withdraw(*key));

@@ -80,6 +80,7 @@ impl Daemon {
         let was_up = self.ports[number].standing.is_up();
         warn!("{} is down: {why}", self.ports[number].settings.name);
         self.ports[number].standing = Standing::Down(why);
+        self.ports[number].hello_due = None;
         if let Some(vif) = self.ports[number].vif.take() {
             // The kernel has let it go by itself where the link is gone.
             let _ = self.kernel.remove_vif(vif);
@@ -151,7 +152,8 @@ impl Daemon {
         for change in changes {
             debug!("the kernel tells {change:?}");
             // What goes down takes routes with it of which the kernel says nothing.
-            self.routing.due = self.routing.due.or(Some(self.now() + self.routing.settle));
+            let due = self.now() + self.routing.settle;
+            self.routing.due.get_or_insert(due);
             match change {
                 Change::Routes => {}
                 Change::Lost => self.read_machine()?,

@@ -369,6 +369,33 @@ fn a_passive_interface_neither_hears_nor_sends_pim() {
     assert_eq!(on, BTreeSet::from([ETH1]));
 }
 
+/// The holdtimes of the Hellos that left an interface, in seconds.
+fn holdtimes(fake: &Fake, index: u32) -> Vec<usize> {
+    let is_hello = |bytes: &[u8]| Packet::read(bytes).map_or(false, |packet| is_pim(packet, 0));
+    let sent = fake.sent.borrow();
+    let hellos = sent.iter().filter(|(on, bytes)| *on == index && is_hello(bytes));
+    hellos.map(|(_, bytes)| crate::packet::two(bytes, 28)).collect()
+}
+
+#[test]
+fn hellos_leave_as_often_as_the_settings_say_and_hold_as_long() {
+    let quick = TWO.replace("name = \"eth0\"\n", "name = \"eth0\"\nhello_interval = 0.5\nhello_holdtime = 3\n");
+    let (mut daemon, fake) = begun(&quick, &both());
+    passes(&mut daemon, &fake, 10_000);
+    fake.sent.borrow_mut().clear();
+    passes(&mut daemon, &fake, 60_000);
+    assert_eq!(holdtimes(&fake, ETH1), [105, 105]);
+    let found = holdtimes(&fake, ETH0);
+    assert!((118..=124).contains(&found.len()) && found.iter().all(|holdtime| *holdtime == 3), "{found:?}");
+    // Others are taken at once, and no more than the library's own then.
+    fake.sent.borrow_mut().clear();
+    daemon.take_settings(settings::read(TWO).expect("they are in order")).expect("it goes on");
+    passes(&mut daemon, &fake, 31_000);
+    let found = holdtimes(&fake, ETH0);
+    assert!((2..=3).contains(&found.len()) && found.iter().all(|holdtime| *holdtime == 105), "{found:?}");
+    assert_eq!(daemon.counters.made_anew, 0);
+}
+
 #[test]
 fn what_may_not_be_sent_is_dropped_by_the_kernel() {
     let listed = TWO.replace("name = \"eth1\"\n", "name = \"eth1\"\nsend = [{ sources = \"10.5.0.77/32\" }]\n");

@@ -3,7 +3,7 @@ use super::{Answer, Daemon, Event, Fatal};
 use crate::control::Control;
 use crate::core::ranges_of;
 use crate::kernel::{self, Source};
-use crate::packet::goodbye;
+use crate::packet::with_holdtime;
 use crate::{settings, show, words};
 use log::{debug, error, info, warn};
 use nix::poll::{poll, PollFd, PollFlags};
@@ -13,8 +13,11 @@ use std::os::unix::net::UnixStream;
 use std::sync::atomic::{AtomicBool, Ordering};
 use std::sync::Arc;
 
-/// How often the kernel's counts are read, in ms.
+/// How often the kernel's counts are read, in ms; where reading them takes long, for a part of the time.
 const LOOK_EVERY: u64 = 10_000;
+const PART_OF_TIME: u64 = 10;
+/// So many sources that were refused are asked for again after a look: of a flood each would cost a packet anew.
+const MOST_ASKED_AGAIN: usize = 1_024;
 /// A source without a fact of which nothing comes for so long has no entry, in ms.
 const IDLE: u64 = 60_000;
 /// So many messages of a socket are taken before the others have their turn.
@@ -70,6 +73,7 @@ impl Daemon {
         self.settings = new;
         crate::ports::take_settings(&mut self.ports, &self.settings.interfaces);
         self.set_policy();
+        self.repeat_hellos_anew();
         if is_router_new {
             self.make_anew("the settings differ")?;
         } else if are_rps_new {
@@ -142,6 +146,7 @@ impl Daemon {
             due.anew,
             due.learned,
             control.due().map(|left| self.kernel.now() + left),
+            self.ports.iter().filter_map(|port| port.hello_due).min(),
         ];
         let next = times.into_iter().flatten().fold(due.look, u64::min);
         match poll(&mut waits, next.saturating_sub(self.now()).min(LOOK_EVERY) as i32) {
@@ -206,26 +211,48 @@ impl Daemon {
             self.read_routes()?;
         }
         if self.due.look <= now {
-            self.due.look = now + LOOK_EVERY;
             self.look()?;
+            self.due.look = now + LOOK_EVERY.max(PART_OF_TIME * (self.now() - now));
             self.plane.idle(IDLE).into_iter().for_each(|key| self.withdraw(key));
             // There may be room for it by now: its next packet asks again.
-            self.plane.untold().into_iter().for_each(|key| self.withdraw(key));
+            self.plane.untold(MOST_ASKED_AGAIN).into_iter().for_each(|key| self.withdraw(key));
         }
         self.refresh_unknown();
         if is_due(self.due.unset) {
             self.set_again();
         }
+        self.repeat_hellos();
         if self.neighbours.are_stale {
             self.watch_neighbours()?;
         }
         Ok(())
     }
 
+    /// Hellos go by the settings at once.
+    fn repeat_hellos_anew(&mut self) {
+        let now = self.now();
+        self.ports.iter_mut().for_each(|port| port.hello_due = port.hello.as_ref().map(|_| now));
+    }
+
+    /// The last Hello of an interface leaves again, where the library's own come too seldom for the settings.
+    fn repeat_hellos(&mut self) {
+        let now = self.now();
+        let Daemon { kernel, ports, policy, .. } = self;
+        for port in ports.iter_mut().filter(|port| port.hello_due.map_or(false, |due| due <= now)) {
+            port.hello_due = None;
+            if let Some(hello) = port.hello.clone().filter(|_| port.standing.is_up()) {
+                let is_passive = policy.is_passive(port.number);
+                super::send_on(kernel.as_mut(), Some(port), is_passive, &hello);
+            }
+        }
+    }
+
     /// Each neighbour is told at once that the router goes.
     fn say_goodbye(&mut self) {
         for port in self.ports.iter().filter(|port| port.standing.is_up()) {
-            if let (Some(said), Some(index)) = (port.hello.as_deref().and_then(goodbye), port.index) {
+            if let (Some(said), Some(index)) =
+                (port.hello.as_deref().and_then(|hello| with_holdtime(hello, 0)), port.index)
+            {
                 debug!("sends on {}: {}", port.settings.name, words::of(&said));
                 let _ = self.kernel.send_on(index, &said);
             }
