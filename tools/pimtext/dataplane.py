@@ -58,7 +58,7 @@ class CaughtUp(Exception):
 @dataclass(frozen=True)
 class Outcome:
     """What came of an event: the answer's number, and what was sent."""
-    answer: int
+    answer: Answer
     sent: tuple
 
     def lines(self) -> Iterator[str]:

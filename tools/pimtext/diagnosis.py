@@ -6,6 +6,8 @@ that were refused or that nobody took. Each is told under the first cause that e
 from __future__ import annotations
 
 from collections.abc import Iterator
+from typing import TYPE_CHECKING
+
 from pimtext import printed, reasons, served, trees, words
 from pimtext.askers import Askers
 from pimtext.cause import Cause, Symptom, attached, grouped
@@ -15,7 +17,6 @@ from pimtext.notes import Lines, Notes
 from pimtext.outages import Outages
 from pimtext.printed import ANY
 from pimtext.run import Run, times
-from typing import TYPE_CHECKING
 
 if TYPE_CHECKING:
     from lab.lines import Lines as LabLines

@@ -4,10 +4,11 @@ What routers took and sent is that of the run, as pimtext.trace has it. Which wa
 that took it sent it not on, follows from what the routers knew just before. """
 from __future__ import annotations
 
+from typing import TYPE_CHECKING
+
 from pimtext import served, trace, trees, words
 from pimtext.ends import End
 from pimtext.printed import ANY
-from typing import TYPE_CHECKING
 
 if TYPE_CHECKING:
     from pimtext.past import Past

@@ -2,10 +2,11 @@
 from __future__ import annotations
 
 from collections.abc import Callable, Iterable, Iterator
+from typing import TYPE_CHECKING
+
 from pimtext import packets, served, story, trees, words
 from pimtext.cause import Cause
 from pimtext.run import gathered
-from typing import TYPE_CHECKING
 
 if TYPE_CHECKING:
     from pimtext.cause import Symptom

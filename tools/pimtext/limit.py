@@ -2,6 +2,7 @@
 from __future__ import annotations
 
 from collections.abc import Iterator
+
 from pimtext import fed, packets, printed, scenario, story, words
 from pimtext.printed import ANY
 

@@ -2,8 +2,9 @@
 from __future__ import annotations
 
 from collections.abc import Iterable, Iterator
-from pimtext import story, trees
 from typing import TYPE_CHECKING
+
+from pimtext import story, trees
 
 if TYPE_CHECKING:
     from pimtext.scenario import Scenario

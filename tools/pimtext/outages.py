@@ -3,11 +3,12 @@ limit."""
 from __future__ import annotations
 
 from collections.abc import Callable, Collection, Iterator
+from typing import TYPE_CHECKING
+
 from pimtext import limit, packets, trees, words
 from pimtext.cause import Cause
 from pimtext.run import COUNTED, gathered, times
 from pimtext.wire import DATA, HELLO, JOIN, PLURALS, names_group
-from typing import TYPE_CHECKING
 
 if TYPE_CHECKING:
     from pimtext.cause import Symptom

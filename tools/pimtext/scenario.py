@@ -48,7 +48,7 @@ class Router:
         """Its interfaces on a link."""
         return [interface for interface in self.interfaces if interface.link == link]
 
-    def has(self, address: str) -> bool:
+    def has(self, address: str | None) -> bool:
         return any(interface.address == address for interface in self.interfaces)
 
 

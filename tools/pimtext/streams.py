@@ -29,7 +29,7 @@ class Stream:
     """The packets of a source to a group that were sent while the host wanted them. `asked` is the step of its first
     Join, None where it never asked, and `clock` gives the moment of a router at a step."""
     host: str
-    link: str
+    link: str | None
     group: str
     source: str
     asked: int | None
@@ -147,7 +147,7 @@ def stream(
 
 
 def arrivals(
-    packet: Packet, host: str, link: str, unheard: frozenset[tuple[str, int] | tuple[str, bytes, int]]
+    packet: Packet, host: str, link: str | None, unheard: frozenset[tuple[str, int] | tuple[str, bytes, int]]
 ) -> list[Arrival]:
     """How a packet came to a host."""
     is_here = packet.link == link and (host, packet.content, packet.moment) not in unheard

@@ -1,7 +1,8 @@
 """What `pimtext.views` has of a router, as tables for people."""
 from collections.abc import Iterable, Iterator
-from pimtext import words
 from typing import Any
+
+from pimtext import words
 
 
 def table(title: str, heads: list[str], rows: list[list[Any]]) -> Iterator[str]:

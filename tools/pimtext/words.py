@@ -2,9 +2,10 @@
 from __future__ import annotations
 
 from collections.abc import Iterable
+from typing import TYPE_CHECKING, Any
+
 from pimtext import packets, printed
 from pimtext.packets import RECORD_KINDS, Refused
-from typing import TYPE_CHECKING, Any
 
 if TYPE_CHECKING:
     from pimtext.scenario import Router, Scenario
