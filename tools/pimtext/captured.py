@@ -86,7 +86,7 @@ def table_of(addresses: list[str], ranges: list[str], routes: list[str], frames:
     return {"name": "router", "iface": interfaces, "routes": list(routes), "rps": list(ranges)}
 
 
-def table_in(path: Path, address: str, ranges: list[str], routes: list[str]) -> dict[str, Any]:
+def table_in(path: str | Path, address: str, ranges: list[str], routes: list[str]) -> dict[str, Any]:
     """The table of the router of a scenario's file that has an address, with more ranges and routes."""
     played = scenario.read(path)
     found = [router.table for router in played.routers if router.has(address)]
