@@ -190,7 +190,7 @@ def short(sent: Sent) -> str:
     return names.get(type(body), type(body).__name__)
 
 
-def step(told: Step, scenario: Scenario) -> str:
+def step(told: Step, scenario: Scenario | None) -> str:
     """What a step was: the move, or which packet a settle delivered."""
     if told.did is None:
         return ""
