@@ -40,7 +40,7 @@ GOAL = re.compile(r"\(`([^`]*)(`?)")
 class Reason:
     """Why an edit is refused: the function whose contract isn't met, and the goal as far as the kit's line has it."""
 
-    found: object
+    found: Found
     goal: str
     is_whole: bool
 
