@@ -13,6 +13,7 @@ from trials.network import (ASKER, HOST, RPS, SOURCE, Failed, ended, goes_on, ip
 if TYPE_CHECKING:
     from trials.network import Network
 
+
 def neighbours(net: Network) -> None:
     """both sides know each other as neighbours"""
     until("the router knows three neighbours", 30, lambda: net.neighbours() == {"10.2.0.1", "10.3.0.1", "10.7.0.2"})
