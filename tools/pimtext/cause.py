@@ -1,7 +1,13 @@
 """What a diagnosis is made of: causes, and the symptoms that follow from them."""
+from __future__ import annotations
+
 from collections import Counter
 from collections.abc import Callable, Iterable
 from dataclasses import dataclass, field
+from typing import TYPE_CHECKING
+
+if TYPE_CHECKING:
+    from lab.lines import Line
 
 
 @dataclass(frozen=True)
@@ -10,7 +16,7 @@ class Symptom:
     "unheard" for packets that nobody took. What it concerns is None where it concerns nothing of the kind; `cause` is a
     refusal's number or reason."""
     kind: str
-    line: object
+    line: int | Line
     text: str
     router: str | None = None
     link: str | None = None
@@ -27,7 +33,7 @@ class Symptom:
 @dataclass(eq=False)
 class Cause:
     """`covers` says of a symptom whether it follows from the cause. A hint is told only where it explains something."""
-    line: object
+    line: int | Line
     text: str
     covers: Callable[[Symptom], bool] = lambda symptom: False
     symptoms: list = field(default_factory=list)

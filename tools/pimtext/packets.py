@@ -171,7 +171,7 @@ class Packet:
     ttl: int
     protocol: int
     size: int
-    body: object
+    body: Hello | Register | RegisterStop | JoinPrune | Assert | OtherPim | Query | Report | Data
 
 
 # ---- readings

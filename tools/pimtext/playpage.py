@@ -1,4 +1,6 @@
 """A run, or two beside one another, as one HTML page that needs no server and no network."""
+from __future__ import annotations
+
 import html
 import json
 import re
@@ -9,9 +11,12 @@ from collections import defaultdict
 from collections.abc import Callable, Iterable, Iterator
 from dataclasses import dataclass, field
 from pathlib import Path
-from typing import Any
+from typing import TYPE_CHECKING, Any
 
 from pimtext import colours, diagnosis, faults, places, recorded, scenario, toml_lines
+
+if TYPE_CHECKING:
+    from lab.lines import Lines
 
 FOLDER = Path(__file__).resolve().parent / "page"
 # The scripts of the page, in their order.
@@ -28,7 +33,7 @@ class Told:
     name: str
     text: str
     hosts: dict = field(default_factory=dict)
-    places: object = None
+    places: Lines | None = None
     unheard: frozenset = frozenset()
     is_by_time: bool = False
 
