@@ -413,6 +413,6 @@ def is_usual_ssm(router: Router) -> bool:
     return [(row.is_permit, row.prefix) for row in rows] == [(True, "232.0.0.0/8")]
 
 
-def used_lists(router: Router) -> set[str]:
+def used_lists(router: Router) -> set[str | None]:
     return {name for _, _, name, _ in router.rps} | ({router.ssm[0]} if router.ssm else set())
 
