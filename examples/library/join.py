@@ -11,13 +11,13 @@ DATA = "4500001C0000000040118BCA0A000305E10101010001000200030004"
 MORE_DATA = "4500001C0001000040118BC90A000305E10101010001000200030004"
 
 
-def said(answer):
+def said(answer: Answer) -> str:
     if answer == Answer.DONE:
         return "done"
     return f"{'ignored' if answer.is_ignored else 'refused'} {answer.value}"
 
 
-def main():
+def main() -> None:
     interfaces = [("10.0.0.2", 24), ("10.0.1.1", 24), ("10.0.2.1", 24)]
     routes = [("10.9.9.0/24", "10.0.0.1", 0, 110, 20), ("10.0.3.0/24", "10.0.0.1", 0, 110, 20)]
     router = Router(interfaces, [("224.0.0.0/4", "10.9.9.9")], routes)

@@ -22,6 +22,7 @@ import subprocess
 import sys
 import time
 from pathlib import Path
+from typing import Any
 
 TOP = Path(__file__).resolve().parents[2]
 sys.path[:0] = [str(TOP / "bindings" / "python" / "src"), str(TOP / "tools")]
@@ -39,13 +40,13 @@ SIOCGIFFLAGS, IFF_RUNNING = 0x8913, 0x40
 PREFERENCE = 110
 
 
-def asked(*words_of):
+def asked(*words_of: str) -> Any:
     """What `ip` says, read as JSON."""
     said = subprocess.run(["ip", "-json", "-4", *words_of], check=True, capture_output=True, text=True).stdout
     return json.loads(said or "[]")
 
 
-def filled(packet):
+def filled(packet: bytes) -> bytes:
     """A packet whose sender left the UDP checksum to its card, with the checksum."""
     header, total = 4 * (packet[0] & 15), int.from_bytes(packet[2:4], "big")
     content = bytearray(packet[header:total])
@@ -62,14 +63,14 @@ def filled(packet):
 class Port:
     """An interface of the machine, with its packet socket."""
 
-    def __init__(self, number, name):
+    def __init__(self, number: int, name: str) -> None:
         self.number, self.name, self.is_up, self.index = number, name, False, 0
         own = asked("address", "show", "dev", name)[0]["addr_info"][0]
         self.address, self.length = own["local"], own["prefixlen"]
         self.socket = socket.socket(socket.AF_PACKET, socket.SOCK_DGRAM, socket.htons(ETH_P_IP))
         self.socket.setsockopt(SOL_PACKET, PACKET_AUXDATA, 1)
 
-    def bind(self):
+    def bind(self) -> None:
         """To the interface that has the name now, if it is another one than before."""
         index = socket.if_nametoindex(self.name)
         if index != self.index:
@@ -78,7 +79,7 @@ class Port:
             self.socket.setsockopt(SOL_PACKET, PACKET_ADD_MEMBERSHIP, all_groups)
             self.index = index
 
-    def is_running(self):
+    def is_running(self) -> bool:
         request = struct.pack("16sH14s", self.name.encode(), 0, b"")
         try:
             flags = struct.unpack("16sH14s", fcntl.ioctl(self.socket, SIOCGIFFLAGS, request))[1]
@@ -87,7 +88,7 @@ class Port:
             return False
         return bool(flags & IFF_RUNNING)
 
-    def hear(self):
+    def hear(self) -> bytes | None:
         """A packet that came; None for one that the machine itself sent, and where the interface went down."""
         try:
             packet, told, _, source = self.socket.recvmsg(65535, socket.CMSG_SPACE(20))
@@ -106,7 +107,7 @@ class Port:
         )
         return filled(packet) if status & TP_STATUS_CSUMNOTREADY else packet
 
-    def send(self, packet):
+    def send(self, packet: bytes) -> None:
         group = packet[16:20]
         ether = bytes([0x01, 0x00, 0x5E, group[1] & 0x7F, group[2], group[3]])
         self.socket.sendto(packet, (self.name, ETH_P_IP, 0, 0, ether))
@@ -115,7 +116,7 @@ class Port:
 class Machine:
     """The router, and the machine around it."""
 
-    def __init__(self, arguments):
+    def __init__(self, arguments: argparse.Namespace) -> None:
         self.quiet, self.began = arguments.quiet, time.monotonic()
         self.ports = [Port(number, name) for number, name in enumerate(arguments.interfaces)]
         self.own = {packets.octets(port.address) for port in self.ports}
@@ -128,15 +129,15 @@ class Machine:
         self.changes = socket.socket(socket.AF_NETLINK, socket.SOCK_RAW, socket.NETLINK_ROUTE)
         self.changes.bind((0, RTMGRP_LINK | RTMGRP_IPV4_ROUTE))
 
-    def now(self):
+    def now(self) -> int:
         """In ms."""
         return int((time.monotonic() - self.began) * 1000)
 
-    def say(self, text):
+    def say(self, text: str) -> None:
         if not self.quiet:
             print(f"{self.now() / 1000:8.3f} {text}", flush=True)
 
-    def routes(self):
+    def routes(self) -> list[tuple[str, str, int, int, int]]:
         """The kernel's routes through routers on these interfaces."""
         numbers = {port.name: port.number for port in self.ports}
         found = {}
@@ -148,7 +149,7 @@ class Machine:
                 )
         return list(found.values())
 
-    def done(self, answer, what):
+    def done(self, answer: viqeshor.Answer, what: str) -> None:
         """Sends what an event named."""
         if answer:
             if what:
@@ -157,7 +158,7 @@ class Machine:
         for _, where, packet in self.router.packets():
             self.leave(where, packet)
 
-    def leave(self, where, packet):
+    def leave(self, where: str | int, packet: bytes) -> None:
         try:
             if isinstance(where, str):
                 self.say(f"sends to {where}: {told(packet)}")
@@ -168,10 +169,10 @@ class Machine:
         except OSError as error:
             self.say(f"  which is lost: {error.strerror}")
 
-    def advance(self):
+    def advance(self) -> None:
         self.done(self.router.advance(self.now()), "")
 
-    def watch_links(self):
+    def watch_links(self) -> None:
         for port in self.ports:
             is_up = port.is_running()
             if is_up != port.is_up:
@@ -179,13 +180,13 @@ class Machine:
                 self.say(f"{port.name} goes {'up' if is_up else 'down'}")
                 self.done(self.router.up(port.number) if is_up else self.router.down(port.number), port.name)
 
-    def changed(self):
+    def changed(self) -> None:
         self.changes.recv(65535)
         self.advance()
         self.watch_links()
         self.done(self.router.set_routes(self.routes()), "routes")
 
-    def hear(self, port):
+    def hear(self, port: Port) -> None:
         packet = port.hear()
         if packet is None or not port.is_up or len(packet) < 20:
             return
@@ -197,11 +198,11 @@ class Machine:
             self.say(f"takes from {port.name}: {told(packet)}")
             self.done(self.router.unicast(packet), "  which is not taken")
 
-    def print_tables(self):
+    def print_tables(self) -> None:
         for line in self.router.tables():
             self.say(f"  {line}")
 
-    def run(self):
+    def run(self) -> None:
         wake = os.pipe()
         os.set_blocking(wake[1], False)
         signal.set_wakeup_fd(wake[1])
@@ -225,12 +226,12 @@ class Machine:
                     self.print_tables()
 
 
-def told(packet):
+def told(packet: bytes) -> str:
     """A packet in words."""
     return words.bytes_given(packet, packets.MOST_IN_A_UNICAST)
 
 
-def main():
+def main() -> None:
     parser = argparse.ArgumentParser(description=__doc__, formatter_class=argparse.RawDescriptionHelpFormatter)
     parser.add_argument("--library", required=True)
     parser.add_argument("--rp", action="append", default=[], metavar="GROUPS=ADDRESS")

@@ -18,7 +18,7 @@ PIM = 103
 ALL_PIM_ROUTERS = bytes([224, 0, 0, 13])
 
 
-def checksum(data):
+def checksum(data: bytes) -> int:
     data += b"\0" * (len(data) % 2)
     total = sum(struct.unpack(f"!{len(data) // 2}H", data))
     while total >> 16:
@@ -26,21 +26,21 @@ def checksum(data):
     return ~total & 0xFFFF
 
 
-def pim(own, kind, content):
+def pim(own: bytes, kind: int, content: bytes) -> bytes:
     message = struct.pack("!BBH", 0x20 | kind, 0, 0) + content
     message = message[:2] + struct.pack("!H", checksum(message)) + message[4:]
     header = struct.pack("!BBHHHBBH4s4s", 0x45, 0xC0, 20 + len(message), 0, 0, 1, PIM, 0, own, ALL_PIM_ROUTERS)
     return header[:10] + struct.pack("!H", checksum(header)) + header[12:] + message
 
 
-def hello():
+def hello() -> bytes:
     return struct.pack("!HHH", 1, 2, 105) + struct.pack("!HHI", 20, 4, 77) + struct.pack("!HHI", 19, 4, 0)
 
 
 SOURCE, RP_OF_ALL = 4, 7
 
 
-def join(to, source, group, kind=SOURCE):
+def join(to: bytes, source: bytes, group: bytes, kind: int = SOURCE) -> bytes:
     """Of the source, or of all by an RP."""
     unicast = bytes([1, 0])
     head = unicast + to + struct.pack("!BBH", 0, 1, 210)
@@ -48,10 +48,10 @@ def join(to, source, group, kind=SOURCE):
 
 
 class Heard:
-    def __init__(self):
+    def __init__(self) -> None:
         self.hardware, self.asserts, self.packets = {}, {}, []
 
-    def take(self, frame, source, group):
+    def take(self, frame: bytes, source: bytes, group: bytes) -> None:
         packet = frame[14:]
         if len(packet) < 20 or frame[12:14] != b"\x08\x00":
             return
@@ -63,7 +63,7 @@ class Heard:
         elif packet[12:20] == source + group:
             self.packets.append((time.monotonic(), frame[6:12]))
 
-    def counted(self, since):
+    def counted(self, since: float) -> dict[str, int]:
         counts = {}
         for moment, hardware in self.packets:
             if moment >= since:
@@ -72,7 +72,7 @@ class Heard:
         return counts
 
 
-def main():
+def main() -> None:
     interface = sys.argv[1]
     own, source, group, *routers = (socket.inet_aton(text) for text in sys.argv[2:7])
     seconds = float(sys.argv[7])

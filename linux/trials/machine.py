@@ -1,23 +1,29 @@
 """What the machine does to the router: interfaces and addresses that come and go, want of memory, links of each
 kind."""
+from __future__ import annotations
+
 import socket
 import subprocess
 import sys
 import threading
 import time
+from typing import TYPE_CHECKING, Any
 
 from trials.network import HOST, SENDER, SOURCE, Failed, ended, first_after, goes_on, inside, ip, received, run, until
+
+if TYPE_CHECKING:
+    from trials.network import Network
 
 
 # The neighbours that FRR is.
 THREE = {"10.2.0.1", "10.3.0.1", "10.7.0.2"}
 
 
-def standing(net, name):
+def standing(net: Network, name: str) -> dict[str, Any]:
     return next((row for row in net.show("interfaces") if row["interface"] == name), {"is_up": False, "address": None})
 
 
-def no_address_at_start(net):
+def no_address_at_start(net: Network) -> None:
     """it begins where no interface has an address, says so, and takes each as it comes"""
     net.stop_router()
     ports = [("to-first", "10.2.0.2/24"), ("to-second", "10.3.0.2/24"), ("to-hosts", "10.5.0.1/24"),
@@ -38,7 +44,7 @@ def no_address_at_start(net):
     until("the router knows three neighbours", 40, lambda: net.neighbours() >= THREE)
 
 
-def late_address(net):
+def late_address(net: Network) -> str:
     """an address that comes late is taken, and a stream of 100 packets a second through other interfaces loses none"""
     net.stop_router()
     ip("router", "address", "delete", "10.7.0.3/24", "dev", "to-lan")
@@ -63,7 +69,7 @@ def late_address(net):
     return f"{came} of {of} came, {twice} twice"
 
 
-def interface_that_comes(net):
+def interface_that_comes(net: Network) -> None:
     """one that the file doesn't name yet comes with SIGHUP, and one that it names comes when the machine has it"""
     more = '[[interface]]\nname = "to-nobody"\n'
     net.reload(net.settings + more)
@@ -82,7 +88,7 @@ def interface_that_comes(net):
     until("the router knows three neighbours", 40, lambda: net.neighbours() >= THREE)
 
 
-def settings_under_a_stream(net):
+def settings_under_a_stream(net: Network) -> str:
     """SIGHUP takes another limit and other times of IGMP, and a stream of 100 packets a second loses nothing"""
     group = "239.1.11.2"
     warm = net.receive("hosts", group, HOST, 30, 20)
@@ -103,7 +109,7 @@ def settings_under_a_stream(net):
     return f"{came} of {of} came, {twice} twice"
 
 
-def settings_at_the_rp(net):
+def settings_at_the_rp(net: Network) -> str:
     """nor does one of which the router is the RP: the kernel's entry stays until the DR registers the source again"""
     group = "239.2.11.4"
     warm = net.receive("hosts", group, HOST, 30, 20)
@@ -123,7 +129,7 @@ def settings_at_the_rp(net):
     return f"{came} of {of} came, {twice} twice"
 
 
-def kernel_without_memory(net):
+def kernel_without_memory(net: Network) -> str:
     """where the kernel has no memory for an entry the router says so, goes on, and sets it once there is some"""
     shim, lacks = net.room / "no_memory.so", net.room / "no-memory"
     run("cc", "-shared", "-fPIC", "-o", shim, SENDER.parent / "no_memory.c", "-ldl")
@@ -151,7 +157,7 @@ def kernel_without_memory(net):
     return f"{lines} lines said it"
 
 
-def vxlan_and_next_hop_objects(net):
+def vxlan_and_next_hop_objects(net: Network) -> None:
     """a vxlan link is an interface like another; routes by next hop objects are read, without compatibility too"""
     ip("router", *"link add vx7 type vxlan id 7 local 10.2.0.2 remote 10.2.0.1 dstport 4789".split())
     ip("router", "address", "add", "10.8.1.1/24", "dev", "vx7")
@@ -180,7 +186,7 @@ def vxlan_and_next_hop_objects(net):
     until("the router knows three neighbours", 40, lambda: net.neighbours() >= THREE)
 
 
-def show_while_the_router_works(net):
+def show_while_the_router_works(net: Network) -> str:
     """with 65,536 groups `show` keeps no join waiting, and 32 silent clients of the control socket lock no one out"""
     net.stop_router()
     net.start_router("limit = 200000\n", "max_groups = 100000\n")
@@ -201,7 +207,7 @@ def show_while_the_router_works(net):
     asking = threading.Event()
     rows = []
 
-    def ask():
+    def ask() -> None:
         while not asking.is_set():
             rows.append(len(net.show("igmp") or []))
 

@@ -5,7 +5,9 @@ import shutil
 import signal
 import subprocess
 import time
+from collections.abc import Callable, Iterable
 from pathlib import Path
+from typing import Any
 
 HERE = Path(__file__).resolve().parent.parent
 FRR = Path("/usr/lib/frr")
@@ -69,24 +71,24 @@ class Failed(Exception):
     pass
 
 
-def run(*words, **how):
+def run(*words: object, **how: Any) -> subprocess.CompletedProcess[Any]:
     return subprocess.run([str(word) for word in words], check=True, **how)
 
 
-def hurry():
+def hurry() -> None:
     """From here on this program, and what it starts, runs before other work of the machine."""
     os.setpriority(os.PRIO_PROCESS, 0, min(PRIORITY, os.getpriority(os.PRIO_PROCESS, 0)))
 
 
-def inside(place, *words):
+def inside(place: str, *words: object) -> list[str]:
     return ["ip", "netns", "exec", NAMES[place], *map(str, words)]
 
 
-def ip(place, *words):
+def ip(place: str, *words: object) -> None:
     run("ip", "-n", NAMES[place], *words)
 
 
-def until(what, seconds, holds):
+def until(what: str, seconds: float, holds: Callable[[], object]) -> None:
     """Waits until something holds; it fails with what was to be."""
     end = time.monotonic() + seconds
     while not holds():
@@ -98,13 +100,13 @@ def until(what, seconds, holds):
 class Network:
     """The namespaces, and what runs in them."""
 
-    def __init__(self, built, room, is_logged):
+    def __init__(self, built: Path, room: Path, is_logged: bool) -> None:
         self.built, self.room, self.is_logged = built, room, is_logged
         self.running, self.router, self.pimd = [], None, {}
 
     # ---- namespaces
 
-    def connect(self, left, left_address, right, right_address):
+    def connect(self, left: str, left_address: str, right: str, right_address: str | None) -> None:
         ends = [(left, f"to-{right}", left_address), (right, f"to-{left}", right_address)]
         run("ip", "link", "add", ends[0][1], "netns", NAMES[left], "type", "veth",
             "peer", "name", ends[1][1], "netns", NAMES[right])
@@ -115,7 +117,7 @@ class Network:
                 ip(place, "link", "set", port, "master", "bridge")
             ip(place, "link", "set", port, "up")
 
-    def lay_out(self):
+    def lay_out(self) -> None:
         for name in NAMES.values():
             run("ip", "netns", "add", name)
             run("ip", "-n", name, "link", "set", "lo", "up")
@@ -132,7 +134,7 @@ class Network:
         run(*inside("hosts", "sysctl", "-qw", "net.ipv4.conf.all.force_igmp_version=3"))
         run(*inside("viewer", "sysctl", "-qw", "net.ipv4.conf.all.force_igmp_version=3"))
 
-    def clear(self):
+    def clear(self) -> None:
         for one in reversed(self.running):
             if one.poll() is None:
                 one.terminate()
@@ -141,14 +143,14 @@ class Network:
         for name in NAMES.values():
             subprocess.run(["ip", "netns", "delete", name], stderr=subprocess.DEVNULL)
 
-    def start(self, place, *words, **how):
+    def start(self, place: str, *words: object, **how: Any) -> subprocess.Popen[str]:
         started = subprocess.Popen(inside(place, *words), text=True, **how)
         self.running.append(started)
         return started
 
     # ---- routers
 
-    def start_frr(self, place):
+    def start_frr(self, place: str) -> None:
         room = self.room / place
         room.mkdir(exist_ok=True)
         rps = "".join(f"ip pim rp {address} {groups}\n" for groups, address in RPS)
@@ -162,20 +164,20 @@ class Network:
         until(f"{place}'s zebra listens", 20, (room / "zserv").exists)
         self.start_pimd(place)
 
-    def start_pimd(self, place):
+    def start_pimd(self, place: str) -> None:
         self.pimd[place] = self.start_frr_daemon(place, "pimd")
 
-    def start_frr_daemon(self, place, daemon):
+    def start_frr_daemon(self, place: str, daemon: str) -> subprocess.Popen[str]:
         room = self.room / place
         words = ["-z", room / "zserv", "--vty_socket", room, "-f", room / f"{daemon}.conf",
                  "-i", room / f"{daemon}.pid"]
         return self.start(place, FRR / daemon, *words, stdout=subprocess.DEVNULL, stderr=subprocess.DEVNULL)
 
-    def frr(self, place, command):
+    def frr(self, place: str, command: str) -> str:
         words = inside(place, "vtysh", "--vty_socket", self.room / place, "-c", command)
         return subprocess.run(words, capture_output=True, text=True).stdout
 
-    def start_router(self, more="", policy="", environment=()):
+    def start_router(self, more: str = "", policy: str = "", environment: Iterable[str] = ()) -> None:
         self.settings = more + SETTINGS.format(room=self.room)
         self.settings = self.with_policy(policy)
         (self.room / "router.toml").write_text(self.settings)
@@ -188,87 +190,91 @@ class Network:
             self.router = self.start("router", *AS_SERVICE, *words, stderr=log)
         until("the router answers", 10, lambda: self.show("interfaces") is not None)
 
-    def stop_router(self):
+    def stop_router(self) -> None:
         self.router.send_signal(signal.SIGTERM)
         self.router.wait(10)
 
-    def reload(self, settings):
+    def reload(self, settings: str) -> None:
         """Other settings, by SIGHUP, once the router has taken them."""
         before = self.log().count("the settings are read anew")
         (self.room / "router.toml").write_text(settings)
         self.router.send_signal(signal.SIGHUP)
         until("the settings are taken", 10, lambda: self.log().count("the settings are read anew") > before)
 
-    def with_policy(self, lines):
+    def with_policy(self, lines: str) -> str:
         """The settings that the router started with, and some lines of `[policy]`."""
         return self.settings.replace("[igmp]\n", f"[policy]\n{lines}\n[igmp]\n") if lines else self.settings
 
-    def reload_interface(self, name, lines):
+    def reload_interface(self, name: str, lines: str) -> None:
         """The settings that the router started with, and some lines for an interface."""
         line = f'name = "{name}"\n'
         assert line in self.settings
         self.reload(self.settings.replace(line, line + lines))
 
-    def show(self, topic):
+    def show(self, topic: str) -> Any:
         words = [self.built / "viqeshord", "show", topic, "--json", "--socket", self.room / "router" / "control"]
         said = subprocess.run(list(map(str, words)), capture_output=True, text=True)
         return json.loads(said.stdout)[topic] if said.returncode == 0 else None
 
-    def entry(self, source, group):
+    def entry(self, source: str, group: str) -> dict[str, Any]:
         """The router's entry, or an empty one."""
         found = [row for row in self.show("mroute") or [] if (row["source"], row["group"]) == (source, group)]
         return found[0] if found else {"incoming": None, "outgoing": [], "flags": "", "forwarding": "", "packets": 0}
 
-    def neighbours(self):
+    def neighbours(self) -> set[str]:
         return {row["address"] for row in self.show("neighbors") or []}
 
-    def counter(self, name):
+    def counter(self, name: str) -> int:
         return next((row["count"] for row in self.show("counters") if row["counter"] == name), 0)
 
-    def refused(self, words):
+    def refused(self, words: str) -> int:
         """How much the settings refused, of what the counters say in these words."""
         rows = [row for row in self.show("counters") if row["counter"].startswith("refused on")]
         return sum(row["count"] for row in rows if words in row["counter"])
 
-    def log(self):
+    def log(self) -> str:
         return (self.room / "router.log").read_text()
 
     # ---- hosts
 
-    def receive(self, place, group, address, count, seconds, size=100):
+    def receive(
+        self, place: str, group: str, address: str, count: int, seconds: float, size: int = 100
+    ) -> subprocess.Popen[str]:
         words = [self.built / "examples" / "stream", "receive", group, address, count, seconds, size]
         started = self.start(place, *words, stdout=subprocess.PIPE)
         if started.stdout.readline().strip() != "joined":
             raise Failed(f"{place} can't join {group}")
         return started
 
-    def send(self, place, group, address, count, rate, size=100):
+    def send(
+        self, place: str, group: str, address: str, count: int, rate: int, size: int = 100
+    ) -> subprocess.Popen[str]:
         words = [self.built / "examples" / "stream", "send", group, address, count, rate, size]
         return self.start(place, *words, stdout=subprocess.PIPE)
 
 
-def received(receiver):
+def received(receiver: subprocess.Popen[str]) -> tuple[int, int, int]:
     """How many came, of how many, and how many came twice."""
     words = receiver.communicate()[0].split()
     return int(words[1]), int(words[3].rstrip(",")), int(words[5])
 
 
-def first_after(receiver):
+def first_after(receiver: subprocess.Popen[str]) -> int | None:
     """After how many ms the first packet came; None where none did."""
     words = receiver.communicate()[0].split()
     at = words.index("first") + 1
     return None if words[at].startswith("never") else int(words[at + 1])
 
 
-def longest_gap(receiver):
+def longest_gap(receiver: subprocess.Popen[str]) -> int:
     """In ms, between two packets that came one after the other."""
     words = receiver.communicate()[0].split()
     return int(words[words.index("gap") + 1])
 
 
-def goes_on(net, group, when):
+def goes_on(net: Network, group: str, when: str) -> None:
     """The kernel's counts of a stream rise."""
-    def packets():
+    def packets() -> int:
         words = inside("router", "ip", "-j", "-s", "mroute", "show")
         said = subprocess.run(words, capture_output=True, text=True).stdout
         return sum(row.get("packets", 0) for row in json.loads(said or "[]") if row["dst"] == group)
@@ -277,7 +283,7 @@ def goes_on(net, group, when):
     until(f"the stream goes on {when}", 5, lambda: packets() > before + 5)
 
 
-def ended(process):
+def ended(process: subprocess.Popen[str]) -> None:
     if process.poll() is None:
         process.terminate()
     process.communicate()

@@ -1,23 +1,29 @@
 """What hosts and strangers can't do: each is refused in front of the router, counted, and said."""
+from __future__ import annotations
+
 import subprocess
 import sys
 import time
+from typing import TYPE_CHECKING
 
 from trials.network import HOST, SENDER, SOURCE, Failed, ended, goes_on, inside, received, until
+
+if TYPE_CHECKING:
+    from trials.network import Network
 
 FEW_LINES = 4
 
 
-def send(net, place, interface, address, *words):
+def send(net: Network, place: str, interface: str, address: str, *words: object) -> None:
     said = subprocess.DEVNULL
     subprocess.run(inside(place, sys.executable, SENDER, interface, address, *words), check=True, stdout=said)
 
 
-def lines(net, words):
+def lines(net: Network, words: str) -> list[str]:
     return [line for line in net.log().splitlines() if words in line]
 
 
-def is_refused(net, cause, by):
+def is_refused(net: Network, cause: str, by: str) -> str:
     """Some were refused for a cause, and few lines say it."""
     count = net.refused(cause)
     said = lines(net, cause)
@@ -26,7 +32,7 @@ def is_refused(net, cause, by):
     return f"{count} refused, {len(said)} lines"
 
 
-def flood_of_groups(net):
+def flood_of_groups(net: Network) -> str:
     """of 65,536 groups of a host the quota of its interface is held: elsewhere a host and a neighbour are served"""
     send(net, "hosts", "to-router", HOST, "reports", 65_536)
     until("the flood is refused", 15, lambda: net.refused("max_groups") > 0)
@@ -45,7 +51,7 @@ def flood_of_groups(net):
     return f"{groups} groups of the flood are held; {said}"
 
 
-def flood_of_sources(net):
+def flood_of_sources(net: Network) -> str:
     """one that sends to 40,000 groups, too: a stream of another interface goes on, and a new one begins"""
     group = "239.2.7.1"
     receiver = net.receive("hosts", group, HOST, 10_000, 120)
@@ -68,7 +74,7 @@ def flood_of_sources(net):
     return f"the new stream: {came} of {of} came; {said}"
 
 
-def flood_of_registers(net):
+def flood_of_registers(net: Network) -> str:
     """and Registers of 40,000 sources at the RP take their quota, and no more"""
     send(net, "source", "to-first", SOURCE, "registers", "10.5.0.1", "239.2.7.3", 40_000)
     until("they are refused", 20, lambda: net.refused("max_registered") > 0)
@@ -78,7 +84,7 @@ def flood_of_registers(net):
     return said
 
 
-def flood_of_neighbours(net):
+def flood_of_neighbours(net: Network) -> str:
     """Hellos of 60 addresses on a link take its quota of neighbours"""
     net.reload_interface("to-lan", "max_neighbors = 8\n")
     send(net, "asker", "to-lan", "10.7.0.100", "hellos", 60)
@@ -92,7 +98,7 @@ def flood_of_neighbours(net):
     return f"8 are there; {said}"
 
 
-def hello_of_a_host(net):
+def hello_of_a_host(net: Network) -> str:
     """on a passive interface a host's Hello doesn't take the designated router's part, and the stream to it goes on"""
     group = "239.2.7.4"
     net.reload_interface("to-hosts", "passive = true\n")
@@ -110,7 +116,7 @@ def hello_of_a_host(net):
     return said
 
 
-def neighbours_that_are_believed(net):
+def neighbours_that_are_believed(net: Network) -> str:
     """where `neighbors` names some, another's Hello is refused, and those are known"""
     net.reload_interface("to-lan", 'neighbors = ["10.7.0.2", "10.7.0.64/28"]\n')
     send(net, "asker", "to-lan", "10.7.0.99", "hello", 2)
@@ -124,7 +130,7 @@ def neighbours_that_are_believed(net):
     return said
 
 
-def list_of_joins(net):
+def list_of_joins(net: Network) -> str:
     """a group that `join` doesn't permit isn't joined, by a host or by FRR, and another one is"""
     rules = 'join = [{ groups = "239.2.8.0/24", permit = false }, { groups = "239.0.0.0/8" }]\n'
     net.reload(net.with_policy(rules))
@@ -144,7 +150,7 @@ def list_of_joins(net):
     return said
 
 
-def list_of_senders(net):
+def list_of_senders(net: Network) -> str:
     """a source that `send` doesn't permit is dropped by the kernel, and another of the same group arrives"""
     group = "239.1.8.3"
     net.reload_interface("to-hosts", 'send = [{ sources = "10.5.0.77/32" }]\n')
@@ -163,7 +169,7 @@ def list_of_senders(net):
     return f"of the other {came} of {of} came; {refused}"
 
 
-def list_of_registers(net):
+def list_of_registers(net: Network) -> str:
     """a Register that `register` doesn't permit makes no source known, and another one does"""
     net.reload(net.with_policy('register = [{ groups = "239.2.8.4/32", permit = false }, {}]\n'))
     for group in ("239.2.8.4", "239.2.8.5"):
@@ -175,7 +181,7 @@ def list_of_registers(net):
     return said
 
 
-def fragments_of_a_report(net):
+def fragments_of_a_report(net: Network) -> str:
     """a report in fragments is heard: the kernel makes it whole"""
     groups = [f"239.2.13.{number}" for number in range(250)] + [f"239.2.14.{number}" for number in range(50)]
     send(net, "hosts", "to-router", HOST, "report", *groups)
@@ -184,7 +190,7 @@ def fragments_of_a_report(net):
     return f"{len(there)} of {len(groups)} groups"
 
 
-def hosts_of_old_versions(net):
+def hosts_of_old_versions(net: Network) -> None:
     """a host that speaks IGMPv2 is said once, however often it reports"""
     for _ in range(5):
         send(net, "hosts", "to-router", "10.5.0.50", "old", "239.2.8.6")
@@ -194,7 +200,7 @@ def hosts_of_old_versions(net):
         raise Failed(f"{count} lines")
 
 
-def check_says_quotas(net):
+def check_says_quotas(net: Network) -> None:
     """--check says what is kept for neighbours, which quotas leave hosts without, and which interface isn't there"""
     file = net.room / "checked.toml"
     checked = lambda text: (file.write_text(text), subprocess.run(

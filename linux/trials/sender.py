@@ -25,52 +25,52 @@ TO_EX = 4
 MTU = 1500
 
 
-def ip(source, destination, protocol, content, flags=0, ttl=1):
+def ip(source: bytes, destination: bytes, protocol: int, content: bytes, flags: int = 0, ttl: int = 1) -> bytes:
     head = struct.pack("!BBHHHBBH4s4s", 0x45, 0xC0, 20 + len(content), 7, flags, ttl, protocol, 0, source, destination)
     return head[:10] + struct.pack("!H", checksum(head)) + head[12:] + content
 
 
-def summed(message):
+def summed(message: bytes) -> bytes:
     return message[:2] + struct.pack("!H", checksum(message)) + message[4:]
 
 
-def report(groups):
+def report(groups: list[bytes]) -> bytes:
     records = b"".join(bytes([TO_EX, 0, 0, 0]) + group for group in groups)
     return summed(struct.pack("!BBHHH", 0x22, 0, 0, 0, len(groups)) + records)
 
 
-def hello(generation):
+def hello(generation: int) -> bytes:
     holdtime, priority = struct.pack("!HHH", 1, 2, 105), struct.pack("!HHI", 19, 4, 0xFFFFFFFF)
     return summed(bytes([0x20, 0, 0, 0]) + holdtime + struct.pack("!HHI", 20, 4, generation) + priority)
 
 
-def register(source, group):
+def register(source: bytes, group: bytes) -> bytes:
     data = ip(source, group, 17, struct.pack("!HHHH", 5004, 5004, 12, 0) + b"data", ttl=9)
     return summed(bytes([0x21, 0, 0, 0, 0, 0, 0, 0])) + data
 
 
-def numbered(first, number):
+def numbered(first: str, number: int) -> bytes:
     return struct.pack("!I", struct.unpack("!I", socket.inet_aton(first))[0] + number)
 
 
 class Link:
-    def __init__(self, interface):
+    def __init__(self, interface: str) -> None:
         self.interface = interface
         self.out = socket.socket(socket.AF_PACKET, socket.SOCK_DGRAM, socket.htons(0x0800))
 
-    def send(self, packet):
+    def send(self, packet: bytes) -> None:
         group = packet[16:20]
         hardware = bytes([1, 0, 0x5E, group[1] & 0x7F, group[2], group[3]])
         self.out.sendto(packet, (self.interface, 0x0800, 0, 0, hardware))
 
-    def send_long(self, source, destination, protocol, content):
+    def send_long(self, source: bytes, destination: bytes, protocol: int, content: bytes) -> None:
         room = (MTU - 20) & ~7
         for at in range(0, len(content), room):
             more = 0x2000 if at + room < len(content) else 0
             self.send(ip(source, destination, protocol, content[at:at + room], more | at // 8))
 
 
-def main():
+def main() -> None:
     interface, address, what, *rest = sys.argv[1:]
     link, own = Link(interface), socket.inet_aton(address)
     if what == "reports":

@@ -1,7 +1,13 @@
 """Streams of every kind: joined late, long, of a program on the router."""
+from __future__ import annotations
+
 import time
+from typing import TYPE_CHECKING
 
 from trials.network import HOST, SOURCE, Failed, ended, first_after, ip, received, until
+
+if TYPE_CHECKING:
+    from trials.network import Network
 
 # A join to a running stream is to have its first packet within so many ms.
 SOON = 500
@@ -9,7 +15,7 @@ SIZES = (100, 1480, 9000, 60_000)
 FEWER_BYTES = 99
 
 
-def join_to_running_stream(net):
+def join_to_running_stream(net: Network) -> str:
     """a host that joins a running stream has its first packet at once, eight times, by the router as RP and by FRR's"""
     said = []
     for group in ("239.2.3.1", "239.1.3.1"):
@@ -29,7 +35,7 @@ def join_to_running_stream(net):
     return f"after {'; '.join(said)}"
 
 
-def sized(net, way, group, size):
+def sized(net: Network, way: tuple[str, str, str, str], group: str, size: int) -> str:
     """Packets of a size arrive by a way: but for some the first ones, of which trees are made, and then all."""
     sending, source, receiving, address = way
     # It keeps the group between the two.
@@ -51,7 +57,7 @@ def sized(net, way, group, size):
     return f"{size} bytes {sending} to {receiving}: {' and '.join(found)}"
 
 
-def long_packets(net):
+def long_packets(net: Network) -> str:
     """packets of 100 to 60,000 bytes arrive: from its host by FRR's RP, by the router as RP, and to its host"""
     # Of the first ones FRR's RP loses one, and its DR registers the first fragment of one alone; while trees change
     # packets are lost of which some fragments came by each way.
@@ -61,7 +67,7 @@ def long_packets(net):
     return "; ".join(said)
 
 
-def first_long_packets_by_registers(net):
+def first_long_packets_by_registers(net: Network) -> str:
     """of a long packet each fragment goes in a Register of its own, and FRR's RP makes it whole for its viewer"""
     group = "239.1.4.77"
     receiver = net.receive("viewer", group, "10.6.0.77", 6, 25, 9000)
@@ -76,7 +82,7 @@ def first_long_packets_by_registers(net):
     return f"{came} of {of} came, {stood_in} fragments by the router"
 
 
-def whole_long_packets(net):
+def whole_long_packets(net: Network) -> str:
     """on links that take 9,000 bytes whole packets of 8,028 are registered by the router, and by FRR with it as RP"""
     ends = [("source", "first"), ("first", "router"), ("first", "second"), ("second", "router"), ("hosts", "router"),
             ("second", "viewer")]
@@ -105,7 +111,7 @@ def whole_long_packets(net):
     return "; ".join(said)
 
 
-def program_on_the_router(net):
+def program_on_the_router(net: Network) -> str:
     """a program on the router that joins a group receives, and the router hears its report and its leave"""
     group = "239.1.6.1"
     receiver = net.receive("router", group, "10.5.0.1", 60, 20)

@@ -10,12 +10,13 @@ import socket
 import struct
 import sys
 import time
+from collections.abc import Iterator
 
 PIM = 103
 SO_RCVBUFFORCE, SO_TIMESTAMPNS = 33, 35
 
 
-def joined(packet):
+def joined(packet: bytes) -> Iterator[bytes]:
     """The groups that a Join/Prune joins."""
     message = packet[(packet[0] & 15) * 4:]
     if packet[9] != PIM or message[0] != 0x23:
@@ -28,7 +29,7 @@ def joined(packet):
         at += 12 + 8 * (joins + prunes)
 
 
-def main():
+def main() -> None:
     interface, sender, count, patience = (
         sys.argv[1],
         socket.inet_aton(sys.argv[2]),

@@ -1,26 +1,33 @@
 """What the router does beside FRR's pimd."""
+from __future__ import annotations
+
 import json
 import signal
 import subprocess
 import sys
 import time
+from typing import TYPE_CHECKING, Any
 
 from trials.network import ASKER, HOST, RPS, SENDER, SOURCE, Failed, ended, goes_on, inside, ip, received, until
 
-def neighbours(net):
+if TYPE_CHECKING:
+    from trials.network import Network
+
+
+def neighbours(net: Network) -> None:
     """both sides know each other as neighbours"""
     until("the router knows three neighbours", 30, lambda: net.neighbours() == {"10.2.0.1", "10.3.0.1", "10.7.0.2"})
     for place, address in (("first", "10.2.0.2"), ("second", "10.3.0.2"), ("first", "10.7.0.3")):
         until(f"{place} knows {address}", 30, lambda: address in net.frr(place, "show ip pim neighbor"))
 
 
-def frr_joined(net, place, group):
+def frr_joined(net: Network, place: str, group: str) -> list[str]:
     """What FRR has joined of a group towards the router."""
     lines = net.frr(place, "show ip pim join").splitlines()
     return [line for line in lines if group in line and "JOIN" in line and "to-router" in line]
 
 
-def joins_to_frr(net):
+def joins_to_frr(net: Network) -> None:
     """a host's report at the router brings a Join to FRR, and its leave a Prune"""
     receiver = net.receive("hosts", "239.1.9.1", HOST, 1, 60)
     until("second has the Join", 15, lambda: "239.1.9.1" in net.frr("second", "show ip pim join"))
@@ -28,7 +35,7 @@ def joins_to_frr(net):
     until("second has the Prune", 20, lambda: not frr_joined(net, "second", "239.1.9.1"))
 
 
-def joins_from_frr(net):
+def joins_from_frr(net: Network) -> None:
     """a host's report at FRR brings a Join to the router, and its leave a Prune"""
     receiver = net.receive("viewer", "239.2.9.1", "10.6.0.77", 1, 60)
     until("the router sends towards second", 15, lambda: "to-second" in net.entry("*", "239.2.9.1")["outgoing"])
@@ -36,7 +43,7 @@ def joins_from_frr(net):
     until("the router sends there no more", 30, lambda: "to-second" not in net.entry("*", "239.2.9.1")["outgoing"])
 
 
-def register_to_frr(net):
+def register_to_frr(net: Network) -> str:
     """the router registers its host with FRR's RP, whose viewer gets it, and FRR takes the source's tree"""
     group = "239.1.2.2"
     receiver = net.receive("viewer", group, "10.6.0.77", 40, 40)
@@ -55,7 +62,7 @@ def register_to_frr(net):
     return f"{came} of {of} came, {twice} twice"
 
 
-def register_from_frr(net):
+def register_from_frr(net: Network) -> str:
     """FRR registers its source with the router as RP, whose host gets it, and the router takes the source's tree"""
     group = "239.2.1.1"
     receiver = net.receive("hosts", group, HOST, 40, 40)
@@ -74,7 +81,7 @@ def register_from_frr(net):
     return f"{came} of {of} came, {twice} twice"
 
 
-def change_to_source_tree(net):
+def change_to_source_tree(net: Network) -> str:
     """as last hop the router leaves FRR's RP for the tree of the source, and prunes it off the shared one"""
     group = "239.1.1.1"
     receiver = net.receive("hosts", group, HOST, 60, 40)
@@ -95,7 +102,7 @@ def change_to_source_tree(net):
 FEWER_BYTES = 99
 
 
-def carried(net, group, sending, source, receiving, receiver_address):
+def carried(net: Network, group: str, sending: str, source: str, receiving: str, receiver_address: str) -> str:
     """A stream of 20,000 packets a second, all of which are to arrive by the kernel."""
     # Sent somewhat faster, so that it is as many by the clock of the sender.
     count, rate, least = 100_000, 21_000, 20_000
@@ -120,22 +127,22 @@ def carried(net, group, sending, source, receiving, receiver_address):
     return said
 
 
-def stream_as_last_hop(net):
+def stream_as_last_hop(net: Network) -> str:
     """20,000 packets a second go through the kernel, and none is lost: from FRR's source to the router's host"""
     return carried(net, "239.1.1.1", "source", SOURCE, "hosts", HOST)
 
 
-def stream_as_dr(net):
+def stream_as_dr(net: Network) -> str:
     """and from the router's host to FRR's, with FRR's RP between"""
     return carried(net, "239.1.2.9", "hosts", HOST, "viewer", "10.6.0.77")
 
 
-def stream_as_rp(net):
+def stream_as_rp(net: Network) -> str:
     """and from FRR's source, by the router as its RP, to FRR's host"""
     return carried(net, "239.2.1.9", "source", SOURCE, "viewer", "10.6.0.77")
 
 
-def assert_of(net, source_place, source, group, *rp):
+def assert_of(net: Network, source_place: str, source: str, group: str, *rp: str) -> tuple[dict[str, Any], str]:
     """A router on the LAN asks both for a source, and where an RP is named first for the group; what it heard."""
     words = ["to-lan", "10.7.0.77", source, group, "10.7.0.2", "10.7.0.3", 16, *rp]
     asker = net.start("asker", sys.executable, ASKER, *words, stdout=subprocess.PIPE)
@@ -149,7 +156,7 @@ def assert_of(net, source_place, source, group, *rp):
     return heard, said
 
 
-def assert_lost(net):
+def assert_lost(net: Network) -> str:
     """on a LAN onto which both send, FRR wins where it is at the source, and the router stops"""
     group = "239.4.5.5"
     heard, said = assert_of(net, "source", SOURCE, group, "10.4.0.1")
@@ -160,7 +167,7 @@ def assert_lost(net):
     return said
 
 
-def assert_won(net):
+def assert_won(net: Network) -> str:
     """where the router is at the source it wins, and FRR says that it lost"""
     group = "239.2.5.6"
     heard, said = assert_of(net, "hosts", HOST, group)
@@ -172,7 +179,7 @@ def assert_won(net):
     return said
 
 
-def prunes(net):
+def prunes(net: Network) -> None:
     """a leave at the router ends the stream on both trees, and one at FRR what the router sends there"""
     group = "239.1.1.1"
     receiver = net.receive("hosts", group, HOST, 10_000, 60)
@@ -185,7 +192,7 @@ def prunes(net):
     ended(sender)
 
 
-def checksum(net):
+def checksum(net: Network) -> str:
     """a sender that leaves its checksum to the card: what the router handles itself arrives with one"""
     group = "239.1.3.3"
     receiver = net.receive("viewer", group, "10.6.0.77", 5, 40)
@@ -201,7 +208,7 @@ def checksum(net):
     return f"{came} of {of} came, {net.counter('checksums filled in') - filled} filled in"
 
 
-def link_down(net):
+def link_down(net: Network) -> None:
     """an interface of the router that goes down and comes back costs that link alone"""
     group = "239.2.1.7"
     receiver = net.receive("hosts", group, HOST, 100_000, 90)
@@ -219,7 +226,7 @@ def link_down(net):
     ended(receiver)
 
 
-def link_deleted(net):
+def link_deleted(net: Network) -> None:
     """one that is deleted and made anew, too"""
     group = "239.2.1.8"
     receiver = net.receive("hosts", group, HOST, 100_000, 120)
@@ -236,7 +243,7 @@ def link_deleted(net):
     ended(receiver)
 
 
-def another_address(net):
+def another_address(net: Network) -> str:
     """one that gets another address takes that, and its own again, and a stream through others flows on meanwhile"""
     group = "239.1.1.18"
     receiver = net.receive("hosts", group, HOST, 1500, 90)
@@ -256,7 +263,7 @@ def another_address(net):
     return f"{came} of {of} came, {twice} twice"
 
 
-def restart_of_router(net):
+def restart_of_router(net: Network) -> None:
     """the router says goodbye, comes again, and the stream with it"""
     group = "239.1.1.9"
     receiver = net.receive("hosts", group, HOST, 100_000, 120)
@@ -273,7 +280,7 @@ def restart_of_router(net):
     ended(receiver)
 
 
-def restart_of_frr(net):
+def restart_of_frr(net: Network) -> None:
     """FRR's pimd is killed and comes again, and the stream with it"""
     group = "239.1.1.10"
     receiver = net.receive("hosts", group, HOST, 100_000, 150)
@@ -289,13 +296,13 @@ def restart_of_frr(net):
     ended(receiver)
 
 
-def holdtime_at_first(net):
+def holdtime_at_first(net: Network) -> int | None:
     """In seconds, as FRR heard it of the router; None where it doesn't know it."""
     known = json.loads(net.frr("first", "show ip pim neighbor json") or "{}").get("to-router", {})
     return known.get("10.2.0.2", {}).get("holdTimeMax")
 
 
-def hello_times(net):
+def hello_times(net: Network) -> str:
     """Hellos leave as often and hold as long as the settings say, so that FRR misses a router that is killed at once"""
     net.reload_interface("to-first", "hello_interval = 0.3\nhello_holdtime = 1\n")
     until("first has heard of it", 10, lambda: holdtime_at_first(net) == 1)
@@ -316,7 +323,7 @@ def hello_times(net):
     return f"it missed it after {missed:.1f} s"
 
 
-def packed_joins(net):
+def packed_joins(net: Network) -> str:
     """Join/Prunes to a neighbour leave together, and FRR takes as many of them as where each leaves by itself"""
     said = []
     for number, setting in enumerate(("pack = true\n", "pack = false\n")):
@@ -336,7 +343,7 @@ def packed_joins(net):
     return f"{len(groups)} groups in {said[0]} packets, and in {said[1]} where each leaves by itself"
 
 
-def reload(net):
+def reload(net: Network) -> None:
     """SIGHUP takes new RP ranges, says what needs a restart, and refuses a wrong file, as --check does"""
     file = net.room / "router.toml"
     more = '[[rp]]\ngroups = "239.3.0.0/16"\naddress = "10.4.0.2"\n'
@@ -354,7 +361,7 @@ def reload(net):
     until("the range is gone", 5, lambda: len(net.show("rp")) == len(RPS))
 
 
-def routes(net):
+def routes(net: Network) -> None:
     """of the kernel's routes the lowest metric and the highest next hop are taken, and a blackhole is a hole"""
     for route in ("10.60.0.0/14 via 10.2.0.1", "blackhole 10.61.0.0/16",
                   "10.62.0.0/16 nexthop via 10.2.0.1 nexthop via 10.3.0.1",
@@ -370,7 +377,7 @@ def routes(net):
     net.reload(net.settings)
 
 
-def reroute(net):
+def reroute(net: Network) -> None:
     """a route to the source that changes takes its tree to the other neighbour, and back"""
     group = "239.2.1.5"
     receiver = net.receive("hosts", group, HOST, 100_000, 120)
@@ -384,7 +391,7 @@ def reroute(net):
     ended(receiver)
 
 
-def limit(net):
+def limit(net: Network) -> str:
     """at its limit the router refreshes what it knows, where a report also names what is new, and refuses that alone"""
     known, new = "239.2.8.1", "239.2.8.2"
     net.stop_router()

@@ -3,6 +3,7 @@ import re
 import subprocess
 import sys
 import tempfile
+from collections.abc import Iterable
 from pathlib import Path
 
 sys.path.append(str(Path(__file__).resolve().parent.parent))
@@ -21,83 +22,85 @@ GROUPS_A_FRAME, SOURCES_A_FRAME = 70, 180
 RECORDS_A_REPORT = 183
 
 
-def summed(data, place, is_right):
+def summed(data: bytes, place: int, is_right: bool) -> bytes:
     """A packet with the checksum at a place as it is, or with a wrong one."""
     return data if is_right else packets.with_number(data, place, data[place] ^ 1, 1)
 
 
-def packet(source, payload, is_right=True):
+def packet(source: int, payload: bytes, is_right: bool = True) -> bytes:
     """A PIM message to all PIM routers on a link."""
     return summed(packets.write_to_routers(payload[0] & 15, dotted(source), payload[4:]), 22, is_right)
 
 
-def igmp_packet(source, destination, message, is_right=True):
+def igmp_packet(source: int, destination: int, message: bytes, is_right: bool = True) -> bytes:
     """An IGMP message with the Router Alert option."""
     return summed(packets.write_igmp(dotted(source), dotted(destination), message, packets.ROUTING), 26, is_right)
 
 
-def data_packet(source, group, is_right=True):
+def data_packet(source: int, group: int, is_right: bool = True) -> bytes:
     """Data without a payload."""
     return summed(packets.write(packets.UDP, dotted(source), dotted(group), 16, b""), 10, is_right)
 
 
-def addresses(sources):
+def addresses(sources: Iterable[int]) -> bytes:
     return b"".join(octets(dotted(source)) for source in sources)
 
 
-def member_record(kind, group, sources=()):
+def member_record(kind: int, group: int, sources: Iterable[int] = ()) -> Record:
     """A record of an IGMPv3 report."""
     return Record(kind, dotted(group), tuple(map(dotted, sources)))
 
 
-def report_packet(host, records, is_right=True):
+def report_packet(host: int, records: list[Record], is_right: bool = True) -> bytes:
     """An IGMPv3 report of a host."""
     return summed(packets.write_report(dotted(host), records, packets.ROUTING), 26, is_right)
 
 
-def entries(told):
+def entries(told: Iterable[tuple[int, int]]) -> tuple[Entry, ...]:
     """Sources, each with its flags."""
     return tuple(Entry(dotted(address), 32, bool(flags & 2), bool(flags & 1)) for flags, address in told)
 
 
-def group_record(group, joins, prunes):
+def group_record(group: int, joins: Iterable[tuple[int, int]], prunes: Iterable[tuple[int, int]]) -> GroupEntries:
     """A group with the sources joined and pruned, each with its flags."""
     return GroupEntries(dotted(group), 32, entries(joins), entries(prunes))
 
 
-def join_prune(groups, is_right=True, source=0x0A000101, upstream=0x0A000102):
+def join_prune(
+    groups: list[GroupEntries], is_right: bool = True, source: int = 0x0A000101, upstream: int = 0x0A000102
+) -> bytes:
     """A Join/Prune, where no other is named of the neighbour on interface 1 to the router."""
     return summed(packets.write_join_prune(dotted(source), dotted(upstream), groups), 22, is_right)
 
 
-def move(**values):
+def move(**values: int | str) -> str:
     text = "[[move]]\n"
     for key, value in values.items():
         text += f"{key} = {value if isinstance(value, int) else chr(34) + value + chr(34)}\n"
     return text
 
 
-def frame(iface, data):
+def frame(iface: int, data: bytes) -> str:
     return move(do="frame", router="r", iface=iface, hex=data.hex())
 
 
-def star(number):
+def star(number: int) -> GroupEntries:
     return group_record(FIRST_GROUP + number, [(STAR, RP)], [])
 
 
-def star_pruned(number):
+def star_pruned(number: int) -> GroupEntries:
     return group_record(FIRST_GROUP + number, [], [(STAR, RP)])
 
 
-def source(number):
+def source(number: int) -> GroupEntries:
     return group_record(FIRST_GROUP, [(SOURCE, FIRST_SOURCE + number)], [])
 
 
-def source_pruned(number):
+def source_pruned(number: int) -> GroupEntries:
     return group_record(FIRST_GROUP, [], [(SOURCE, FIRST_SOURCE + number)])
 
 
-def beginning(interfaces, groups, sources):
+def beginning(interfaces: int, groups: int, sources: int) -> str:
     """The router, its neighbours, and what is joined."""
     text = '[[router]]\nname = "r"\nlimit = 1000000\nrps = ["224.0.0.0/4 10.9.9.9"]\n'
     text += 'routes = ["10.9.9.0/24 10.0.0.1 0 110 20", "10.128.0.0/9 10.0.0.1 0 110 20"]\n'
@@ -115,7 +118,7 @@ def beginning(interfaces, groups, sources):
     return text
 
 
-def counted(text, word="run", program=PROGRAM):
+def counted(text: str, word: str = "run", program: Path = PROGRAM) -> tuple[int, str]:
     """The instructions of a run of the scenario, or of its check, and what is printed."""
     with tempfile.NamedTemporaryFile("w", suffix=".toml") as scenario:
         scenario.write(text)

@@ -1,10 +1,21 @@
 """What came to each host of a run as a page shows it: event by event, from the streams that pimtext.watched has
 followed."""
+from __future__ import annotations
+
 from bisect import bisect_right
 from dataclasses import dataclass, field
+from typing import TYPE_CHECKING, Any
 
 from pimtext import packets
 from pimtext.printed import ANY
+
+if TYPE_CHECKING:
+    from pimtext.diagnosis import Diagnosis
+    from pimtext.recorded import Recording
+    from pimtext.streams import Arrival
+    from pimtext.trace import Packet
+    from pimtext.watched import Verdict
+    from pimtext.wishes import Wish
 
 # What an event says of a stream: no longer wanted, waited for, came, came more than once, didn't come.
 LEFT, WAITS, CAME, TWICE, MISSED = range(5)
@@ -25,7 +36,7 @@ class Told:
 class Arrivals:
     """The hosts of a recording, with the diagnosis of its run."""
 
-    def __init__(self, recording, diagnosis):
+    def __init__(self, recording: Recording, diagnosis: Diagnosis) -> None:
         self.recording, self.watch = recording, diagnosis.run.watch
         self.steps, self.hosts, self.streams, self.senders = diagnosis.run.steps, {}, [], {}
         self.numbers, self.moments = {}, []
@@ -40,7 +51,7 @@ class Arrivals:
 
     # ---- who is there
 
-    def find_hosts(self):
+    def find_hosts(self) -> None:
         """Whoever gave a report or data to a router, and in which answers."""
         for at, step in enumerate(self.steps):
             data = step.taken() if step.did["do"] == "frame" else None
@@ -51,27 +62,27 @@ class Arrivals:
             if is_data or data[9] == packets.IGMP and not self.is_router(packets.dotted(data[12:16])):
                 self.senders[at] = self.host(packets.dotted(data[12:16]), interfaces[step.iface].link)
 
-    def is_router(self, address):
+    def is_router(self, address: str) -> bool:
         return any(router.has(address) for router in self.recording.played.routers)
 
-    def host(self, address, link):
+    def host(self, address: str, link: str) -> int:
         """A host's place in the list."""
         if address not in self.hosts:
             self.hosts[address] = Told(address, self.recording.hosts.get(address, address), link)
         return list(self.hosts).index(address)
 
-    def stream(self, group, source):
+    def stream(self, group: str, source: str) -> int:
         if (group, source) not in self.numbers:
             self.numbers[group, source] = len(self.streams)
             self.streams.append([group, source])
         return self.numbers[group, source]
 
-    def tell(self, address, at, stream, state, text):
+    def tell(self, address: str, at: int, stream: int, state: int, text: str) -> None:
         self.hosts[address].events.append([at + 1, stream, state, text])
 
     # ---- wishes
 
-    def follow_wishes(self):
+    def follow_wishes(self) -> None:
         """What hosts wait for, and what they no longer want."""
         for (host, group), changes in self.watch.hosts.told.items():
             if host not in self.hosts:
@@ -82,7 +93,7 @@ class Arrivals:
                     if other == group and source != ANY and not wish.has(source):
                         self.tell(host, at, number, LEFT, "")
 
-    def waits(self, host, group, at, wish):
+    def waits(self, host: str, group: str, at: int, wish: Wish) -> None:
         was = self.watch.hosts.wish(host, group, at)
         if wish == was:
             return
@@ -94,7 +105,7 @@ class Arrivals:
 
     # ---- packets
 
-    def follow(self, verdict):
+    def follow(self, verdict: Verdict) -> None:
         """The packets of a stream: how each came, or why it didn't."""
         stream = verdict.stream
         if stream.host not in self.hosts:
@@ -109,7 +120,7 @@ class Arrivals:
                 told = self.recording.named(why.get(packet, "it is on its way"))
                 self.tell(stream.host, self.over(packet), number, MISSED, f"packet {packet.number} didn't come: {told}")
 
-    def arrived(self, host, number, packet, came, last):
+    def arrived(self, host: str, number: int, packet: Packet, came: list[Arrival], last: Arrival) -> None:
         """A packet came to a host, or came again."""
         ways = [" ".join(taken.router for taken in each.copy.by.way()) if each.copy else "its own link"
                 for each in came]
@@ -120,12 +131,12 @@ class Arrivals:
             self.tell(host, at, number, TWICE, f"packet {packet.number} came {words_of(len(came))}: by "
                       + ", and by ".join(ways))
 
-    def over(self, packet):
+    def over(self, packet: Packet) -> int:
         """The answer after which a packet is waited for no more."""
         late = bisect_right(self.moments, packet.moment + PATIENCE, lo=packet.at)
         return min([late, len(self.steps) - 1, *(end - 1 for end in self.settled() if end > packet.at)][:3])
 
-    def settled(self):
+    def settled(self) -> list[int]:
         """The numbers of answers at which settles were over."""
         if not hasattr(self, "ends"):
             dids = self.recording.played.moves
@@ -135,12 +146,12 @@ class Arrivals:
 
     # ---- what the page gets
 
-    def told(self):
+    def told(self) -> list[dict[str, Any]]:
         text = self.recording.text
         return [{"name": host.name, "address": host.address, "link": host.link,
                  "events": [[at, number, state, text(told)] for at, number, state, told in host.events]}
                 for host in self.hosts.values()]
 
 
-def words_of(count):
+def words_of(count: int) -> str:
     return "twice" if count == 2 else f"{count} times"

@@ -1,22 +1,33 @@
 """What hosts and sources do so that a stream doesn't come: how they ask, whom their reports reach, and what they
 send."""
+from __future__ import annotations
+
+from collections.abc import Callable, Container, Hashable, Iterator
 from ipaddress import ip_address
+from typing import TYPE_CHECKING
 
 from pimtext import packets, printed, trees, wishes, words
 from pimtext.cause import Cause
 from pimtext.printed import ANY
 from pimtext.run import gathered, is_local, some, times
 
+if TYPE_CHECKING:
+    from pimtext.cause import Symptom
+    from pimtext.run import Run
+    from pimtext.spoken import Said
+    from pimtext.story import Sent, Step
+    from pimtext.wishes import Heard
+
 QUERY, OLD_QUERY_SIZE = 0x11, 8
 
 
 class Askers:
-    def __init__(self, run):
+    def __init__(self, run: Run) -> None:
         self.run, self.world, self.known, self.hosts = run, run.world, run.known, run.hosts
 
     # ---- how hosts ask
 
-    def old_hosts(self):
+    def old_hosts(self) -> Iterator[Cause]:
         """Hosts speak IGMPv3."""
         refused = [each for each in self.hosts.heard if each.is_old and each.step.verdict == "refused"]
         for host, reports in gathered((each.host, each) for each in refused).items():
@@ -26,11 +37,11 @@ class Askers:
             yield Cause(*self.run.at_move(reports[0].step, told), self.of_host(host, groups, "7"))
 
     @staticmethod
-    def of_host(host, groups, cause=None):
+    def of_host(host: str, groups: Container[str], cause: str | None = None) -> Callable[[Symptom], bool]:
         return lambda each: each.host == host and (
             (each.kind == "unwanted" and each.group in groups) or (each.kind == "odd" and each.cause == cause))
 
-    def old_queriers(self):
+    def old_queriers(self) -> Iterator[Cause]:
         """The querier of a link speaks IGMPv3."""
         refused = [step for step in self.run.steps if step.verdict == "refused" and is_old_query(step)]
         for address, steps in gathered((packets.dotted(step.taken()[12:16]), step) for step in refused).items():
@@ -38,7 +49,7 @@ class Askers:
             line, told = self.run.at_move(steps[0], f"{told} that hear it answer by the same, which routers refuse too")
             yield Cause(line, told, self.of_host(address, (), "7"))
 
-    def sourceless(self):
+    def sourceless(self) -> Iterator[Cause]:
         """A group of the SSM range is asked for with its source."""
         for (host, group), told in self.hosts.told.items():
             first = next((at for at, wish in told if wish.is_exclude), None)
@@ -47,7 +58,7 @@ class Askers:
                 text = f"{host} asks for {group} without a source, {why}"
                 yield Cause(*self.run.at_move(self.run.steps[first], text), self.of_host(host, {group}))
 
-    def other_sources(self):
+    def other_sources(self) -> Iterator[Cause]:
         """A source that is asked for by name is one that sends."""
         senders = gathered((packet.group, packet.source) for packet in self.run.packets)
         named = [(*key, source) for key in self.hosts.told for source in self.hosts.named(*key)]
@@ -59,11 +70,11 @@ class Askers:
                 yield Cause(*self.run.at_move(step, f"{told} is of {sent}"), self.of_source(group, source))
 
     @staticmethod
-    def of_source(group, source):
+    def of_source(group: str, source: str) -> Callable[[Symptom], bool]:
         kinds = ("no owner", "no route", "stranger", "interface down", "no neighbour", "silent")
         return lambda each: each.group == group and each.source == source and each.kind in kinds
 
-    def local(self):
+    def local(self) -> Iterator[Cause]:
         """A group of 224.0.0.0/24 never leaves its link."""
         for (host, group), told in self.hosts.told.items():
             if is_local(group):
@@ -71,12 +82,12 @@ class Askers:
                 yield Cause(*self.run.at_move(self.run.steps[told[0][0]], text), self.of_local(group))
 
     @staticmethod
-    def of_local(group):
+    def of_local(group: str) -> Callable[[Symptom], bool]:
         return lambda each: each.group == group or (each.kind == "odd" and each.cause == "LinkLocal")
 
     # ---- whom their reports reach
 
-    def unheard(self):
+    def unheard(self) -> Iterator[Cause]:
         """A report comes to the DR of its link."""
         asking = [each for each in self.hosts.heard if any(wish != wishes.NOTHING for _, wish in each.wishes)]
         for (host, link), reports in gathered(((each.host, each.link), each) for each in asking).items():
@@ -85,23 +96,23 @@ class Askers:
             if is_kept and self.was_there(dr, link, reports[-1]):
                 yield self.kept_off(host, link, dr, reports)
 
-    def was_there(self, name, link, report):
+    def was_there(self, name: str, link: str, report: Heard) -> bool:
         """Whether a router's interface on a link was up when a report came."""
         up = self.run.past.known(report.at)[name].up
         return any(each.number in up for each in self.known[name].router.on(link))
 
-    def dr_of(self, link):
+    def dr_of(self, link: str) -> str | None:
         """The router that is a link's DR at the end, None where none there takes itself for it."""
         return next((state.router.name for state, number in self.world.ports[link] if trees.is_dr(state, number)), None)
 
-    def kept_off(self, host, link, dr, reports):
+    def kept_off(self, host: str, link: str, dr: str, reports: list[Heard]) -> Cause:
         names = " and ".join(dict.fromkeys(each.step.router for each in reports))
         told = f"the reports of {host} came to {names} and not to {dr}, the DR of {link}: what a host sends comes to"
         told = f"{told} every router of its link, but where a switch keeps it (IGMP snooping)"
         covers = lambda each: each.kind == "unwanted" and each.host == host and each.link == link
         return Cause(*self.run.at_move(reports[0].step, told), covers)
 
-    def forgotten(self):
+    def forgotten(self) -> Iterator[Cause]:
         """A host answers queries for as long as it wants something."""
         for (host, group), told in self.hosts.told.items():
             link = self.hosts.links[host]
@@ -112,27 +123,27 @@ class Askers:
             if not self.is_known(report.step.router, link, group) and self.is_over(report):
                 yield from self.gone(group, report)
 
-    def last_report(self, host, group, dr):
+    def last_report(self, host: str, group: str, dr: str | None) -> Heard | None:
         """A host's last report of a group that came to a router, None where that refused it, or there is none."""
         mine = [each for each in self.hosts.heard if each.host == host and each.step.router == dr]
         taken = [each for each in mine if group in dict(each.wishes)]
         return taken[-1] if taken and taken[-1].step.verdict == "done" else None
 
-    def is_over(self, report):
+    def is_over(self, report: Heard) -> bool:
         """Whether the router that took a report keeps a wish no longer than since then (RFC 3376, 8.4)."""
         state = self.known[report.step.router]
         table = state.router.table
         kept = 1000 * table.get("rv", 2) * table.get("qi", 125) + 100 * table.get("qri", 100)
         return state.moment - report.step.moment >= kept
 
-    def is_known(self, dr, link, group):
+    def is_known(self, dr: str, link: str, group: str) -> bool:
         """Whether a router knows of hosts on a link that want a group."""
         state = self.known[dr]
         numbers = {each.number for each in state.router.on(link)}
         named = {row.iface for row in state.of(printed.SourceRecord, group=group) if row.end is not None}
         return bool(numbers & (trees.hosts(state, group, ANY) | named))
 
-    def gone(self, group, report):
+    def gone(self, group: str, report: Heard) -> Iterator[Cause]:
         """The cause where a host answered none of the queries that came after its report."""
         host, link, dr, steps = report.host, report.link, report.step.router, self.run.steps
         later = range(report.at + 1, len(steps))
@@ -145,7 +156,7 @@ class Askers:
 
     # ---- what sources send
 
-    def strangers(self):
+    def strangers(self) -> Iterator[Cause]:
         """A source is on a link of its first router, or behind another router."""
         for each in self.first(lambda each: (each.router, each.iface, each.packet.source)):
             state, source = self.known[each.router], each.packet.source
@@ -156,11 +167,11 @@ class Askers:
                 yield Cause(*self.run.at_move(each.step, told), self.of_stranger(source))
 
     @staticmethod
-    def of_stranger(source):
+    def of_stranger(source: str) -> Callable[[Symptom], bool]:
         kinds = ("stranger", "no owner", "no route", "silent")
         return lambda each: each.kind in kinds and source in (each.address, each.source)
 
-    def unasked(self):
+    def unasked(self) -> Iterator[Cause]:
         """Data go where somebody asks for them."""
         wanted = self.run.wished()
         sources = gathered(wanted)
@@ -174,7 +185,7 @@ class Askers:
             yield Cause(*self.run.at_move(said[0].step, told), covers)
         yield from self.of_others(first, sources)
 
-    def of_others(self, first, sources):
+    def of_others(self, first: list[Said], sources: dict[str, list[str]]) -> Iterator[Cause]:
         """Data of a source that nobody asks for, to a group that is asked for of other sources."""
         for each in first:
             group, source = each.packet.destination, each.packet.source
@@ -184,22 +195,22 @@ class Askers:
                 told = f"{group} is asked for of {named} alone, and this is data of {source}"
                 yield Cause(*self.run.at_move(each.step, told))
 
-    def first(self, key):
+    def first(self, key: Callable[[Said], Hashable]) -> list[Said]:
         """The data that hosts sent, one of each key, in the order of the run."""
         data = [each for each in self.run.said if each.is_data()]
         return list({key(each): each for each in reversed(data)}.values())[::-1]
 
-    def causes(self):
+    def causes(self) -> Iterator[Cause]:
         parts = (self.old_hosts, self.old_queriers, self.sourceless, self.strangers, self.other_sources, self.unheard)
         for told in (*parts, self.forgotten, self.local, self.unasked):
             yield from told()
 
 
-def is_query(sent, router, link):
+def is_query(sent: Sent, router: str, link: str) -> bool:
     return sent.kind == "frame" and (sent.router, sent.where) == (router, link) and sent.data[9] == packets.IGMP
 
 
-def is_old_query(step):
+def is_old_query(step: Step) -> bool:
     """Whether a host's packet is a query of IGMPv1 or IGMPv2."""
     message = wishes.igmp_of(step.taken()) if step.did["do"] == "frame" else None
     return bool(message) and message[0] == QUERY and len(message) == OLD_QUERY_SIZE

@@ -1,7 +1,9 @@
 """Captures, pcap and pcapng, read: the IPv4 packets in Ethernet, Linux cooked and raw frames, with their moments and
 links."""
 import struct
+from collections.abc import Iterator
 from dataclasses import dataclass
+from pathlib import Path
 
 ETHERNET, RAW, RAW_BSD, RAW_IPV4, NULL, LOOP, COOKED, COOKED_2 = 1, 101, 12, 228, 0, 108, 113, 276
 LINK_TYPES = {
@@ -42,7 +44,7 @@ class Port:
     ticks: int
 
 
-def unwrapped(kind, frame, name):
+def unwrapped(kind: int, frame: bytes, name: str) -> tuple[str, bool | None, bytes | None, bytes] | None:
     """The interface, whether outgoing, the hardware address and the IP packet in a frame; None where that isn't
     IPv4."""
     if kind in (RAW, RAW_BSD, RAW_IPV4):
@@ -63,7 +65,7 @@ def unwrapped(kind, frame, name):
     return None
 
 
-def after_tags(frame, place):
+def after_tags(frame: bytes, place: int) -> tuple[int, int]:
     """The protocol at a place, past tags of VLANs, and where its packet begins."""
     protocol = int.from_bytes(frame[place:place + 2], "big")
     while protocol in VLAN:
@@ -72,7 +74,7 @@ def after_tags(frame, place):
     return protocol, place + 2
 
 
-def frame_of(number, moment, port, content):
+def frame_of(number: int, moment: float, port: Port, content: bytes) -> Frame | None:
     """A packet of a capture, None where it isn't IPv4. What follows the IP packet in the frame is left out."""
     found = unwrapped(port.kind, content, port.name)
     if found is None or len(found[3]) < 20 or found[3][0] >> 4 != 4:
@@ -86,7 +88,7 @@ def frame_of(number, moment, port, content):
 MAGICS = {0xA1B2C3D4: MICRO, 0xA1B23C4D: NANO}
 
 
-def classic(content, order, ticks):
+def classic(content: bytes, order: str, ticks: int) -> Iterator[Frame | None]:
     """The packets of a pcap file."""
     kind = struct.unpack(order + "I", content[20:24])[0] & 0x0FFFFFFF
     port, place, number = Port(known_kind(kind), "link", ticks), 24, 0
@@ -97,7 +99,7 @@ def classic(content, order, ticks):
         place += 16 + size
 
 
-def known_kind(kind):
+def known_kind(kind: int) -> int:
     if kind not in LINK_TYPES:
         raise Unreadable(f"frames of the kind {kind} aren't read: {', '.join(dict.fromkeys(LINK_TYPES.values()))} are")
     return kind
@@ -106,7 +108,7 @@ def known_kind(kind):
 # ---- pcapng
 
 
-def blocks(content):
+def blocks(content: bytes) -> Iterator[tuple[int, bytes, str]]:
     """The blocks of a file: kind, body and the order of bytes of their section."""
     place, order = 0, "<"
     while place + 12 <= len(content):
@@ -119,7 +121,7 @@ def blocks(content):
         place += size
 
 
-def options(content, order):
+def options(content: bytes, order: str) -> dict[int, bytes]:
     """The options of a block, by their codes."""
     place, found = 0, {}
     while place + 4 <= len(content):
@@ -129,7 +131,7 @@ def options(content, order):
     return found
 
 
-def port_of(body, order, number):
+def port_of(body: bytes, order: str, number: int) -> Port:
     kind = struct.unpack(order + "H", body[:2])[0]
     told = options(body[8:], order)
     resolution = told.get(RESOLUTION, b"\6")[0]
@@ -137,7 +139,7 @@ def port_of(body, order, number):
     return Port(known_kind(kind), told.get(NAME, b"").decode("utf-8", "replace") or f"link {number}", ticks)
 
 
-def next_generation(content, names):
+def next_generation(content: bytes, names: list[str]) -> Iterator[Frame | None]:
     """The packets of a pcapng file; the names of its interfaces are added to a list."""
     ports, number = [], 0
     for kind, body, order in blocks(content):
@@ -151,7 +153,7 @@ def next_generation(content, names):
             yield block_packet(kind, body, order, number, ports)
 
 
-def block_packet(kind, body, order, number, ports):
+def block_packet(kind: int, body: bytes, order: str, number: int, ports: list[Port]) -> Frame | None:
     if kind == SIMPLE:
         return frame_of(number, 0.0, ports[0], body[4:])
     at, high, low, size = struct.unpack(order + "IIII", body[:16])
@@ -167,7 +169,7 @@ class Capture:
     names: list
 
 
-def read(path):
+def read(path: Path) -> Capture:
     """A capture; raises Unreadable."""
     content, names = path.read_bytes(), []
     if content[:4] == b"\x0a\x0d\x0d\x0a":

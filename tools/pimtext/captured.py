@@ -1,12 +1,19 @@
 """A capture as moves of one router: what it took and what it sent, and the run of our router on the same."""
+from __future__ import annotations
+
 import math
 from collections import Counter
 from dataclasses import dataclass, field, replace
 from ipaddress import IPv4Address
+from pathlib import Path
+from typing import TYPE_CHECKING, Any
 
 from pimtext import packets, scenario, story, toml_lines
 from pimtext.addresses import prefix_in
 from pimtext.packets import dotted, is_multicast
+
+if TYPE_CHECKING:
+    from pimtext.capture import Capture, Frame
 
 SENT, CAME, UNCLEAR = "sent", "came", "unclear"
 # The longest time in ms between two advances of the run.
@@ -39,31 +46,31 @@ class Event:
     data: bytes
 
 
-def source_of(frame):
+def source_of(frame: Frame) -> str:
     return dotted(frame.data[12:16])
 
 
-def destination_of(frame):
+def destination_of(frame: Frame) -> str:
     return dotted(frame.data[16:20])
 
 
-def speaks(frame):
+def speaks(frame: Frame) -> bool:
     """Whether it is PIM or IGMP."""
     return frame.data[9] in (packets.PIM, packets.IGMP)
 
 
-def is_to_group(frame):
+def is_to_group(frame: Frame) -> bool:
     return is_multicast(frame.data[16:20])
 
 
-def stays_on_link(group):
+def stays_on_link(group: str) -> bool:
     return group.startswith("224.0.0.")
 
 
 # ---- the router's table
 
 
-def table_of(addresses, ranges, routes, frames):
+def table_of(addresses: list[str], ranges: list[str], routes: list[str], frames: list[Frame]) -> dict[str, Any]:
     """A router's table of addresses with their lengths. A link has the name of the capture's interface on which it
     speaks."""
     links = list(dict.fromkeys(frame.link for frame in frames))
@@ -79,7 +86,7 @@ def table_of(addresses, ranges, routes, frames):
     return {"name": "router", "iface": interfaces, "routes": list(routes), "rps": list(ranges)}
 
 
-def table_in(path, address, ranges, routes):
+def table_in(path: str | Path, address: str, ranges: list[str], routes: list[str]) -> dict[str, Any]:
     """The table of the router of a scenario's file that has an address, with more ranges and routes."""
     played = scenario.read(path)
     found = [router.table for router in played.routers if router.has(address)]
@@ -104,7 +111,7 @@ class Sorter:
     left_out: Counter = field(default_factory=Counter)
     as_host: int = 0
 
-    def sort(self, frame):
+    def sort(self, frame: Frame) -> tuple[int | None, str] | None:
         """The interface, and whether the router sent it, it came, or that is unclear; None where it is left out."""
         found = self.of_group(frame) if is_to_group(frame) else self.of_unicast(frame)
         if isinstance(found, tuple):
@@ -112,13 +119,13 @@ class Sorter:
         self.left_out[found] += 1
         return None
 
-    def of_unicast(self, frame):
+    def of_unicast(self, frame: Frame) -> tuple[int | None, str] | str:
         if frame.data[9] == packets.PIM and self.router.has(source_of(frame)):
             return None, SENT
         is_own = frame.data[9] == packets.PIM and self.router.has(destination_of(frame))
         return (None, CAME) if is_own else OTHER_UNICAST
 
-    def of_group(self, frame):
+    def of_group(self, frame: Frame) -> tuple[int | None, str] | str:
         number = self.ports.get(frame.link)
         if number is None:
             return NO_INTERFACE
@@ -128,7 +135,7 @@ class Sorter:
             return STAYS
         return number, self.way_of_data(frame)
 
-    def of_speech(self, frame, number):
+    def of_speech(self, frame: Frame, number: int) -> tuple[int | None, str] | str:
         if not self.router.has(source_of(frame)):
             return number, CAME
         groups = groups_wanted(frame.data)
@@ -136,7 +143,7 @@ class Sorter:
             return number, SENT
         return AS_HOST if all(map(stays_on_link, groups)) else (number, CAME)
 
-    def way_of_data(self, frame):
+    def way_of_data(self, frame: Frame) -> str:
         """By the direction that the frame tells, else by its sender's hardware address, else it is unclear as yet."""
         if self.is_here and frame.is_outgoing is not None:
             return SENT if frame.is_outgoing else CAME
@@ -145,7 +152,7 @@ class Sorter:
         return UNCLEAR
 
 
-def groups_wanted(data):
+def groups_wanted(data: bytes) -> list[str] | None:
     """The groups of an IGMP report, None of any other packet."""
     try:
         body = packets.read(data).body
@@ -154,7 +161,7 @@ def groups_wanted(data):
     return [record.group for record in body.records] if isinstance(body, packets.Report) else None
 
 
-def sorter_of(router, read):
+def sorter_of(router: scenario.Router, read: Capture) -> Sorter:
     """How the capture tells what the router sent."""
     own = [frame for frame in read.frames if router.has(source_of(frame)) and speaks(frame) and is_to_group(frame)]
     numbers = {interface.address: interface.number for interface in router.interfaces}
@@ -169,7 +176,7 @@ def sorter_of(router, read):
     return Sorter(router, ports, silent, hardware, any(frame.is_outgoing for frame in own))
 
 
-def events_of(sorter, read):
+def events_of(sorter: Sorter, read: Capture) -> list[Event]:
     """What the router sent and took, in the capture's order."""
     begin, found = None, []
     for frame in read.frames:
@@ -194,10 +201,10 @@ class Origins:
     """What a frame doesn't tell: a packet of data is the router's copy where one that came just before, elsewhere,
     is the same with a TTL higher by one; else it came."""
 
-    def __init__(self):
+    def __init__(self) -> None:
         self.found = {}
 
-    def clear(self, event):
+    def clear(self, event: Event) -> Event:
         """The event with what was unclear made clear."""
         data = event.data if event.iface is not None else registered(event.data)
         if event.what == UNCLEAR:
@@ -206,7 +213,7 @@ class Origins:
             self.found.setdefault((data[8], key_of(data)), []).append(Origin(event.moment, event.iface))
         return event
 
-    def is_copy(self, event):
+    def is_copy(self, event: Event) -> bool:
         for origin in self.found.get((event.data[8] + 1, key_of(event.data)), ()):
             is_near = event.moment - origin.moment <= FORWARDING
             if is_near and origin.iface != event.iface and event.iface not in origin.copied:
@@ -215,18 +222,18 @@ class Origins:
         return False
 
 
-def key_of(data):
+def key_of(data: bytes) -> bytes:
     """A packet without its TTL and the checksum of its header."""
     return data[:8] + data[9:10] + data[12:]
 
 
-def registered(data):
+def registered(data: bytes) -> bytes | None:
     """The packet in a Register, None of any other one."""
     start = 4 * (data[0] & 15)
     return data[start + 8:] if data[start:start + 1] == b"\x21" and len(data) >= start + 28 else None
 
 
-def of_host(sorter, iface, what, data):
+def of_host(sorter: Sorter, iface: int | None, what: str, data: bytes) -> bytes:
     """What came. A router ignores what has its own address: a report of the router itself is given as that of a host
     on the link, with the highest address that isn't the router's."""
     if what != CAME or iface is None or not sorter.router.has(dotted(data[12:16])):
@@ -240,7 +247,7 @@ def of_host(sorter, iface, what, data):
 # ---- moves
 
 
-def ups(sorter, events, is_running):
+def ups(sorter: Sorter, events: list[Event], is_running: bool) -> dict[int, int]:
     """The packet with which each interface goes up: the first that the router sent on it, or the first of all that
     are looked at. One whose link isn't captured goes up with the first one that does; one on which nothing was sent
     stays down."""
@@ -253,7 +260,7 @@ def ups(sorter, events, is_running):
     return {number: begin if is_running else first.get(number, begin) for number in numbers}
 
 
-def generations(events):
+def generations(events: list[Event]) -> dict[int, int]:
     """The generation ID of each interface's first Hello, by its number."""
     found = {}
     for event in events:
@@ -262,7 +269,7 @@ def generations(events):
     return found
 
 
-def hello_generation(data):
+def hello_generation(data: bytes) -> int:
     try:
         return packets.read(data).body.generation or 0
     except packets.Refused:
@@ -272,29 +279,29 @@ def hello_generation(data):
 class Mover:
     """Writes the moves: time passes in steps of at most so many ms."""
 
-    def __init__(self, name, step):
+    def __init__(self, name: str, step: int) -> None:
         self.name, self.step, self.now, self.moves = name, step or math.inf, 0, []
 
-    def move(self, do, **more):
+    def move(self, do: str, **more: Any) -> None:
         self.moves.append({"do": do, "router": self.name, **more})
 
-    def pass_to(self, moment):
+    def pass_to(self, moment: int) -> None:
         while self.now < moment:
             self.now = min(moment, self.now + self.step)
             self.move("advance", moment=self.now)
 
-    def bring_up(self, waiting, number, draws):
+    def bring_up(self, waiting: dict[int, int], number: int, draws: dict[int, int]) -> None:
         """The interfaces go up that wait for this packet; they wait no more."""
         for iface in [iface for iface, first in waiting.items() if first <= number]:
             del waiting[iface]
             self.move("up", iface=iface, draw=draws.get(iface, 0))
 
-    def take(self, event):
+    def take(self, event: Event) -> None:
         where = {} if event.iface is None else {"iface": event.iface}
         self.move("frame" if where else "unicast", **where, hex=event.data.hex())
 
 
-def moves_of(sorter, events, step, is_running):
+def moves_of(sorter: Sorter, events: list[Event], step: int, is_running: bool) -> tuple[list[dict[str, Any]], int]:
     """The moves of a capture. With them, how many packets came while the interface was down."""
     mover, draws, early = Mover(sorter.router.name, step), generations(events), 0
     waiting = ups(sorter, events, is_running)
@@ -324,12 +331,12 @@ class Run:
     early: int
     is_coarse: bool
 
-    def troubles(self):
+    def troubles(self) -> Counter[str]:
         """How often it refused or ignored what came, by the answer."""
         return Counter(step.answer() for step in self.steps if step.verdict != "done")
 
 
-def run_of(sorter, events, step=STEP, is_running=False):
+def run_of(sorter: Sorter, events: list[Event], step: int = STEP, is_running: bool = False) -> Run:
     """Our router's run on what came to the router of the capture."""
     moves, early = moves_of(sorter, events, step, is_running)
     table = sorter.router.table
@@ -339,5 +346,5 @@ def run_of(sorter, events, step=STEP, is_running=False):
     return Run(moves, sent, steps, early, not step)
 
 
-def iface_of(played, sent):
+def iface_of(played: scenario.Scenario, sent: story.Sent) -> int | None:
     return None if sent.is_unicast() else story.sending_interface(played, sent)

@@ -1,6 +1,13 @@
 """What a diagnosis is made of: causes, and the symptoms that follow from them."""
+from __future__ import annotations
+
 from collections import Counter
+from collections.abc import Callable, Iterable
 from dataclasses import dataclass, field
+from typing import TYPE_CHECKING
+
+if TYPE_CHECKING:
+    from lab.lines import Line
 
 
 @dataclass(frozen=True)
@@ -9,7 +16,7 @@ class Symptom:
     "unheard" for packets that nobody took. What it concerns is None where it concerns nothing of the kind; `cause` is a
     refusal's number or reason."""
     kind: str
-    line: object
+    line: int | Line
     text: str
     router: str | None = None
     link: str | None = None
@@ -26,31 +33,31 @@ class Symptom:
 @dataclass(eq=False)
 class Cause:
     """`covers` says of a symptom whether it follows from the cause. A hint is told only where it explains something."""
-    line: object
+    line: int | Line
     text: str
-    covers: object = lambda symptom: False
+    covers: Callable[[Symptom], bool] = lambda symptom: False
     symptoms: list = field(default_factory=list)
     is_hint: bool = False
 
-    def weight(self):
+    def weight(self) -> tuple[int, int]:
         """How many streams of hosts it explains, and then how many other symptoms."""
         streams = sum(symptom.host is not None and symptom.kind != "odd" for symptom in self.symptoms)
         return streams, len(self.symptoms)
 
-    def lines(self):
+    def lines(self) -> list[str]:
         """The cause, and below it each of its symptoms once, with how often it is there."""
         counts = Counter(map(self.told, sorted(self.symptoms, key=lambda symptom: symptom.kind == "odd")))
         new = [(text, count) for text, count in counts.items() if text not in self.text]
         told = [f"    {text}" + (f" ({count} times)" if count > 1 else "") for text, count in new]
         return [f"{self.line}: {self.text}", *told]
 
-    def told(self, symptom):
+    def told(self, symptom: Symptom) -> str:
         """A symptom with its own reason, where the cause doesn't say that itself."""
         is_said = symptom.alone is None or symptom.alone == self.text or symptom.kind == "odd"
         return symptom.text if is_said else f"{symptom.text}: {symptom.alone}"
 
 
-def attached(causes, symptoms):
+def attached(causes: list[Cause], symptoms: Iterable[Symptom]) -> list[Symptom]:
     """Puts each symptom under the first cause that covers it. Answers those that none does."""
     left = []
     for symptom in symptoms:
@@ -59,7 +66,7 @@ def attached(causes, symptoms):
     return left
 
 
-def grouped(symptoms):
+def grouped(symptoms: Iterable[Symptom]) -> list[Cause]:
     """Symptoms without a cause: those of one end or refusal are told once, each a cause of its own."""
     found = {}
     for symptom in symptoms:

@@ -1,5 +1,6 @@
 """Colours of trees: they follow of the group and the source, so that a tree has the same one in each run and each
 picture."""
+from collections.abc import Iterable
 from zlib import crc32
 
 # Twenty-four colours that are read on white, neighbours in the list far from one another.
@@ -11,12 +12,12 @@ PALETTE = [
 ]
 
 
-def place_of(tree):
+def place_of(tree: tuple[str, str]) -> int:
     """Where a tree, a pair of a group and a source, would be in the palette."""
     return crc32(" ".join(tree).encode()) % len(PALETTE)
 
 
-def colours(trees):
+def colours(trees: Iterable[tuple[str, str]]) -> dict[tuple[str, str], str]:
     """The colour of each tree: its own place in the palette, or the next that is free where another one has that.
     Beyond the palette colours come again."""
     found, taken = {}, set()

@@ -1,10 +1,17 @@
 """A router behind a data plane, which forwards by itself what the router's rows decide, as include/viqeshor/plane.h
 says. Each duty of a plane has a name, and may be forgotten."""
+from __future__ import annotations
+
+from collections.abc import Iterable, Iterator
 from dataclasses import dataclass
+from typing import TYPE_CHECKING, Any
 
 import viqeshor
 from viqeshor import Answer
 from pimtext import packets
+
+if TYPE_CHECKING:
+    from pimtext.happenings import Event
 
 KEEPALIVE_PERIOD = 210_000
 LAST_MOMENT = 2**62
@@ -51,16 +58,16 @@ class CaughtUp(Exception):
 @dataclass(frozen=True)
 class Outcome:
     """What came of an event: the answer's number, and what was sent."""
-    answer: int
+    answer: Answer
     sent: tuple
 
-    def lines(self):
+    def lines(self) -> Iterator[str]:
         yield f"answer {self.answer.value} ({self.answer.name})"
         for kind, where, data in self.sent:
             yield f"{kind} {where} {data.hex()}"
 
 
-def outcome(router, call, *values, **draw):
+def outcome(router: viqeshor.Router, call: str, *values: Any, **draw: int) -> Outcome:
     """What comes of a call of the router; an answer that the package raises is one too."""
     try:
         answer = getattr(router, call)(*values, **draw)
@@ -69,7 +76,7 @@ def outcome(router, call, *values, **draw):
     return Outcome(answer, tuple(router.packets()) if answer == Answer.DONE else ())
 
 
-def is_right(look, data):
+def is_right(look: str, data: bytes) -> bool:
     """Whether a look that concerns the bytes alone finds nothing wrong; the others before it found nothing either."""
     header = 4 * (data[0] & 15) if data else 0
     return {
@@ -87,30 +94,32 @@ def is_right(look, data):
 class Plane:
     """A router, and the plane before it. `tells` is how it tells of its notes: by `keep`, or by `seen` alone."""
 
-    def __init__(self, router, own, tells="keep", forgets=()):
+    def __init__(
+        self, router: viqeshor.Router, own: Iterable[str], tells: str = "keep", forgets: Iterable[str] = ()
+    ) -> None:
         self.router, self.own, self.tells, self.forgets = router, frozenset(own), tells, frozenset(forgets)
         self.rows, self.noted, self.behind = {}, {}, []
         self.now, self.up, self.has_failed, self.by_itself = 0, set(), False, 0
 
-    def minds(self, duty):
+    def minds(self, duty: str) -> bool:
         return duty not in self.forgets
 
     # ---- packets
 
-    def is_for_a_row(self, iface, data):
+    def is_for_a_row(self, iface: int, data: bytes) -> bool:
         """Whether a row is to be asked; it reads no more than what is there."""
         if len(data) < 20:
             return False
         looks = {"up": lambda: iface in self.up, "own": lambda: packets.dotted(data[12:16]) not in self.own}
         return all(not self.minds(look) or looks.get(look, lambda: is_right(look, data))() for look in LOOKS)
 
-    def row(self, name):
+    def row(self, name: tuple[str, str]) -> viqeshor.PlaneRow | None:
         """The row of a source and a group; None where all its packets are the router's."""
         if name not in self.rows:
             self.ask(name)
         return self.rows.get(name)
 
-    def ask(self, name):
+    def ask(self, name: tuple[str, str]) -> None:
         row = self.router.offload(*name)
         if row is None and not self.minds("nothing"):
             row = viqeshor.PlaneRow(False, None, frozenset(), frozenset(), frozenset())
@@ -119,7 +128,7 @@ class Plane:
         else:
             self.rows[name] = row
 
-    def by_row(self, iface, data):
+    def by_row(self, iface: int, data: bytes) -> Outcome | None:
         """What the plane does of a packet; None where it is the router's."""
         name = packets.dotted(data[12:16]), packets.dotted(data[16:20])
         row = self.row(name)
@@ -133,7 +142,7 @@ class Plane:
             return Outcome(Answer.DONE, ())
         return Outcome(Answer.DONE, tuple(self.copies(row, iface, data)))
 
-    def copies(self, row, iface, data):
+    def copies(self, row: viqeshor.PlaneRow, iface: int, data: bytes) -> Iterator[viqeshor.Sent]:
         if data[8] <= 1 and self.minds("ttl"):
             return
         whole = data[:packets.word(data, 2)] if self.minds("padding") else data
@@ -142,14 +151,14 @@ class Plane:
             if to != iface or not self.minds("incoming"):
                 yield viqeshor.Sent("copy", to, copy)
 
-    def note(self, name, iface):
+    def note(self, name: tuple[str, str], iface: int) -> None:
         if self.minds("last"):
             self.noted.pop(name, None)
         self.noted.setdefault(name, (self.now, iface))
 
     # ---- the router
 
-    def catch_up(self):
+    def catch_up(self) -> None:
         """Tells the router of what is noted, and what moment it is. It sends nothing of it."""
         if self.minds("notes"):
             self.tell_notes()
@@ -157,7 +166,7 @@ class Plane:
         if self.minds("present"):
             self.quiet("advance", self.now)
 
-    def tell_notes(self):
+    def tell_notes(self) -> None:
         late = []
         for name, (moment, iface) in self.noted.items():
             moment = moment if self.minds("moments") else self.now
@@ -169,12 +178,12 @@ class Plane:
             if self.minds("seen"):
                 self.quiet("seen", *seen)
 
-    def quiet(self, call, *values):
+    def quiet(self, call: str, *values: Any) -> None:
         got = self.given(call, values, 0)
         if got.sent or got.answer not in (Answer.DONE, Answer.FAILED):
             raise CaughtUp(f"{call} {values}: {' '.join(got.lines())}")
 
-    def given(self, call, values, draw):
+    def given(self, call: str, values: tuple[Any, ...], draw: int) -> Outcome:
         """Hands an event to the router, and asks the rows anew that it changed."""
         got = outcome(self.router, call, *values, draw=draw)
         self.has_failed = got.answer in (Answer.LOST, Answer.FAILED)
@@ -192,7 +201,7 @@ class Plane:
                 self.ask(name)
         return got
 
-    def by_core(self, event):
+    def by_core(self, event: Event) -> Outcome:
         self.catch_up()
         got = self.given(event.call, event.values, event.draw)
         if got.answer == Answer.DONE:
@@ -202,7 +211,7 @@ class Plane:
                 self.now = event.values[0]
         return got
 
-    def passes_quietly(self, moment):
+    def passes_quietly(self, moment: int) -> bool:
         """Whether nothing ends by then: no timer of the router, nor one that a note will have started."""
         ends = self.router.next_moment() if self.minds("next") else None
         by_notes = all(moment < noted + KEEPALIVE_PERIOD for noted, _ in self.noted.values())
@@ -210,7 +219,7 @@ class Plane:
             not self.has_failed and self.now <= moment <= LAST_MOMENT and (ends is None or moment < ends) and by_notes
         )
 
-    def take(self, event):
+    def take(self, event: Event) -> Outcome:
         """What comes of an event."""
         if event.call == "advance" and self.passes_quietly(*event.values):
             self.now, = event.values

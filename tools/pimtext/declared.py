@@ -1,6 +1,7 @@
 """What the library's archive declares, as C: the functions and values of crates/pim_c, and assertions that the headers
 have the same; and what a compiled program and a library have to agree on, as lines."""
 import re
+from collections.abc import Iterator
 from pathlib import Path
 
 TOP = Path(__file__).resolve().parent.parent.parent
@@ -28,18 +29,18 @@ C_ENUM = re.compile(r"^enum \{(.*?)\};", re.M | re.S)
 C_NUMBER = re.compile(r"^#define (VIQ_(?:MOST|NEVER|NO|USUAL)\w*) (.+)$", re.M)
 
 
-def structs():
+def structs() -> dict[str, list[tuple[str, str]]]:
     """The crate's values that C sees: each with its fields, a name and a type of C."""
     text = "".join((SOURCES / name).read_text() for name in ("handle.rt", "given.rt", "told.rt"))
     found = {name: FIELD.findall(body) for name, body in STRUCT.findall(text)}
     return {NAMES[name]: [(field, c_type(kind)) for field, kind in found[name]] for name in NAMES}
 
 
-def c_type(kind):
+def c_type(kind: str) -> str:
     return TYPES.get(kind) or f"struct {NAMES[kind]}"
 
 
-def parameters(text):
+def parameters(text: str) -> Iterator[str]:
     """A call's parameters as C has them; the allocator is none there."""
     for _, lent, is_slice, kind in PARAMETER.findall(text):
         if kind == "Global":
@@ -52,22 +53,22 @@ def parameters(text):
                 yield "size_t"
 
 
-def calls():
+def calls() -> Iterator[tuple[str, str]]:
     """Each call as a type of C."""
     for name, text, answer in CALL.findall((SOURCES / "calls.rt").read_text()):
         yield name, f"{c_type(answer) if answer else 'void'} (*)({', '.join(parameters(text))})"
 
 
-def without_comments(header):
+def without_comments(header: str) -> str:
     return re.sub(r"/\*.*?\*/", "", header, flags=re.S)
 
 
-def called(header):
+def called(header: str) -> set[str]:
     """The calls of a header that the crate has to have."""
     return set(C_CALL.findall(without_comments(header)))
 
 
-def agreed(headers):
+def agreed(headers: list[str]) -> Iterator[str]:
     """What a compiled program and a library have to agree on: values field by field, calls and numbers, each as a
     line."""
     code = without_comments("\n".join(headers))
@@ -79,15 +80,15 @@ def agreed(headers):
     yield from (" ".join(call.split()) for call in PROTOTYPE.findall(code))
 
 
-def abi_number(headers):
+def abi_number(headers: list[str]) -> int:
     return int(re.search(r"^#define VIQ_ABI (\d+)$", "\n".join(headers), re.M)[1])
 
 
-def abi_text(headers):
+def abi_text(headers: list[str]) -> str:
     return "\n".join([f"VIQ_ABI {abi_number(headers)}", *sorted(agreed(headers)), ""])
 
 
-def store_abi():
+def store_abi() -> None:
     """Keeps what the number stands for now. It has to be another number than that which is kept, where anything else
     differs."""
     headers = [path.read_text() for path in HEADERS]
@@ -97,7 +98,7 @@ def store_abi():
     ABI.write_text(text)
 
 
-def fields_hold(name, fields):
+def fields_hold(name: str, fields: list[tuple[str, str]]) -> Iterator[str]:
     """Assertions of a value: its size, and each field's place and type."""
     yield f"struct own_{name} {{ {' '.join(f'{kind} {field};' for field, kind in fields)} }};"
     yield f'_Static_assert(sizeof(struct {name}) == sizeof(struct own_{name}), "size of {name}");'
@@ -109,7 +110,7 @@ def fields_hold(name, fields):
         yield f'_Static_assert(__builtin_types_compatible_p({type_of}, {kind}), "type of {where}");'
 
 
-def assertions():
+def assertions() -> str:
     """A C file that compiles where the headers declare what the crate does."""
     lines = ['#include "core.h"']
     for name, fields in structs().items():

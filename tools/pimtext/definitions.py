@@ -1,6 +1,8 @@
 """The definitions of the crates' `specs/`, and which of them a text cites, by its imports."""
 import re
+from collections.abc import Iterable, Iterator
 from dataclasses import dataclass, field
+from pathlib import Path
 
 WORD = re.compile(r"[A-Za-z_][\w-]*(?:\.[A-Za-z_][\w-]*)*")
 # A definition's signature, or a record's first line: what it is made of stands in the lines below, indented further or
@@ -25,11 +27,11 @@ class Module:
     imports: dict = field(default_factory=dict)
     passes: dict = field(default_factory=dict)
 
-    def __str__(self):
+    def __str__(self) -> str:
         return f"{self.crate}/specs/{self.path}"
 
 
-def closed(text, start):
+def closed(text: str, start: int) -> int:
     """Where the braces are closed that open at a place."""
     depth = 0
     for at in range(start, len(text)):
@@ -39,7 +41,7 @@ def closed(text, start):
     return len(text)
 
 
-def parts(text):
+def parts(text: str) -> list[str]:
     """The parts of a group of imports, at its own commas."""
     found, depth, begun = [], 0, 0
     for at, letter in enumerate(text + ","):
@@ -50,7 +52,7 @@ def parts(text):
     return [part for part in found if part]
 
 
-def leaves(path, text):
+def leaves(path: list[str], text: str) -> Iterator[tuple[list[str], str]]:
     """The names that an import brings in, each as a path and what it is called here."""
     head, brace, group = text.partition("{")
     if brace:
@@ -63,7 +65,7 @@ def leaves(path, text):
     yield whole, words[1].strip() if len(words) > 1 else whole[-1]
 
 
-def imported(text):
+def imported(text: str) -> tuple[dict[str, list[str]], dict[str, list[str]]]:
     """The imports of a text from the repository's crates and the kit's: what each name here is elsewhere, and which
     names are passed on."""
     found, passes = {}, {}
@@ -79,7 +81,7 @@ def imported(text):
     return found, passes
 
 
-def blocks(text):
+def blocks(text: str) -> dict[str, str]:
     """The definitions of a file, each by its name with its signature and its body; a record has its fields."""
     found, name, depth = {}, None, 0
     for line in (re.sub(r"--.*", "", line) for line in text.splitlines()):
@@ -94,7 +96,7 @@ def blocks(text):
     return found
 
 
-def modules(top):
+def modules(top: Path) -> dict[tuple[str, str], Module]:
     """Each file of definitions of the repository, by its crate and its name."""
     found = {}
     for path in sorted(top.glob("crates/*/specs/**/*.antt")):
@@ -108,7 +110,7 @@ def modules(top):
     return found
 
 
-def place_of(path, known):
+def place_of(path: list[str], known: dict[tuple[str, str], Module]) -> tuple[Module, str] | None:
     """The file and the name that an imported path leads to; None where it is no definition of the repository."""
     if len(path) < 4 or path[1] != "specs":
         return None
@@ -120,7 +122,7 @@ def place_of(path, known):
     return place_of(module.passes[name], known) if name in module.passes else None
 
 
-def names_in(text, own, imports):
+def names_in(text: str, own: Module | None, imports: dict[str, list[str]]) -> Iterator[str]:
     """The names in a text. An operator stands there as what its name has between its gaps."""
     yield from WORD.findall(text)
     for name in {*imports, *(own.texts if own else ())}:
@@ -128,7 +130,9 @@ def names_in(text, own, imports):
             yield name
 
 
-def cited(text, own, imports, known):
+def cited(
+    text: str, own: Module | None, imports: dict[str, list[str]], known: dict[tuple[str, str], Module]
+) -> Iterator[tuple[Module, str]]:
     """The definitions that a text names, as pairs of a file and a name."""
     for word in names_in(text, own, imports):
         name, _, rest = word.partition(".")
@@ -142,7 +146,7 @@ def cited(text, own, imports, known):
                 yield at
 
 
-def closure(roots, known):
+def closure(roots: Iterable[tuple[Module, str]], known: dict[tuple[str, str], Module]) -> set[tuple[str, str]]:
     """All definitions on which these stand, with them."""
     found, left = set(), list(roots)
     while left:

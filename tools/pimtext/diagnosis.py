@@ -3,6 +3,11 @@ found.
 
 A symptom is what a reader sees: a host that misses packets or has them twice, a tree whose Joins reach nobody, packets
 that were refused or that nobody took. Each is told under the first cause that explains it, equal ones once. """
+from __future__ import annotations
+
+from collections.abc import Iterator
+from typing import TYPE_CHECKING
+
 from pimtext import printed, reasons, served, trees, words
 from pimtext.askers import Askers
 from pimtext.cause import Cause, Symptom, attached, grouped
@@ -13,23 +18,32 @@ from pimtext.outages import Outages
 from pimtext.printed import ANY
 from pimtext.run import Run, times
 
+if TYPE_CHECKING:
+    from lab.lines import Lines as LabLines
+    from pimtext.ends import End
+    from pimtext.faults import Judge
+    from pimtext.scenario import Scenario
+    from pimtext.streams import Stream
+    from pimtext.trees import Known
+    from pimtext.watched import Verdict
+
 # Symptoms of these kinds are told under a cause alone: what nobody sends or asks for is no fault of itself.
 QUIET = ("silent",)
 
 
 class Symptoms:
-    def __init__(self, run):
+    def __init__(self, run: Run) -> None:
         self.run, self.known, self.world = run, run.known, run.world
 
     # ---- hosts
 
-    def hosts(self):
+    def hosts(self) -> Iterator[Symptom]:
         for verdict in self.run.verdicts:
             yield from self.missed(verdict)
             if verdict.stream.twice:
                 yield self.twice(verdict.stream)
 
-    def missed(self, verdict):
+    def missed(self, verdict: Verdict) -> Iterator[Symptom]:
         stream, whole = verdict.stream, words.tree(verdict.stream.group, verdict.stream.source)
         for loss in verdict.losses:
             told = f"{stream.host} missed {loss.words()} of {stream.sent} of {whole}"
@@ -44,14 +58,14 @@ class Symptoms:
             line = self.run.lines.router(next(iter(self.known)))
             yield Symptom("silent", line, told, group=stream.group, source=stream.source)
 
-    def of_end(self, end, stream, told, at):
+    def of_end(self, end: End, stream: Stream, told: str, at: int) -> Symptom:
         name = end.router or next(iter(self.known))
         line = self.run.on_link(name, end.link if end.router else None)
         where = {"router": end.router, "link": end.link, "address": end.address, "cause": end.cause}
         whose = {"group": stream.group, "source": stream.source, "host": stream.host}
         return Symptom(end.kind, line, told, **where, **whose, alone=end.text, at=at)
 
-    def twice(self, stream):
+    def twice(self, stream: Stream) -> Symptom:
         whole = words.tree(stream.group, stream.source)
         told = f"{stream.host} got {times(stream.twice, 'packet')} of {whole} {stream.how_often()}"
         line = self.run.on_link(stream.senders()[0], stream.link)
@@ -60,7 +74,7 @@ class Symptoms:
 
     # ---- trees
 
-    def trees(self):
+    def trees(self) -> Iterator[Symptom]:
         """Trees whose Joins reach nobody, or count for nothing."""
         for name, state in self.known.items():
             for row in state.of(printed.Upstream):
@@ -71,7 +85,7 @@ class Symptoms:
                 if hasattr(end, "kind") and (not is_sent or end.kind == "rp disagrees"):
                     yield self.of_tree(name, row, end, is_sent)
 
-    def of_tree(self, name, row, end, is_sent):
+    def of_tree(self, name: str, row: printed.Upstream, end: End, is_sent: bool) -> Symptom:
         what = "its Joins count for nothing" if is_sent else "it sends no Join"
         told = f"{name} has joined {words.tree(row.group, row.source)}, and {what}"
         place = len(self.run.steps)
@@ -80,7 +94,7 @@ class Symptoms:
         line, whose = self.run.on_link(end.router, end.link), {"group": row.group, "source": source}
         return Symptom(end.kind, line, told, **where, **whose, alone=end.text, at=place)
 
-    def senders(self):
+    def senders(self) -> Iterator[Symptom]:
         """The DR of a source registers with an RP that it can reach."""
         said = [each for each in self.run.said if each.is_data()]
         keys = [(each.router, each.iface, each.packet.source, each.packet.destination) for each in said]
@@ -90,7 +104,7 @@ class Symptoms:
             if not trees.is_source_specific(group) and is_here and trees.is_dr(state, iface):
                 yield from self.of_dr(name, state, source, group)
 
-    def of_dr(self, name, state, source, group):
+    def of_dr(self, name: str, state: Known, source: str, group: str) -> Iterator[Symptom]:
         rp, whose = trees.rp_of(state, group), f"router {name} is the DR of the source {source}"
         line = self.run.lines.router(name)
         if rp is None:
@@ -100,7 +114,7 @@ class Symptoms:
             told = f"{whose} and has no route to {rp}, the RP of {group}"
             yield Symptom("no route", line, told, name, address=rp, group=group, source=source)
 
-    def silent(self):
+    def silent(self) -> Iterator[Symptom]:
         """Groups that hosts ask for and to which nobody sends."""
         sent = {packet.group for packet in self.run.packets}
         for host, group in self.run.hosts.told:
@@ -108,12 +122,12 @@ class Symptoms:
                 told = f"{host} asked for {group}, to which nobody has sent"
                 yield Symptom("silent", self.run.lines.router(next(iter(self.known))), told, group=group, host=host)
 
-    def all(self):
+    def all(self) -> Iterator[Symptom]:
         for told in (self.hosts, self.trees, self.senders, self.silent):
             yield from told()
 
 
-def of_odd(run, symptom):
+def of_odd(run: Run, symptom: Symptom) -> Cause:
     """What was refused, ignored or taken by nobody, as the cause of what comes of it."""
     if symptom.kind == "unheard":
         covers = lambda each: run.wire.last == 0 and each.kind in ("no neighbour", "lost")
@@ -127,7 +141,14 @@ class Diagnosis:
     """`judge` read the file of a run; `places` says the lines of a network of tools/lab, whose packets may be lost on
     purpose."""
 
-    def __init__(self, judge, played, lines, places=None, unheard=frozenset()):
+    def __init__(
+        self,
+        judge: Judge,
+        played: Scenario,
+        lines: list[str],
+        places: Lines | LabLines | None = None,
+        unheard: frozenset[tuple[str, int] | tuple[str, bytes, int]] = frozenset(),
+    ) -> None:
         self.run = run = Run(played, lines, places or Lines(judge), unheard)
         notes, interfaces = Notes(judge, run), Interfaces(run)
         self.causes = [*interfaces.causes(), *Mistakes(run).causes(), *Askers(run).causes()]
@@ -138,15 +159,15 @@ class Diagnosis:
         self.causes = [cause for cause in self.causes if cause.symptoms or not cause.is_hint]
         self.left = grouped([symptom for symptom in left if symptom.kind not in QUIET])
 
-    def ordered(self):
+    def ordered(self) -> list[Cause]:
         """What explains most comes first, equals by their lines; last come causes that explain nothing."""
         told = [*self.causes, *self.left]
         return sorted(told, key=lambda cause: (not cause.symptoms, *(-count for count in cause.weight()), cause.line))
 
-    def lines(self):
+    def lines(self) -> list[str]:
         return ["\n".join(cause.lines()) for cause in self.ordered()]
 
-    def of(self, stream):
+    def of(self, stream: Stream) -> list[Cause]:
         """The causes of what a stream misses."""
         key = stream.host, stream.group, stream.source
         whose = [(cause, [(each.host, each.group, each.source) for each in cause.symptoms]) for cause in self.causes]

@@ -2,22 +2,29 @@
 
 What routers took and sent is that of the run, as pimtext.trace has it. Which way it should have come, and why a router
 that took it sent it not on, follows from what the routers knew just before. """
+from __future__ import annotations
+
+from typing import TYPE_CHECKING
+
 from pimtext import served, trace, trees, words
 from pimtext.ends import End
 from pimtext.printed import ANY
+
+if TYPE_CHECKING:
+    from pimtext.past import Past
 
 # How many routers are told of that took a packet which goes another way than to the host.
 MOST_SHOWN = 12
 
 
-def ttl_of(taken):
+def ttl_of(taken: trace.Taken) -> int:
     """The TTL with which a packet came to a router, that of the inner one in a Register."""
     data = taken.step.taken()
     inner = trace.registered(data) if taken.iface is None else data
     return (inner or data)[8]
 
 
-def refused(world, taken):
+def refused(world: served.World, taken: trace.Taken) -> End:
     """The end of a packet that a router refused or ignored."""
     interfaces, iface = world.known[taken.router].router.interfaces, taken.iface
     link = interfaces[iface].link if iface is not None and iface < len(interfaces) else None
@@ -29,7 +36,7 @@ def refused(world, taken):
 class Death:
     """A packet that didn't come to a host's link: `past` says what routers knew, `link` is the host's."""
 
-    def __init__(self, past, packet, link):
+    def __init__(self, past: Past, packet: trace.Packet, link: str) -> None:
         self.past, self.packet, self.link = past, packet, link
         self.world = served.World(past.known(packet.at))
         self.group, self.source = packet.group, packet.source
@@ -37,7 +44,7 @@ class Death:
 
     # ---- the way that it should have come
 
-    def end(self):
+    def end(self) -> tuple[End, list[served.Rung]]:
         """Why it didn't come, and the rungs that waited for it, from the one nearest to the source."""
         state, end = served.serving(self.world, self.group, self.source, self.link)
         if state is None:
@@ -50,11 +57,11 @@ class Death:
             return self.refused_everywhere() or parted or broken or self.unregistered(), waiting
         return parted or self.stopped(rungs[place], rungs[place - 1].state if place else None), waiting
 
-    def at(self, name):
+    def at(self, name: str) -> list[trace.Taken]:
         """What a router took of it in order, and accepted."""
         return [taken for taken in self.taken if taken.router == name and taken.is_done() and self.is_accepted(taken)]
 
-    def is_accepted(self, taken):
+    def is_accepted(self, taken: trace.Taken) -> bool:
         """Whether it came on the interface of one of its trees, or in a Register to the RP."""
         if taken.copies:
             return True
@@ -68,12 +75,12 @@ class Death:
 
     # ---- at its first router
 
-    def refused_everywhere(self):
+    def refused_everywhere(self) -> End | None:
         """Where no router took it at all."""
         began = self.packet.began
         return refused(self.world, began[0]) if all(not taken.is_done() for taken in began) else None
 
-    def unregistered(self):
+    def unregistered(self) -> End:
         """Why the RP never had it, where nothing else is wrong on the way from the host."""
         known, done = self.world.known, [taken for taken in self.packet.began if taken.is_done()]
         for taken in done:
@@ -87,12 +94,12 @@ class Death:
             return self.used_up(drs[0])
         return served.unregistered(self.world, self.group, self.source, self.packet.link)
 
-    def stranger(self, state, iface):
+    def stranger(self, state: trees.Known, iface: int) -> End:
         name, link = state.router.name, state.router.interfaces[iface].link
         told = f"to {name} the source {self.source} isn't on {link}, nor on any other link of it"
         return End("stranger", f"{told}, so {name} doesn't register it", name, link, self.source)
 
-    def register_end(self, copy):
+    def register_end(self, copy: trace.Copy) -> End:
         """What became of a Register."""
         rp, name = copy.sent.where, copy.by.router
         if not copy.taken:
@@ -108,7 +115,7 @@ class Death:
 
     # ---- at a router that had it
 
-    def stopped(self, rung, below):
+    def stopped(self, rung: served.Rung, below: trees.Known | None) -> End:
         """Why a router that had it didn't bring it to the router below, or to hosts."""
         had = self.at(rung.state.router.name)
         for taken in had:
@@ -123,12 +130,12 @@ class Death:
         # An interface on which the packet came says nothing where it came by another one too.
         return next((end for end in ends if end.kind != "rpf"), ends[0])
 
-    def used_up(self, taken):
+    def used_up(self, taken: trace.Taken) -> End:
         where = "in a Register" if taken.iface is None else f"on {self.world.known[taken.router].link(taken.iface)}"
         told = f"packets of {self.source} with TTL {self.packet.ttl} come to {taken.router} {where} with"
         return End("ttl", f"{told} TTL {ttl_of(taken)}, with which no copy leaves", taken.router)
 
-    def unheard(self, copy, below, link):
+    def unheard(self, copy: trace.Copy, below: trees.Known | None, link: str) -> End:
         """Why the router below had nothing of a copy on the link between."""
         name = below.router.name if below else "the host"
         here = [taken for taken in copy.taken if taken.router == name]
@@ -139,7 +146,7 @@ class Death:
             return refused(self.world, here[0])
         return self.other_way(here[0])
 
-    def other_way(self, taken):
+    def other_way(self, taken: trace.Taken) -> End:
         """It came on an interface on which the router doesn't take it."""
         state = self.past.known(taken.at)[taken.router]
         name, link = taken.router, state.link(taken.iface)
@@ -150,12 +157,12 @@ class Death:
 # ---- in words
 
 
-def place_words(world, taken):
+def place_words(world: served.World, taken: trace.Taken) -> str:
     router = world.known[taken.router].router
     return "in a Register" if taken.iface is None else f"on {words.place(router, taken.iface)}"
 
 
-def hop_line(world, taken):
+def hop_line(world: served.World, taken: trace.Taken) -> str:
     """A router, how it took a packet, and where it sent it."""
     head = f"  {taken.router} took it {place_words(world, taken)}, TTL {ttl_of(taken)}; "
     if not taken.is_done():
@@ -168,12 +175,12 @@ def hop_line(world, taken):
     return head + ("; ".join([*sent, *registers]) or "sent it nowhere")
 
 
-def is_last(world, copy):
+def is_last(world: served.World, copy: trace.Copy) -> bool:
     """No other router is on the link of a copy."""
     return all(state.router.name == copy.by.router for state, _ in world.ports[copy.sent.where])
 
 
-def way_lines(world, packet, link):
+def way_lines(world: served.World, packet: trace.Packet, link: str) -> list[str]:
     """The routers by which a packet came to a link; where it didn't, all that took it."""
     there = packet.on(link)
     way = there[0].by.way() if there else packet.taken()[:MOST_SHOWN]

@@ -1,10 +1,17 @@
 """Edits that must fail: what each changes, and whether what the kit says of it is the refusal that it names."""
+from __future__ import annotations
+
 import re
 from collections import Counter
 from dataclasses import dataclass
 from itertools import zip_longest
+from pathlib import Path
+from typing import TYPE_CHECKING
 
 from pimtext.functions import clauses, functions, notes_beside
+
+if TYPE_CHECKING:
+    from pimtext.functions import Found, Function
 
 # What the front end is to say of an edit that no type allows.
 ERROR = re.compile(r"error\[[\w-]+\]")
@@ -33,15 +40,15 @@ GOAL = re.compile(r"\(`([^`]*)(`?)")
 class Reason:
     """Why an edit is refused: the function whose contract isn't met, and the goal as far as the kit's line has it."""
 
-    found: object
+    found: Found
     goal: str
     is_whole: bool
 
-    def __str__(self):
+    def __str__(self) -> str:
         clause = clause_of(self.goal) if self.is_whole else f"{CUT} (`{self.goal}`)"
         return f"{self.found.function} {clause}"
 
-    def is_of(self, clause):
+    def is_of(self, clause: str) -> bool:
         """Whether the clause is this. Where the kit's line cuts its name, what is left of it has to be of no other
         clause."""
         if self.is_whole:
@@ -51,7 +58,7 @@ class Reason:
         return alike == {clause}
 
 
-def clause_of(goal):
+def clause_of(goal: str) -> str:
     """The clause that a goal of the prover's is about: its name, or its kind where it has none."""
     if re.search(r"(^|-)requires\b", goal):
         return "requires"
@@ -65,41 +72,41 @@ def clause_of(goal):
 class AnyClause:
     """The clauses of a trait of another crate, which aren't looked up."""
 
-    def __contains__(self, clause):
+    def __contains__(self, clause: object) -> bool:
         return True
 
 
 class Crate:
     """A crate's folder, with the functions of its source."""
 
-    def __init__(self, folder):
+    def __init__(self, folder: Path) -> None:
         self.folder, self.name = folder, folder.name
         self.files = {str(path.relative_to(folder)): path.read_text(encoding="utf-8")
                       for path in sorted((folder / "src").rglob("*.rt"))}
         self.found = {path: functions(path, text) for path, text in self.files.items()}
 
-    def all(self):
+    def all(self) -> list[Found]:
         return [one for found in self.found.values() for one in found]
 
-    def named(self, words):
+    def named(self, words: str) -> list[Found]:
         """The functions that a name is of."""
         return [one for one in self.all() if one.function.is_named(words)]
 
-    def clauses_of(self, one):
+    def clauses_of(self, one: Found) -> set[str] | AnyClause:
         """What a refusal by a function can be about: its clauses, or those of its trait, and what no clause names."""
         trait = one.function.trait
         above = [it for it in self.all() if trait and it.function.owner == trait
             and it.function.name == one.function.name]
         return KINDS.union(clauses(one), *map(clauses, above)) if above or not trait else AnyClause()
 
-    def proved_in(self, path):
+    def proved_in(self, path: str) -> list[Found]:
         """The functions whose proof stands in a folder below proofs/: its modules, its type with its trait, its
         name."""
         *parts, name = path.split("/")
         return [one for one in self.all() if one.function.name == name and stands_in(one.function, parts)]
 
 
-def stands_in(function, parts):
+def stands_in(function: Function, parts: list[str]) -> bool:
     """Whether a function has a folder of these modules and, at the end, this type with its trait and what tells it
     apart."""
     module = list(function.module)
@@ -111,12 +118,12 @@ def stands_in(function, parts):
 class Edit:
     """An edit that must fail, with the reasons that it names."""
 
-    def __init__(self, path, crate):
+    def __init__(self, path: Path, crate: Crate) -> None:
         self.path, self.crate, self.name = path, crate, path.stem
         self.lines = path.read_text(encoding="utf-8").splitlines()
         self.wanted = [tuple(line.split()[1:]) for line in self.lines if line.startswith("refused: ")]
 
-    def edited(self, file):
+    def edited(self, file: str) -> str:
         """A file of the crate as the edit leaves it."""
         text, at, old = self.crate.files[file], "", ""
         for line in self.lines:
@@ -128,10 +135,10 @@ class Edit:
                 text = text.replace(old, line.removeprefix("new:").removeprefix(" "))
         return text
 
-    def files(self):
+    def files(self) -> set[str]:
         return {line.removeprefix("file: ").strip() for line in self.lines if line.startswith("file: ")}
 
-    def misnames(self):
+    def misnames(self) -> str | None:
         """What is wrong with the lines `refused:`; None where each is of one function."""
         if not self.wanted:
             return UNNAMED
@@ -145,7 +152,7 @@ class Edit:
                 return f"{found[0].function} has no clause `{words[1]}`"
         return None
 
-    def changes_a_contract(self):
+    def changes_a_contract(self) -> str | None:
         """What the edit changes but code: a definition, a contract, a proof. None where it changes none."""
         for file in sorted(self.files()):
             if file not in self.crate.files:
@@ -162,7 +169,7 @@ class Edit:
                 return f"it changes what {file} says of its types"
         return None
 
-    def function_at(self, file, number):
+    def function_at(self, file: str, number: int) -> Found | None:
         """The function that a line of the edited file stands in: the kit tells of a whole function by its first line,
         which may be an attribute above it."""
         text = self.edited(file)
@@ -172,7 +179,7 @@ class Edit:
         near = below[:1] if is_above else above[-1:]
         return near[0] if near else None
 
-    def reason(self, told):
+    def reason(self, told: str) -> Reason | None:
         """The reason that the prover's line tells, as far as the kit passes it on, or None where it tells none."""
         if found := IN_PROOF.match(told):
             near = self.crate.proved_in(found[1])
@@ -187,18 +194,18 @@ class Edit:
         goal, closed = goals[-1] if goals else ("", "")
         return Reason(one, goal, bool(closed)) if one else None
 
-    def meets(self, told):
+    def meets(self, told: str) -> bool:
         """Whether the prover's line tells one of the reasons that the edit names."""
         reason = self.reason(told)
         named = [words for words in self.wanted if reason and reason.found.function.is_named(words[0])]
         return any(reason.is_of(clause) for _, clause in named)
 
-    def error(self):
+    def error(self) -> str | None:
         """The error of the front end that is to refuse the edit; None where the prover is to."""
         words = [word for words in self.wanted for word in words]
         return words[0] if len(words) == 1 and ERROR.fullmatch(words[0]) else None
 
-    def wrong(self, said):
+    def wrong(self, said: str | None) -> str | None:
         """What is wrong with the edit by the kit's words on it; None where it is refused as it says."""
         if self.error() and said is not None:
             return None if self.error() in ERROR.findall(said) else f"{said}; and not {self.error()}"

@@ -4,11 +4,20 @@ twice.
 The network is taken as its file leaves it: hosts go on wanting what they want, sources go on sending. Each failure is
 tried in a process of its own, which begins where the file ended.
 """
+from __future__ import annotations
+
 import multiprocessing
 from collections import Counter
+from collections.abc import Iterable, Iterator
 from dataclasses import dataclass, field
+from typing import TYPE_CHECKING, Any
 
 from lab.topology import ways
+
+if TYPE_CHECKING:
+    from lab.network import Network
+    from lab.topology import Link
+    from pimtext.playpage import Told
 
 # Seconds of the stream before the failure; then packets a second apart at first, and later EVERY seconds apart.
 BEFORE, CLOSE = 5, 10
@@ -23,7 +32,7 @@ class Failure:
     router: str = ""
     what: str = ""
 
-    def happen(self, net):
+    def happen(self, net: Network) -> None:
         if self.kind == "link":
             net.links[self.name].down()
         elif self.kind == "router":
@@ -32,7 +41,7 @@ class Failure:
             net.routers[self.router].port(net.links[self.name]).down()
 
 
-def failures(net):
+def failures(net: Network) -> Iterator[Failure]:
     """Each link of two routers or more, each router, and each interface on such a link."""
     shared = [link for link in net.links.values() if len(link.ports) > 1 and link.is_up]
     for link in shared:
@@ -58,11 +67,11 @@ class Stream:
     source: str
     group: str
 
-    def __str__(self):
+    def __str__(self) -> str:
         return f"({self.source}, {self.group})"
 
 
-def streams(net):
+def streams(net: Network) -> list[Stream]:
     """What hosts have sent in the run so far, by the moves that gave it to routers."""
     from pimtext import spoken
     names = {host.address: host.name for host in net.hosts.values()}
@@ -71,13 +80,13 @@ def streams(net):
     return [Stream(names[source], group) for source, group in dict.fromkeys(sent) if source in names]
 
 
-def offsets(seconds):
+def offsets(seconds: int) -> list[int]:
     """When packets are sent, in seconds from the failure on."""
     close = list(range(-BEFORE, min(CLOSE, seconds)))
     return close + list(range(CLOSE, seconds, EVERY))
 
 
-def payload(number):
+def payload(number: int) -> bytes:
     return f"whatif {number}".encode()
 
 
@@ -96,14 +105,14 @@ class Outage:
     is_cut_off: bool = False
 
     @property
-    def lost(self):
+    def lost(self) -> int:
         return self.came.count(0)
 
     @property
-    def twice(self):
+    def twice(self) -> int:
         return sum(max(0, times - 1) for times in self.came)
 
-    def gaps(self):
+    def gaps(self) -> list[tuple[int, int | None]]:
         """Runs of lost packets: when the first was sent, and when the next one that came; None where none came any
         more."""
         found, first = [], None
@@ -115,23 +124,23 @@ class Outage:
                 first = None
         return found + ([(first, None)] if first is not None else [])
 
-    def longest(self):
+    def longest(self) -> tuple[int, bool]:
         """The seconds of the longest run of lost packets, and whether nothing came after it."""
         gaps = [((end if end is not None else self.sent[-1] + EVERY) - first, end is None) for first,
                 end in self.gaps()]
         return max(gaps, default=(0, False))
 
-    def is_for_good(self):
+    def is_for_good(self) -> bool:
         return any(end is None for _, end in self.gaps())
 
 
-def is_joined(one, other):
+def is_joined(one: Link, other: Link) -> bool:
     """Whether links and routers that are up lead from one link to another."""
     reached = set().union(*(ways(port.router) for port in one.ports if port.is_up()))
     return one is other or any(port.is_up() and port.router in reached for port in other.ports)
 
 
-def outages(net, told, times):
+def outages(net: Network, told: list[Stream], times: list[int]) -> list[Outage]:
     """What each host that wants a stream got of it."""
     found = []
     for stream in told:
@@ -146,7 +155,7 @@ def outages(net, told, times):
     return found
 
 
-def play(net, failure, seconds):
+def play(net: Network, failure: Failure | None, seconds: int) -> list[Outage]:
     """The network goes on, with the failure where there is one."""
     told, times = streams(net), offsets(seconds)
     for stream in told:
@@ -168,15 +177,15 @@ class Effect:
     failure: Failure
     outages: list = field(default_factory=list)
 
-    def cut_off(self):
+    def cut_off(self) -> list[Outage]:
         """The streams to which no way is left: no multicast routing could bring them."""
         return [each for each in self.outages if each.is_cut_off]
 
-    def hit(self):
+    def hit(self) -> list[Outage]:
         """The streams that lose something though there is a way."""
         return [each for each in self.outages if each.lost and not each.is_cut_off]
 
-    def worth(self):
+    def worth(self) -> tuple[int, int, int, int]:
         """How bad it is: streams that don't come again though there is a way, then seconds without packets, packets
         that came twice, and streams that are cut off."""
         hit = self.hit()
@@ -187,13 +196,13 @@ class Effect:
 class Trial:
     """A network and how long each failure is looked at; its processes inherit it as it stands."""
 
-    def __init__(self, net, seconds):
+    def __init__(self, net: Network, seconds: int) -> None:
         self.net, self.seconds = net, seconds
 
-    def effect(self, failure):
+    def effect(self, failure: Failure | None) -> Effect:
         return Effect(failure, play(self.net, failure, self.seconds))
 
-    def told(self, failure):
+    def told(self, failure: Failure | None) -> Told:
         """The run of a failure, or of none, for a page."""
         from pimtext import labfile
         play(self.net, failure, self.seconds)
@@ -203,11 +212,11 @@ class Trial:
 CURRENT = None
 
 
-def alone(method, failure):
+def alone(method: str, failure: Failure | None) -> Any:
     return getattr(CURRENT, method)(failure)
 
 
-def each_alone(trial, method, chosen, jobs):
+def each_alone(trial: Trial, method: str, chosen: Iterable[Failure | None], jobs: int) -> Iterator[Any]:
     """What a method of a trial answers to each failure, in their order, each in a process of its own."""
     global CURRENT
     CURRENT = trial
@@ -220,5 +229,5 @@ class Task:
     """A call that a process is handed."""
     method: str
 
-    def __call__(self, failure):
+    def __call__(self, failure: Failure | None) -> Any:
         return alone(self.method, failure)

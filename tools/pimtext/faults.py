@@ -4,8 +4,10 @@ The rules are those of docs/SCENARIOS.md. 39 is anything that keeps the file fro
 the tests of a router's configuration, in this order, of one router after the other.
 """
 import re
+from collections.abc import Callable, Iterable, Iterator
 from dataclasses import dataclass
 from difflib import get_close_matches
+from typing import Any
 
 from pimtext import toml_lines
 from pimtext.addresses import BELOW, address_in, dotted, is_group, is_host, mask, number_in, prefix_in, words_in
@@ -79,7 +81,7 @@ class Route:
 # ---- words
 
 
-def found(value):
+def found(value: toml_lines.Value) -> str:
     """What a value is, in words."""
     shown = value.held if value.kind in ("number", "decimal", "date or time") else None
     if value.kind == "text":
@@ -89,16 +91,16 @@ def found(value):
     return f"the {value.kind} {shown}" if shown is not None else f"a {value.kind}"
 
 
-def nearest(word, words):
+def nearest(word: str, words: list[str]) -> str:
     near = get_close_matches(word.lower(), words, 1, 0.6)
     return f"; is `{near[0]}` meant?" if near else ""
 
 
-def count(words):
+def count(words: list[str]) -> str:
     return f"{len(words)} word{'' if len(words) == 1 else 's'}"
 
 
-def why_no_address(text):
+def why_no_address(text: str) -> str:
     if not text:
         return "it is empty"
     if re.search(r"[^0-9.]", text):
@@ -111,7 +113,7 @@ def why_no_address(text):
     return "a number of it is above 255"
 
 
-def why_no_prefix(text):
+def why_no_prefix(text: str) -> str:
     head, slash, tail = text.partition("/")
     if address_in(head) is None:
         return f"`{head}` is no address: {why_no_address(head)}"
@@ -124,20 +126,20 @@ def why_no_prefix(text):
 class Judge:
     """Reads a document as a scenario, and gathers its faults."""
 
-    def __init__(self):
+    def __init__(self) -> None:
         self.faults, self.routers, self.moves = [], [], []
         self.names = {}
 
-    def fault(self, line, where, what, number=39):
+    def fault(self, line: int, where: str, what: str, number: int = 39) -> None:
         self.faults.append(Fault(line, where, what, number))
 
-    def only(self, table, known, where, of_what):
+    def only(self, table: toml_lines.Value, known: list[str], where: str, of_what: str) -> None:
         for key in table.held:
             if key not in known:
                 more = nearest(key, known) or f": its keys are {', '.join(known)}"
                 self.fault(table.key_lines[key], where, f"`{key}` is no key of {of_what}{more}")
 
-    def wanted(self, table, key, kind, where, form=None):
+    def wanted(self, table: toml_lines.Value, key: str, kind: str, where: str, form: str | None = None) -> Any:
         """What stands at a key that must be there."""
         value = table.get(key)
         form = form or FORMS[key]
@@ -147,7 +149,9 @@ class Judge:
             self.fault(value.line, where, f"`{key}` is {found(value)}, and wanted is {form}")
         return value.held if value is not None and value.kind == kind else None
 
-    def number(self, table, key, default, where, form=None):
+    def number(
+        self, table: toml_lines.Value, key: str, default: int | None, where: str, form: str | None = None
+    ) -> int | None:
         """A number from 0 and below 2^32; None where it is missing, without a default, or is none."""
         value = table.get(key)
         form = form or FORMS.get(key, "a whole number")
@@ -165,10 +169,10 @@ class Judge:
         return None
 
     @staticmethod
-    def quoted(value):
+    def quoted(value: toml_lines.Value) -> str:
         return ", without quotes" if value.kind == "text" and re.fullmatch(r"\s*[0-9]+\s*", value.held) else ""
 
-    def tables(self, value, what):
+    def tables(self, value: toml_lines.Value | None, what: str) -> list[toml_lines.Value]:
         """The tables of a list of them."""
         if value is None:
             return []
@@ -185,7 +189,7 @@ class Judge:
                 self.fault(inner.line, f"{what} {at}", f"it is {found(inner)}, and a table is wanted")
         return [inner for inner in value.held if inner.kind == "table"]
 
-    def document(self, root):
+    def document(self, root: toml_lines.Value) -> None:
         self.only(root, ["router", "move"], "", "a scenario")
         routers = self.tables(root.get("router"), "router")
         for at, table in enumerate(routers):
@@ -199,7 +203,7 @@ class Judge:
 
     # ---- routers
 
-    def router(self, table, at):
+    def router(self, table: toml_lines.Value, at: int) -> dict[str, Any]:
         name = table.get("name")
         where = f'router "{name.held}"' if name is not None and name.kind == "text" else f"router {at + 1} of the file"
         self.only(table, ROUTER_KEYS, where, "a router")
@@ -217,7 +221,7 @@ class Judge:
         made["rps"] = self.texts(table, "rps", where, self.rp, FORMS["list of rps"], False)
         return made
 
-    def ifaces(self, table, where):
+    def ifaces(self, table: toml_lines.Value, where: str) -> list[Iface]:
         values = table.get("iface")
         if values is not None and values.kind == "table":
             what = "`iface` is one table: a list is wanted, as iface = [{ .. }], or headers [[router.iface]]"
@@ -225,7 +229,7 @@ class Judge:
         held = self.wanted(table, "iface", "list", where, FORMS["iface of a router"])
         return [self.iface(inner, f"{where}, interface {at}") for at, inner in enumerate(held or [])]
 
-    def iface(self, table, where):
+    def iface(self, table: toml_lines.Value, where: str) -> Iface:
         made = Iface(table.line)
         if table.kind != "table":
             what = f'it is {found(table)}, and a table is wanted, as {{ link = "lan", address = "10.0.0.1/24" }}'
@@ -245,7 +249,15 @@ class Judge:
         made.delays = [(self.number(table, key, default, where), table.key_lines.get(key)) for key, default in delays]
         return made
 
-    def texts(self, table, key, where, read, form, must):
+    def texts(
+        self,
+        table: toml_lines.Value,
+        key: str,
+        where: str,
+        read: Callable[[list[str], toml_lines.Value, str], Route | None],
+        form: str,
+        must: bool,
+    ) -> list[Route]:
         """The texts of a list, each read by `read`."""
         value = table.get(key)
         if value is None and not must:
@@ -261,12 +273,12 @@ class Judge:
             made += [route for route in [read(words_in(inner.held), inner, place)] if route]
         return made
 
-    def numbers(self, words, names, inner, place):
+    def numbers(self, words: list[str], names: Iterable[str], inner: toml_lines.Value, place: str) -> None:
         for word, name in zip(words, names):
             if number_in(word) is None:
                 self.fault(inner.line, place, f'"{inner.held}": the {name} `{word}` is no whole number below 2^32')
 
-    def route(self, words, inner, place):
+    def route(self, words: list[str], inner: toml_lines.Value, place: str) -> Route | None:
         if len(words) != 5:
             what = f'"{inner.held}" has {count(words)}, and a route has five: {ROUTE_FORM}'
             return self.fault(inner.line, place, what)
@@ -285,7 +297,7 @@ class Judge:
             return None
         return Route(inner.line, inner.held, *prefix, next_hop, iface, preference)
 
-    def rp(self, words, inner, place):
+    def rp(self, words: list[str], inner: toml_lines.Value, place: str) -> Route | None:
         if len(words) != 2:
             return self.fault(
                 inner.line, place, f'"{inner.held}" has {count(words)}, and an RP range has two: {RP_FORM}'
@@ -301,7 +313,7 @@ class Judge:
 
     # ---- moves
 
-    def move(self, table, where):
+    def move(self, table: toml_lines.Value, where: str) -> None:
         kind = self.wanted(table, "do", "text", where)
         if kind is not None and kind not in MOVE_KEYS:
             more = nearest(kind, list(MOVE_KEYS)) or f": wanted is {FORMS['do']}"
@@ -323,24 +335,24 @@ class Judge:
         if "list" in keys:
             self.entries(kind, table, where)
 
-    def entries(self, kind, table, where=""):
+    def entries(self, kind: str, table: toml_lines.Value, where: str = "") -> list[Route]:
         """The routes of a move `routes`, or the ranges of a move `rps`."""
         read = self.route if kind == "routes" else self.rp
         return self.texts(table, "list", where, read, FORMS[f"list of {kind}"], True)
 
-    def of_router(self, table, where):
+    def of_router(self, table: toml_lines.Value, where: str) -> None:
         name = self.wanted(table, "router", "text", where)
         # Where a router's own name can't be read, that is told, and not each move of it.
         if name is not None and name not in self.names and len(self.names) == len(self.routers):
             more = nearest(name, list(self.names)) or f": its routers are {', '.join(self.names) or 'none'}"
             self.fault(table.get("router").line, where, f'there is no router "{name}" in the file{more}')
 
-    def moment(self, table, where):
+    def moment(self, table: toml_lines.Value, where: str) -> None:
         value = table.get("moment")
         if self.wanted(table, "moment", "number", where) is not None and value.held < 0:
             self.fault(value.line, where, f"`moment` is {value.held}, which is below 0")
 
-    def packet(self, table, where):
+    def packet(self, table: toml_lines.Value, where: str) -> None:
         text = self.wanted(table, "hex", "text", where)
         if text is None:
             return
@@ -355,7 +367,7 @@ class Judge:
 # ---- a router's configuration: refusals 30 to 38
 
 
-def route_fault(route, ifaces):
+def route_fault(route: Route, ifaces: list[Iface]) -> str | None:
     """Why a route is refused, or None."""
     prefix = f"{dotted(route.address)}/{route.length}"
     if route.length > 32:
@@ -371,7 +383,7 @@ def route_fault(route, ifaces):
     return f"the preference {route.preference} is above 2147483646" if route.preference > 0x7FFF_FFFE else None
 
 
-def rp_fault(route):
+def rp_fault(route: Route) -> str | None:
     """Why an RP range is refused, or None."""
     prefix = f"{dotted(route.address)}/{route.length}"
     if route.length > 32:
@@ -383,7 +395,7 @@ def rp_fault(route):
     return None if is_host(route.next_hop) else f"the RP {dotted(route.next_hop)} is no host's address"
 
 
-def list_faults(routes, most, one):
+def list_faults(routes: list[Route], most: int, one: Callable[[Route], str | None]) -> Iterator[tuple[int, str]]:
     """What is wrong with a list of routes or RP ranges, as (line, text)."""
     if len(routes) > most:
         yield routes[most].line, f"there are {len(routes)}, and at most {most} may be"
@@ -396,11 +408,11 @@ def list_faults(routes, most, one):
             yield route.line, f'"{route.text}": {what}'
 
 
-def overlaps(one, other):
+def overlaps(one: Iface, other: Iface) -> bool:
     return any((a.address ^ b.address) & mask(a.length) == 0 for a, b in ((one, other), (other, one)))
 
 
-def iface_faults(router):
+def iface_faults(router: dict[str, Any]) -> Iterator[tuple[int, int, str, str]]:
     """Tests 30 to 33 and 36 of a router's interfaces, as (number, line, where, what)."""
     ifaces, where = router["ifaces"], router["where"]
     if not 1 <= len(ifaces) <= MOST_IFACES:
@@ -425,7 +437,7 @@ def iface_faults(router):
                 yield 36, line, place, f"`{key}` is {value} ms, and at most {most} may be"
 
 
-def value_faults(router):
+def value_faults(router: dict[str, Any]) -> Iterator[tuple[int, int, str, str]]:
     """Tests 34 and 35, as (number, line, where, what)."""
     where, table = router["where"], router["table"]
     rows = [(34, "limit", 1, 1_000_000, ""), (35, "rv", 2, 7, ""), (35, "qi", 1, 31744, " seconds")]
@@ -439,7 +451,7 @@ def value_faults(router):
         yield 35, line, where, what
 
 
-def configuration_faults(router):
+def configuration_faults(router: dict[str, Any]) -> Iterator[tuple[int, int, str, str]]:
     where, ifaces = router["where"], router["ifaces"]
     yield from iface_faults(router)
     yield from value_faults(router)
@@ -452,7 +464,7 @@ def configuration_faults(router):
 # ---- the whole
 
 
-def faults_of(text):
+def faults_of(text: str) -> tuple[Judge, int]:
     """The judge of a scenario's text, with its faults by line, and the number that `pimlab` gives: 0 where it is
     accepted."""
     judge = Judge()

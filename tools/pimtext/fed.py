@@ -1,7 +1,14 @@
 """What each router of a scenario is fed: its configuration, and the events that reach it."""
+from __future__ import annotations
+
+from collections.abc import Iterable, Iterator
 from dataclasses import dataclass
+from typing import TYPE_CHECKING, Any
 
 from pimtext.addresses import dotted, prefix_in, range_words, route_words
+
+if TYPE_CHECKING:
+    from pimtext.story import Step
 
 # The keys of a router's table, with the names and usual values of the library's settings.
 SETTINGS = {
@@ -23,29 +30,29 @@ class Event:
     values: tuple
 
 
-def interfaces(table):
+def interfaces(table: dict[str, Any]) -> Iterator[tuple[str, int, int, int, int]]:
     """Each interface: its address, its prefix length, its DR priority and its two delays."""
     for row in table.get("iface", []):
         address, length = prefix_in(row["address"])
         yield dotted(address), length, row.get("priority", 1), row.get("propagation", 500), row.get("override", 2500)
 
 
-def settings(table):
+def settings(table: dict[str, Any]) -> dict[str, Any]:
     given = {name: table.get(key, usual) for key, (name, usual) in SETTINGS.items()}
     return given | {"stays_on_shared_tree": table.get("spt") == "never"}
 
 
-def routes(texts):
+def routes(texts: Iterable[str]) -> Iterator[tuple[str | int, ...]]:
     """Each route: prefix, next hop, interface, preference, metric."""
     return map(route_words, texts)
 
 
-def ranges(texts):
+def ranges(texts: Iterable[str]) -> Iterator[tuple[str, str]]:
     """Each RP range: prefix, RP."""
     return map(range_words, texts)
 
 
-def event(step):
+def event(step: Step) -> Event | None:
     """The event that a step of `pimtext.story` was to its router; None where the move itself was refused."""
     did = step.did
     draw, kind = did.get("draw", 0), did["do"]
@@ -64,5 +71,5 @@ def event(step):
     return None
 
 
-def arrival(draw, iface, packet):
+def arrival(draw: int, iface: int | None, packet: bytes) -> Event:
     return Event("unicast", draw, (packet,)) if iface is None else Event("frame", draw, (iface, packet))

@@ -2,9 +2,11 @@
 says and what this doesn't carry over is kept with its file, its line and the reason."""
 import json
 import re
+from collections.abc import Iterable, Iterator
 from dataclasses import dataclass, field
 from ipaddress import IPv4Interface, IPv4Network
 from pathlib import Path
+from typing import Any
 
 ALL_GROUPS = "224.0.0.0/4"
 DEFAULT = "default"
@@ -27,7 +29,7 @@ class Left:
     place: Place
     reason: str
 
-    def __str__(self):
+    def __str__(self) -> str:
         return f"{self.place.file}:{self.place.number}: {self.place.text}: {self.reason}"
 
 
@@ -47,10 +49,10 @@ class Interface:
     joins: list = field(default_factory=list)
 
     @property
-    def own(self):
+    def own(self) -> IPv4Interface | None:
         return self.addresses[0][0] if self.addresses else None
 
-    def is_loopback(self):
+    def is_loopback(self) -> bool:
         return self.name.startswith(("lo", "dummy")) or (self.own is not None and self.own.network.prefixlen == 32)
 
 
@@ -80,21 +82,21 @@ class Router:
     left: list = field(default_factory=list)
     routes: list | None = None
 
-    def leave(self, place, reason):
+    def leave(self, place: Place, reason: str) -> None:
         self.left.append(Left(place, reason))
 
-    def here(self):
+    def here(self) -> list[Interface]:
         """The interfaces of its VRF."""
         return [each for each in self.interfaces.values() if each.vrf == self.vrf]
 
-    def has(self, address):
+    def has(self, address: str) -> bool:
         return any(str(own.ip) == address for each in self.here() for own, _ in each.addresses)
 
 
 # ---- lines that are taken
 
 
-def take_address(router, port, place, text, *_):
+def take_address(router: Router, port: Interface, place: Place, text: str, *_: object) -> None:
     try:
         port.addresses.append((IPv4Interface(text), place))
     except ValueError:
@@ -103,56 +105,65 @@ def take_address(router, port, place, text, *_):
         router.leave(place, "an interface has one address here, the first")
 
 
-def take_pim(router, port, place):
+def take_pim(router: Router, port: Interface, place: Place) -> None:
     port.is_pim = True
 
 
-def take_igmp(router, port, place):
+def take_igmp(router: Router, port: Interface, place: Place) -> None:
     port.is_igmp = True
 
 
-def take_shutdown(router, port, place):
+def take_shutdown(router: Router, port: Interface, place: Place) -> None:
     port.is_shut = True
 
 
-def take_priority(router, port, place, text):
+def take_priority(router: Router, port: Interface, place: Place, text: str) -> None:
     port.priority = int(text)
 
 
-def take_time(router, port, place, key, text):
+def take_time(router: Router, port: Interface, place: Place, key: str, text: str) -> None:
     port.times[key] = int(text), place
 
 
-def take_join(router, port, place, group, source):
+def take_join(router: Router, port: Interface, place: Place, group: str, source: str | None) -> None:
     port.joins.append((group, source, place))
 
 
-def take_rp(router, _, place, address, groups):
+def take_rp(router: Router, _: Interface | None, place: Place, address: str, groups: str | None) -> None:
     router.rps.append((address, groups or ALL_GROUPS, None, place))
 
 
-def take_rp_list(router, _, place, address, name):
+def take_rp_list(router: Router, _: Interface | None, place: Place, address: str, name: str) -> None:
     router.rps.append((address, None, name, place))
 
 
-def take_ssm(router, _, place, name):
+def take_ssm(router: Router, _: Interface | None, place: Place, name: str) -> None:
     router.ssm = name, place
 
 
-def take_spt(router, _, place):
+def take_spt(router: Router, _: Interface | None, place: Place) -> None:
     router.spt_never = place
 
 
-def take_default(router, *_):
+def take_default(router: Router, *_: object) -> None:
     router.resolves_by_default = True
 
 
-def take_listed(router, _, place, name, number, verb, prefix, bounds):
+def take_listed(
+    router: Router,
+    _: Interface | None,
+    place: Place,
+    name: str,
+    number: str | None,
+    verb: str,
+    prefix: str,
+    bounds: str,
+) -> None:
     number = int(number) if number else 5 * (1 + len(router.lists.get(name, ())))
     router.lists.setdefault(name, []).append(Listed(number, verb == "permit", prefix, place))
 
 
-def take_static(router, _, place, prefix, hop, distance):
+def take_static(router: Router, _: Interface | None, place: Place, prefix: str, hop: str, distance: str | None) -> None:
     router.statics.append((prefix, hop, int(distance or 1), place))
 
 
@@ -215,17 +226,17 @@ class Block:
 
 
 class Reader:
-    def __init__(self, name, vrf):
+    def __init__(self, name: str, vrf: str) -> None:
         self.router, self.block = Router(name, vrf), Block("")
 
-    def read(self, path, shown):
+    def read(self, path: Path, shown: str) -> Router:
         for number, line in enumerate(path.read_text("utf-8").splitlines(), 1):
             text = " ".join(line.split())
             if text and text[0] not in "!#":
                 self.line(Place(shown, number, text), line[0].isspace())
         return self.router
 
-    def line(self, place, is_inside):
+    def line(self, place: Place, is_inside: bool) -> None:
         if place.text in ("exit", "end", "exit-vrf", "exit-address-family"):
             return
         if not is_inside:
@@ -234,7 +245,7 @@ class Reader:
                 return
         self.take(place)
 
-    def begins(self, place):
+    def begins(self, place: Place) -> bool:
         """Whether a line begins a block."""
         words = place.text.split()
         vrf = words[words.index("vrf") + 1] if "vrf" in words[:-1] else DEFAULT
@@ -250,13 +261,13 @@ class Reader:
             self.protocol(place, words)
         return bool(self.block.kind)
 
-    def protocol(self, place, words):
+    def protocol(self, place: Place, words: list[str]) -> None:
         if words[0] == "router" and words[1].rstrip("6d") in PROTOCOLS:
             self.router.protocols.add(words[1])
         if words[0] != "line":
             self.left_over(place)
 
-    def take(self, place):
+    def take(self, place: Place) -> None:
         """Takes a line of a block, or leaves it."""
         if self.block.kind == "other":
             return None
@@ -269,7 +280,7 @@ class Reader:
                 return take(self.router, self.block.port, place, *found.groups())
         return self.left_over(place, text)
 
-    def left_over(self, place, text=None):
+    def left_over(self, place: Place, text: str | None = None) -> None:
         text = text or place.text
         if not any(pattern.match(text) for pattern in QUIET):
             found = [reason for pattern, reason in REASONS if pattern.match(text)]
@@ -283,7 +294,7 @@ class Unreadable(Exception):
     """A file can't be read, or isn't what it is to be; the text is a sentence."""
 
 
-def configurations(folder):
+def configurations(folder: Path) -> dict[str, Path]:
     """The routers' names with their configurations: NAME.conf, or NAME/frr.conf."""
     found = {path.stem: path for path in folder.glob("*.conf")}
     found |= {path.parent.name: path for path in folder.glob("*/frr.conf")}
@@ -292,7 +303,7 @@ def configurations(folder):
     return dict(sorted(found.items()))
 
 
-def beside(path, name, kind):
+def beside(path: Path, name: str, kind: str) -> tuple[str, str, Any] | None:
     """NAME.KIND.json beside a configuration, or KIND.json in its folder; its text and the file's name, or None."""
     own = f"{name}.{kind}.json"
     for each in (path.parent / own, path.parent.parent / own, path.parent / f"{kind}.json"):
@@ -304,7 +315,7 @@ def beside(path, name, kind):
     return None
 
 
-def routers_of(folder, vrf=DEFAULT):
+def routers_of(folder: str | Path, vrf: str = DEFAULT) -> list[Router]:
     """The routers of a folder, with their routes where those are there."""
     found = []
     for name, path in configurations(Path(folder)).items():
@@ -316,7 +327,7 @@ def routers_of(folder, vrf=DEFAULT):
     return found
 
 
-def add_addresses(router, said):
+def add_addresses(router: Router, said: tuple[str, str, Any] | None) -> None:
     """The addresses that `show interface json` tells of interfaces whose configuration has none."""
     rows = said[2] if said else {}
     for name, row in rows.items():
@@ -336,7 +347,7 @@ class Route:
     place: Place
 
 
-def routes_in(router, said):
+def routes_in(router: Router, said: tuple[str, str, Any] | None) -> list[Route] | None:
     """The routes that `show ip route json` tells, None where it isn't there."""
     if said is None:
         return None
@@ -351,7 +362,7 @@ def routes_in(router, said):
     return found
 
 
-def route_of(router, prefix, entry, place):
+def route_of(router: Router, prefix: str, entry: dict[str, Any], place: Place) -> list[Route]:
     """A route as one of at most one, by its first next hop that is used."""
     told = [hop for hop in entry.get("nexthops", ()) if "ip" in hop]
     hops = [hop for hop in told if hop.get("active", True) and hop.get("fib", True)]
@@ -365,7 +376,7 @@ def route_of(router, prefix, entry, place):
     return [Route(prefix, first["ip"], first.get("interfaceName", ""), *numbers, entry["protocol"], place)]
 
 
-def ranges(router):
+def ranges(router: Router) -> list[tuple[str, str]]:
     """The RP ranges as pairs of a prefix and an RP. What can't be one is left."""
     found = []
     for address, groups, name, place in router.rps:
@@ -376,7 +387,7 @@ def ranges(router):
     return found
 
 
-def permitted(router, name):
+def permitted(router: Router, name: str) -> list[tuple[str, Place]]:
     """What a prefix list permits, with the lines; a refusal in it is left."""
     rows = sorted(router.lists.get(name, ()), key=lambda row: row.number)
     for row in rows:
@@ -385,7 +396,7 @@ def permitted(router, name):
     return [(row.prefix, row.place) for row in rows if row.is_permit]
 
 
-def group_ranges(router, rows):
+def group_ranges(router: Router, rows: Iterable[tuple[str, Place]]) -> Iterator[str]:
     """The prefixes as ranges of groups; one that has all groups and more is that of all groups."""
     everything = IPv4Network(ALL_GROUPS)
     for prefix, place in rows:
@@ -396,12 +407,12 @@ def group_ranges(router, rows):
             router.leave(place, "it is no range of groups")
 
 
-def is_usual_ssm(router):
+def is_usual_ssm(router: Router) -> bool:
     """Whether the SSM groups are 232.0.0.0/8 alone."""
     rows = router.lists.get(router.ssm[0], [])
     return [(row.is_permit, row.prefix) for row in rows] == [(True, "232.0.0.0/8")]
 
 
-def used_lists(router):
+def used_lists(router: Router) -> set[str | None]:
     return {name for _, _, name, _ in router.rps} | ({router.ssm[0]} if router.ssm else set())
 

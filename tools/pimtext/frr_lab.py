@@ -1,10 +1,18 @@
 """A network for tools/lab out of the configurations of FRR routers: the text of a Python file, and the trees that
 FRR told."""
+from __future__ import annotations
+
+from collections.abc import Iterator, Sequence
 from dataclasses import dataclass, field
 from ipaddress import IPv4Network, ip_address
+from pathlib import Path
+from typing import TYPE_CHECKING, Any
 
 from pimtext import frr
 from pimtext.frr import IGMP_TIMES
+
+if TYPE_CHECKING:
+    from lab.network import Network
 
 # A loopback's subnet has two addresses here at least.
 LONGEST = 31
@@ -19,7 +27,7 @@ class Link:
     ports: list = field(default_factory=list)
     name: str = ""
 
-    def addresses(self):
+    def addresses(self) -> list[str]:
         return [str(port.own.ip) for _, port in self.ports]
 
 
@@ -44,7 +52,7 @@ class Source:
 class Plan:
     """What is carried over. The rest is in each router's `left`."""
 
-    def __init__(self, routers, sends=()):
+    def __init__(self, routers: list[frr.Router], sends: Sequence[tuple[str, str]] = ()) -> None:
         self.routers, self.links, self.taken = routers, {}, {address for address, _ in sends}
         self.ranges = {router.name: frr.ranges(router) for router in routers}
         self.roots = {address for ranges in self.ranges.values() for _, address in ranges}
@@ -62,7 +70,7 @@ class Plan:
 
     # ---- links
 
-    def plug(self, router, port):
+    def plug(self, router: frr.Router, port: frr.Interface) -> None:
         subnet = port.own.network
         if subnet.prefixlen > LONGEST:
             subnet = port.own.network.supernet(new_prefix=LONGEST)
@@ -71,7 +79,7 @@ class Plan:
         self.taken.add(str(port.own.ip))
         self.links.setdefault(subnet, Link(subnet)).ports.append((router, port))
 
-    def name_links(self):
+    def name_links(self) -> None:
         names = set()
         for link in self.links.values():
             router, port = link.ports[0]
@@ -80,20 +88,20 @@ class Plan:
             link.name += f" {link.subnet}" * (link.name in names)
             names.add(link.name)
 
-    def ports_of(self, router):
+    def ports_of(self, router: frr.Router) -> list[tuple[frr.Interface, Link]]:
         """The interfaces of a router by their numbers, each with its link."""
         return [(port, link) for link in self.links.values() for owner, port in link.ports if owner is router]
 
-    def link_of(self, router, port_name):
+    def link_of(self, router: frr.Router, port_name: str) -> str | None:
         """The name of the link of an interface, None where it isn't carried over."""
         return next((link.name for port, link in self.ports_of(router) if port.name == port_name), None)
 
-    def link_at(self, address):
+    def link_at(self, address: str) -> Link | None:
         return next((link for link in self.links.values() if ip_address(address) in link.subnet), None)
 
     # ---- hosts
 
-    def members_of(self, router):
+    def members_of(self, router: frr.Router) -> Iterator[Member]:
         """A host for each interface that joins groups itself."""
         for port, link in self.ports_of(router):
             joins = tuple((group, source) for group, source, _ in port.joins)
@@ -104,7 +112,7 @@ class Plan:
                 else:
                     yield Member(f"{router.name}-{port.name}", link.name, address, joins)
 
-    def free(self, link):
+    def free(self, link: Link) -> str | None:
         """The highest address of a link that nobody has, and takes it."""
         last = int(link.subnet.broadcast_address) - 1
         for number in range(last, max(int(link.subnet.network_address), last - 300), -1):
@@ -114,7 +122,7 @@ class Plan:
                 return address
         return None
 
-    def source(self, number, address, groups):
+    def source(self, number: int, address: str, groups: list[str]) -> Source:
         link = self.link_at(address)
         if link is None:
             raise frr.Unreadable(f"the source {address} is in the subnet of no interface that is carried over")
@@ -122,19 +130,19 @@ class Plan:
 
     # ---- routes and options
 
-    def routes_of(self, router):
+    def routes_of(self, router: frr.Router) -> list[str]:
         """Its routes as a scenario has them, those of configured static routes first where nothing else is told."""
         numbers = {port.name: number for number, (port, _) in enumerate(self.ports_of(router))}
         if router.routes is not None:
             return [text for route in router.routes for text in found_route(router, route, numbers)]
         return [text for row in router.statics for text in self.static_route(router, *row)]
 
-    def static_routes(self, router):
+    def static_routes(self, router: frr.Router) -> list[str]:
         """Those of its routes that stay where it runs a routing protocol."""
         static = {str(IPv4Network(prefix, strict=False)) for prefix, *_ in router.statics}
         return [text for text in self.routes[router.name] if text.split()[0] in static]
 
-    def static_route(self, router, prefix, hop, distance, place):
+    def static_route(self, router: frr.Router, prefix: str, hop: str, distance: int, place: frr.Place) -> list[str]:
         if is_unused(router, prefix, place):
             return []
         for number, (port, _) in enumerate(self.ports_of(router)):
@@ -143,13 +151,13 @@ class Plan:
         router.leave(place, "its next hop is on no link of the router that is carried over")
         return []
 
-    def options_of(self, router):
+    def options_of(self, router: frr.Router) -> dict[str, int | str]:
         options = igmp_times(router)
         if router.spt_never:
             options["spt"] = "never"
         return options
 
-    def judge(self, router):
+    def judge(self, router: frr.Router) -> None:
         """Tells what is carried over, but not as it stands."""
         for port, link in self.ports_of(router):
             is_stub = len(link.ports) == 1 and not port.is_loopback()
@@ -166,12 +174,12 @@ class Plan:
         judge_lists(router)
         judge_statics(router)
 
-    def is_alone(self, router):
+    def is_alone(self, router: frr.Router) -> bool:
         """Whether it has no other routes than those: it runs no routing protocol."""
         return not router.protocols
 
 
-def is_carried(router, port, roots, taken):
+def is_carried(router: frr.Router, port: frr.Interface, roots: set[str], taken: set[str]) -> bool:
     """Whether an interface is carried over; it is told why not."""
     if port.is_shut:
         reason = "it is shut down"
@@ -189,7 +197,7 @@ def is_carried(router, port, roots, taken):
     return False
 
 
-def is_unused(router, prefix, place):
+def is_unused(router: frr.Router, prefix: str, place: frr.Place) -> bool:
     """Whether it is a default route, which FRR's PIM doesn't use unless it is told to."""
     if prefix != "0.0.0.0/0" or router.resolves_by_default:
         return False
@@ -197,7 +205,7 @@ def is_unused(router, prefix, place):
     return True
 
 
-def found_route(router, route, numbers):
+def found_route(router: frr.Router, route: frr.Route, numbers: dict[str, int]) -> list[str]:
     if is_unused(router, route.prefix, route.place):
         return []
     if route.port not in numbers:
@@ -206,7 +214,7 @@ def found_route(router, route, numbers):
     return [f"{route.prefix} {route.hop} {numbers[route.port]} {route.distance} {route.metric}"]
 
 
-def igmp_times(router):
+def igmp_times(router: frr.Router) -> dict[str, int | str]:
     """IGMP's times, which are one for all interfaces: those of the first interface with IGMP. Another one's are
     left."""
     ports, options = [port for port in router.here() if port.is_igmp], {}
@@ -220,14 +228,14 @@ def igmp_times(router):
     return options
 
 
-def judge_lists(router):
+def judge_lists(router: frr.Router) -> None:
     used = frr.used_lists(router)
     unused = [row for name, rows in router.lists.items() if name not in used for row in rows]
     for row in unused:
         router.leave(row.place, "no RP and no `ip pim ssm` names this prefix list")
 
 
-def judge_statics(router):
+def judge_statics(router: frr.Router) -> None:
     """Tells which static routes FRR doesn't use."""
     known = {route.prefix for route in router.routes or ()}
     for prefix, _, _, place in router.statics:
@@ -235,7 +243,7 @@ def judge_statics(router):
             router.leave(place, "it isn't among the routes that `show ip route json` tells")
 
 
-def groups_of(sends):
+def groups_of(sends: Sequence[tuple[str, str]]) -> dict[str, list[str]]:
     """The groups of each source."""
     found = {}
     for address, group in sends:
@@ -246,12 +254,12 @@ def groups_of(sends):
 # ---- the file
 
 
-def call(name, /, *words, **named):
+def call(name: str, /, *words: object, **named: object) -> str:
     said = [repr(word) for word in words] + [f"{key}={value!r}" for key, value in named.items()]
     return f"{name}({', '.join(said)})".replace("'", '"')
 
 
-def text_of(plan, origin):
+def text_of(plan: Plan, origin: str | Path) -> str:
     """The text of the file."""
     parts = [[f'"""The network of the FRR configurations in {origin}, as tools/from_frr carries it over."""',
               "from lab import Network", "", "net = Network()"]]
@@ -262,7 +270,7 @@ def text_of(plan, origin):
     return "\n\n".join("\n".join(lines) for lines in parts if lines) + "\n"
 
 
-def router_lines(plan, router):
+def router_lines(plan: Plan, router: frr.Router) -> Iterator[str]:
     options = dict(plan.options[router.name])
     options["rps"] = [f"{prefix} {address}" for prefix, address in plan.ranges[router.name]]
     if router.routes is not None and not plan.is_alone(router):
@@ -271,7 +279,7 @@ def router_lines(plan, router):
         yield call("net.router", router.name, **{key: value for key, value in options.items() if value != []})
 
 
-def link_lines(link):
+def link_lines(link: Link) -> Iterator[str]:
     names = [router.name for router, _ in link.ports]
     yield call("net.link", *names, name=link.name, subnet=str(link.subnet), addresses=link.addresses())
     for router, port in link.ports:
@@ -279,7 +287,7 @@ def link_lines(link):
             yield call(f'net.links["{link.name}"].configure', router.name, priority=port.priority)
 
 
-def route_lines(plan, router):
+def route_lines(plan: Plan, router: frr.Router) -> Iterator[str]:
     """Static routes stay; where a routing protocol runs, the lab's shortest paths take over once something fails."""
     if plan.is_alone(router):
         yield call("net.routes", router.name, *plan.routes[router.name], alone=True)
@@ -287,11 +295,11 @@ def route_lines(plan, router):
         yield call("net.routes", router.name, *texts)
 
 
-def host_lines(plan):
+def host_lines(plan: Plan) -> list[str]:
     return [call("net.host", host.name, host.link, address=host.address) for host in (*plan.members, *plan.sources)]
 
 
-def run_lines(plan):
+def run_lines(plan: Plan) -> list[str]:
     joins = [call(f'net.hosts["{member.name}"].join', group, *([source] if source else []))
              for member in plan.members for group, source in member.joins]
     streams = [call(f'net.hosts["{each.name}"].stream', group, every=1, times=STREAM)
@@ -304,7 +312,7 @@ def run_lines(plan):
     return lines + [f"print({tree})" for tree in shown]
 
 
-def sources_shown(plan):
+def sources_shown(plan: Plan) -> list[tuple[str, str]]:
     """Sources of groups whose trees are shown: those that somebody asks for, and those that send."""
     asked = {(group, source) for member in plan.members for group, source in member.joins if source}
     return sorted(asked | {(group, each.address) for each in plan.sources for group in each.groups})
@@ -322,14 +330,14 @@ class Branch:
     incoming: str | None
     outgoing: frozenset
 
-    def key(self):
+    def key(self) -> tuple[str, str, str]:
         return self.group, self.source, self.router
 
-    def way(self):
+    def way(self) -> str:
         return f"from {self.incoming or 'itself'} to {', '.join(sorted(self.outgoing)) or 'none'}"
 
 
-def told_branches(plan, folder):
+def told_branches(plan: Plan, folder: Path) -> dict[tuple[str, str, str], Branch]:
     """What `show ip mroute json` says of each router, where it is there. The register tunnel is none of the links."""
     paths = frr.configurations(folder)
     found = []
@@ -340,7 +348,7 @@ def told_branches(plan, folder):
     return {branch.key(): branch for branch in found if branch.outgoing}
 
 
-def branch_told(plan, router, entry):
+def branch_told(plan: Plan, router: frr.Router, entry: dict[str, Any]) -> Branch:
     port = router.interfaces.get(entry["iif"])
     is_root = entry["iif"] == "pimreg" or (port is not None and port.is_loopback())
     incoming = None if is_root else plan.link_of(router, entry["iif"]) or entry["iif"]
@@ -349,7 +357,7 @@ def branch_told(plan, router, entry):
     return Branch(router.name, entry["source"], entry["group"], incoming, outgoing)
 
 
-def lab_branches(net):
+def lab_branches(net: Network) -> dict[tuple[str, str, str], Branch]:
     """The same of a network of tools/lab."""
     from pimtext import trees
     found = []
@@ -361,7 +369,7 @@ def lab_branches(net):
     return {branch.key(): branch for branch in found if branch.outgoing}
 
 
-def senders_told(plan, folder):
+def senders_told(plan: Plan, folder: Path) -> list[tuple[str, str]]:
     """The sources of FRR's trees that are on a link of the network, with their groups."""
     told = told_branches(plan, folder).values()
     found = {(branch.source, branch.group) for branch in told if branch.source != "*"}

@@ -19,10 +19,10 @@ class Function:
     trait: str
     name: str
 
-    def __str__(self):
+    def __str__(self) -> str:
         return "::".join([*self.module, *([self.owner] if self.owner else []), self.name])
 
-    def is_named(self, words):
+    def is_named(self, words: str) -> bool:
         """Whether a name that may leave out the modules, and then the type, is its own."""
         wanted = words.split("::")
         paths = [[*self.module, *([owner] if owner else []), self.name]
@@ -39,14 +39,14 @@ class Found:
     contract: list = field(default_factory=list)
 
 
-def without_bounds(text):
+def without_bounds(text: str) -> str:
     """A text without what stands in angle brackets."""
     while (less := re.sub(r"<[^<>]*>", "", text.replace("->", "→"))) != text:
         text = less
     return text
 
 
-def block_of(line):
+def block_of(line: str) -> tuple[str, str] | None:
     """The type and the trait of the block that a line opens, or None where it opens none."""
     found = BLOCK.match(line)
     if not found:
@@ -57,12 +57,12 @@ def block_of(line):
     return "".join(last(owner)), "".join(last(trait))
 
 
-def module_of(path):
+def module_of(path: str) -> tuple[str, ...]:
     """The modules of a file of src/, from its path in the crate."""
     return tuple(path.removeprefix("src/").removesuffix(".rt").split("/"))
 
 
-def braced(lines, at):
+def braced(lines: list[str], at: int) -> str:
     """The text from a line to where its first brace is closed, or to the line's end where it opens none."""
     text, depth = " ".join(line.strip() for line in lines[at:at + 60]), 0
     if "{" not in lines[at]:
@@ -74,7 +74,7 @@ def braced(lines, at):
     return text
 
 
-def functions(path, text):
+def functions(path: str, text: str) -> list[Found]:
     """The functions of a file of src/, each with its clauses and the notes for the prover above it."""
     found, block, notes, lines = [], ("", ""), [], text.splitlines()
     for at, line in enumerate(lines):
@@ -90,14 +90,14 @@ def functions(path, text):
     return found
 
 
-def notes_beside(text):
+def notes_beside(text: str) -> list[str]:
     """What a file says to the prover beside the contracts of its functions: of its types, and what their parts stand
     for."""
     lines = text.splitlines()
     return [braced(lines, at) for at, line in enumerate(lines) if NOTES.match(line) and "[tactic" not in line]
 
 
-def clauses(found):
+def clauses(found: Found) -> set[str]:
     """The names of a function's clauses; one without a name goes by its kind."""
     named = filter(None, map(CLAUSE.match, found.contract))
     return {clause[2] or clause[1] for clause in named}

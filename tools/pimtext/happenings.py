@@ -4,6 +4,7 @@ import random
 from collections import deque
 from dataclasses import dataclass, replace
 from ipaddress import IPv4Address, IPv4Network
+from typing import Any
 
 from pimtext import packets
 from pimtext.packets import Assert, Entry, GroupEntries, Hello, Record
@@ -45,7 +46,7 @@ class Event:
     is_refused: bool = False
 
 
-def spoilt(data, how, own):
+def spoilt(data: bytes, how: str, own: str) -> bytes:
     """A data packet with one thing wrong."""
     if how in ("version", "header"):
         changed = packets.with_number(data, 0, 0x65 if how == "version" else 0x44, 1)
@@ -69,7 +70,7 @@ def spoilt(data, how, own):
 class Happenings:
     """A router's configuration, and what happens to it."""
 
-    def __init__(self, seed):
+    def __init__(self, seed: int) -> None:
         self.draws = draws = random.Random(seed)
         self.count = draws.randint(2, 5)
         self.interfaces = [(f"10.0.{at}.5", 24, draws.choice((1, 1, 0, 7)), 500, 2500) for at in range(self.count)]
@@ -86,35 +87,35 @@ class Happenings:
 
     # ---- who there is
 
-    def own(self, iface):
+    def own(self, iface: int) -> str:
         return self.interfaces[iface][0]
 
-    def iface(self):
+    def iface(self) -> int:
         return self.draws.randrange(self.count)
 
-    def all_neighbours(self):
+    def all_neighbours(self) -> list[tuple[int, str]]:
         return [(at, whom) for at, some in enumerate(self.neighbours) for whom in some]
 
-    def neighbour(self):
+    def neighbour(self) -> tuple[int, str]:
         """An interface and a router on it, who may be a stranger."""
         if not self.all_neighbours() or self.draws.random() < 0.03:
             iface = self.iface()
             return iface, f"10.0.{iface}.77"
         return self.draws.choice(self.all_neighbours())
 
-    def source(self):
+    def source(self) -> str:
         return self.draws.choice(
             (*FAR_SOURCES, *(f"10.0.{at}.{last}" for at in range(self.count) for last in (50, 51)))
         )
 
-    def some_flow(self):
+    def some_flow(self) -> tuple[str, str]:
         """A source and a group."""
         return self.source(), self.draws.choice(GROUPS)
 
-    def flow(self):
+    def flow(self) -> tuple[str, str]:
         return self.draws.choice(self.flows) if self.draws.random() < 0.9 else self.some_flow()
 
-    def towards(self, address):
+    def towards(self, address: str) -> int:
         """The interface towards an address, by its link or the longest route; any, where there is none."""
         if address.startswith("10.0."):
             return int(address.split(".")[2])
@@ -122,17 +123,17 @@ class Happenings:
         ways = [(net.prefixlen, iface) for net, iface in ways if IPv4Address(address) in net]
         return max(ways)[1] if ways else self.iface()
 
-    def rp(self, group):
+    def rp(self, group: str) -> str:
         return next((rp for prefix, rp in reversed(self.ranges) if IPv4Address(group) in IPv4Network(prefix)), FAR_RP)
 
-    def way(self, source, group):
+    def way(self, source: str, group: str) -> int:
         """An interface on which packets come: that towards the source, that towards the RP, or any; now and then one
         that isn't."""
         if self.draws.random() < 0.01:
             return self.count
         return self.draws.choice([self.towards(source)] * 4 + [self.towards(self.rp(group))] * 2 + [self.iface()])
 
-    def some_routes(self):
+    def some_routes(self) -> list[tuple[str, str, int, int, int]]:
         routes = []
         for prefix in PREFIXES:
             if self.draws.random() < 0.75:
@@ -141,7 +142,7 @@ class Happenings:
                 routes.append((prefix, hop, iface, self.draws.choice((100, 110)), self.draws.choice((10, 20))))
         return routes
 
-    def some_ranges(self):
+    def some_ranges(self) -> list[tuple[str, str]]:
         ranges = [("239.0.0.0/8", self.draws.choice(self.rps))]
         if self.draws.random() < 0.4:
             ranges.append(("239.2.0.0/16", self.draws.choice(self.rps)))
@@ -149,20 +150,20 @@ class Happenings:
 
     # ---- events
 
-    def event(self, call, values, words):
+    def event(self, call: str, values: tuple[Any, ...], words: str) -> Event:
         return Event(call, values, self.draws.getrandbits(32), words)
 
-    def frame(self, iface, data, words):
+    def frame(self, iface: int, data: bytes, words: str) -> Event:
         return self.event("frame", (iface, data), f"on {iface} {words}")
 
-    def up(self, iface):
+    def up(self, iface: int) -> Event:
         return self.event("up", (iface,), f"interface {iface} goes up")
 
-    def up_without_memory(self, iface):
+    def up_without_memory(self, iface: int) -> Event:
         """A Hello leaves of it, so it needs memory."""
         return replace(self.up(iface), is_refused=True, words=f"interface {iface} goes up, and memory is refused")
 
-    def hello_of(self, iface, whom, generation=1):
+    def hello_of(self, iface: int, whom: str, generation: int = 1) -> Event:
         hello = Hello(self.draws.choice(HOLDTIMES), None, None, self.draws.choice((None, 0, 1, 7)), generation)
         if self.draws.random() < 0.5:
             hello = Hello(hello.holdtime, 500, 2500, hello.priority, generation)
@@ -170,13 +171,13 @@ class Happenings:
             iface, packets.write_hello(whom, hello), f"Hello of {whom}, {hello.holdtime} s, priority {hello.priority}"
         )
 
-    def hello(self):
+    def hello(self) -> Event:
         return self.hello_of(*self.neighbour(), generation=self.draws.choice((1, 1, 1, 2)))
 
-    def down(self, iface):
+    def down(self, iface: int) -> Event:
         return self.event("down", (iface,), f"interface {iface} goes down")
 
-    def link(self):
+    def link(self) -> Event:
         """An interface goes down, and mostly up again in a while."""
         iface = self.iface()
         if self.draws.random() < 0.8:
@@ -184,25 +185,25 @@ class Happenings:
             self.coming.extend((self.hello_of, iface, whom) for whom in self.neighbours[iface])
         return self.down(iface)
 
-    def new_routes(self):
+    def new_routes(self) -> Event:
         if self.draws.random() < 0.5 and self.routes:
             self.routes = [route for route in self.routes if self.draws.random() < 0.8]
         else:
             self.routes = self.some_routes()
         return self.event("set_routes", (self.routes,), f"routes {self.routes}")
 
-    def new_ranges(self):
+    def new_ranges(self) -> Event:
         self.ranges = self.some_ranges()
         return self.event("set_ranges", (self.ranges,), f"ranges {self.ranges}")
 
-    def entry(self, source, group):
+    def entry(self, source: str, group: str) -> tuple[str, Entry]:
         """An entry of a Join/Prune, in words and as it is sent: of (*,G), (S,G) or (S,G,rpt)."""
         kind = self.draws.choice(("sg", "sg", "rpt") if group in SSM else ("star", "star", "sg", "sg", "rpt"))
         if kind == "star":
             return "*", Entry(self.rp(group), 32, True, True)
         return f"{source}{' rpt' if kind == 'rpt' else ''}", Entry(source, 32, False, kind == "rpt")
 
-    def join_prune(self):
+    def join_prune(self) -> Event:
         iface, whom = self.neighbour()
         others = [other for other in self.neighbours[iface] if other != whom]
         to = self.draws.choice(others) if others and self.draws.random() < 0.3 else self.own(iface)
@@ -216,7 +217,7 @@ class Happenings:
         data = packets.write_join_prune(whom, to, [GroupEntries(group, 32, tuple(joins), tuple(prunes))], holdtime)
         return self.frame(iface, data, f"{' '.join(words)} of {whom} to {to}, {holdtime} s")
 
-    def assert_(self):
+    def assert_(self) -> Event:
         iface, whom = self.neighbour()
         source, group = self.flow()
         is_star = self.draws.random() < 0.3 and group not in SSM
@@ -226,7 +227,7 @@ class Happenings:
         told = Assert(group, 32, "0.0.0.0" if is_star else source, rpt, preference, metric)
         return self.frame(iface, packets.write_assert(whom, told), f"Assert of {whom}: {told}")
 
-    def report(self):
+    def report(self) -> Event:
         iface, records = self.iface(), []
         for _ in range(self.draws.choice((1, 1, 2))):
             source, group = self.flow()
@@ -235,23 +236,23 @@ class Happenings:
             records.append(Record(kind, group, tuple(sorted(sources))))
         return self.frame(iface, packets.write_report(f"10.0.{iface}.60", records), f"report {records}")
 
-    def query(self):
+    def query(self) -> Event:
         iface, group = self.iface(), self.draws.choice(("0.0.0.0", *GROUPS))
         body = bytes([0x11, 100, 0, 0]) + packets.octets(group) + bytes([2, 125, 0, 0])
         whom = self.draws.choice((f"10.0.{iface}.2", f"10.0.{iface}.9"))
         to = "224.0.0.1" if group == "0.0.0.0" else group
         return self.frame(iface, packets.write_igmp(whom, to, body), f"query of {whom} for {group}")
 
-    def packet(self, source, group):
+    def packet(self, source: str, group: str) -> tuple[int, bytes]:
         ttl = self.draws.choice((64, 64, 64, 64, 2, 1, 0))
         data = packets.write_data(source, group, bytes(self.draws.randrange(8)), ttl)
         return ttl, data + bytes(self.draws.choice((0, 0, 0, 3)))
 
-    def data_on(self, iface, source, group):
+    def data_on(self, iface: int, source: str, group: str) -> Event:
         ttl, data = self.packet(source, group)
         return self.frame(iface, data, f"data of {source} to {group}, TTL {ttl}, {len(data)} bytes")
 
-    def data(self):
+    def data(self) -> Event:
         """A packet, and mostly more of it, with time between them."""
         flow = self.flow()
         iface = self.way(*flow)
@@ -260,13 +261,13 @@ class Happenings:
             self.coming.append((self.data_on, iface if self.draws.random() < 0.8 else self.way(*flow), *flow))
         return self.data_on(iface, *flow)
 
-    def spoilt(self):
+    def spoilt(self) -> Event:
         source, group = self.flow()
         how = self.draws.choice(SPOILT)
         data = spoilt(packets.write_data(source, group, bytes(8), 64), how, self.own(self.iface()))
         return self.frame(self.way(source, group), data, f"data of {source} to {group}, wrong: {how}")
 
-    def register(self):
+    def register(self) -> Event:
         source, group = self.flow()
         is_null = self.draws.random() < 0.3
         inner = packets.write_data(source, group, bytes(4), self.draws.choice((64, 2, 1)))
@@ -277,7 +278,7 @@ class Happenings:
         data = packets.write_pim(packets.REGISTER, whom, to, 64, bytes([0x40 * is_null, 0, 0, 0]) + inner)
         return self.event("unicast", (data,), f"{'Null-' * is_null}Register of {whom} to {to}: {source} to {group}")
 
-    def register_stop(self):
+    def register_stop(self) -> Event:
         source, group = self.flow()
         whom = self.draws.choice(self.rps)
         content = packets.encoded_group(group, 32) + packets.encoded_unicast(
@@ -286,14 +287,14 @@ class Happenings:
         data = packets.write_pim(packets.REGISTER_STOP, whom, self.own(self.iface()), 64, content)
         return self.event("unicast", (data,), f"Register-Stop of {whom}: {source} to {group}")
 
-    def advance(self, moment):
+    def advance(self, moment: int) -> Event:
         self.present = max(moment, self.present)
         return self.event("advance", (moment,), f"time passes to {moment}")
 
-    def pause(self):
+    def pause(self) -> Event:
         return self.advance(self.present + self.draws.choice((0, 1, 500, 2000)))
 
-    def wait(self):
+    def wait(self) -> Event:
         """Time passes: for a moment, up to the next timer's end or just before it, or for long."""
         ends = self.next_moment if self.next_moment is not None else self.present + 1
         to = self.draws.choice(
@@ -326,17 +327,17 @@ class Happenings:
         "refusal": 0.05,
     }
 
-    def refusal(self):
+    def refusal(self) -> Event:
         """An interface goes down, and up again with no memory for it: the router fails."""
         iface = self.iface()
         self.coming.append((self.up_without_memory, iface))
         return self.down(iface)
 
-    def any(self):
+    def any(self) -> Event:
         name, = self.draws.choices(list(self.CHANCES), list(self.CHANCES.values()))
         return getattr(self, name)()
 
-    def one(self, next_moment):
+    def one(self, next_moment: int | None) -> Event:
         """What happens next; a timer of the router ends at the moment, or none runs."""
         self.next_moment = next_moment
         make, *values = self.coming.popleft() if self.coming else (self.any,)

@@ -21,7 +21,7 @@ LLVM_FLAGS = [
 ]
 
 
-def crates_below(name, named, found):
+def crates_below(name: str, named: dict[str, list[str]], found: set[str]) -> set[str]:
     """Puts the crates that a crate stands on into `found`, and the crate itself."""
     if name in named and name not in found:
         found.add(name)
@@ -30,14 +30,14 @@ def crates_below(name, named, found):
     return found
 
 
-def crates_of(name):
+def crates_of(name: str) -> dict[str, list[str]]:
     """A crate and those of the repository that it stands on, each with the names of what it stands on itself."""
     lines = (line.partition(":") for line in (TOP / "crates.txt").read_text().splitlines() if ":" in line)
     named = {head.split()[0]: below.split() for head, _, below in lines if not head.startswith("#")}
     return {each: named[each] for each in sorted(crates_below(name, named, set()))}
 
 
-def sum_of_sources(name, *others):
+def sum_of_sources(name: str, *others: Path) -> str:
     """A sum of what an unproved build of a crate reads: the sources, without their proofs, and how they become code."""
     total = hashlib.sha256(repr((FLAGS, LLVM_FLAGS)).encode())
     for each, below in crates_of(name).items():
@@ -49,22 +49,22 @@ def sum_of_sources(name, *others):
     return total.hexdigest()[:32]
 
 
-def kept_program():
+def kept_program() -> Path:
     """Where the program is kept."""
     return cache() / f"pimlab-{sum_of_sources('pimlab')}"
 
 
-def kept_library():
+def kept_library() -> Path:
     """Where the library's calls are kept, as an archive."""
     return cache() / f"pim_c-{sum_of_sources('pim_c', CALLS)}.a"
 
 
-def sum_of_both():
+def sum_of_both() -> str:
     """What a build of both is called."""
     return hashlib.sha256(f"{kept_program().name} {kept_library().name}".encode()).hexdigest()[:32]
 
 
-def cache():
+def cache() -> Path:
     """The folder in which builds are kept."""
     given = os.environ.get("XDG_CACHE_HOME", "")
     return Path(given if os.path.isabs(given) else os.path.expanduser("~/.cache")) / "viqeshor"
@@ -74,7 +74,7 @@ def cache():
 BROUGHT = "VIQESHOR_BUILDS"
 
 
-def brought(path, who, folder=None):
+def brought(path: Path, who: str, folder: str | Path | None = None) -> Path | None:
     """A build of the same sources that was made elsewhere, in the folder that is given or that the environment names;
     None where there is none."""
     folder = folder or os.environ.get(BROUGHT)

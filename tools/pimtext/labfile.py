@@ -1,14 +1,20 @@
 """A file of tools/lab, for tools that look at the network that it makes. The folder tools/networks is on the path of
 whoever calls."""
+from __future__ import annotations
+
 import runpy
 import sys
 import traceback
 from pathlib import Path
+from typing import TYPE_CHECKING
 
 from pimtext import playpage
 
+if TYPE_CHECKING:
+    from lab.network import Network
 
-def network(path):
+
+def network(path: str | Path) -> Network:
     """The last network that a file makes and runs; ends the program where there is none. An assert of the file that
     fails is told, and the network that it fails at is the one to look at."""
     import lab
@@ -27,12 +33,12 @@ def network(path):
     return nets[-1] if nets else sys.exit(f"{path} runs no network")
 
 
-def told(net, name, is_by_time=True):
+def told(net: Network, name: str, is_by_time: bool = True) -> playpage.Told:
     """A network's run, with the names of its hosts, and what is odd in it."""
     from lab.lines import Lines
     hosts = {host.address: host.name for host in net.hosts.values()}
     return playpage.Told(name, net.scenario(), hosts, Lines(net), frozenset(net.unheard), is_by_time)
 
 
-def is_lab_file(path):
+def is_lab_file(path: str | Path) -> bool:
     return Path(path).suffix == ".py"

@@ -1,5 +1,7 @@
 """The library: one archive of the router, the kit's few lines of C around malloc and our own (bindings/c), and what is
 made of it."""
+from __future__ import annotations
+
 import hashlib
 import os
 import re
@@ -7,10 +9,15 @@ import shutil
 import subprocess
 import sys
 import tempfile
+from collections.abc import Iterator, Sequence
 from pathlib import Path
+from typing import TYPE_CHECKING, Any
 
 from pimtext import kit, unproved
 from pimtext.kept import brought, crates_of, kept_library
+
+if TYPE_CHECKING:
+    import argparse
 
 TOP = Path(__file__).resolve().parent.parent.parent
 CRATE = TOP / "crates" / "pim_c"
@@ -28,7 +35,7 @@ SERIES = ".".join(VERSION.split(".")[:2 if VERSION.startswith("0.") else 1])
 SONAME = f"libviqeshor.so.{SERIES}"
 
 
-def ran(words, **how):
+def ran(words: Sequence[object], **how: Any) -> bytes:
     """Runs a command; ends the program with what it says where it fails."""
     done = subprocess.run([str(word) for word in words], stdout=subprocess.PIPE, stderr=subprocess.STDOUT, **how)
     if done.returncode:
@@ -44,7 +51,7 @@ def ran(words, **how):
 PROVED, PROVED_OF = CRATE / "out" / "libpim_c.a", CRATE / "out" / "libpim_c.sum"
 
 
-def sum_of_proved():
+def sum_of_proved() -> str:
     """A sum of the archive, and of all that its proof reads."""
     total = hashlib.sha256(PROVED.read_bytes() + ran(["rt", "version"]))
     for name, below in crates_of("pim_c").items():
@@ -55,7 +62,7 @@ def sum_of_proved():
     return total.hexdigest()
 
 
-def proved_router():
+def proved_router() -> Path:
     """The archive of the proved crate: as it is there, where the sources are the same, else it is built."""
     if not (PROVED.exists() and PROVED_OF.exists() and PROVED_OF.read_text() == sum_of_proved()):
         ran(["rt", "lib"], cwd=CRATE)
@@ -63,7 +70,7 @@ def proved_router():
     return PROVED
 
 
-def libraries():
+def libraries() -> Iterator[str]:
     """Where the kit finds the libraries below the crate: its own, and those that were proved."""
     kits, crates = kit.kit() / "rlibs", crates_of("pim_c")
     built = {name: TOP / "crates" / name / "out" / "rlib" for name in crates if name != "pim_c"}
@@ -73,7 +80,7 @@ def libraries():
         yield from ("-L", f"dependency={folder}")
 
 
-def prove_over_gate():
+def prove_over_gate() -> None:
     """Proves and builds the archive over the libraries that `rt ci` has proved just now. It keeps them for no other
     command of its own, which would prove them again. Where a clone has older ones they are left to `rt lib`, which
     knows which are up to date."""
@@ -93,7 +100,7 @@ def prove_over_gate():
     PROVED_OF.write_text(sum_of_proved())
 
 
-def unproved_router(folder):
+def unproved_router(folder: Path | None) -> Path:
     """An archive of the same sources before any proof: brought along in a folder, or built once a machine."""
     path = kept_library()
     if found := brought(path, "library", folder):
@@ -114,7 +121,7 @@ def unproved_router(folder):
 HEAP = "heap.pic.o"
 
 
-def written_in_c(how):
+def written_in_c(how: str) -> Iterator[Path]:
     """What of the library is C: what it says of itself, and its calls, which make those that are proved."""
     for name in ("texts", "calls"):
         made = ROOM / f"{name}.o"
@@ -123,12 +130,12 @@ def written_in_c(how):
         yield made
 
 
-def archiver():
+def archiver() -> Path | str:
     """The kit's program for archives, or the C compiler's."""
     return kit.kit() / "toolchain" / "bin" / "llvm-ar" if shutil.which("rt") else os.environ.get("AR", "ar")
 
 
-def archive(router, how):
+def archive(router: Path, how: str) -> Path:
     """The archive, of a router's, that says how it was built. The kit's few lines of C around malloc are in it, or are
     put there."""
     made, tool = ROOM / "libviqeshor.a", archiver()
@@ -142,7 +149,7 @@ def archive(router, how):
     return made
 
 
-def names_of_calls():
+def names_of_calls() -> list[str]:
     """The library's calls, as its headers declare them."""
     headers = "".join((INCLUDE / "viqeshor" / name).read_text() for name in HEADERS)
     code = re.sub(r"/\*.*?\*/|^static inline.*?$", "", headers, flags=re.S | re.M)
@@ -153,7 +160,7 @@ class Library:
     """The library in out/library, proved unless another archive of the router is given, or the unproved one is asked
     for, which is taken from a folder that is named if it is there."""
 
-    def __init__(self, given=None, is_proved=True, folder=None):
+    def __init__(self, given: Path | None = None, is_proved: bool = True, folder: Path | None = None) -> None:
         ROOM.mkdir(parents=True, exist_ok=True)
         if given:
             self.archive = archive(given.resolve(), "not proved")
@@ -162,7 +169,7 @@ class Library:
         else:
             self.archive = archive(unproved_router(folder), "not proved")
 
-    def shared(self):
+    def shared(self) -> Path:
         """A shared library of all of it."""
         made, names = ROOM / "libviqeshor.so", ROOM / "names"
         names.write_text(f"{{ global: {'; '.join(names_of_calls())}; local: *; }};\n")
@@ -179,7 +186,7 @@ class Library:
         put(ROOM / SONAME, made.read_bytes(), 0o755)
         return made
 
-    def program(self, source, *flags):
+    def program(self, source: Path, *flags: str) -> Path:
         """A C program with it."""
         made = ROOM / source.stem
         ran(
@@ -201,7 +208,7 @@ class Library:
         )
         return made
 
-    def rust_program(self, source):
+    def rust_program(self, source: Path) -> Path:
         """A Rust program with it."""
         made = ROOM / f"{source.stem}_rs"
         ran(["rustc", "--edition", "2021", "-O", "-o", made, source, "-C", f"link-arg={self.archive}"])
@@ -211,7 +218,7 @@ class Library:
 # ---- which library a tool takes
 
 
-def add_choice(parser):
+def add_choice(parser: argparse.ArgumentParser) -> argparse._MutuallyExclusiveGroup:
     """The words that choose a build of the library: the proved one where there is none."""
     which = parser.add_mutually_exclusive_group()
     which.add_argument("--unproved", action="store_true", help="of the same sources, before any proof")
@@ -220,7 +227,7 @@ def add_choice(parser):
     return which
 
 
-def chosen(asked):
+def chosen(asked: argparse.Namespace) -> tuple[Library, str]:
     """The library that the words choose, and what it is called."""
     is_proved = not (asked.unproved or asked.folder)
     library = Library(asked.archive, is_proved=is_proved, folder=asked.folder)
@@ -230,12 +237,12 @@ def chosen(asked):
 # ---- installed
 
 
-def beside(path):
+def beside(path: Path) -> Path:
     """A name beside a path, by which nobody looks for anything."""
     return path.with_name(f".{path.name}.{os.getpid()}")
 
 
-def put(path, content, mode=0o644):
+def put(path: Path, content: bytes, mode: int = 0o644) -> None:
     """Writes a file beside its path, and gives it its name then. What runs by an older file of that name goes on by
     it."""
     made = beside(path)
@@ -244,14 +251,14 @@ def put(path, content, mode=0o644):
     made.replace(path)
 
 
-def link(target, path):
+def link(target: str, path: Path) -> None:
     made = beside(path)
     made.unlink(missing_ok=True)
     made.symlink_to(target)
     made.replace(path)
 
 
-def named_docs():
+def named_docs() -> list[str]:
     """The documents that the headers name."""
     named = "".join((INCLUDE / "viqeshor" / name).read_text() for name in HEADERS)
     return sorted(set(re.findall(r"\b[A-Z]+\.md\b", named)))
@@ -298,12 +305,12 @@ endif()
 """
 
 
-def filled(text):
+def filled(text: str) -> str:
     values = {"SONAME": SONAME, "VERSION": VERSION, "SERIES": SERIES}
     return re.sub(r"@(\w+)@", lambda found: values[found[1]], text)
 
 
-def install(library, prefix):
+def install(library: Library, prefix: Path) -> None:
     """The header, the archive, the shared library, and what pkg-config and CMake find them by."""
     prefix = prefix.resolve()
     lib, named = prefix / "lib", f"libviqeshor.so.{VERSION}"

@@ -1,4 +1,8 @@
 """What a message that the limit refused says again: facts that the router holds, which end as if it hadn't come."""
+from __future__ import annotations
+
+from collections.abc import Iterator
+
 from pimtext import fed, packets, printed, scenario, story, words
 from pimtext.printed import ANY
 
@@ -6,7 +10,7 @@ from pimtext.printed import ANY
 ALL_BUT, ONLY = (2, 4), (1, 3, 5)
 
 
-def refreshed(body):
+def refreshed(body: object) -> Iterator[tuple[type[printed.Row], dict[str, str]]]:
     """The rows that a Join/Prune or a report refreshes where it is taken: pairs of their table and of columns with
     their values.
     """
@@ -22,7 +26,7 @@ def refreshed(body):
                     for source in record.sources)
 
 
-def joined_and_pruned(group):
+def joined_and_pruned(group: packets.GroupEntries) -> Iterator[dict[str, str]]:
     """The columns of the rows that one group of a Join/Prune refreshes: what it joins, and what it prunes off the
     shared tree.
     """
@@ -36,7 +40,7 @@ def joined_and_pruned(group):
             yield {"group": group.group, "source": entry.source, "kind": "rpt"}
 
 
-def said_again(played, step):
+def said_again(played: scenario.Scenario, step: story.Step) -> list[printed.Row]:
     """The rows of the router that a refused step of a move says again, as they stood before the move."""
     event = fed.event(step)
     if event is None or event.name != "frame":
@@ -51,7 +55,7 @@ def said_again(played, step):
     return [row for found in rows for row in found if row.end is not None]
 
 
-def told(row):
+def told(row: printed.Row) -> str:
     """A row in words: what it is of, and its end."""
     source = getattr(row, "source", ANY)
     kind = "rpt" if getattr(row, "kind", None) == "rpt" else ""

@@ -1,10 +1,17 @@
 """What the router of a capture sent beside what ours sent: which packets say the same, and how much later or
 earlier."""
+from __future__ import annotations
+
 from bisect import bisect_left
+from collections.abc import Callable, Iterable, Iterator
 from dataclasses import dataclass
+from typing import TYPE_CHECKING
 
 from pimtext import captured, packets, words
 from pimtext.packets import GroupEntries, JoinPrune, Refused
+
+if TYPE_CHECKING:
+    from pimtext.scenario import Router
 
 # How far apart in ms two packets of a kind may be: what RFC 7761 (4.11) draws by chance, else two seconds for clocks
 # and work.
@@ -28,13 +35,13 @@ class Said:
     text: str
     exact: bytes = b""
 
-    def window(self):
+    def window(self) -> int:
         return max(CLOCK, WINDOWS.get(self.kind, (0, ""))[0])
 
-    def is_as(self, other):
+    def is_as(self, other: Said) -> bool:
         return (self.iface, self.kind, self.text, self.exact) == (other.iface, other.kind, other.text, other.exact)
 
-    def is_about_same(self, other):
+    def is_about_same(self, other: Said) -> bool:
         return (self.iface, self.kind, self.subject) == (other.iface, other.kind, other.subject)
 
 
@@ -45,15 +52,15 @@ class Row:
     theirs: Said | None
     ours: Said | None
 
-    def one(self):
+    def one(self) -> Said:
         return self.theirs or self.ours
 
-    def later(self):
+    def later(self) -> int:
         """By how many ms the capture's is later than ours."""
         return self.theirs.moment - self.ours.moment
 
 
-def said_of(number, moment, iface, data, is_copy):
+def said_of(number: int, moment: int, iface: int | None, data: bytes, is_copy: bool) -> list[Said]:
     """What a packet says: one, or for a Join/Prune one for each tree."""
     here = number, moment, iface
     if is_copy:
@@ -69,7 +76,7 @@ def said_of(number, moment, iface, data, is_copy):
     return [Said(*here, *kind_of(packet))]
 
 
-def trees_of(body):
+def trees_of(body: JoinPrune) -> Iterator[tuple[str, str]]:
     """The subject and the text of each tree of a Join/Prune."""
     for group in body.groups:
         for verb, sources in (("join", group.joins), ("prune", group.prunes)):
@@ -79,7 +86,7 @@ def trees_of(body):
                 yield f"{verb} {words.entry(group, source)}", words.join_prune(alone)
 
 
-def kind_of(packet):
+def kind_of(packet: packets.Packet) -> tuple[str, str, str] | tuple[str, str, str, bytes]:
     """The kind, the subject, the text and what else must be equal of a packet that is no Join/Prune."""
     body, to = packet.body, f"to {packet.destination}: "
     match body:
@@ -98,20 +105,20 @@ def kind_of(packet):
     return type(body).__name__, "", words.packet(packet)
 
 
-def said_in_capture(events):
+def said_in_capture(events: list[captured.Event]) -> list[Said]:
     own = [(event.number, event.moment, event.iface, event.data, is_copy(event))
            for event in events if event.what == captured.SENT]
     return [said for words_of in own for said in said_of(*words_of)]
 
 
-def is_copy(event):
+def is_copy(event: captured.Event) -> bool:
     """Whether an event is a copy of data."""
     if event.iface is None or event.data[9] == packets.IGMP:
         return False
     return not (event.data[9] == packets.PIM and event.data[16:20] == packets.ALL_PIM_ROUTERS)
 
 
-def said_in_run(run):
+def said_in_run(run: captured.Run) -> list[Said]:
     return [said for sent, iface in run.sent
             for said in said_of(sent.number, sent.moment, iface, sent.data, sent.kind == "copy")]
 
@@ -123,7 +130,7 @@ class Clock:
     moments: list
     is_coarse: bool
 
-    def are_near(self, said, other):
+    def are_near(self, said: Said, other: Said) -> bool:
         """Whether a captured packet and one of ours are within the window of their kind."""
         if abs(said.moment - other.moment) <= said.window():
             return True
@@ -132,12 +139,14 @@ class Clock:
         place = bisect_left(self.moments, other.moment + said.window())
         return place < len(self.moments) and said.moment <= self.moments[place]
 
-    def is_beyond(self, said):
+    def is_beyond(self, said: Said) -> bool:
         """Whether the router may send what ours sent after the capture's end."""
         return said.moment + WINDOWS.get(said.kind, (0, ""))[0] > self.moments[-1]
 
 
-def pairs(theirs, ours, clock, is_pair):
+def pairs(
+    theirs: list[Said], ours: list[Said], clock: Clock, is_pair: Callable[[Said, Said], bool]
+) -> Iterator[tuple[Said, Said]]:
     """Pairs the captured with the nearest of ours, one after the other; both lists lose what is paired."""
     for said in list(theirs):
         near = [other for other in ours if is_pair(said, other) and clock.are_near(said, other)]
@@ -148,7 +157,7 @@ def pairs(theirs, ours, clock, is_pair):
             yield said, other
 
 
-def compared(events, run):
+def compared(events: list[captured.Event], run: captured.Run) -> list[Row]:
     """A row for all that either sent, in time's order, but for what ours sent alone and the router may send after
     the capture's end."""
     theirs, ours = by_subject(said_in_capture(events)), by_subject(said_in_run(run))
@@ -158,14 +167,14 @@ def compared(events, run):
     return sorted(rows, key=lambda row: (row.one().moment, row.one().packet))
 
 
-def by_subject(said):
+def by_subject(said: list[Said]) -> dict[tuple[int | None, str, str], list[Said]]:
     found = {}
     for each in said:
         found.setdefault((each.iface, each.kind, each.subject), []).append(each)
     return found
 
 
-def rows_of(theirs, ours, clock):
+def rows_of(theirs: list[Said], ours: list[Said], clock: Clock) -> list[Row]:
     """The rows of one subject."""
     rows = [Row(AGREE, *pair) for pair in pairs(theirs, ours, clock, Said.is_as)]
     rows += [Row(DIFFER, *pair) for pair in pairs(theirs, ours, clock, Said.is_about_same)]
@@ -175,11 +184,11 @@ def rows_of(theirs, ours, clock):
 # ---- in words
 
 
-def seconds(moment):
+def seconds(moment: int) -> str:
     return f"{moment / 1000:.3f} s"
 
 
-def apart(rows):
+def apart(rows: list[Row]) -> str:
     """How much later or earlier the capture's packets are."""
     least, most = min(row.later() for row in rows), max(row.later() for row in rows)
     kind = rows[0].one()
@@ -190,12 +199,12 @@ def apart(rows):
     return f"{said} s beside ours ({why[1]}: up to {why[0] / 1000:g} s)"
 
 
-def some(texts, most=4):
+def some(texts: Iterable[str], most: int = 4) -> str:
     texts = list(texts)
     return ", ".join(texts[:most]) + (f" .. {texts[-1]}" if len(texts) > most else "")
 
 
-def lines_of(verdict, rows, router):
+def lines_of(verdict: str, rows: list[Row], router: Router) -> list[str]:
     """The lines of a verdict's rows: equal ones once, with the packets' numbers and moments."""
     alike = {}
     for row in (row for row in rows if row.verdict == verdict):
@@ -204,7 +213,7 @@ def lines_of(verdict, rows, router):
     return [line_of(verdict, group, router) for group in alike.values()]
 
 
-def line_of(verdict, rows, router):
+def line_of(verdict: str, rows: list[Row], router: Router) -> str:
     first = rows[0].one()
     where = "unicast" if first.iface is None else router.interfaces[first.iface].link
     when = some(f"{'packet ' if row.theirs else ''}{row.one().packet if row.theirs else ''}{' ' if row.theirs else ''}"

@@ -2,14 +2,25 @@
 
 Each is a cause, told at a router or an interface: RPs, addresses, links and routes. What routers know is that of the
 end. """
+from __future__ import annotations
+
 from collections import Counter
+from collections.abc import Callable, Iterable, Iterator
 from difflib import SequenceMatcher
 from ipaddress import ip_address
+from typing import TYPE_CHECKING, TypeVar
 
 from pimtext import printed, trees
 from pimtext.cause import Cause
 from pimtext.printed import ANY
 from pimtext.run import gathered, some
+
+if TYPE_CHECKING:
+    from pimtext.cause import Symptom
+    from pimtext.run import Run
+    from pimtext.scenario import Interface
+
+    T = TypeVar("T")
 
 # How like one another two names of links are for one to be a slip for the other.
 ALIKE = 0.8
@@ -17,26 +28,26 @@ ALIKE = 0.8
 NOBODY = ("no owner", "no route", "lost", "interface down", "no neighbour")
 
 
-def most(values, is_better=lambda value: False):
+def most(values: Iterable[T], is_better: Callable[[T], bool] = lambda value: False) -> T | None:
     """The one that comes most often, of equal ones a better one, else the first; None of none."""
     counts = Counter(values)
     return max(counts, key=lambda value: (counts[value], is_better(value)), default=None)
 
 
 class Mistakes:
-    def __init__(self, run):
+    def __init__(self, run: Run) -> None:
         self.run, self.world, self.known = run, run.world, run.known
         self.ports = run.ports()
 
     # ---- RPs
 
-    def rps(self):
+    def rps(self) -> Iterator[Cause]:
         """Routers of one network have one RP for a group."""
         odd = gathered(pair for group in self.run.groups() for pair in self.other_rps(group))
         for (is_owner, name, rp, usual), groups in odd.items():
             yield self.unaware(name, rp, usual, groups) if is_owner else self.other_rp(name, rp, usual, groups)
 
-    def other_rps(self, group):
+    def other_rps(self, group: str) -> Iterator[tuple[tuple[bool, str, str | None, str | None], str]]:
         """The routers with another RP for a group than most have: whether one is that RP, its name, its RP and the
         usual."""
         by_name = {name: trees.rp_of(state, group) for name, state in self.known.items()}
@@ -46,28 +57,28 @@ class Mistakes:
             if rp != usual and (rp or is_owner):
                 yield (is_owner, name, rp, usual), group
 
-    def other_rp(self, name, rp, usual, groups):
+    def other_rp(self, name: str, rp: str | None, usual: str, groups: list[str]) -> Cause:
         peer = next(each for each, state in self.known.items() if trees.rp_of(state, groups[0]) == usual)
         theirs = f"{usual} at router {peer} ({self.run.lines.words(self.run.lines.router(peer))})"
         told = f": the RP of {some(groups)} is {rp} here, and {theirs}"
         kinds = ("rp disagrees", "no owner", "registers stopped")
 
-        def covers(each):
+        def covers(each: Symptom) -> bool:
             return each.kind in kinds and each.group in groups and (each.router == name or each.address == rp)
 
         return Cause(*self.run.at_router(name, told), covers)
 
-    def unaware(self, name, rp, usual, groups):
+    def unaware(self, name: str, rp: str | None, usual: str, groups: list[str]) -> Cause:
         own = f"takes {rp} for it" if rp else "has no RP for it itself"
         told = f" is the RP of {some(groups)} to other routers, by its address {usual}, and {own}"
 
-        def covers(each):
+        def covers(each: Symptom) -> bool:
             is_here = each.router == name and each.kind in ("rp disagrees", "no rp")
             return is_here or (each.kind == "registers stopped" and each.group in groups)
 
         return Cause(*self.run.at_router(name, f"{told}: it drops their Joins and stops their Registers"), covers)
 
-    def without_rp(self):
+    def without_rp(self) -> Iterator[Cause]:
         """A group that is asked for has an RP, at its hosts' routers, at its sources' and between."""
         nowhere = [group for group in self.run.groups() if not self.run.rps_of(group) and self.is_used(group)]
         if nowhere:
@@ -81,14 +92,14 @@ class Mistakes:
                 told = f" has no RP for {some(groups)}, which other routers have"
                 yield Cause(*self.run.at_router(name, told), self.of_router(name, groups), is_hint=True)
 
-    def is_used(self, group):
+    def is_used(self, group: str) -> bool:
         return any(asked == group and source == ANY for asked, source in self.run.wished())
 
     @staticmethod
-    def of_router(name, groups):
+    def of_router(name: str, groups: list[str]) -> Callable[[Symptom], bool]:
         return lambda each: each.kind in ("no rp", "rp disagrees") and each.router == name and each.group in groups
 
-    def nobody(self):
+    def nobody(self) -> Iterator[Cause]:
         """An RP's address is that of a router."""
         pairs = ((rp, group) for group in self.run.groups() for rp in sorted(self.run.rps_of(group)))
         for rp, groups in gathered(pair for pair in pairs if self.world.owner(pair[0]) is None).items():
@@ -97,26 +108,26 @@ class Mistakes:
             yield Cause(*self.run.at_router(name, told), self.of_address(rp), is_hint=True)
 
     @staticmethod
-    def of_address(address):
+    def of_address(address: str) -> Callable[[Symptom], bool]:
         return lambda each: each.kind in NOBODY and each.address == address
 
     # ---- addresses
 
-    def addresses(self):
+    def addresses(self) -> Iterator[Cause]:
         """Each router's address is its alone."""
         every = [(name, interface) for ports in self.ports.values() for name, interface in ports]
         for address, ports in gathered((interface.address, (name, interface)) for name, interface in every).items():
             if len(ports) > 1:
                 yield self.address_twice(address, ports)
 
-    def address_twice(self, address, ports):
+    def address_twice(self, address: str, ports: list[tuple[str, Interface]]) -> Cause:
         names, links = [name for name, _ in ports], {interface.link for _, interface in ports}
         where = " and ".join(f"{name} (on {interface.link})" for name, interface in ports)
         is_one, groups = len(links) == 1, [group for group in self.run.groups() if address in self.run.rps_of(group)]
         what = "each takes what the other sends for its own, and ignores it" if is_one else \
             "what is sent to it comes to one of them alone"
 
-        def covers(each):
+        def covers(each: Symptom) -> bool:
             is_own = each.cause == "Own" and each.router in names and each.host == address
             is_there = is_one and each.link in links and each.router in names and each.kind in ("twice", "no neighbour")
             is_rp = each.group in groups and each.kind in ("registers stopped", "no join")
@@ -125,7 +136,7 @@ class Mistakes:
         text = f": {address} is the address of two interfaces, {where}: {what}"
         return Cause(*self.run.at_router(names[-1], text), covers)
 
-    def host_addresses(self):
+    def host_addresses(self) -> Iterator[Cause]:
         """A host's address is no router's."""
         sources = {packet.source: packet.link for packet in self.run.packets if packet.link}
         for host, link in {**sources, **self.run.hosts.links}.items():
@@ -136,12 +147,12 @@ class Mistakes:
                 yield Cause(*self.run.at_router(name, told), self.of_host(host))
 
     @staticmethod
-    def of_host(host):
+    def of_host(host: str) -> Callable[[Symptom], bool]:
         return lambda each: each.host == host and (each.cause == "Own" or each.kind == "unwanted")
 
     # ---- links
 
-    def subnets(self):
+    def subnets(self) -> Iterator[Cause]:
         """The routers of a link have one subnet there."""
         usual = {link: most([each.own.network for _, each in ports]) for link, ports in self.ports.items()}
         every = [(link, name, each) for link, ports in self.ports.items() for name, each in ports]
@@ -150,14 +161,14 @@ class Mistakes:
                 there = next(port for port in self.ports[link] if port[1].own.network == usual[link])
                 yield self.other_subnet(link, name, interface, *there)
 
-    def other_subnet(self, link, other, interface, router, there):
+    def other_subnet(self, link: str, other: str, interface: Interface, router: str, there: Interface) -> Cause:
         line = self.run.lines.words(self.run.lines.interface(router, there.number))
         both = f"it has {interface.own} on the link {link}, and router {router} has {there.own} ({line})"
         what = "masks" if there.own.network.overlaps(interface.own.network) else "subnets"
         covers = lambda each: each.link == link and each.kind in ("stranger", "no neighbour")
         return Cause(*self.run.at_interface(other, interface.number, f"{both}: two {what} on one link"), covers)
 
-    def links_of_subnets(self):
+    def links_of_subnets(self) -> Iterator[Cause]:
         """A subnet is that of one link. An address that both have is told elsewhere."""
         every = [(link, name, each) for link, ports in self.ports.items() for name, each in ports]
         for network, ports in gathered((each.own.network, (link, name, each)) for link, name, each in every).items():
@@ -167,7 +178,7 @@ class Mistakes:
                 told = f"{network} is the subnet of {link} here, and of {first} at router {peer}"
                 yield Cause(*self.run.at_interface(name, interface.number, told))
 
-    def link_names(self):
+    def link_names(self) -> Iterator[Cause]:
         """A link that one interface has, and whose name is almost that of another link; where both are so, each is
         told."""
         for link, ((router, interface), *others) in self.ports.items():
@@ -178,10 +189,10 @@ class Mistakes:
                 yield Cause(*self.run.at_interface(router, interface.number, told), self.of_lonely(link))
 
     @staticmethod
-    def of_lonely(link):
+    def of_lonely(link: str) -> Callable[[Symptom], bool]:
         return lambda each: each.kind == "no neighbour" and each.link == link
 
-    def is_near(self, name, link):
+    def is_near(self, name: str, link: str) -> bool:
         """Alike, but not told apart by their digits; or of one subnet. An address that both have is told elsewhere."""
         own = self.ports[link][0][1].own
         if any(each.own.network == own.network for _, each in self.ports[name]):
@@ -192,7 +203,7 @@ class Mistakes:
 
     # ---- routes
 
-    def loops(self):
+    def loops(self) -> list[Cause]:
         """A route leads to where its address is."""
         circles = {}
         for address, name in ((address, name) for address in self.wanted_addresses() for name in self.known):
@@ -201,18 +212,18 @@ class Mistakes:
                 circles.setdefault((address, frozenset(circle)), circle)
         return [self.loop(address, circle) for (address, _), circle in circles.items()]
 
-    def loop(self, address, circle):
+    def loop(self, address: str, circle: list[str]) -> Cause:
         told = f": the routes to {address} run in a circle, from {' to '.join([*circle, circle[0]])}"
         covers = lambda each: each.kind == "circle" and each.address == address
         return Cause(*self.run.at_router(circle[0], told), covers)
 
-    def wanted_addresses(self):
+    def wanted_addresses(self) -> list[str]:
         """The sources and RPs that are in use."""
         found = {packet.source for packet in self.run.packets}
         found |= {source for _, source in self.run.wished() if source != ANY}
         return sorted(found.union(*(self.run.rps_of(group) for group in self.run.groups())), key=ip_address)
 
-    def circle(self, name, address):
+    def circle(self, name: str, address: str) -> list[str]:
         """The routers of a circle that the routes from one to an address run in; empty where they don't."""
         seen = []
         while name not in seen:
@@ -224,7 +235,7 @@ class Mistakes:
             name = above.router.name
         return seen[seen.index(name):]
 
-    def next_hops(self):
+    def next_hops(self) -> Iterator[Cause]:
         """A next hop is a router's address on the link of the route's interface."""
         joined = [(name, row) for name, state in self.known.items() for row in state.of(printed.Upstream)]
         for name, row in joined:
@@ -237,21 +248,21 @@ class Mistakes:
                 yield Cause(*self.run.at_router(name, told), self.of_next_hop(name, path.next_hop))
 
     @staticmethod
-    def of_next_hop(name, hop):
+    def of_next_hop(name: str, hop: str) -> Callable[[Symptom], bool]:
         return lambda each: each.router == name and each.kind == "no neighbour" and each.address == hop
 
-    def is_there(self, state, path):
+    def is_there(self, state: trees.Known, path: trees.Path) -> bool:
         """A router of the scenario, or from outside, has the address of a next hop."""
         own = any(interface.address == path.next_hop for _, interface in self.ports[state.link(path.iface)])
         return own or bool(state.of(printed.Neighbour, iface=path.iface, address=path.next_hop))
 
-    def causes(self):
+    def causes(self) -> Iterator[Cause]:
         """Those that explain others come first."""
         parts = (self.addresses, self.host_addresses, self.rps, self.nobody, self.without_rp, self.loops)
         for told in (*parts, self.next_hops, self.subnets, self.links_of_subnets, self.link_names):
             yield from once(told())
 
 
-def once(causes):
+def once(causes: Iterable[Cause]) -> Iterable[Cause]:
     """Causes of one text once."""
     return {(cause.line, cause.text): cause for cause in causes}.values()

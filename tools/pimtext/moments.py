@@ -1,8 +1,18 @@
 """What the routers know after each move of a run, by one run of the program."""
+from __future__ import annotations
+
+from collections.abc import Iterable, Iterator
+from typing import TYPE_CHECKING
+
 from pimtext import story, trees
 
+if TYPE_CHECKING:
+    from pimtext.scenario import Scenario
 
-def after_moves(played, lines):
+
+def after_moves(
+    played: Scenario, lines: Iterable[str]
+) -> Iterator[tuple[int, list[story.Step], dict[str, trees.Known]]]:
     """After each move, and before the first: the number of moves, the steps of the last one, and what each router
     knows. The lines have the tables of each answer. What is known is the same object each time."""
     known, waiting = trees.known(played, [], {}), None

@@ -1,10 +1,18 @@
 """What moves of a run were refused or ignored, in words, and which packets nobody took: each a symptom with its line in
 the file."""
+from __future__ import annotations
+
 from collections import Counter
+from collections.abc import Iterator
+from typing import TYPE_CHECKING
 
 from pimtext import packets, story, trace, wishes, words
 from pimtext.cause import Symptom
 from pimtext.faults import MOST_ROUTES, MOST_RPS, Judge, list_faults, route_fault, rp_fault
+
+if TYPE_CHECKING:
+    from lab.lines import Line
+    from pimtext.run import Run
 
 ETHERNET = {b"\x08\x00": 14, b"\x81\x00": 18}
 
@@ -38,7 +46,7 @@ MEANINGS = {
 }
 
 
-def ethernet_bytes(data):
+def ethernet_bytes(data: bytes) -> int:
     """How many bytes of an Ethernet header a packet begins with, 0 where it doesn't."""
     size = ETHERNET.get(data[12:14], 0)
     return size if size and data[size - 2:size] == b"\x08\x00" and data[size:size + 1] == b"\x45" else 0
@@ -47,37 +55,37 @@ def ethernet_bytes(data):
 class Lines:
     """Where moves, routers and interfaces stand in the file that `judge` read."""
 
-    def __init__(self, judge):
+    def __init__(self, judge: Judge) -> None:
         self.moves = [table.line for table in judge.moves]
         self.routers = {made["table"].get("name").held: made for made in judge.routers}
 
-    def move(self, number):
+    def move(self, number: int) -> int:
         return self.moves[number - 1]
 
-    def router(self, name):
+    def router(self, name: str) -> int:
         return self.routers[name]["line"]
 
-    def interface(self, name, number):
+    def interface(self, name: str, number: int) -> int:
         return self.routers[name]["ifaces"][number].line
 
     @staticmethod
-    def words(line):
+    def words(line: int) -> str:
         return f"line {line}"
 
 
 class Notes:
     """The odd steps of a run: `judge` read the file."""
 
-    def __init__(self, judge, run):
+    def __init__(self, judge: Judge, run: Run) -> None:
         self.judge, self.run, self.played, self.steps = judge, run, run.played, run.steps
         self.sent = [sent for step in self.steps for sent in step.sent]
 
-    def at_move(self, number, text):
+    def at_move(self, number: int, text: str) -> tuple[int | Line, str]:
         return self.run.lines.move(number), f"move {number} ({self.played.moves[number - 1]['do']}){text}"
 
     # ---- moves that were refused or ignored, and settles that stopped
 
-    def odd(self):
+    def odd(self) -> Iterator[Symptom]:
         """Those of one router, one reason and one sender are one symptom."""
         found = {}
         for step in self.steps:
@@ -92,12 +100,12 @@ class Notes:
                 told = f" stopped at {limit}, and later packets wait for the next settle: is there a loop?"
                 yield Symptom("odd", *self.at_move(number, told))
 
-    def key(self, step):
+    def key(self, step: story.Step) -> tuple[object, ...]:
         what = self.meaning(step.move, step.router, step.cause)
         return step.router, step.iface, step.verdict, step.cause, what, self.what(step), step.is_settle()
 
     @staticmethod
-    def what(step):
+    def what(step: story.Step) -> str:
         """What was refused or ignored: whose packets."""
         data = step.taken()
         if not data or len(data) < 20:
@@ -107,7 +115,7 @@ class Notes:
             return f"packets of data of {source}"
         return f"IGMP messages of {source}" if wishes.igmp_of(data) else f"PIM messages of {source}"
 
-    def symptom(self, steps):
+    def symptom(self, steps: list[story.Step]) -> Symptom:
         first, number = steps[0], steps[0].move
         link = self.link(first)
         meaning = self.meaning(number, first.router, first.cause)
@@ -122,11 +130,11 @@ class Notes:
         more = {"host": host, "alone": f"{told}: {meaning}", "at": at}
         return Symptom("odd", line, told, first.router, link, None, first.cause, **more)
 
-    def link(self, step):
+    def link(self, step: story.Step) -> str | None:
         interfaces = self.played.router(step.router).interfaces
         return interfaces[step.iface].link if step.iface is not None and step.iface < len(interfaces) else None
 
-    def meaning(self, number, router, cause):
+    def meaning(self, number: int, router: str, cause: str) -> str:
         if cause in ("25", "26"):
             return self.wrong_list(number, router, cause == "25")
         if cause == "27":
@@ -140,7 +148,7 @@ class Notes:
             return f"the bytes begin with an Ethernet header: leave out its {size} bytes, the first {2 * size} digits"
         return MEANINGS[cause] + (f", and it has {count}" if cause == "22" else "")
 
-    def wrong_list(self, number, router, is_routes):
+    def wrong_list(self, number: int, router: str, is_routes: bool) -> str:
         """What is wrong with the routes or ranges of a move."""
         table = self.judge.moves[number - 1]
         ifaces = next(made["ifaces"] for made in self.judge.routers if made["table"].get("name").held == router)
@@ -151,7 +159,7 @@ class Notes:
             found = list_faults(entries, MOST_RPS, rp_fault)
         return "; ".join(what for _, what in found)
 
-    def no_delivery(self, number, router):
+    def no_delivery(self, number: int, router: str) -> str:
         """Why `deliver` or `carry` can't bring its packet."""
         did = self.played.moves[number - 1]
         before = [sent for sent in self.sent if sent.move < number]
@@ -167,7 +175,7 @@ class Notes:
 
     # ---- packets that nobody took
 
-    def undelivered(self):
+    def undelivered(self) -> Iterator[Symptom]:
         last = self.run.wire.last
         named = {did["frame"] for did in self.played.moves if "frame" in did}
         links = Counter(interface.link for router in self.played.routers for interface in router.interfaces)

@@ -1,18 +1,31 @@
 """What stops streams for a while in a run, or for good: what is lost on a link, a Prune that nobody overrode, and the
 limit."""
+from __future__ import annotations
+
+from collections.abc import Callable, Collection, Iterator
+from typing import TYPE_CHECKING
+
 from pimtext import limit, packets, trees, words
 from pimtext.cause import Cause
 from pimtext.run import COUNTED, gathered, times
 from pimtext.wire import DATA, HELLO, JOIN, PLURALS, names_group
 
+if TYPE_CHECKING:
+    from pimtext.cause import Symptom
+    from pimtext.run import Run
+    from pimtext.story import Sent, Step
+    from pimtext.streams import Stream
+    from pimtext.watched import Loss
+    from pimtext.wire import Way
+
 
 class Outages:
-    def __init__(self, run):
+    def __init__(self, run: Run) -> None:
         self.run, self.known, self.wire = run, run.known, run.wire
 
     # ---- what is lost between two routers
 
-    def losses(self):
+    def losses(self) -> Iterator[Cause]:
         """Of some kind nothing came from one router to another; both ways together where no Hello came either way."""
         told = set()
         for way in self.wire.ways.values():
@@ -26,7 +39,7 @@ class Outages:
             else:
                 yield self.one_way(way, kinds)
 
-    def strangers(self, way, back):
+    def strangers(self, way: Way, back: Way) -> Cause:
         names, both = {way.sender, way.receiver}, f"{way.sender} and {way.receiver} on {way.link} aren't neighbours"
         told = f"{both}: no Hello came from one to the other ({way.words()}; {back.words()} were lost)"
         if way.is_dead() and back.is_dead():
@@ -34,13 +47,13 @@ class Outages:
         covers = self.of_way(names, names, way.link, {HELLO, JOIN, DATA})
         return Cause(self.run.on_link(way.sender, way.link), told, covers)
 
-    def one_way(self, way, kinds):
+    def one_way(self, way: Way, kinds: list[str]) -> Cause:
         what = "nothing" if way.is_dead() else f"none of the {' and '.join(PLURALS[kind] for kind in kinds)}"
         told = f"{what} that {way.sender} sent on {way.link} came to {way.receiver}: {way.words(kinds)} were lost"
         covers = self.of_way({way.sender}, {way.receiver}, way.link, kinds)
         return Cause(self.run.on_link(way.sender, way.link), told, covers, is_hint=HELLO not in kinds)
 
-    def partly(self):
+    def partly(self) -> Iterator[Cause]:
         """Of some kind a part was lost between two routers on a link."""
         for way in self.wire.ways.values():
             kinds = [kind for kind in way.sent if way.lost[kind] and kind not in way.all_lost()]
@@ -50,11 +63,13 @@ class Outages:
                 covers = self.of_way({way.sender}, {way.receiver}, way.link, kinds)
                 yield Cause(self.run.on_link(way.sender, way.link), told, covers, is_hint=True)
 
-    def of_way(self, senders, receivers, link, kinds):
+    def of_way(
+        self, senders: set[str], receivers: set[str], link: str, kinds: Collection[str]
+    ) -> Callable[[Symptom], bool]:
         """What follows where some kinds don't come from these routers to those."""
         addresses = {each.address for name in senders for each in self.known[name].router.interfaces}
 
-        def covers(each):
+        def covers(each: Symptom) -> bool:
             is_here = each.link == link
             if each.kind == "no neighbour":
                 return is_here and HELLO in kinds and each.router in receivers and each.address in addresses
@@ -68,7 +83,7 @@ class Outages:
 
         return covers
 
-    def crosses(self, name, address, link):
+    def crosses(self, name: str | None, address: str | None, link: str) -> bool:
         """Whether the routes from a router to an address lead over a link."""
         seen = []
         while name in self.known and name not in seen:
@@ -84,7 +99,7 @@ class Outages:
 
     # ---- a Prune that nobody overrode
 
-    def overrides(self):
+    def overrides(self) -> Iterator[Cause]:
         """A router that wants what another one on its link prunes overrides the Prune."""
         losses = [(verdict.stream, loss) for verdict in self.run.verdicts for loss in verdict.losses]
         for stream, loss in losses:
@@ -92,7 +107,7 @@ class Outages:
             if pruned is not None:
                 yield from self.override(stream, loss, *pruned)
 
-    def prune(self, group, loss):
+    def prune(self, group: str, loss: Loss) -> tuple[Sent, Step] | None:
         """The last Prune of a group that another router than the one below sent on its link, and that came before a
         loss."""
         upper, below, link = loss.end.router, loss.end.address, loss.end.link
@@ -104,7 +119,7 @@ class Outages:
         taken = [(sent, step) for sent, step in early if step.verdict == "done"]
         return max(taken, key=lambda pair: pair[0].number) if taken else None
 
-    def override(self, stream, loss, sent, taken):
+    def override(self, stream: Stream, loss: Loss, sent: Sent, taken: Step) -> Iterator[Cause]:
         """The cause where the router below sent no Join in time, or it was lost."""
         upper, below, link, group = loss.end.router, loss.end.address, loss.end.link, stream.group
         said = [join for join, body in self.wire.joins(below, link) if names_group(body, group, True)]
@@ -125,7 +140,7 @@ class Outages:
         covers = lambda each: each.kind == "no join" and (each.link, each.group, each.host) == whose
         yield Cause(self.run.on_link(upper, link), told, covers)
 
-    def override_interval(self, link):
+    def override_interval(self, link: str) -> int:
         """How long a Prune on a link waits for a Join that overrides it, in ms (RFC 7761, 4.3.3), by what is
         configured."""
         ports = [(self.known[name].router, interface.number) for name, interface in self.run.ports()[link]]
@@ -134,13 +149,13 @@ class Outages:
 
     # ---- the limit
 
-    def limits(self):
+    def limits(self) -> Iterator[Cause]:
         """A router has room for what it is asked."""
         full = [(at, step) for at, step in enumerate(self.run.steps) if (step.verdict, step.cause) == ("refused", "24")]
         for name, found in gathered((step.router, (at, step)) for at, step in full).items():
             yield self.full(name, found)
 
-    def full(self, name, found):
+    def full(self, name: str, found: list[tuple[int, Step]]) -> Cause:
         most = self.known[name].router.table.get("limit", 65536)
         held = self.run.held(found[0][0], name)
         what = ", ".join(times(count, COUNTED[table]) for table, count in held.items()) or "none"
@@ -151,7 +166,7 @@ class Outages:
         greeted = {packets.dotted(step.taken()[12:16]) for _,
             step in found if packets.is_pim(step.taken(), packets.HELLO)}
 
-        def covers(each):
+        def covers(each: Symptom) -> bool:
             is_refused = each.kind in ("odd", "refused") and each.cause == "24"
             is_unknown = each.kind in ("unwanted", "no join") and each.group in groups
             is_stranger = each.kind == "no neighbour" and each.address in greeted
@@ -159,7 +174,7 @@ class Outages:
 
         return Cause(*self.run.at_router(name, told + self.taken_along(found)), covers)
 
-    def taken_along(self, found):
+    def taken_along(self, found: list[tuple[int, Step]]) -> str:
         """What the refused messages said again of the router's facts."""
         rows = list(dict.fromkeys(row for _, step in found for row in limit.said_again(self.run.played, step)))
         if not rows:
@@ -167,12 +182,12 @@ class Outages:
         shown = ", ".join(map(limit.told, rows[:4])) + (" .." if len(rows) > 4 else "")
         return f". Each is refused whole, so what it says again isn't refreshed, and ends as if it hadn't come: {shown}"
 
-    def causes(self):
+    def causes(self) -> Iterator[Cause]:
         for told in (self.limits, self.overrides, self.losses, self.partly):
             yield from told()
 
 
-def outage(stream, loss):
+def outage(stream: Stream, loss: Loss) -> str:
     """How long a host missed packets, where a loss is among them."""
     run = next(run for run in stream.missing() if loss.packets[0] in run)
     numbers = f"{run[0].number} to {run[-1].number} ({len(run)})"
@@ -183,7 +198,7 @@ def outage(stream, loss):
     return f"{stream.host} missed packets {numbers}: nothing came to it for {(after[0] - before[-1]) / 1000:g} s"
 
 
-def groups_of(step):
+def groups_of(step: Step) -> list[str]:
     """The groups that a refused message names."""
     data = step.taken()
     try:

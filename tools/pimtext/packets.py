@@ -4,7 +4,11 @@ Readings are strict, by the formats of RFC 791, RFC 7761 (4.9) and RFC 3376 (4):
 `Refused` with the number of the refusal, as docs/SCENARIOS.md lists them. They stand on no code of the router.
 Addresses are dotted text.
 """
+from __future__ import annotations
+
+from collections.abc import Sequence
 from dataclasses import dataclass
+from typing import Any
 
 SHORT, VERSION, CHECKSUM, LENGTH, ADDRESS, GROUP, OLD, UNKNOWN, FRAGMENT = range(1, 10)
 IGMP, UDP, PIM = 2, 17, 103
@@ -24,16 +28,16 @@ class Refused(Exception):
     """A test of the reading failed; the first argument is the refusal's number."""
 
 
-def expect(holds, number):
+def expect(holds: bool, number: int) -> None:
     if not holds:
         raise Refused(number)
 
 
-def word(data, place):
+def word(data: bytes, place: int) -> int:
     return int.from_bytes(data[place:place + 2], "big")
 
 
-def sum16(data):
+def sum16(data: bytes) -> int:
     """The one's complement of the one's complement sum of 16-bit words; an odd length is padded by a zero."""
     total = sum(word(data + b"\0", place) for place in range(0, len(data), 2))
     while total > 0xFFFF:
@@ -41,23 +45,23 @@ def sum16(data):
     return total ^ 0xFFFF
 
 
-def dotted(data):
+def dotted(data: bytes) -> str:
     return ".".join(map(str, data))
 
 
-def octets(address):
+def octets(address: str) -> bytes:
     return bytes(map(int, str(address).split(".")))
 
 
-def is_multicast(data):
+def is_multicast(data: bytes) -> bool:
     return 224 <= data[0] < 240
 
 
-def is_host(data):
+def is_host(data: bytes) -> bool:
     return data[0] < 224 and any(data)
 
 
-def is_pim(data, kind):
+def is_pim(data: bytes, kind: int) -> bool:
     """Whether a whole packet on a link is a PIM message of this type."""
     return data[9] == PIM and data[16:20] == ALL_PIM_ROUTERS and data[4 * (data[0] & 15)] & 15 == kind
 
@@ -120,7 +124,7 @@ class Assert:
     preference: int
     metric: int
 
-    def is_infinite(self):
+    def is_infinite(self) -> bool:
         return self.rpt and (self.preference, self.metric) == INFINITE
 
 
@@ -167,7 +171,7 @@ class Packet:
     ttl: int
     protocol: int
     size: int
-    body: object
+    body: Hello | Register | RegisterStop | JoinPrune | Assert | OtherPim | Query | Report | Data
 
 
 # ---- readings
@@ -176,45 +180,45 @@ class Packet:
 class Fields:
     """The fields of a message, from first to last."""
 
-    def __init__(self, data, place=0):
+    def __init__(self, data: bytes, place: int = 0) -> None:
         self.data, self.place = data, place
 
-    def take(self, count):
+    def take(self, count: int) -> bytes:
         expect(self.place + count <= len(self.data), SHORT)
         self.place += count
         return self.data[self.place - count:self.place]
 
-    def number(self, size=2):
+    def number(self, size: int = 2) -> int:
         return int.from_bytes(self.take(size), "big")
 
-    def is_left(self):
+    def is_left(self) -> bool:
         return self.place < len(self.data)
 
-    def addresses(self, count):
+    def addresses(self, count: int) -> tuple[str, ...]:
         taken = self.take(4 * count)
         return tuple(dotted(taken[place:place + 4]) for place in range(0, len(taken), 4))
 
-    def encoded(self, size):
+    def encoded(self, size: int) -> bytes:
         """An encoded address of so many bytes, its family and encoding read."""
         field = self.take(size)
         expect(field[:2] == b"\1\0", ADDRESS)
         return field[2:]
 
-    def unicast(self):
+    def unicast(self) -> bytes:
         return self.encoded(6)
 
-    def group(self):
+    def group(self) -> tuple[str, int]:
         """The group and its mask."""
         field = self.encoded(8)
         expect(is_multicast(field[2:]), GROUP)
         return dotted(field[2:]), field[1]
 
-    def source(self):
+    def source(self) -> Entry:
         field = self.encoded(8)
         return Entry(dotted(field[2:]), field[1], bool(field[0] & 2), bool(field[0] & 1))
 
 
-def read_hello(fields):
+def read_hello(fields: Fields) -> Hello:
     known = {1: ("holdtime", 2), 2: ("delay", 4), 19: ("priority", 4), 20: ("generation", 4)}
     found = {}
     while fields.is_left():
@@ -229,14 +233,14 @@ def read_hello(fields):
     return Hello(propagation=delay >> 16 & 0x7FFF, override=delay & 0xFFFF, **found)
 
 
-def read_null(inner):
+def read_null(inner: bytes) -> Packet:
     """The packet in a Null-Register: a header alone, of which only the addresses count."""
     expect(len(inner) >= 20, SHORT)
     expect(inner[10:12] == b"\0\0" or sum16(inner[:20]) == 0, CHECKSUM)
     return Packet(dotted(inner[12:16]), dotted(inner[16:20]), inner[8], inner[9], len(inner), Data(b""))
 
 
-def read_register(fields):
+def read_register(fields: Fields) -> Register:
     is_null, inner = bool(fields.take(4)[0] & 0x40), fields.data[8:]
     packet = read_null(inner) if is_null else read_data(inner)
     expect(is_host(octets(packet.source)), ADDRESS)
@@ -244,24 +248,24 @@ def read_register(fields):
     return Register(is_null, packet)
 
 
-def read_register_stop(fields):
+def read_register_stop(fields: Fields) -> RegisterStop:
     return RegisterStop(fields.group()[0], dotted(fields.unicast()))
 
 
-def read_group_entries(fields):
+def read_group_entries(fields: Fields) -> GroupEntries:
     group, mask = fields.group()
     joins, prunes = fields.number(), fields.number()
     sources = [fields.source() for _ in range(joins + prunes)]
     return GroupEntries(group, mask, tuple(sources[:joins]), tuple(sources[joins:]))
 
 
-def read_join_prune(fields):
+def read_join_prune(fields: Fields) -> JoinPrune:
     upstream = dotted(fields.unicast())
     groups, holdtime = fields.take(2)[1], fields.number()
     return JoinPrune(upstream, holdtime, tuple(read_group_entries(fields) for _ in range(groups)))
 
 
-def read_assert(fields):
+def read_assert(fields: Fields) -> Assert:
     group, mask = fields.group()
     source = fields.unicast()
     expect(source[0] < 224, ADDRESS)
@@ -275,7 +279,7 @@ PIM_READERS = {
 }
 
 
-def read_pim(data):
+def read_pim(data: bytes) -> Hello | Register | RegisterStop | JoinPrune | Assert | OtherPim:
     expect(len(data) >= 4, SHORT)
     expect(data[0] >> 4 == 2, VERSION)
     kind = data[0] & 15
@@ -284,12 +288,12 @@ def read_pim(data):
     return PIM_READERS[kind](Fields(data, 4)) if kind in PIM_READERS else OtherPim(kind)
 
 
-def code_value(code):
+def code_value(code: int) -> int:
     """What a byte of a query means: below 128 itself, else a mantissa and an exponent."""
     return code if code < 128 else (code & 15 | 16) << ((code >> 4 & 7) + 3)
 
 
-def read_query(data):
+def read_query(data: bytes) -> Query:
     expect(len(data) != 8, OLD)
     expect(len(data) >= 12, LENGTH)
     expect(not any(data[4:8]) or is_multicast(data[4:8]), GROUP)
@@ -298,7 +302,7 @@ def read_query(data):
     return Query(dotted(data[4:8]), sources, code_value(data[1]), bool(data[8] & 8), data[8] & 7, code_value(data[9]))
 
 
-def read_record(fields):
+def read_record(fields: Fields) -> Record:
     kind, auxiliary = fields.take(2)
     count = fields.number()
     group = fields.take(4)
@@ -308,12 +312,12 @@ def read_record(fields):
     return Record(kind, dotted(group), sources)
 
 
-def read_report(data):
+def read_report(data: bytes) -> Report:
     fields = Fields(data, 6)
     return Report(tuple(read_record(fields) for _ in range(fields.number())))
 
 
-def read_igmp(data):
+def read_igmp(data: bytes) -> Query | Report:
     expect(len(data) >= 8, SHORT)
     expect(sum16(data) == 0, CHECKSUM)
     expect(data[0] not in (0x12, 0x16, 0x17), OLD)
@@ -321,7 +325,7 @@ def read_igmp(data):
     return read_query(data) if data[0] == 0x11 else read_report(data)
 
 
-def read_header(data, limit):
+def read_header(data: bytes, limit: int) -> tuple[dict[str, Any], bytes]:
     """The header's fields of an IPv4 packet, by their names, and what it carries."""
     expect(len(data) <= limit, LENGTH)
     expect(len(data) >= 20, SHORT)
@@ -343,32 +347,32 @@ def read_header(data, limit):
     return head, data[header:total]
 
 
-def data_packet(head, content):
+def data_packet(head: dict[str, Any], content: bytes) -> Packet:
     is_udp = head["protocol"] == UDP and len(content) >= 8 and word(content, 4) == len(content)
     body = Data(content[8:], word(content, 0), word(content, 2)) if is_udp else Data(content)
     return Packet(**head, body=body)
 
 
-def read(data, limit=MOST_IN_A_UNICAST):
+def read(data: bytes, limit: int = MOST_IN_A_UNICAST) -> Packet:
     """The packet that these bytes are, from the IP header on. Raises Refused."""
     head, content = read_header(data, limit)
     reader = {PIM: read_pim, IGMP: read_igmp}.get(head["protocol"])
     return Packet(**head, body=reader(content)) if reader else data_packet(head, content)
 
 
-def read_on_link(data):
+def read_on_link(data: bytes) -> Packet:
     """The same as a router takes it on a link: what claims to be PIM and goes to another group than that of all PIM
     routers is data."""
     is_data = data[9:10] == bytes([PIM]) and data[16:20] != ALL_PIM_ROUTERS
     return read_data(data) if is_data else read(data, MOST_IN_A_FRAME)
 
 
-def read_data(data):
+def read_data(data: bytes) -> Packet:
     """The same, whatever it carries: a copy that a router forwards is data."""
     return data_packet(*read_header(data, MOST_IN_A_FRAME))
 
 
-def refusal(data, limit):
+def refusal(data: bytes, limit: int) -> int | None:
     """The refusal of a packet, None where it is lawful."""
     try:
         read(data, limit)
@@ -380,11 +384,13 @@ def refusal(data, limit):
 # ---- writings
 
 
-def with_number(data, place, number, size=2):
+def with_number(data: bytes, place: int, number: int, size: int = 2) -> bytes:
     return data[:place] + (number % 256 ** size).to_bytes(size, "big") + data[place + size:]
 
 
-def write(protocol, source, destination, ttl, body, options=b"", service=0):
+def write(
+    protocol: int, source: str, destination: str, ttl: int, body: bytes, options: bytes = b"", service: int = 0
+) -> bytes:
     """An IPv4 packet; options are a multiple of four bytes."""
     length = 20 + len(options)
     head = bytes([0x40 + length // 4, service]) + (length + len(body)).to_bytes(2, "big")
@@ -392,40 +398,40 @@ def write(protocol, source, destination, ttl, body, options=b"", service=0):
     return with_header_sum(head) + body
 
 
-def with_header_sum(data):
+def with_header_sum(data: bytes) -> bytes:
     """With the right checksum of the IP header."""
     return with_number(data, 10, sum16(with_number(data[:4 * (data[0] & 15)], 10, 0)))
 
 
-def aged(data):
+def aged(data: bytes) -> bytes:
     """A packet with a TTL lower by one, and nothing else changed."""
     return with_header_sum(with_number(data, 8, data[8] - 1, 1))
 
 
-def write_igmp(source, destination, message, service=0):
+def write_igmp(source: str, destination: str, message: bytes, service: int = 0) -> bytes:
     """An IGMP message with its checksum."""
     return write(IGMP, source, destination, 1, with_number(message, 2, sum16(message)), ROUTER_ALERT, service)
 
 
-def encoded_record(record):
+def encoded_record(record: Record) -> bytes:
     """A record of a report."""
     head = bytes([record.kind, 0]) + len(record.sources).to_bytes(2, "big") + octets(record.group)
     return head + b"".join(map(octets, record.sources))
 
 
-def write_report(host, records, service=0):
+def write_report(host: str, records: Sequence[Record], service: int = 0) -> bytes:
     """What a host tells its routers by IGMPv3."""
     body = bytes([0x22, 0, 0, 0, 0, 0]) + len(records).to_bytes(2, "big") + b"".join(map(encoded_record, records))
     return write_igmp(host, "224.0.0.22", body, service)
 
 
-def write_old_report(host, group, is_leave=False):
+def write_old_report(host: str, group: str, is_leave: bool = False) -> bytes:
     """What a host tells its routers by IGMPv2: that it wants a group, or wants it no more."""
     body = bytes([0x17 if is_leave else 0x16, 0, 0, 0]) + octets(group)
     return write_igmp(host, "224.0.0.2" if is_leave else group, body)
 
 
-def write_data(source, group, payload, ttl=16, port=5000):
+def write_data(source: str, group: str, payload: bytes, ttl: int = 16, port: int = 5000) -> bytes:
     """A UDP packet with its checksum."""
     size = 8 + len(payload)
     body = port.to_bytes(2, "big") * 2 + size.to_bytes(2, "big") + b"\0\0" + payload
@@ -433,30 +439,30 @@ def write_data(source, group, payload, ttl=16, port=5000):
     return write(UDP, source, group, ttl, with_number(body, 6, sum16(pseudo + body) or 0xFFFF))
 
 
-def write_pim(kind, source, destination, ttl, content):
+def write_pim(kind: int, source: str, destination: str, ttl: int, content: bytes) -> bytes:
     """A PIM message; the checksum of a Register is over its first 8 bytes."""
     body = bytes([0x20 | kind, 0, 0, 0]) + content
     sum_of = body[:8] if kind == REGISTER else body
     return write(PIM, source, destination, ttl, with_number(body, 2, sum16(sum_of)), service=ROUTING)
 
 
-def write_to_routers(kind, source, content):
+def write_to_routers(kind: int, source: str, content: bytes) -> bytes:
     return write_pim(kind, source, dotted(ALL_PIM_ROUTERS), 1, content)
 
 
-def encoded_unicast(address):
+def encoded_unicast(address: str) -> bytes:
     return b"\1\0" + octets(address)
 
 
-def encoded_group(group, mask):
+def encoded_group(group: str, mask: int) -> bytes:
     return bytes([1, 0, 0, mask]) + octets(group)
 
 
-def encoded_source(entry):
+def encoded_source(entry: Entry) -> bytes:
     return bytes([1, 0, 4 | 2 * entry.wildcard | entry.rpt, entry.mask]) + octets(entry.source)
 
 
-def write_hello(source, hello):
+def write_hello(source: str, hello: Hello) -> bytes:
     """With the options that are there; the delays are one option."""
     options = [(1, 2, hello.holdtime), (19, 4, hello.priority), (20, 4, hello.generation)]
     if hello.propagation is not None:
@@ -466,17 +472,17 @@ def write_hello(source, hello):
     return write_to_routers(HELLO, source, content)
 
 
-def shared_join(group, rp):
+def shared_join(group: str, rp: str) -> GroupEntries:
     """The entries that join a shared tree."""
     return GroupEntries(group, 32, (Entry(rp, 32, True, True),), ())
 
 
-def write_join_prune(source, upstream, groups, holdtime=210):
+def write_join_prune(source: str, upstream: str, groups: Sequence[GroupEntries], holdtime: int = 210) -> bytes:
     content = encoded_unicast(upstream) + bytes([0, len(groups)]) + holdtime.to_bytes(2, "big")
     return write_to_routers(JOIN_PRUNE, source, content + b"".join(map(encoded_entries, groups)))
 
 
-def encoded_entries(group):
+def encoded_entries(group: GroupEntries) -> bytes:
     """A group of a Join/Prune with its sources."""
     counts = len(group.joins).to_bytes(2, "big") + len(group.prunes).to_bytes(2, "big")
     return (
@@ -484,7 +490,7 @@ def encoded_entries(group):
     )
 
 
-def write_assert(source, told):
+def write_assert(source: str, told: Assert) -> bytes:
     preference = told.rpt << 31 | told.preference
     content = encoded_group(told.group, told.mask) + encoded_unicast(told.source)
     return write_to_routers(ASSERT, source, content + preference.to_bytes(4, "big") + told.metric.to_bytes(4, "big"))

@@ -5,7 +5,7 @@ from dataclasses import replace
 from pimtext import scenario, story, trees
 
 
-def copied(state):
+def copied(state: trees.Known) -> trees.Known:
     """A router's knowledge as it stands, whatever is followed later."""
     return replace(state, up=set(state.up), hellos=dict(state.hellos), queriers=dict(state.queriers),
                    asserts=dict(state.asserts))
@@ -15,17 +15,17 @@ class Past:
     """A run of a scenario. It is played once, with the tables of each answer; `each` are these lines where they are
     there already."""
 
-    def __init__(self, played, steps, each=None):
+    def __init__(self, played: scenario.Scenario, steps: list[story.Step], each: list[str] | None = None) -> None:
         self.played, self.steps, self.each = played, steps, each
         self.times, self.states = None, None
 
-    def known(self, at):
+    def known(self, at: int) -> dict[str, trees.Known]:
         """What each router knew before step `at`, counted from 0."""
         if self.times is None:
             self.follow()
         return {name: states[bisect_right(self.times[name], at) - 1] for name, states in self.states.items()}
 
-    def follow(self):
+    def follow(self) -> None:
         """Keeps what each router knew from each step on."""
         known = trees.known(self.played, [], {})
         self.times, self.states = {name: [0] for name in known}, {name: [copied(state)] for name,
@@ -38,7 +38,7 @@ class Past:
                 self.keep(known[waiting.router], waiting, part, at)
                 waiting = None
 
-    def keep(self, state, step, tables, at):
+    def keep(self, state: trees.Known, step: story.Step, tables: story.Tables, at: int) -> None:
         if step.verdict == "done":
             trees.follow(state, step)
         state.rows, state.moment = tables.rows, tables.moment

@@ -1,9 +1,16 @@
 """Where the routers, links and hosts of a network stand in a picture, by Graphviz, or in a ring without it."""
+from __future__ import annotations
+
 import math
 import re
 import shutil
 import subprocess
 from collections import defaultdict
+from collections.abc import Collection, Iterable, Iterator, Mapping, Sequence
+from typing import TYPE_CHECKING, TypeAlias
+
+if TYPE_CHECKING:
+    Node: TypeAlias = tuple[str, str]
 
 # Up to so many routers stand in ranks from the sources on; more are laid out by their distances.
 MOST_IN_RANKS = 9
@@ -12,7 +19,7 @@ SIZES = {"r": (1.3, 0.58), "l": (1.17, 0.45), "h": (1.28, 0.36)}
 MARGIN = 96, 70
 
 
-def kinds(links, ports, hosts):
+def kinds(links: Iterable[str], ports: Mapping[str, list[str]], hosts: Mapping[str, list[str]]) -> dict[str, str]:
     """What each link is in a picture: a node of its own ("lan"), a line between two routers ("pair"), a line from a
     router to each host ("stub"), or nothing. `ports` are the routers on each link, `hosts` the hosts there."""
     found = {}
@@ -27,7 +34,9 @@ def kinds(links, ports, hosts):
     return found
 
 
-def edges(kinds_of, ports, hosts):
+def edges(
+    kinds_of: dict[str, str], ports: Mapping[str, list[str]], hosts: Mapping[str, list[str]]
+) -> Iterator[tuple[Node, ...]]:
     """The lines of a picture, as pairs of nodes: a kind's letter and a name."""
     for link, kind in kinds_of.items():
         routers = [("r", name) for name in ports[link]]
@@ -40,7 +49,7 @@ def edges(kinds_of, ports, hosts):
             yield from ((node, ("l", link)) for node in routers + ends)
 
 
-def ranks(pairs, roots):
+def ranks(pairs: Iterable[tuple[Node, ...]], roots: Sequence[Node]) -> dict[Node, int]:
     """How far each node is from the roots."""
     near = defaultdict(list)
     for one, other in pairs:
@@ -54,18 +63,20 @@ def ranks(pairs, roots):
     return far
 
 
-def ringed(nodes):
+def ringed(nodes: Sequence[Node]) -> dict[Node, tuple[float, float]]:
     """All in a ring, where Graphviz isn't installed."""
     radius = max(150, 26 * len(nodes))
     turns = [2 * math.pi * place / max(1, len(nodes)) for place in range(len(nodes))]
     return {node: (radius * math.cos(turn), radius * math.sin(turn)) for node, turn in zip(nodes, turns)}
 
 
-def quoted(node):
+def quoted(node: Node) -> str:
     return '"' + " ".join(node).replace("\\", "\\\\").replace('"', '\\"') + '"'
 
 
-def graph(nodes, pairs, far, is_ranked):
+def graph(
+    nodes: Sequence[Node], pairs: Iterable[tuple[Node, ...]], far: dict[Node, int], is_ranked: bool
+) -> Iterator[str]:
     """The text for Graphviz."""
     yield "graph {"
     if is_ranked:
@@ -82,7 +93,9 @@ def graph(nodes, pairs, far, is_ranked):
     yield "}"
 
 
-def laid_out(nodes, pairs, far, is_ranked):
+def laid_out(
+    nodes: Sequence[Node], pairs: Iterable[tuple[Node, ...]], far: dict[Node, int], is_ranked: bool
+) -> dict[Node, tuple[float, float]]:
     program = "dot" if is_ranked else "neato"
     if shutil.which(program) is None:
         return ringed(nodes)
@@ -94,14 +107,21 @@ def laid_out(nodes, pairs, far, is_ranked):
     return {named[name or bare]: (scale[0] * float(x), scale[1] * float(y)) for name, bare, x, y in rows}
 
 
-def stretched(found, ratio):
+def stretched(found: dict[Node, tuple[float, float]], ratio: float) -> dict[Node, tuple[float, float]]:
     """The places with more room between them from above to below, up to a ratio of width to height."""
     wide, high = (max(each) - min(each) for each in zip(*found.values()))
     more = min(2.4, max(1.0, wide / ratio / high)) if high else 1.0
     return {node: (x, more * y) for node, (x, y) in found.items()}
 
 
-def places(routers, kinds_of, ports, hosts, roots, ratio):
+def places(
+    routers: Collection[str],
+    kinds_of: dict[str, str],
+    ports: Mapping[str, list[str]],
+    hosts: Mapping[str, list[str]],
+    roots: Iterable[str],
+    ratio: float,
+) -> tuple[dict[str, list[float]], list[float]]:
     """The place of each node by its kind and name, and the box that has all of them, about as much wider than high as
     `ratio` says."""
     pairs = list(edges(kinds_of, ports, hosts))

@@ -1,4 +1,6 @@
 """A run, or two beside one another, as one HTML page that needs no server and no network."""
+from __future__ import annotations
+
 import html
 import json
 import re
@@ -6,10 +8,15 @@ import shutil
 import subprocess
 import tempfile
 from collections import defaultdict
+from collections.abc import Callable, Iterable, Iterator
 from dataclasses import dataclass, field
 from pathlib import Path
+from typing import TYPE_CHECKING, Any
 
 from pimtext import colours, diagnosis, faults, places, recorded, scenario, toml_lines
+
+if TYPE_CHECKING:
+    from lab.lines import Lines
 
 FOLDER = Path(__file__).resolve().parent / "page"
 # The scripts of the page, in their order.
@@ -26,12 +33,12 @@ class Told:
     name: str
     text: str
     hosts: dict = field(default_factory=dict)
-    places: object = None
+    places: Lines | None = None
     unheard: frozenset = frozenset()
     is_by_time: bool = False
 
 
-def notes_of(found, numbers, named):
+def notes_of(found: diagnosis.Diagnosis, numbers: dict[int, int], named: Callable[[str], str]) -> Iterator[list[Any]]:
     """The causes of a diagnosis: the stop at which each shows first, 0 for none, its text, and its symptoms."""
     for cause in found.ordered():
         head, *symptoms = cause.lines()
@@ -43,7 +50,7 @@ def notes_of(found, numbers, named):
         yield [numbers.get(move, 0), named(text), [named(symptom.strip()) for symptom in symptoms]]
 
 
-def run_of(told):
+def run_of(told: Told) -> dict[str, Any]:
     """What the page has of a run. Raises scenario.Refused where the program doesn't play it."""
     played = scenario.scenario_of(toml_lines.plain(toml_lines.read(told.text)))
     lines = scenario.run_each(told.text)
@@ -53,7 +60,7 @@ def run_of(told):
     return {"name": told.name, "notes": list(notes_of(found, shown.pop("numbers"), recording.named)), **shown}
 
 
-def together(runs):
+def together(runs: list[dict[str, Any]]) -> tuple[list[str], dict[str, list[str]], list[dict[str, str]]]:
     """Routers, links with the routers on them, and hosts of all runs, by their names."""
     routers, ports, hosts = {}, defaultdict(list), {}
     for run in runs:
@@ -67,7 +74,7 @@ def together(runs):
     return list(routers), ports, list(hosts.values())
 
 
-def data(runs, start):
+def data(runs: list[dict[str, Any]], start: int) -> dict[str, Any]:
     """All that the page needs, ready for JSON."""
     routers, ports, hosts = together(runs)
     by_link = defaultdict(list)
@@ -83,11 +90,11 @@ def data(runs, start):
     return {"runs": runs, "places": where, "box": box, "kinds": kinds, "hosts": hosts, "colours": names, "start": start}
 
 
-def is_data(run, at):
+def is_data(run: dict[str, Any], at: int) -> bool:
     return ": data" in run["texts"][run["steps"][at][9]]
 
 
-def page(tolds, start=0):
+def page(tolds: Iterable[Told], start: int = 0) -> str:
     """The text of the page; it opens at the move `start` of the first run."""
     runs = [run_of(told) for told in tolds]
     told = json.dumps(data(runs, start), separators=(",", ":"), ensure_ascii=False).replace("</", "<\\/")
@@ -98,7 +105,7 @@ def page(tolds, start=0):
     return text.replace("/*DATA*/", told)
 
 
-def picture(text, out, size=(1500, 860)):
+def picture(text: str, out: str | Path, size: tuple[int, int] = (1500, 860)) -> bool:
     """A picture of a page as a browser shows it, as PNG. Answers whether there is a browser."""
     browser = shutil.which("chromium") or shutil.which("chromium-browser")
     if browser is None:

@@ -1,6 +1,15 @@
 """The lines that `pimlab run` prints, as objects."""
+from __future__ import annotations
+
 import math
-from typing import NamedTuple
+from collections.abc import Iterable
+from typing import TYPE_CHECKING, NamedTuple, TypeAlias, TypeVar
+
+if TYPE_CHECKING:
+    R = TypeVar("R")
+    Row: TypeAlias = (
+        "Neighbour | GroupRecord | SourceRecord | Downstream | AssertState | Upstream | SharedTree | Active"
+    )
 
 NEVER = math.inf
 ANY = "*"
@@ -13,7 +22,7 @@ class Answer(NamedTuple):
     verdict: str
     cause: str | None
 
-    def __str__(self):
+    def __str__(self) -> str:
         return self.verdict if self.cause is None else f"{self.verdict} {self.cause}"
 
 
@@ -99,30 +108,30 @@ ROWS = {
 PACKETS = ("frame", "copy", "unicast")
 
 
-def end_of(text):
+def end_of(text: str) -> float | None:
     return {"-": None, "never": NEVER}.get(text) if not text.isdigit() else int(text)
 
 
-def value_of(column, text):
+def value_of(column: str, text: str) -> str | float | None:
     if column == "iface":
         return int(text)
     return end_of(text) if column in ("end", "pending") else text
 
 
-def row_of(letter, texts):
+def row_of(letter: str, texts: list[str]) -> Row:
     kind = ROWS[letter]
     if len(texts) != len(kind._fields):
         raise ValueError(f"a row {letter} of {len(texts)} columns")
     return kind(*map(value_of, kind._fields, texts))
 
 
-def rows_of(rows, table, /, **values):
+def rows_of(rows: Iterable[Row], table: type[R], /, **values: object) -> list[R]:
     """The rows of a table that have these values in these columns."""
     found = (row for row in rows if isinstance(row, table))
     return [row for row in found if all(getattr(row, column) == value for column, value in values.items())]
 
 
-def parsed(line):
+def parsed(line: str) -> Answer | Emission | Heading | Row:
     """What a line says: an Answer, an Emission, a Heading or a row. Raises ValueError for any other line."""
     first, _, rest = line.partition(" ")
     if first == "move":
@@ -138,7 +147,7 @@ def parsed(line):
     raise ValueError(f"no line of pimlab run: {line[:80]!r}")
 
 
-def answer_of(text):
+def answer_of(text: str) -> Answer:
     """A router's name may have blanks, so what is known is taken off both ends."""
     number, rest = text.split(" ", 1)
     name, _, last = rest.rpartition(" ")

@@ -1,16 +1,23 @@
 """Which build of the program is run: the proved binary where it is newer than its sources, else an unproved one that
 was brought along or is kept."""
+from __future__ import annotations
+
 import os
 import sys
+from pathlib import Path
+from typing import TYPE_CHECKING
 
 from pimtext.kept import TOP, brought, kept_program
+
+if TYPE_CHECKING:
+    from pimtext.builds import Progress
 
 PROVED = TOP / "crates" / "pimlab" / "out" / "pimlab"
 # What PIMLAB_BUILD may say.
 BUILDS = ["proved", "unproved", "sanitized"]
 
 
-def is_proved():
+def is_proved() -> bool:
     """The proved binary is there, and newer than every source."""
     if not os.access(PROVED, os.X_OK):
         return False
@@ -23,13 +30,13 @@ def is_proved():
     return True
 
 
-def have_kept(path, is_sanitized):
+def have_kept(path: Path, is_sanitized: bool) -> None:
     """Has an unproved program kept."""
     # This takes a while to load, and most calls don't build.
     from pimtext import builds, kit, unproved
     try:
         if is_sanitized:
-            def build(room, progress):
+            def build(room: Path, progress: Progress) -> None:
                 unproved.build_sanitized(room, progress, path)
             builds.build_once(path, path.name, "pimlab", build)
         else:
@@ -39,7 +46,7 @@ def have_kept(path, is_sanitized):
         sys.exit("pimlab: it couldn't be built")
 
 
-def unproved_program(is_sanitized):
+def unproved_program(is_sanitized: bool) -> str | None:
     """Where the unproved program is; None where it can't be kept."""
     path = kept_program()
     path = path.with_name(f"{path.name}-sanitized") if is_sanitized else path
@@ -62,7 +69,7 @@ def unproved_program(is_sanitized):
     return str(path)
 
 
-def wanted():
+def wanted() -> str:
     """What PIMLAB_BUILD says."""
     build = os.environ.get("PIMLAB_BUILD", "proved")
     if build not in BUILDS:
@@ -70,17 +77,17 @@ def wanted():
     return build
 
 
-def chosen():
+def chosen() -> str | None:
     """Where the program is that is to be run, built where it isn't there; None where none can be kept."""
     return str(PROVED) if wanted() == "proved" and is_proved() else unproved_program(wanted() == "sanitized")
 
 
-def kept():
+def kept() -> str:
     """The same; this process ends where none can be kept."""
     return chosen() or sys.exit(1)
 
 
-def run_once(words):
+def run_once(words: list[str]) -> int:
     """Builds and runs where nothing can be kept; answers the status."""
     import subprocess
     import tempfile
@@ -89,7 +96,7 @@ def run_once(words):
         return subprocess.run([unproved_program(wanted() == "sanitized"), *words]).returncode
 
 
-def version():
+def version() -> str:
     """The version of the repository, as `include/viqeshor/viqeshor.h` has it."""
     return (
         (TOP / "include" / "viqeshor" / "viqeshor.h")
@@ -99,7 +106,7 @@ def version():
     )
 
 
-def run(words):
+def run(words: list[str]) -> None:
     """Becomes the program with these words, or says the version."""
     if words == ["--version"]:
         print(f"pimlab {version()}, {'proved' if is_proved() else 'not proved'}")

@@ -1,11 +1,12 @@
 """Why an interface is in a tree's list of outgoing interfaces, or isn't, and why no Join leaves, in words."""
+from collections.abc import Iterator
 from ipaddress import ip_address
 
 from pimtext import printed, trees
 from pimtext.printed import ANY
 
 
-def causes(state, group, source, number):
+def causes(state: trees.Known, group: str, source: str, number: int) -> list[str]:
     """Who wants the packets of a tree on an interface."""
     found = [f"Join ({source}, {group})"] if number in trees.joins(state, group, source) else []
     found += [f"hosts want ({source}, {group})"] if number in trees.hosts(state, group, source) else []
@@ -14,7 +15,7 @@ def causes(state, group, source, number):
     return found
 
 
-def obstacles(state, group, source, number):
+def obstacles(state: trees.Known, group: str, source: str, number: int) -> list[str]:
     """What keeps them off it."""
     found = []
     if source != ANY:
@@ -25,7 +26,7 @@ def obstacles(state, group, source, number):
     return found + unserved(state, group, source, number)
 
 
-def unserved(state, group, source, number):
+def unserved(state: trees.Known, group: str, source: str, number: int) -> list[str]:
     """Why what is wanted on an interface is another router's to send: an assert that was lost, or for hosts the DR."""
     found = [f"it lost the assert of ({row.source}, {group}) to {row.winner}"
         for row in lost(state, group, source, number)]
@@ -36,7 +37,7 @@ def unserved(state, group, source, number):
     return found
 
 
-def lost(state, group, source, number):
+def lost(state: trees.Known, group: str, source: str, number: int) -> list[printed.AssertState]:
     """The asserts that the router lost on an interface which isn't where it expects the packets."""
     rows = state.of(printed.AssertState, iface=number, group=group, role="loser")
     sets = {ANY: trees.lost_shared(state, group)}
@@ -45,7 +46,7 @@ def lost(state, group, source, number):
     return [row for row in rows if number in sets.get(row.source, ())]
 
 
-def reasons(state, group, source):
+def reasons(state: trees.Known, group: str, source: str) -> Iterator[tuple[int, bool, list[str], list[str]]]:
     """Each interface that somebody wants the packets on: its number, whether it is in the list, the causes and the
     obstacles.
     """
@@ -59,7 +60,7 @@ def reasons(state, group, source):
 # ---- Joins
 
 
-def is_root(state, group, source):
+def is_root(state: trees.Known, group: str, source: str) -> bool:
     """Whether a tree begins at the router, which then joins it nowhere: it is the RP, or the source is on a link of
     it.
     """
@@ -67,7 +68,7 @@ def is_root(state, group, source):
         and trees.is_connected(state, source))
 
 
-def why_no_join(state, group, source):
+def why_no_join(state: trees.Known, group: str, source: str) -> str:
     """Why the Join of a tree reaches nobody; "" where it does, or the tree begins here."""
     root, what = trees.root_of(state, group, source), "the group's RP" if source == ANY else "the source"
     if root is None:
@@ -81,7 +82,7 @@ def why_no_join(state, group, source):
     return f"{where}, is no neighbour: no Hello of it is there"
 
 
-def no_route(state, what, root):
+def no_route(state: trees.Known, what: str, root: str) -> str:
     found = trees.longest([(route.prefix, route) for route in state.routes], ip_address(root))
     if found is None or state.router.has(root):
         return f"it has no route to {what} {root}"

@@ -5,12 +5,20 @@ end: shapes come again and again, so each is kept once, with its tables, rows an
 the ends alone. In a shape's texts an end stands as a moment of its own beyond all real ones, MARK seconds and its
 place.
 """
+from __future__ import annotations
+
 import re
+from collections.abc import Iterable
 from dataclasses import dataclass, field, fields
 from functools import cache
+from typing import TYPE_CHECKING, Any
 
 from pimtext import packets, printed, story, trees, view_text, views, words
 from pimtext.arrivals import Arrivals
+
+if TYPE_CHECKING:
+    from pimtext.diagnosis import Diagnosis
+    from pimtext.scenario import Router, Scenario
 
 # An address by itself, without the length of a subnet.
 ADDRESS = r"(?<![\d.])\d+\.\d+\.\d+\.\d+(?![\d.]*\d|/)"
@@ -23,17 +31,17 @@ SILENT = ("advance",)
 class Texts:
     """Texts by number, each kept once."""
 
-    def __init__(self):
+    def __init__(self) -> None:
         self.all, self.numbers = [], {}
 
-    def __call__(self, text):
+    def __call__(self, text: str) -> int:
         if text not in self.numbers:
             self.numbers[text] = len(self.all)
             self.all.append(text)
         return self.numbers[text]
 
 
-def marked(rows):
+def marked(rows: Iterable[printed.Row]) -> tuple[tuple[printed.Row, ...], list[float]]:
     """The rows with their ends as marks, and the ends."""
     ends, found = [], []
     for row in rows:
@@ -50,7 +58,7 @@ def marked(rows):
 # ---- rows in words
 
 
-def row_words(router, row):
+def row_words(router: Router, row: printed.Row) -> str:
     """What a row says, without when it ends."""
     where = f" on {words.place(router, row.iface)}" if hasattr(row, "iface") else ""
     match row:
@@ -81,19 +89,19 @@ def row_words(router, row):
 # ---- shapes
 
 
-def around(state):
+def around(state: trees.Known) -> tuple[object, ...]:
     """What a router knows beside its rows, their ends and its queriers."""
     heard = tuple(sorted(state.hellos.items(), key=lambda pair: pair[0])), tuple(state.asserts.items())
     return tuple(sorted(state.up)), tuple(state.routes), tuple(state.rps), heard
 
 
-def queriers(state):
+def queriers(state: trees.Known) -> tuple[tuple[int, str], ...]:
     """The other routers that are queriers still."""
     found = ((number, trees.querier_of(state, number)) for number in sorted(state.queriers))
     return tuple((number, querier.address) for number, querier in found if querier is not None)
 
 
-def still(state, rows):
+def still(state: trees.Known, rows: list[printed.Row]) -> trees.Still:
     """A router's knowledge with other rows, which stays as it is."""
     told = {each.name: getattr(state, each.name) for each in fields(state)}
     return trees.Still(**{**told, "rows": rows})
@@ -102,11 +110,11 @@ def still(state, rows):
 class Shapes:
     """The shapes of one router."""
 
-    def __init__(self, recording, router):
+    def __init__(self, recording: Recording, router: Router) -> None:
         self.recording, self.router = recording, router
         self.numbers, self.all, self.context = {}, [], None
 
-    def of(self, state, is_context_kept):
+    def of(self, state: trees.Known, is_context_kept: bool) -> tuple[int, list[float]]:
         """The number of a router's shape, and its ends."""
         rows, ends = marked(state.rows)
         if self.context is None or not is_context_kept:
@@ -117,7 +125,7 @@ class Shapes:
             self.all.append(self.made(still(state, list(rows))))
         return self.numbers[key], ends
 
-    def made(self, state):
+    def made(self, state: trees.Known) -> dict[str, Any]:
         text = self.recording.text
         view = views.router(state)
         tables = [[title, heads, [[text("-" if cell is None else str(cell)) for cell in row] for row in rows]]
@@ -131,7 +139,7 @@ class Shapes:
         return {"up": sorted(state.up), "dr": drs, "rp": rps, "rows": rows, "arrows": arrows, "registers": registers,
                 "view": tables}
 
-    def arrow(self, branch):
+    def arrow(self, branch: trees.Branch) -> list[Any]:
         incoming = -1 if branch.incoming is None else branch.incoming
         return [self.recording.tree(branch.group, branch.source), incoming, sorted(branch.outgoing)]
 
@@ -140,7 +148,7 @@ class Shapes:
 
 
 @cache
-def packet_words(kind, data):
+def packet_words(kind: str, data: bytes) -> tuple[str, str]:
     """A packet's kind in a word or two, and all of it on a line."""
     try:
         read = packets.read_data(data) if kind == "copy" else packets.read(data)
@@ -149,7 +157,7 @@ def packet_words(kind, data):
     return kind_words(read.body), words.packet(read)
 
 
-def kind_words(body):
+def kind_words(body: object) -> str:
     """A Join/Prune is called by what it does."""
     if isinstance(body, packets.JoinPrune):
         verbs = [verb for verb, name in (("Join", "joins"), ("Prune", "prunes"))
@@ -162,7 +170,7 @@ def kind_words(body):
     return names.get(type(body), type(body).__name__)
 
 
-def tree_of(sent):
+def tree_of(sent: story.Sent) -> tuple[str, str] | None:
     """The group and source whose data a packet is or carries, None of any other."""
     data = packets.read_data(sent.data) if sent.kind == "copy" else None
     if sent.is_unicast():
@@ -178,11 +186,11 @@ def tree_of(sent):
 class Recording:
     """`hosts` are names by address where the run's maker knows them. Where it is by time, all moves of one time are
     shown as one."""
-    played: object
+    played: Scenario
     hosts: dict = field(default_factory=dict)
     is_by_time: bool = False
 
-    def __post_init__(self):
+    def __post_init__(self) -> None:
         self.text, self.trees = Texts(), {}
         self.routers = {router.name: place for place, router in enumerate(self.played.routers)}
         self.links = {link: place for place, link in enumerate(self.played.links())}
@@ -192,14 +200,14 @@ class Recording:
         self.now = [(shape.of(self.known[shape.router.name], False)) for shape in self.shapes]
         self.steps, self.packets, self.moves = [], [], []
 
-    def named(self, text):
+    def named(self, text: str) -> str:
         """A text with the names of hosts in the place of their addresses."""
         return re.sub(ADDRESS, lambda found: self.hosts.get(found[0], found[0]), text)
 
-    def tree(self, group, source):
+    def tree(self, group: str, source: str) -> int:
         return self.trees.setdefault((group, source), len(self.trees))
 
-    def record(self, lines):
+    def record(self, lines: Iterable[str]) -> Recording:
         """Follows the lines, move by move."""
         waiting = None
         for part in story.Teller(self.played).tell(lines):
@@ -212,7 +220,7 @@ class Recording:
         self.begin(len(self.played.moves) + 1)
         return self
 
-    def begin(self, number):
+    def begin(self, number: int) -> None:
         """Goes on to a move: those before it are over."""
         while len(self.moves) < number:
             if self.moves:
@@ -222,11 +230,11 @@ class Recording:
             else:
                 return
 
-    def close(self):
+    def close(self) -> None:
         """The move that was begun last is over."""
         self.moves[-1][1] = len(self.steps) - self.moves[-1][0]
 
-    def follow(self, step, tables):
+    def follow(self, step: story.Step, tables: story.Tables) -> None:
         state = self.known[step.router]
         if step.verdict == "done":
             trees.follow(state, step)
@@ -247,7 +255,7 @@ class Recording:
             [place, number if number != was else -1, step.moment, told, brought, iface, first, len(step.sent), verdict,
              title])
 
-    def packet(self, sent, at):
+    def packet(self, sent: story.Sent, at: int) -> list[Any]:
         short, told = packet_words(sent.kind, sent.data)
         tree = tree_of(sent)
         where = self.text(sent.where) if sent.is_unicast() else self.links[sent.where]
@@ -260,7 +268,7 @@ class Recording:
 
     # ---- what the page gets
 
-    def title(self, number):
+    def title(self, number: int) -> str:
         """What a move is, counted from 0."""
         did, count = self.played.moves[number], self.moves[number][1]
         name = did.get("router", "")
@@ -270,7 +278,7 @@ class Recording:
             return f"{name}: takes packet {did['frame']}"
         return f"{name}: {words.move(did, self.played.router(name))}"
 
-    def groups(self):
+    def groups(self) -> list[list[int]]:
         """The moves that are shown as one: each by itself, or all of one time."""
         found = []
         for number, (_, _, moment) in enumerate(self.moves):
@@ -280,7 +288,7 @@ class Recording:
                 found.append([number])
         return found
 
-    def group(self, numbers):
+    def group(self, numbers: list[int]) -> list[Any]:
         """Moves that are shown as one: a title, the first answer and their count, the time, and what hosts gave in
         them, as pairs of a host and an answer."""
         first, moment = self.moves[numbers[0]][0], self.moves[numbers[-1]][2]
@@ -289,7 +297,7 @@ class Recording:
         title = self.summary(numbers, said) if self.is_by_time else self.title(numbers[0])
         return [self.text(title), first, count, moment, said]
 
-    def summary(self, numbers, said):
+    def summary(self, numbers: list[int], said: list[list[int]]) -> str:
         """What happened at one time."""
         hosts, dids = list(self.arrivals.hosts.values()), [self.played.moves[number] for number in numbers]
         told = [f"{hosts[host].name} {self.verb(self.steps[at])}" for host, at in said]
@@ -303,10 +311,10 @@ class Recording:
         told = list(dict.fromkeys(told))
         return words.seconds(self.moves[numbers[-1]][2]).replace(".000", "") + (": " + "; ".join(told) if told else "")
 
-    def verb(self, step):
+    def verb(self, step: list[Any]) -> str:
         return "sends" if ": data" in self.text.all[step[9]] else "reports"
 
-    def told(self, diagnosis):
+    def told(self, diagnosis: Diagnosis) -> dict[str, Any]:
         """All of it with the diagnosis of the run, ready for JSON."""
         self.arrivals = Arrivals(self, diagnosis)
         hosts, groups = self.arrivals.told(), self.groups()
@@ -321,11 +329,11 @@ class Recording:
         }
 
 
-def deliveries(count):
+def deliveries(count: int) -> str:
     return f"{count} deliver{'y' if count == 1 else 'ies'}"
 
 
-def router_told(router):
+def router_told(router: Router) -> dict[str, Any]:
     """A router: its name, its interfaces by link and address, and the ranges of which it is the RP."""
     own = [str(prefix) for prefix, rp in router.rps if router.has(rp)]
     return {"name": router.name, "ifaces": [[each.link, each.address] for each in router.interfaces], "rp": own}

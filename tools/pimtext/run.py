@@ -1,17 +1,35 @@
 """A run with all that a diagnosis reads of it."""
+from __future__ import annotations
+
+from collections.abc import Iterable
 from ipaddress import ip_address
+from typing import TYPE_CHECKING, TypeVar
 
 from pimtext import printed, spoken, story, trees
 from pimtext.printed import ANY
 from pimtext.watched import Watch
 from pimtext.wire import Wire
 
+if TYPE_CHECKING:
+    from lab.lines import Line, Lines as LabLines
+    from pimtext.notes import Lines
+    from pimtext.scenario import Interface, Scenario
+
+    K = TypeVar("K")
+    V = TypeVar("V")
+
 
 class Run:
     """`lines` says where moves, routers and interfaces stand; `known` and `world` have what the routers know at the
     end."""
 
-    def __init__(self, played, printed_lines, lines, unheard=frozenset()):
+    def __init__(
+        self,
+        played: Scenario,
+        printed_lines: Iterable[str],
+        lines: Lines | LabLines,
+        unheard: frozenset[tuple[str, int] | tuple[str, bytes, int]] = frozenset(),
+    ) -> None:
         self.played, self.lines = played, lines
         self.steps, self.tables = story.played(played, printed_lines)
         self.watch, self.wire = Watch(played, self.steps, self.tables, unheard), Wire(played, self.steps)
@@ -22,28 +40,28 @@ class Run:
 
     # ---- where it is told
 
-    def at_move(self, step, text):
+    def at_move(self, step: story.Step, text: str) -> tuple[int | Line, str]:
         return self.lines.move(step.move), f"move {step.move} ({step.did['do']}), router {step.router}: {text}"
 
-    def at_router(self, name, text):
+    def at_router(self, name: str, text: str) -> tuple[int | Line, str]:
         return self.lines.router(name), f"router {name}{text}"
 
-    def at_interface(self, router, number, text):
+    def at_interface(self, router: str, number: int, text: str) -> tuple[int | Line, str]:
         return self.lines.interface(router, number), f"router {router}, interface {number}: {text}"
 
-    def on_link(self, name, link):
+    def on_link(self, name: str, link: str | None) -> int | Line:
         """The line of a router's interface on a link, else of the router."""
         here = self.played.router(name).on(link) if link else []
         return self.lines.interface(name, here[0].number) if here else self.lines.router(name)
 
     # ---- what it has
 
-    def ports(self):
+    def ports(self) -> dict[str, list[tuple[str, Interface]]]:
         """The interfaces of each link, with their routers' names."""
         interfaces = ((router.name, each) for router in self.played.routers for each in router.interfaces)
         return gathered((interface.link, (name, interface)) for name, interface in interfaces)
 
-    def wished(self):
+    def wished(self) -> set[tuple[str, str]]:
         """Pairs of a group and a source that somebody asked for, ANY where it asked for every source."""
         found = set(spoken.joined(self.steps))
         for (host, group), wishes in self.hosts.told.items():
@@ -52,16 +70,16 @@ class Run:
             found |= {(group, source) for source in self.hosts.named(host, group)}
         return found
 
-    def groups(self):
+    def groups(self) -> list[str]:
         """The groups that somebody asks for, sends to or knows, and that need an RP."""
         found = {group for group, _ in self.wished()} | {packet.group for packet in self.packets}
         found |= {row.group for state in self.known.values() for row in state.rows if hasattr(row, "group")}
         return sorted((group for group in found if not is_ruled_out(group)), key=ip_address)
 
-    def rps_of(self, group):
+    def rps_of(self, group: str) -> set[str]:
         return {trees.rp_of(state, group) for state in self.known.values()} - {None}
 
-    def held(self, at, name):
+    def held(self, at: int, name: str) -> dict[type, int]:
         """How many facts a router held before a step, by table, of those that its limit counts."""
         state = self.past.known(at)[name]
         return {table: len(state.of(table)) for table in COUNTED if state.of(table)}
@@ -73,16 +91,16 @@ COUNTED = {
 }
 
 
-def is_ruled_out(group):
+def is_ruled_out(group: str) -> bool:
     """Groups that have no RP: those of SSM, and those that never leave their link."""
     return trees.is_source_specific(group) or is_local(group)
 
 
-def is_local(group):
+def is_local(group: str) -> bool:
     return group.startswith("224.0.0.")
 
 
-def gathered(pairs):
+def gathered(pairs: Iterable[tuple[K, V]]) -> dict[K, list[V]]:
     """The values of each key, in their order."""
     found = {}
     for key, value in pairs:
@@ -90,10 +108,10 @@ def gathered(pairs):
     return found
 
 
-def some(names, count=3):
+def some(names: Iterable[str], count: int = 3) -> str:
     names = list(names)
     return ", ".join(names[:count]) + (" .." if len(names) > count else "")
 
 
-def times(count, word):
+def times(count: int, word: str) -> str:
     return f"{count} {word}{'' if count == 1 else 's'}"

@@ -2,16 +2,23 @@
 
 What the program would refuse isn't looked for here: these are the scenarios that it has played.
 """
+from __future__ import annotations
+
 import functools
 import json
 import subprocess
 import sys
+from collections.abc import Iterable
 from dataclasses import dataclass, field
 from ipaddress import IPv4Interface
 from pathlib import Path
+from typing import TYPE_CHECKING, Any
 
 from pimtext import program, toml_lines
 from pimtext.addresses import ranges_of, routes_of
+
+if TYPE_CHECKING:
+    from ipaddress import IPv4Network
 
 PIMLAB = Path(__file__).resolve().parent.parent.parent / "pimlab"
 
@@ -24,7 +31,7 @@ class Interface:
     priority: int = 1
 
     @property
-    def address(self):
+    def address(self) -> str:
         return str(self.own.ip)
 
 
@@ -37,11 +44,11 @@ class Router:
     routes: list = field(default_factory=list)
     rps: list = field(default_factory=list)
 
-    def on(self, link):
+    def on(self, link: str) -> list[Interface]:
         """Its interfaces on a link."""
         return [interface for interface in self.interfaces if interface.link == link]
 
-    def has(self, address):
+    def has(self, address: str | None) -> bool:
         return any(interface.address == address for interface in self.interfaces)
 
 
@@ -50,13 +57,13 @@ class Scenario:
     routers: list
     moves: list
 
-    def router(self, name):
+    def router(self, name: str) -> Router:
         for router in self.routers:
             if router.name == name:
                 return router
         raise LookupError(f"the scenario has no router {name!r}")
 
-    def links(self):
+    def links(self) -> dict[str, IPv4Network]:
         """The links with their subnets, in the order in which they are named."""
         found = {}
         for router in self.routers:
@@ -64,26 +71,26 @@ class Scenario:
                 found.setdefault(interface.link, interface.own.network)
         return found
 
-    def text(self, moves=None):
+    def text(self, moves: int | None = None) -> str:
         """The file again, with the first of its moves alone where a number is given."""
         return text_of([router.table for router in self.routers], self.moves[:moves])
 
 
-def interface_of(number, table):
+def interface_of(number: int, table: dict[str, Any]) -> Interface:
     return Interface(number, table["link"], IPv4Interface(table["address"]), table.get("priority", 1))
 
 
-def router_of(table):
+def router_of(table: dict[str, Any]) -> Router:
     interfaces = [interface_of(number, row) for number, row in enumerate(table["iface"])]
     return Router(table["name"], interfaces, table, routes_of(table.get("routes", [])), ranges_of(table.get("rps", [])))
 
 
-def scenario_of(tables):
+def scenario_of(tables: dict[str, Any]) -> Scenario:
     """The scenario of a file's tables."""
     return Scenario([router_of(table) for table in tables.get("router", [])], tables.get("move", []))
 
 
-def read(path):
+def read(path: str | Path) -> Scenario:
     """The scenario of a file; ends the program with a line where it isn't there or isn't TOML."""
     try:
         return scenario_of(toml_lines.plain(toml_lines.read(Path(path).read_text("utf-8"))))
@@ -98,7 +105,7 @@ def read(path):
 # ---- written
 
 
-def value_text(value):
+def value_text(value: object) -> str:
     """A value as TOML has it, tables in one line. JSON's texts and numbers are TOML's too."""
     if isinstance(value, dict):
         return "{ " + ", ".join(f"{key} = {value_text(item)}" for key, item in value.items()) + " }"
@@ -107,21 +114,21 @@ def value_text(value):
     return json.dumps(value, ensure_ascii=False)
 
 
-def line_of(table):
+def line_of(table: dict[str, Any]) -> str:
     """A router's or a move's line."""
     return f"  {value_text(table)},"
 
 
-def rows_text(name, texts):
+def rows_text(name: str, texts: Iterable[str]) -> str:
     return "\n".join([f"{name} = [", *texts, "]"])
 
 
-def text_of_rows(routers, texts):
+def text_of_rows(routers: Iterable[dict[str, Any]], texts: Iterable[str]) -> str:
     """The text of routers, and of the lines of moves."""
     return rows_text("router", map(line_of, routers)) + "\n\n" + rows_text("move", texts) + "\n"
 
 
-def text_of(routers, moves):
+def text_of(routers: Iterable[dict[str, Any]], moves: Iterable[dict[str, Any]]) -> str:
     return text_of_rows(routers, map(line_of, moves))
 
 
@@ -133,12 +140,12 @@ class Refused(Exception):
 
 
 @functools.cache
-def playing():
+def playing() -> str | Path:
     """What plays a scenario: the program, which is looked for once, or `./pimlab`, where none can be kept."""
     return program.chosen() or PIMLAB
 
 
-def run_text(text, words=("--tables",)):
+def run_text(text: str, words: Iterable[str] = ("--tables",)) -> list[str]:
     """The lines that the program prints of a scenario's text, with tables."""
     ran = subprocess.run([playing(), "run", "-", *words], input=text, capture_output=True, text=True)
     if ran.returncode:
@@ -146,12 +153,12 @@ def run_text(text, words=("--tables",)):
     return ran.stdout.splitlines()
 
 
-def run_each(text):
+def run_each(text: str) -> list[str]:
     """The same, with the tables of its router after each answer, and those of all at the end."""
     return run_text(text, ("--tables", "--tables-each"))
 
 
-def run_file(path):
+def run_file(path: str | Path) -> list[str]:
     """The same of a file. What the program says on standard error stands there; its status ends this program."""
     ran = subprocess.run([playing(), "run", path, "--tables"], stdout=subprocess.PIPE, text=True)
     if ran.returncode:

@@ -2,6 +2,8 @@
 
 It is what the macros of RFC 7761 make of the routers' tables. What really came of packets that were sent is in
 pimtext.died. """
+from __future__ import annotations
+
 from collections import defaultdict
 from dataclasses import dataclass
 from ipaddress import ip_address
@@ -32,7 +34,7 @@ class Hop:
     taken: Taken
     before: "Hop | None" = None
 
-    def way(self):
+    def way(self) -> list[Hop]:
         """The hops up to this one."""
         return [*(self.before.way() if self.before else []), self]
 
@@ -48,26 +50,26 @@ class Rung:
 class World:
     """All routers with what they know."""
 
-    def __init__(self, known):
+    def __init__(self, known: dict[str, trees.Known]) -> None:
         self.known, self.ports = known, defaultdict(list)
         for state in known.values():
             for interface in state.interfaces_up():
                 self.ports[interface.link].append((state, interface.number))
 
-    def owner(self, address):
+    def owner(self, address: str) -> trees.Known | None:
         return next((state for state in self.known.values() if state.router.has(address)), None)
 
-    def named(self, address):
+    def named(self, address: str) -> str:
         """An address with its router's name."""
         owner = self.owner(address)
         return address if owner is None else f"{owner.router.name} ({address})"
 
-    def every(self, address):
+    def every(self, address: str) -> str:
         """The same of a router that may have gone, or of several that have the address."""
         names = [state.router.name for state in self.known.values() if state.router.has(address)]
         return f"{' and '.join(names)} ({address})" if names else address
 
-    def reaches(self, state, address):
+    def reaches(self, state: trees.Known, address: str) -> bool:
         """Whether links lead from a router to the one that has an address, over interfaces that are up."""
         found, waiting = {}, [state]
         while waiting:
@@ -77,7 +79,7 @@ class World:
                 waiting += [other for interface in here.interfaces_up() for other, _ in self.ports[interface.link]]
         return any(here.router.has(address) for here in found.values())
 
-    def link_of(self, address):
+    def link_of(self, address: str) -> str | None:
         """The link whose subnet has an address, None where none has."""
         for state in self.known.values():
             for interface in state.interfaces_up():
@@ -89,7 +91,7 @@ class World:
 # ---- what one router does
 
 
-def is_joined(state, group, source, is_alive):
+def is_joined(state: trees.Known, group: str, source: str, is_alive: bool) -> bool:
     """JoinDesired(S,G), where its keepalive timer runs or would."""
     tunnel = state.of(printed.Active, group=group, source=source, register="join")
     if tunnel or trees.immediate_outgoing(state, group, source):
@@ -99,7 +101,7 @@ def is_joined(state, group, source, is_alive):
     return is_kept and bool(trees.source_outgoing(state, group, source))
 
 
-def is_on_source_tree(state, group, source, iface):
+def is_on_source_tree(state: trees.Known, group: str, source: str, iface: int) -> bool:
     """Whether packets that come here are taken by the source's tree, as Update_SPTbit has it."""
     if trees.rpf_interface(state, source) != iface:
         return False
@@ -115,7 +117,7 @@ def is_on_source_tree(state, group, source, iface):
         or iface in trees.assert_roles(state, group, source, "loser"))
 
 
-def registers_with(state, group, source, iface):
+def registers_with(state: trees.Known, group: str, source: str, iface: int) -> str | None:
     """The RP to which the packets of a source on the router's link go, None where they don't."""
     rp = trees.rp_of(state, group)
     if not trees.is_connected(state, source) or rp is None or state.router.has(rp) or not trees.is_dr(state, iface):
@@ -125,7 +127,7 @@ def registers_with(state, group, source, iface):
     return None if stopped else rp
 
 
-def taken(state, group, source, iface):
+def taken(state: trees.Known, group: str, source: str, iface: int) -> Taken:
     rp = registers_with(state, group, source, iface) if trees.rpf_interface(state, source) == iface else None
     if is_on_source_tree(state, group, source, iface):
         return Taken(frozenset(trees.source_outgoing(state, group, source) - {iface}), "the source's tree", rp)
@@ -135,7 +137,7 @@ def taken(state, group, source, iface):
     return Taken(frozenset(), "", rp)
 
 
-def registered(state, group, source):
+def registered(state: trees.Known, group: str, source: str) -> Taken:
     """What a router does with a packet that comes in a Register."""
     is_rp = state.router.has(trees.rp_of(state, group) or "")
     if not is_rp or trees.has_spt_bit(state, group, source):
@@ -146,7 +148,7 @@ def registered(state, group, source):
 # ---- where packets come
 
 
-def flow(world, group, source, link):
+def flow(world: World, group: str, source: str, link: str) -> tuple[list[Hop], dict[str, Hop | None]]:
     """Each hop of the packets from their link on, in the order in which they come, and the hop that brings them to each
     link."""
     hops, by_link = [], {link: None}
@@ -164,7 +166,7 @@ def flow(world, group, source, link):
     return hops, by_link
 
 
-def onward(world, hop, by_link):
+def onward(world: World, hop: Hop, by_link: dict[str, Hop | None]) -> list[tuple[trees.Known, int | None, Hop]]:
     """Who takes what a router sends on: on its links, and its RP. Notes by whom a link is reached."""
     found = []
     for number in sorted(hop.taken.out):
@@ -179,7 +181,7 @@ def onward(world, hop, by_link):
 # ---- from the host up
 
 
-def serving(world, group, source, link):
+def serving(world: World, group: str, source: str, link: str) -> tuple[trees.Known | None, End | None]:
     """The router that serves the hosts of a link; else None, and why there is none."""
     here = world.ports[link]
     for state, number in here:
@@ -201,7 +203,7 @@ def serving(world, group, source, link):
     return None, unwanted(drs, group, source, link)
 
 
-def absent_dr(world, here, link):
+def absent_dr(world: World, here: list[tuple[trees.Known, int]], link: str) -> End:
     """The routers of a link take somebody for its DR who isn't there."""
     state, number = here[0]
     address = trees.dr_of(state, number)
@@ -216,7 +218,7 @@ def absent_dr(world, here, link):
     return End("dead dr", f"{name} isn't the DR of {link}: it takes that to be {gone}", name, link, address)
 
 
-def unwanted(drs, group, source, link):
+def unwanted(drs: list[tuple[trees.Known, int]], group: str, source: str, link: str) -> End:
     """Why the DR of a link doesn't take it that hosts there want the packets."""
     state, number = drs[0]
     name, wants = state.router.name, f"to {state.router.name}, the DR of {link}, hosts there want {group}"
@@ -232,15 +234,15 @@ def unwanted(drs, group, source, link):
     return End("unwanted", f"{name}, the DR of {link}, knows of no host that wants {group}", name, link)
 
 
-def has_joined(state, group, source):
+def has_joined(state: trees.Known, group: str, source: str) -> bool:
     return bool(state.of(printed.Upstream, group=group, source=source))
 
 
-def is_rp(state, group):
+def is_rp(state: trees.Known, group: str) -> bool:
     return state.router.has(trees.rp_of(state, group) or "")
 
 
-def tree_at(state, group, source):
+def tree_at(state: trees.Known, group: str, source: str) -> str:
     """The tree by which a router gets the packets."""
     if trees.is_source_specific(group) or trees.is_connected(state, source):
         return source
@@ -248,7 +250,7 @@ def tree_at(state, group, source):
     return source if is_alone and has_joined(state, group, source) else ANY
 
 
-def next_up(world, state, group, tree):
+def next_up(world: World, state: trees.Known, group: str, tree: str) -> tuple[trees.Known, str] | tuple[None, End]:
     """The router to which one sends its Joins, and the link between; else None, and why there is none."""
     name, root = state.router.name, trees.root_of(state, group, tree)
     if root is None:
@@ -269,7 +271,7 @@ def next_up(world, state, group, tree):
     return (None, told) if told else (above, link)
 
 
-def dropped(state, above, group):
+def dropped(state: trees.Known, above: trees.Known, group: str) -> End | None:
     """A Join of a shared tree counts only at a router that has the same RP; None where it does."""
     name, other, rp, theirs = state.router.name, above.router.name, trees.rp_of(state, group), trees.rp_of(above, group)
     if theirs == rp:
@@ -278,7 +280,7 @@ def dropped(state, above, group):
     return End("rp disagrees", f"{other} {has}, and drops the Joins of {name} to {rp}", other, None, rp)
 
 
-def no_route(world, state, root, whom, is_rp_wanted):
+def no_route(world: World, state: trees.Known, root: str, whom: str, is_rp_wanted: bool) -> End:
     """Why a router has no route to an RP or a source."""
     name = state.router.name
     found = trees.longest([(each.prefix, each) for each in state.routes], ip_address(root))
@@ -290,7 +292,7 @@ def no_route(world, state, root, whom, is_rp_wanted):
     return End("interface down", f"{name}'s interface on {link}, which leads to {whom}, is down", name, link, root)
 
 
-def climb(world, group, source, state, link):
+def climb(world: World, group: str, source: str, state: trees.Known, link: str) -> tuple[list[Rung], End | None]:
     """The rungs from a host's router up to the root, the source's router or the RP; and why they end before it, or
     None."""
     rungs, tree = [], tree_at(state, group, source)
@@ -310,7 +312,7 @@ def climb(world, group, source, state, link):
     return rungs, End("circle", told, state.router.name, link, root)
 
 
-def parted(group, source, rungs):
+def parted(group: str, source: str, rungs: list[Rung]) -> End | None:
     """The first rung from the host up that nothing asks for the packets on the link below; None where all are asked."""
     for below, rung in zip(rungs, rungs[1:]):
         numbers = [each.number for each in rung.state.router.on(rung.link)]
@@ -322,7 +324,7 @@ def parted(group, source, rungs):
 # ---- why it ends
 
 
-def unregistered(world, group, source, link):
+def unregistered(world: World, group: str, source: str, link: str | None) -> End:
     """Why the RP has no packets of a source."""
     drs = [state for state, number in world.ports[link] if trees.is_dr(state, number)]
     if not drs:
@@ -333,7 +335,7 @@ def unregistered(world, group, source, link):
     return registers_end(world, drs[0], group, source, rp)
 
 
-def registers_end(world, dr, group, source, rp):
+def registers_end(world: World, dr: trees.Known, group: str, source: str, rp: str) -> End:
     """Why nothing comes of what a DR registers."""
     name, owner = dr.router.name, world.owner(rp)
     if dr.router.has(rp):
@@ -357,7 +359,7 @@ def registers_end(world, dr, group, source, rp):
     return End("registers stopped", told, name, None, rp)
 
 
-def stopped(state, group, source, link, below):
+def stopped(state: trees.Known, group: str, source: str, link: str, below: trees.Known | None) -> End:
     """Why a router that has the packets doesn't send them on a link, to the router below or to hosts."""
     numbers, name = [each.number for each in state.router.on(link)], state.router.name
     where = f"{name}, on {words.place(state.router, numbers[0])}" if numbers else name
@@ -379,7 +381,7 @@ def stopped(state, group, source, link, below):
 # ---- in words
 
 
-def hop_line(world, hop, group, source):
+def hop_line(world: World, hop: Hop, group: str, source: str) -> str:
     state, how = hop.state, hop.taken
     where = "in a Register" if hop.iface is None else f"on {words.place(state.router, hop.iface)}"
     by = f", by {how.by}" if how.by and hop.iface is not None else ""
@@ -393,11 +395,11 @@ def hop_line(world, hop, group, source):
     return f"  {state.router.name} takes it {where}{by}; " + ("; ".join(sent) or "sends it nowhere")
 
 
-def waiting_line(rung, group):
+def waiting_line(rung: Rung, group: str) -> str:
     return f"  {rung.state.router.name} waits for it: it is to come by ({rung.source}, {group})"
 
 
-def expected(world, group, source, origin, link):
+def expected(world: World, group: str, source: str, origin: str, link: str) -> tuple[list[str], End | None]:
     """By what the routers know: whether packets would come to a host's link, the lines of their way, and the end where
     they don't."""
     hops, by_link = flow(world, group, source, origin)

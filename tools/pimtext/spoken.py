@@ -1,4 +1,5 @@
 """What hosts said in a run: their reports and their data, as moves `frame` gave them to routers."""
+from collections.abc import Iterable, Iterator
 from dataclasses import dataclass
 
 from pimtext import packets, story
@@ -15,38 +16,38 @@ class Said:
     packet: packets.Packet
 
     @property
-    def router(self):
+    def router(self) -> str:
         return self.step.router
 
     @property
-    def iface(self):
+    def iface(self) -> int | None:
         return self.step.iface
 
-    def is_report(self):
+    def is_report(self) -> bool:
         return isinstance(self.packet.body, packets.Report)
 
-    def is_data(self):
+    def is_data(self) -> bool:
         return isinstance(self.packet.body, packets.Data)
 
-    def wishes(self):
+    def wishes(self) -> list[tuple[str, str]]:
         """What a report asks for: pairs of a group and a source, ANY where it asks for every source."""
         return [pair for record in self.packet.body.records for pair in wished(record)] if self.is_report() else []
 
 
-def wished(record):
+def wished(record: packets.Record) -> list[tuple[str, str]]:
     if record.kind in (IS_EX, TO_EX):
         return [(record.group, ANY)]
     return [(record.group, source) for source in record.sources] if record.kind in (IS_IN, TO_IN, ALLOW) else []
 
 
-def said(steps):
+def said(steps: Iterable[story.Step]) -> Iterator[Said]:
     """What was given to the routers by `frame` and taken."""
     for step in steps:
         if step.did is not None and step.did["do"] == "frame" and step.verdict == "done":
             yield Said(step, packets.read_on_link(step.taken()))
 
 
-def joined(steps):
+def joined(steps: Iterable[story.Step]) -> Iterator[tuple[str, str]]:
     """The groups and sources that Joins from outside the scenario ask for, in moves `frame`."""
     for each in said(steps):
         if isinstance(each.packet.body, packets.JoinPrune):

@@ -1,8 +1,17 @@
 """The printed lines beside their scenario: what each move was, and which packet a delivery brought."""
+from __future__ import annotations
+
+from collections.abc import Iterable, Iterator
 from dataclasses import dataclass, field
 from itertools import chain
+from typing import TYPE_CHECKING, Any, TypeVar
 
 from pimtext import packets, printed
+
+if TYPE_CHECKING:
+    from pimtext.scenario import Scenario
+
+    R = TypeVar("R")
 
 # How many deliveries one settle makes at most.
 SETTLE_LIMIT = 10_000
@@ -21,10 +30,10 @@ class Sent:
     move: int
     moment: int
 
-    def is_unicast(self):
+    def is_unicast(self) -> bool:
         return self.kind == "unicast"
 
-    def packet(self):
+    def packet(self) -> packets.Packet:
         """The packet read; raises packets.Refused where it is malformed."""
         return packets.read_data(self.data) if self.kind == "copy" else packets.read(self.data)
 
@@ -44,13 +53,13 @@ class Step:
     iface: int | None = None
     sent: list = field(default_factory=list)
 
-    def answer(self):
+    def answer(self) -> str:
         return self.verdict if self.cause is None else f"{self.verdict} {self.cause}"
 
-    def is_settle(self):
+    def is_settle(self) -> bool:
         return self.did is not None and self.did["do"] == "settle"
 
-    def taken(self):
+    def taken(self) -> bytes | None:
         """The bytes of the packet that came, None where none did."""
         if self.brought is not None:
             return self.brought.data
@@ -64,7 +73,7 @@ class Tables:
     moment: int
     rows: list = field(default_factory=list)
 
-    def of(self, table, /, **values):
+    def of(self, table: type[R], /, **values: object) -> list[R]:
         return printed.rows_of(self.rows, table, **values)
 
 
@@ -72,14 +81,14 @@ class Untold(Exception):
     """The lines aren't those of the scenario."""
 
 
-def sending_interface(scenario, sent):
+def sending_interface(scenario: Scenario, sent: Sent) -> int:
     """The interface that a packet on a link left on: that of its address, else the router's first one on the link."""
     here = scenario.router(sent.router).on(sent.where)
     source = packets.dotted(sent.data[12:16])
     return next((interface for interface in here if interface.address == source), here[0]).number
 
 
-def receivers(scenario, sent):
+def receivers(scenario: Scenario, sent: Sent) -> list[tuple[str, int | None]]:
     """Whom a settle brings a packet to: pairs of a router's name and an interface, None for a unicast."""
     if sent.is_unicast():
         owners = (router.name for router in scenario.routers if router.has(sent.where))
@@ -92,7 +101,7 @@ def receivers(scenario, sent):
 class Teller:
     """Follows the lines, one after the other. Without a scenario it knows what the lines say alone."""
 
-    def __init__(self, scenario=None):
+    def __init__(self, scenario: Scenario | None = None) -> None:
         self.scenario = scenario
         self.moments = {}
         self.sent = []
@@ -100,14 +109,14 @@ class Teller:
         self.begun = 0
         self.settling = iter(())
 
-    def after(self, scenario):
+    def after(self, scenario: Scenario) -> Teller:
         """Another one that goes on where this one is, in a scenario that has more moves."""
         other = Teller(scenario)
         other.moments, other.sent, other.taken, other.begun = dict(self.moments), list(
             self.sent), self.taken, self.begun
         return other
 
-    def follow(self, steps, begun):
+    def follow(self, steps: Iterable[Step], begun: int) -> None:
         """Goes on past the steps of whole moves, up to the move of this number."""
         self.begun, made = begun, 0
         for step in steps:
@@ -118,10 +127,10 @@ class Teller:
             elif step.did["do"] == "advance" and step.verdict == "done":
                 self.moments[step.router] = step.moment
 
-    def moment(self, router):
+    def moment(self, router: str) -> int:
         return self.moments.get(router, 0)
 
-    def deliveries(self):
+    def deliveries(self) -> Iterator[tuple[Sent, str, int | None]]:
         """What the settle that has begun delivers. What is sent meanwhile follows: it is asked after each delivery."""
         made = 0
         while self.taken < len(self.sent) and made < SETTLE_LIMIT:
@@ -133,7 +142,7 @@ class Teller:
                 made += 1
                 yield sent, *receiver
 
-    def begin(self, number):
+    def begin(self, number: int) -> None:
         """Goes on to a move. Settles in between had nothing to deliver."""
         while self.begun < number:
             self.end_settle()
@@ -141,16 +150,16 @@ class Teller:
             if self.move(self.begun)["do"] == "settle":
                 self.settling = self.deliveries()
 
-    def end_settle(self):
+    def end_settle(self) -> None:
         if next(self.settling, None) is not None:
             raise Untold(f"move {self.begun}: not all deliveries are answered")
 
-    def move(self, number):
+    def move(self, number: int) -> dict[str, Any]:
         if number > len(self.scenario.moves):
             raise Untold(f"the scenario has no move {number}")
         return self.scenario.moves[number - 1]
 
-    def step(self, answer):
+    def step(self, answer: printed.Answer) -> Step:
         """The step that an answer begins."""
         step = Step(answer.move, answer.router, answer.verdict, answer.cause, self.moment(answer.router))
         if self.scenario is None:
@@ -163,12 +172,12 @@ class Teller:
             self.make(step)
         return step
 
-    def deliver(self, step):
+    def deliver(self, step: Step) -> None:
         step.brought, router, step.iface = next(self.settling, (None, None, None))
         if router != step.router:
             raise Untold(f"move {step.move}: {step.router} answers where {router} takes a packet")
 
-    def make(self, step):
+    def make(self, step: Step) -> None:
         """A move of its own."""
         did = step.did
         if did["router"] != step.router:
@@ -179,12 +188,12 @@ class Teller:
         if did["do"] in ("deliver", "carry") and 1 <= did["frame"] <= len(self.sent):
             step.brought = self.sent[did["frame"] - 1]
 
-    def sending(self, step, emission):
+    def sending(self, step: Step, emission: printed.Emission) -> None:
         sent = Sent(*emission, step.router, step.move, step.moment)
         self.sent.append(sent)
         step.sent.append(sent)
 
-    def tell(self, lines):
+    def tell(self, lines: Iterable[str]) -> Iterator[Step | Tables]:
         """Steps and then tables, each as soon as it is whole."""
         whole = None
         for said in chain(map(printed.parsed, lines), [None]):
@@ -197,19 +206,19 @@ class Teller:
             else:
                 whole.rows.append(said)
 
-    def begun_by(self, said):
+    def begun_by(self, said: printed.Answer | printed.Heading | None) -> Step | Tables | None:
         if isinstance(said, printed.Answer):
             return self.step(said)
         return None if said is None else Tables(said.router, self.moment(said.router))
 
 
-    def told(self, lines):
+    def told(self, lines: Iterable[str]) -> tuple[list[Step], dict[str, Tables]]:
         """All steps, and the tables by routers' names."""
         parts = list(self.tell(lines))
         steps = [part for part in parts if isinstance(part, Step)]
         return steps, {part.router: part for part in parts if isinstance(part, Tables)}
 
 
-def played(scenario, lines):
+def played(scenario: Scenario, lines: Iterable[str]) -> tuple[list[Step], dict[str, Tables]]:
     """The same of a scenario."""
     return Teller(scenario).told(lines)

@@ -3,9 +3,13 @@
 `read(text)` gives the document as a `Value` of kind "table", or raises `Unreadable` with the line and what is wrong
 there. Decimal numbers, dates and times are told from one another by their looks alone: no scenario has any.
 """
+from __future__ import annotations
+
 import re
 from bisect import bisect_left
+from collections.abc import Callable
 from dataclasses import dataclass, field
+from typing import Any, NoReturn
 
 # The most parts of a key, and the most lists and inline tables in one another.
 DEPTH = 80
@@ -25,7 +29,7 @@ HEX_DIGITS = {"x": 2, "u": 4, "U": 8}
 class Unreadable(Exception):
     """The text is no TOML: the line, counted from 1, and what is wrong there."""
 
-    def __init__(self, line, what):
+    def __init__(self, line: int, what: str) -> None:
         super().__init__(f"line {line}: {what}")
         self.line, self.what = line, what
 
@@ -35,43 +39,43 @@ class Value:
     """A value and the line where it begins. `key_lines` has the line of each key of a table."""
 
     kind: str  # "text", "number", "list", "table", "decimal", "date or time" or "truth value"
-    held: object
+    held: Any
     line: int
     key_lines: dict = field(default_factory=dict)
     # What made a table that isn't inline: a header that passed through it, a dotted key, or its own header.
     origin: str = ""
 
-    def get(self, key):
+    def get(self, key: str) -> Value | None:
         return self.held.get(key)
 
 
-def table(line, origin=""):
+def table(line: int, origin: str = "") -> Value:
     return Value("table", {}, line, origin=origin)
 
 
 class Reader:
-    def __init__(self, text):
+    def __init__(self, text: str) -> None:
         self.text, self.at = text.removeprefix("\ufeff"), 0
         self.ends = [found.start() for found in re.finditer("\n", self.text)]
 
     # ---- places
 
-    def line(self, at=None):
+    def line(self, at: int | None = None) -> int:
         return bisect_left(self.ends, self.at if at is None else at) + 1
 
-    def fail(self, what, at=None):
+    def fail(self, what: str, at: int | None = None) -> NoReturn:
         raise Unreadable(self.line(at), what)
 
-    def first(self):
+    def first(self) -> str:
         return self.text[self.at : self.at + 1]
 
-    def starts(self, what):
+    def starts(self, what: str) -> bool:
         return self.text.startswith(what, self.at)
 
-    def skip(self, pattern):
+    def skip(self, pattern: re.Pattern[str]) -> None:
         self.at = pattern.match(self.text, self.at).end()
 
-    def seen(self):
+    def seen(self) -> str:
         """What stands here, in words."""
         if self.at >= len(self.text):
             return "the end of the file"
@@ -79,14 +83,14 @@ class Reader:
             return "the end of the line"
         return repr(self.first()) if self.first().isprintable() else f"the character {ord(self.first()):#04x}"
 
-    def take(self, what, after):
+    def take(self, what: str, after: str) -> None:
         if not self.starts(what):
             self.fail(f"`{what}` is wanted after {after}, and there is {self.seen()}")
         self.at += len(what)
 
     # ---- texts
 
-    def text_value(self):
+    def text_value(self) -> str:
         mark = self.first() * 3
         if self.starts(mark):
             begin = self.at
@@ -95,12 +99,12 @@ class Reader:
             return self.body(mark, begin)
         return self.one_line()
 
-    def one_line(self):
+    def one_line(self) -> str:
         begin = self.at
         self.at += 1
         return self.body(self.text[begin], begin)
 
-    def body(self, mark, begin):
+    def body(self, mark: str, begin: int) -> str:
         """The characters up to the closing mark."""
         found = []
         while not self.closes(mark, begin):
@@ -110,7 +114,7 @@ class Reader:
                 found.append(self.plain(mark, begin))
         return "".join(found)
 
-    def closes(self, mark, begin):
+    def closes(self, mark: str, begin: int) -> bool:
         if len(mark) == 1 or not self.starts(mark):
             found = self.starts(mark)
         else:
@@ -121,7 +125,7 @@ class Reader:
         self.at += len(mark) if found else 0
         return found
 
-    def plain(self, mark, begin):
+    def plain(self, mark: str, begin: int) -> str:
         char = self.first()
         ends_line = char == "\n" or self.starts("\r\n")
         if not char or (ends_line and len(mark) == 1):
@@ -132,7 +136,7 @@ class Reader:
         self.at += 1
         return char
 
-    def escape(self, multi):
+    def escape(self, multi: bool) -> str:
         self.at += 1
         after = BLANKS.match(self.text, self.at).end()
         if multi and re.compile(r"\r?\n").match(self.text, after):
@@ -153,7 +157,7 @@ class Reader:
 
     # ---- keys and values
 
-    def key(self):
+    def key(self) -> list[tuple[str, int]]:
         """The parts of a key, as [(text, line)]."""
         parts = []
         while len(parts) < DEPTH:
@@ -172,13 +176,13 @@ class Reader:
             self.skip(BLANKS)
         self.fail(f"a key has more than {DEPTH} parts")
 
-    def pair(self, depth):
+    def pair(self, depth: int) -> tuple[list[tuple[str, int]], Value]:
         key = self.key()
         self.take("=", f"the key `{'.'.join(part for part, _ in key)}`")
         self.skip(BLANKS)
         return key, self.value(depth)
 
-    def value(self, depth):
+    def value(self, depth: int) -> Value:
         line = self.line()
         if self.first() in ('"', "'") and self.first():
             return Value("text", self.text_value(), line)
@@ -188,7 +192,7 @@ class Reader:
             return self.items(depth - 1) if self.starts("[") else self.inline(depth - 1)
         return self.word(line)
 
-    def separated(self, closing, what, one):
+    def separated(self, closing: str, what: str, one: Callable[[], object]) -> None:
         """Reads what stands between brackets with commas: calls `one` for each."""
         begin = self.at
         self.at += 1
@@ -205,15 +209,15 @@ class Reader:
                 self.skip(GAP)
         self.at += 1
 
-    def items(self, depth):
+    def items(self, depth: int) -> Value:
         found = Value("list", [], self.line())
         self.separated("]", "a list", lambda: found.held.append(self.value(depth)))
         return found
 
-    def inline(self, depth):
+    def inline(self, depth: int) -> Value:
         found = table(self.line(), "header")
 
-        def one():
+        def one() -> None:
             key, value = self.pair(depth)
             self.put(found, key, value)
 
@@ -222,7 +226,7 @@ class Reader:
         close(found)
         return found
 
-    def word(self, line):
+    def word(self, line: int) -> Value:
         found = WORD.match(self.text, self.at)
         if not found:
             self.fail(f"a value is wanted, and there is {self.seen()}")
@@ -248,7 +252,7 @@ class Reader:
 
     # ---- what keys and headers define
 
-    def put(self, inside, key, value):
+    def put(self, inside: Value, key: list[tuple[str, int]], value: Value) -> None:
         """A pair, by a key that may have dots."""
         for part, line in key[:-1]:
             found = inside.get(part)
@@ -266,7 +270,7 @@ class Reader:
         inside.held[part] = value
         inside.key_lines[part] = line
 
-    def along(self, root, path):
+    def along(self, root: Value, path: list[tuple[str, int]]) -> Value:
         """The table to which the headers of a path lead."""
         inside = root
         for part, line in path:
@@ -282,7 +286,7 @@ class Reader:
             inside = found
         return inside
 
-    def header(self, root):
+    def header(self, root: Value) -> list[tuple[str, int]]:
         many = self.starts("[[")
         self.at += 2 if many else 1
         self.skip(BLANKS)
@@ -308,7 +312,7 @@ class Reader:
                 + (f"a list of tables {since}: write [[{part}]]" if is_many else f"there {since} already"))
         return path
 
-    def document(self):
+    def document(self) -> Value:
         root, section = table(1, "header"), []
         self.skip(GAP)
         while self.at < len(self.text):
@@ -327,7 +331,7 @@ class Reader:
         return root
 
 
-def close(value):
+def close(value: Value) -> None:
     """An inline table is whole: neither a header nor a dotted key adds to it."""
     if value.kind == "table":
         value.origin = "closed"
@@ -335,7 +339,7 @@ def close(value):
             close(inner)
 
 
-def integer(word):
+def integer(word: str) -> int | None:
     """The number that a word writes, or None."""
     if word[:2] in BASES:
         base, digits = BASES[word[:2]]
@@ -345,12 +349,12 @@ def integer(word):
     return int(word.replace("_", "")) if DECIMAL.match(word) else None
 
 
-def read(text):
+def read(text: str) -> Value:
     """The document of a text, as a table."""
     return Reader(text).document()
 
 
-def plain(value):
+def plain(value: Value) -> Any:
     """A value as `tomllib` has it."""
     match value.kind:
         case "table":

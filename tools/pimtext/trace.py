@@ -2,10 +2,16 @@
 it.
 
 It follows what the run really did, as the printed lines and their scenario say it; no macro is evaluated here. """
+from __future__ import annotations
+
 from collections import defaultdict
 from dataclasses import dataclass, field
+from typing import TYPE_CHECKING
 
 from pimtext import packets, story
+
+if TYPE_CHECKING:
+    from pimtext.scenario import Scenario
 
 # A packet comes to the routers of its link by such moves, one directly after the other.
 AT_ONCE = ("frame", "unicast")
@@ -22,24 +28,24 @@ class Taken:
     copies: list = field(default_factory=list)
 
     @property
-    def router(self):
+    def router(self) -> str:
         return self.step.router
 
     @property
-    def iface(self):
+    def iface(self) -> int | None:
         return self.step.iface
 
     @property
-    def moment(self):
+    def moment(self) -> int:
         return self.step.moment
 
-    def is_done(self):
+    def is_done(self) -> bool:
         return self.step.verdict == "done"
 
-    def words(self):
+    def words(self) -> str:
         return self.router if self.before is None or self.iface is not None else f"a Register to {self.router}"
 
-    def way(self):
+    def way(self) -> list[Taken]:
         """The routers that the packet came by, as what they took of it, up to this one."""
         return [*(self.before.by.way() if self.before else []), self]
 
@@ -51,10 +57,10 @@ class Copy:
     by: Taken
     taken: list = field(default_factory=list)
 
-    def is_register(self):
+    def is_register(self) -> bool:
         return self.sent.is_unicast()
 
-    def words(self):
+    def words(self) -> str:
         """The routers that it came by."""
         return f"by {', '.join(taken.words() for taken in self.by.way())}"
 
@@ -71,19 +77,19 @@ class Packet:
     began: list = field(default_factory=list)
 
     @property
-    def ttl(self):
+    def ttl(self) -> int:
         return self.content[8]
 
     @property
-    def at(self):
+    def at(self) -> int:
         """The number of the step with which it came to the first router."""
         return self.began[0].at
 
     @property
-    def moment(self):
+    def moment(self) -> int:
         return self.began[0].moment
 
-    def taken(self):
+    def taken(self) -> list[Taken]:
         """By whom it was taken, in the order of the run, the packet itself and all its copies."""
         found, waiting = [], list(self.began)
         while waiting:
@@ -92,14 +98,14 @@ class Packet:
             waiting += [other for copy in taken.copies for other in copy.taken]
         return sorted(found, key=lambda taken: taken.at)
 
-    def copies(self):
+    def copies(self) -> list[Copy]:
         return [copy for taken in self.taken() for copy in taken.copies]
 
-    def on(self, link):
+    def on(self, link: str) -> list[Copy]:
         """The copies that were sent on a link."""
         return [copy for copy in self.copies() if not copy.is_register() and copy.sent.where == link]
 
-    def ends(self):
+    def ends(self) -> tuple[list[Taken], list[Copy]]:
         """Where it went no further: what a router took and sent nowhere, and copies that came to nobody."""
         silent = [taken for taken in self.taken() if not taken.copies]
         return silent, [copy for copy in self.copies() if not copy.taken]
@@ -108,7 +114,7 @@ class Packet:
 # ---- which packets are data
 
 
-def names(data):
+def names(data: bytes) -> tuple[str, str] | None:
     """The source and group of a packet that claims to be data, though a router may refuse it; None of any other."""
     if len(data) < 20 or data[0] >> 4 != 4 or data[9] == packets.IGMP or not packets.is_multicast(data[16:20]):
         return None
@@ -116,7 +122,7 @@ def names(data):
     return None if is_routers else (packets.dotted(data[12:16]), packets.dotted(data[16:20]))
 
 
-def registered(data):
+def registered(data: bytes) -> bytes | None:
     """The packet of data in a Register, None in anything else."""
     header = 4 * (data[0] & 15) if data else 0
     if len(data) < header + 28 or data[9] != packets.PIM or data[header] != 0x20 | packets.REGISTER:
@@ -124,7 +130,7 @@ def registered(data):
     return None if data[header + 4] & 0x40 else data[header + 8:]
 
 
-def content_of(sent):
+def content_of(sent: story.Sent) -> bytes | None:
     """The packet of data that a router sent on, as a copy or in a Register; None where it sent anything else."""
     if sent.kind == "copy":
         return sent.data
@@ -137,11 +143,11 @@ def content_of(sent):
 class Tracer:
     """Follows the steps of a run, one after the other."""
 
-    def __init__(self, played):
+    def __init__(self, played: Scenario) -> None:
         self.played, self.packets = played, []
         self.copies, self.counts = {}, defaultdict(int)
 
-    def follow(self, at, step):
+    def follow(self, at: int, step: story.Step) -> None:
         kind = step.did["do"]
         if kind in AT_ONCE:
             self.give(at, step, step.taken(), kind == "unicast")
@@ -149,7 +155,7 @@ class Tracer:
             copy = self.copies[step.brought.number]
             self.take(Taken(at, step, copy), copy.taken)
 
-    def give(self, at, step, data, is_unicast):
+    def give(self, at: int, step: story.Step, data: bytes | None, is_unicast: bool) -> None:
         """A source's packet came to a router; all moves that bring the same bytes to routers of one link bring one
         packet."""
         data = registered(data) if is_unicast else data
@@ -161,24 +167,24 @@ class Tracer:
         same = [each for each in alike if self.is_at_once(each, step)]
         self.take(Taken(at, step), (same[0] if same else self.packet(*named, link, data)).began)
 
-    def link(self, step):
+    def link(self, step: story.Step) -> str | None:
         interfaces = self.played.router(step.router).interfaces
         return interfaces[step.iface].link if step.iface < len(interfaces) else None
 
-    def is_at_once(self, packet, step):
+    def is_at_once(self, packet: Packet, step: story.Step) -> bool:
         """Whether a packet comes to another router of its link with this step, and nothing happened since it came to
         the last one."""
         between = self.played.moves[packet.began[-1].step.move:step.move - 1]
         is_other = all((taken.router, taken.iface) != (step.router, step.iface) for taken in packet.began)
         return is_other and all(move["do"] in AT_ONCE for move in between)
 
-    def packet(self, source, group, link, data):
+    def packet(self, source: str, group: str, link: str | None, data: bytes) -> Packet:
         self.counts[source, group] += 1
         packet = Packet(source, group, link, data, self.counts[source, group])
         self.packets.append(packet)
         return packet
 
-    def take(self, taken, among):
+    def take(self, taken: Taken, among: list[Taken]) -> None:
         among.append(taken)
         for sent in taken.step.sent:
             content = content_of(sent)
@@ -187,7 +193,7 @@ class Tracer:
                 self.copies[sent.number] = taken.copies[-1]
 
 
-def traced(played, steps):
+def traced(played: Scenario, steps: list[story.Step]) -> list[Packet]:
     """All packets of data of a run, in the order in which their sources sent them."""
     tracer = Tracer(played)
     for at, step in enumerate(steps):

@@ -4,14 +4,24 @@ This is computed from the printed tables, the routes, the RP ranges and the Hell
 4.1.5, 4.1.6 and 4.3.2, by code of its own. A set of interfaces is a set of their numbers; the register tunnel is in
 none.
 """
+from __future__ import annotations
+
 import functools
 import ipaddress
+from collections.abc import Callable, Iterable, Iterator
 from dataclasses import dataclass, field
 from ipaddress import ip_network
+from typing import TYPE_CHECKING, Any, TypeVar
 
 from pimtext import packets, printed, scenario
 from pimtext.addresses import ranges_of, routes_of
 from pimtext.printed import ANY
+
+if TYPE_CHECKING:
+    from pimtext.story import Step, Tables
+
+    R = TypeVar("R")
+    T = TypeVar("T")
 
 ip_address = functools.cache(ipaddress.ip_address)
 SOURCE_SPECIFIC = ip_network("232.0.0.0/8")
@@ -35,13 +45,13 @@ class Known:
     asserts: dict = field(default_factory=dict)
     moment: int = 0
 
-    def of(self, table, /, **values):
+    def of(self, table: type[R], /, **values: object) -> list[R]:
         return printed.rows_of(self.rows, table, **values)
 
-    def interfaces_up(self):
+    def interfaces_up(self) -> list[scenario.Interface]:
         return [each for each in self.router.interfaces if each.number in self.up]
 
-    def link(self, number):
+    def link(self, number: int) -> str:
         return self.router.interfaces[number].link
 
 
@@ -50,17 +60,17 @@ class Still(Known):
     """What a router knows at one moment, to be asked much: answers are kept, so nothing of it may change any more."""
     kept: dict = field(default_factory=dict)
 
-    def of(self, table, /, **values):
+    def of(self, table: type[R], /, **values: object) -> list[R]:
         key = (table, *values.items())
         if key not in self.kept:
             self.kept[key] = super().of(table, **values)
         return self.kept[key]
 
 
-def kept(ask):
+def kept(ask: Callable[..., T]) -> Callable[..., T]:
     """Has the answers kept of a router that stays as it is."""
     @functools.wraps(ask)
-    def asked(state, *key):
+    def asked(state: Known, *key: Any) -> T:
         if not isinstance(state, Still):
             return ask(state, *key)
         if (ask, key) not in state.kept:
@@ -98,7 +108,7 @@ class Branch:
     outgoing: frozenset
 
 
-def known(played, steps, tables):
+def known(played: scenario.Scenario, steps: Iterable[Step], tables: dict[str, Tables]) -> dict[str, Known]:
     """What each router knows after the steps of a run, by the tables at its end."""
     found = {router.name: Known(router, [], set(), router.routes, router.rps) for router in played.routers}
     for step in steps:
@@ -109,7 +119,7 @@ def known(played, steps, tables):
     return found
 
 
-def follow(state, step):
+def follow(state: Known, step: Step) -> None:
     match step.did["do"]:
         case "up":
             state.up.add(step.iface)
@@ -124,7 +134,7 @@ def follow(state, step):
             hear(state, step)
 
 
-def hear(state, step):
+def hear(state: Known, step: Step) -> None:
     """Keeps what a Hello, an Assert or a query says that came on an interface."""
     data = step.taken()
     if step.iface is None:
@@ -149,7 +159,7 @@ class OtherQuerier:
     interval: int
 
 
-def hear_query(state, iface, moment, packet):
+def hear_query(state: Known, iface: int, moment: int, packet: packets.Packet) -> None:
     """A query from a lower address makes its sender the querier, with its values, for so long as RFC 3376 has it
     (8.5).
     """
@@ -166,24 +176,26 @@ def hear_query(state, iface, moment, packet):
 # ---- where packets come from
 
 
-def longest(pairs, address):
+def longest(
+    pairs: Iterable[tuple[ipaddress.IPv4Network, T]], address: ipaddress.IPv4Address | ipaddress.IPv6Address
+) -> T | None:
     """The value of the longest prefix with the address, the first of equal ones, or None."""
     found = [(prefix.prefixlen, value) for prefix, value in pairs if address in prefix]
     return max(found, key=lambda pair: pair[0])[1] if found else None
 
 
-def is_source_specific(group):
+def is_source_specific(group: str) -> bool:
     return ip_address(group) in SOURCE_SPECIFIC
 
 
 @kept
-def rp_of(state, group):
+def rp_of(state: Known, group: str) -> str | None:
     """The RP of a group, None where it has none."""
     return None if is_source_specific(group) else longest(state.rps, ip_address(group))
 
 
 @kept
-def route(state, address):
+def route(state: Known, address: str | None) -> Path | None:
     """The route to an address: none to an own one, else over a link, else the longest route where its interface is
     up.
     """
@@ -199,27 +211,27 @@ def route(state, address):
     return Path(found.iface, found.next_hop, False, found.preference, found.metric)
 
 
-def rpf_interface(state, address):
+def rpf_interface(state: Known, address: str | None) -> int | None:
     """The interface towards an address; None for no address, an own one, and one without a route."""
     path = route(state, address)
     return None if path is None else path.iface
 
 
-def is_connected(state, source):
+def is_connected(state: Known, source: str) -> bool:
     path = route(state, source)
     return path is not None and path.is_connected
 
 
-def root_of(state, group, source):
+def root_of(state: Known, group: str, source: str) -> str | None:
     """Where a tree has its root: the RP, or the source."""
     return rp_of(state, group) if source == ANY else source
 
 
-def upstream_interface(state, group, source):
+def upstream_interface(state: Known, group: str, source: str) -> int | None:
     return rpf_interface(state, root_of(state, group, source))
 
 
-def upstream_neighbour(state, group, source):
+def upstream_neighbour(state: Known, group: str, source: str) -> Hop | None:
     """RPF' of a tree: the winner of an assert on its interface, else the next hop where it is a neighbour; or None."""
     path = route(state, root_of(state, group, source))
     if path is None:
@@ -233,14 +245,14 @@ def upstream_neighbour(state, group, source):
 # ---- who serves a link
 
 
-def neighbours_on(state, number):
+def neighbours_on(state: Known, number: int) -> dict[str, packets.Hello]:
     """The addresses of the neighbours on an interface, with what they said."""
     rows = state.of(printed.Neighbour, iface=number)
     return {row.address: state.hellos.get((number, row.address), packets.Hello()) for row in rows}
 
 
 @kept
-def dr_of(state, number):
+def dr_of(state: Known, number: int) -> str:
     """The address of an interface's DR: the highest priority, where all neighbours tell one, then the highest
     address.
     """
@@ -250,30 +262,30 @@ def dr_of(state, number):
     return max(priorities, key=lambda address: (priorities[address] if is_told else 0, ip_address(address)))
 
 
-def is_dr(state, number):
+def is_dr(state: Known, number: int) -> bool:
     return dr_of(state, number) == state.router.interfaces[number].address
 
 
-def querier_of(state, number):
+def querier_of(state: Known, number: int) -> OtherQuerier | None:
     """The querier of an interface, None where that is the router itself."""
     other = state.queriers.get(number)
     return other if other is not None and other.end > state.moment else None
 
 
-def assert_roles(state, group, source, role):
+def assert_roles(state: Known, group: str, source: str, role: str) -> set[int]:
     return {row.iface for row in state.of(printed.AssertState, group=group, source=source, role=role)}
 
 
-def has_spt_bit(state, group, source):
+def has_spt_bit(state: Known, group: str, source: str) -> bool:
     return bool(state.of(printed.Active, group=group, source=source, spt="spt"))
 
 
-def lost_shared(state, group):
+def lost_shared(state: Known, group: str) -> set[int]:
     """lost_assert(*,G)"""
     return assert_roles(state, group, ANY, "loser") - {upstream_interface(state, group, ANY)}
 
 
-def lost_pruned(state, group, source):
+def lost_pruned(state: Known, group: str, source: str) -> set[int]:
     """lost_assert(S,G,rpt)"""
     kept = {upstream_interface(state, group, ANY)}
     if has_spt_bit(state, group, source):
@@ -281,13 +293,13 @@ def lost_pruned(state, group, source):
     return assert_roles(state, group, source, "loser") - kept
 
 
-def lost_source(state, group, source):
+def lost_source(state: Known, group: str, source: str) -> set[int]:
     """lost_assert(S,G)"""
     rows = state.of(printed.AssertState, group=group, source=source, role="loser")
     return {row.iface for row in rows if is_beaten(state, row)} - {rpf_interface(state, source)}
 
 
-def is_beaten(state, row):
+def is_beaten(state: Known, row: printed.AssertState) -> bool:
     """Whether the winner of an assert of a source is better than the router is with its own route to the source."""
     won = state.asserts.get((row.iface, row.group, row.source, row.winner))
     path, own = route(state, row.source), state.router.interfaces[row.iface].address
@@ -299,7 +311,7 @@ def is_beaten(state, row):
 
 
 @kept
-def served(state, group, source):
+def served(state: Known, group: str, source: str) -> set[int]:
     """The interfaces whose hosts are the router's: it is the DR and hasn't lost, or it won the assert."""
     lost = lost_shared(state, group) if source == ANY else lost_source(state, group, source)
     drs = {each.number for each in state.router.interfaces if is_dr(state, each.number)}
@@ -309,68 +321,68 @@ def served(state, group, source):
 # ---- where packets go
 
 
-def joins(state, group, source):
+def joins(state: Known, group: str, source: str) -> set[int]:
     """joins(*,G), joins(S,G)"""
     kind = "g" if source == ANY else "sg"
     return {row.iface for row in state.of(printed.Downstream, group=group, source=source, kind=kind)}
 
 
-def prunes(state, group, source):
+def prunes(state: Known, group: str, source: str) -> set[int]:
     """prunes(S,G,rpt)"""
     return {row.iface for row in state.of(printed.Downstream, group=group, source=source, kind="rpt", state="prune")}
 
 
-def hosts(state, group, source):
+def hosts(state: Known, group: str, source: str) -> set[int]:
     """The interfaces with hosts that want every source of a group, or this one, whoever serves them."""
     mode = "exclude" if source == ANY else "include"
     found = {row.iface for row in state.of(printed.GroupRecord, group=group, mode=mode)}
     return found if source == ANY else found & named_by_hosts(state, group, source, True)
 
 
-def named_by_hosts(state, group, source, is_wanted):
+def named_by_hosts(state: Known, group: str, source: str, is_wanted: bool) -> set[int]:
     """The interfaces with a record of the source: as one that hosts want, or as one that they exclude."""
     rows = state.of(printed.SourceRecord, group=group, source=source)
     return {row.iface for row in rows if (row.end is not None) == is_wanted}
 
 
-def included(state, group, source):
+def included(state: Known, group: str, source: str) -> set[int]:
     """pim_include(*,G), pim_include(S,G)"""
     return hosts(state, group, source) & served(state, group, source)
 
 
-def excluded(state, group, source):
+def excluded(state: Known, group: str, source: str) -> set[int]:
     """pim_exclude(S,G)"""
     return included(state, group, ANY) & named_by_hosts(state, group, source, False)
 
 
-def shared_outgoing(state, group):
+def shared_outgoing(state: Known, group: str) -> set[int]:
     """immediate_olist(*,G)"""
     return (joins(state, group, ANY) | included(state, group, ANY)) - lost_shared(state, group)
 
 
-def immediate_outgoing(state, group, source):
+def immediate_outgoing(state: Known, group: str, source: str) -> set[int]:
     """immediate_olist(S,G)"""
     return (joins(state, group, source) | included(state, group, source)) - lost_source(state, group, source)
 
 
-def pruned_outgoing(state, group, source):
+def pruned_outgoing(state: Known, group: str, source: str) -> set[int]:
     """inherited_olist(S,G,rpt)"""
     here = joins(state, group, ANY) - prunes(state, group, source)
     here |= included(state, group, ANY) - excluded(state, group, source)
     return here - lost_shared(state, group) - lost_pruned(state, group, source)
 
 
-def source_outgoing(state, group, source):
+def source_outgoing(state: Known, group: str, source: str) -> set[int]:
     """inherited_olist(S,G)"""
     here = pruned_outgoing(state, group, source) | joins(state, group, source) | included(state, group, source)
     return here - lost_source(state, group, source)
 
 
-def outgoing(state, group, source):
+def outgoing(state: Known, group: str, source: str) -> set[int]:
     return shared_outgoing(state, group) if source == ANY else source_outgoing(state, group, source)
 
 
-def branches(state):
+def branches(state: Known) -> Iterator[Branch]:
     """A branch for each tree that the router has joined."""
     for row in state.of(printed.Upstream):
         incoming = upstream_interface(state, row.group, row.source)

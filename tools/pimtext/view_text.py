@@ -1,8 +1,11 @@
 """What `pimtext.views` has of a router, as tables for people."""
+from collections.abc import Iterable, Iterator
+from typing import Any
+
 from pimtext import words
 
 
-def table(title, heads, rows):
+def table(title: str, heads: list[str], rows: list[list[Any]]) -> Iterator[str]:
     """A table with its columns below one another; nothing where it has no rows."""
     if not rows:
         return
@@ -13,27 +16,27 @@ def table(title, heads, rows):
         yield "    " + "  ".join(text.ljust(width) for text, width in zip(row, widths)).rstrip()
 
 
-def at(told):
+def at(told: dict[str, Any] | None) -> str:
     return "-" if told is None else f"{told['interface']} {told['link']}"
 
 
-def until(moment):
+def until(moment: float | str | None) -> str:
     return "never" if moment == "never" else words.seconds(moment)
 
 
-def outgoing_words(entry):
+def outgoing_words(entry: dict[str, Any]) -> list[str]:
     """Each interface of the list with its reasons, then those that are kept off it."""
     said = [f"{at(each)} ({', '.join(each['why'])})" for each in entry["outgoing"]]
     said += ["register"] * entry["registers"]
     return said + [f"not {at(each)} ({'; '.join(each['kept_off'])})" for each in entry["kept_off"]]
 
 
-def coming_words(entry):
+def coming_words(entry: dict[str, Any]) -> str:
     """Where packets come from; at the RP, what isn't taken from a source's tree comes in Registers."""
     return "Registers" if entry["is_rp"] and entry["by"] == "shared tree" else at(entry["incoming"])
 
 
-def mroute_rows(entries):
+def mroute_rows(entries: Iterable[dict[str, Any]]) -> Iterator[list[Any]]:
     """A row for each interface that an entry names; the entry's own columns stand in the first."""
     for entry in entries:
         head = [entry["source"], entry["group"], entry["flags"], coming_words(entry), entry["rpf_neighbour"]]
@@ -42,7 +45,7 @@ def mroute_rows(entries):
         yield from (["", "", "", "", "", each] for each in rest)
 
 
-def upstream_row(entry):
+def upstream_row(entry: dict[str, Any]) -> list[Any]:
     joined = "joined" if entry["joined"] else "not joined"
     neighbour = entry["rpf_neighbour"] and entry["rpf_neighbour"] + " (assert winner)" * entry["by_assert"]
     leaves = f"none: {entry['why_none']}"
@@ -52,31 +55,31 @@ def upstream_row(entry):
     return [*head, until(entry["kept_alive_until"]), entry["rpt"]]
 
 
-def interface_row(entry):
+def interface_row(entry: dict[str, Any]) -> list[Any]:
     if not entry["is_up"]:
         return [at(entry), entry["address"], "down", None, None]
     others = [("itself" if entry[mine] else entry[name]) for name, mine in (("dr", "is_dr"), ("querier", "is_querier"))]
     return [at(entry), entry["address"], "up", *others]
 
 
-def neighbour_row(entry):
+def neighbour_row(entry: dict[str, Any]) -> list[Any]:
     options = [entry[name] for name in ("priority", "generation", "propagation", "override")]
     return [at(entry), entry["address"], "DR" if entry["is_dr"] else "", until(entry["until"]), *options]
 
 
-def group_row(entry):
+def group_row(entry: dict[str, Any]) -> list[Any]:
     sources = [("not " if each["is_excluded"] else "") + each["source"] for each in entry["sources"]]
     whose = "yes" if entry["is_served"] else "no"
     return [at(entry), entry["group"], entry["mode"], until(entry["until"]), ", ".join(sources) or None,
         entry["querier"], whose]
 
 
-def rp_row(entry):
+def rp_row(entry: dict[str, Any]) -> list[Any]:
     return [entry["range"], entry["rp"], "itself" if entry["is_own"] else at(entry["rpf"]),
         ", ".join(entry["groups"]) or None]
 
 
-def tables(view):
+def tables(view: dict[str, Any]) -> Iterator[tuple[str, list[str], list[list[Any]]]]:
     """What a router knows as tables: a title, headings and rows of each."""
     yield "show ip mroute", ["Source", "Group", "Flags", "Incoming", "From",
         "Outgoing"], list(mroute_rows(view["mroute"]))
@@ -91,7 +94,7 @@ def tables(view):
     yield "show ip pim rp-info", ["Range", "RP", "Towards", "Groups"], list(map(rp_row, view["rps"]))
 
 
-def text(view):
+def text(view: dict[str, Any]) -> Iterator[str]:
     """The lines of a router."""
     yield f"router {view['router']} at {words.seconds(view['moment'])}"
     for each in tables(view):

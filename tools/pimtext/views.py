@@ -2,17 +2,26 @@
 
 Moments are ms; an end is None where none runs, and "never" where it doesn't come.
 """
+from __future__ import annotations
+
 from ipaddress import ip_address
+from typing import TYPE_CHECKING, Any, TypeVar
 
 from pimtext import printed, reasons, trees
 from pimtext.printed import ANY
 
+if TYPE_CHECKING:
+    from ipaddress import IPv4Network
+    from pimtext.scenario import Interface
 
-def end(moment):
+    R = TypeVar("R")
+
+
+def end(moment: float | None) -> float | str | None:
     return "never" if moment == printed.NEVER else moment
 
 
-def place(state, number):
+def place(state: trees.Known, number: int | None) -> dict[str, Any] | None:
     """An interface; None for none."""
     return None if number is None else {"interface": number, "link": state.link(number)}
 
@@ -20,7 +29,7 @@ def place(state, number):
 # ---- show ip mroute
 
 
-def keys(state):
+def keys(state: trees.Known) -> list[tuple[str, str]]:
     """The groups and sources that the router has facts of, group by group with (*,G) first."""
     rows = [row for row in state.rows if isinstance(row, KEYED) and row.group]
     found = {(row.group, ANY if isinstance(row, printed.GroupRecord) else row.source) for row in rows if is_shown(row)}
@@ -35,14 +44,14 @@ KEYED = (
 )
 
 
-def is_shown(row):
+def is_shown(row: printed.Row) -> bool:
     """A group that hosts want of some sources alone has no (*,G), nor has a source that they exclude its own."""
     if isinstance(row, printed.GroupRecord):
         return row.mode == "exclude"
     return not isinstance(row, printed.SourceRecord) or row.end is not None
 
 
-def mroute(state, group, source):
+def mroute(state: trees.Known, group: str, source: str) -> dict[str, Any]:
     leaves, kept = [], []
     for number, is_there, why, against in reasons.reasons(state, group, source):
         told = {**place(state, number), "why": why}
@@ -60,11 +69,11 @@ def mroute(state, group, source):
     }
 
 
-def is_rp(state, group):
+def is_rp(state: trees.Known, group: str) -> bool:
     return state.router.has(trees.rp_of(state, group))
 
 
-def is_by_source(state, group, source):
+def is_by_source(state: trees.Known, group: str, source: str) -> bool:
     """Whether a source's packets are taken from its own tree: always where there is no other, else with the SPTbit."""
     if source == ANY:
         return False
@@ -72,17 +81,17 @@ def is_by_source(state, group, source):
         source)
 
 
-def incoming(state, group, source):
+def incoming(state: trees.Known, group: str, source: str) -> int | None:
     """Where packets are taken from; None where they come in Registers, or from nowhere."""
     return trees.upstream_interface(state, group, source if is_by_source(state, group, source) else ANY)
 
 
-def neighbour(state, group, source):
+def neighbour(state: trees.Known, group: str, source: str) -> str | None:
     hop = trees.upstream_neighbour(state, group, source if is_by_source(state, group, source) else ANY)
     return None if hop is None else hop.address
 
 
-def flags(state, group, source, is_sent):
+def flags(state: trees.Known, group: str, source: str, is_sent: bool) -> str:
     """The letters of FRR: sparse, connected hosts, pruned, pruned off the shared tree, registering, SPTbit."""
     hosts = trees.included(state, group, ANY) | (trees.included(state, group, source) if source != ANY else set())
     pruned = state.of(printed.SharedTree, group=group, source=source, state="pruned")
@@ -95,7 +104,7 @@ def flags(state, group, source, is_sent):
 # ---- show ip pim upstream
 
 
-def upstream(state, group, source):
+def upstream(state: trees.Known, group: str, source: str) -> dict[str, Any]:
     path, hop = trees.route(state, trees.root_of(state, group, source)), trees.upstream_neighbour(state, group, source)
     tables = (printed.Upstream, printed.Active, printed.SharedTree)
     joined, active, rpt = (row_of(state, table, group, source) for table in tables)
@@ -108,11 +117,11 @@ def upstream(state, group, source):
     }
 
 
-def row_of(state, table, group, source):
+def row_of(state: trees.Known, table: type[R], group: str, source: str) -> R | None:
     return next(iter(state.of(table, group=group, source=source)), None)
 
 
-def why_none(state, group, source, joined):
+def why_none(state: trees.Known, group: str, source: str, joined: printed.Upstream | None) -> str | None:
     """Why no Join leaves; None where one does."""
     if not joined:
         return "nobody wants it of this router"
@@ -124,7 +133,7 @@ def why_none(state, group, source, joined):
 # ---- show ip pim neighbor, show ip pim interface, show ip igmp groups
 
 
-def interface(state, each):
+def interface(state: trees.Known, each: Interface) -> dict[str, Any]:
     told = {**place(state, each.number), "address": str(each.own), "is_up": each.number in state.up,
         "priority": each.priority}
     if not told["is_up"]:
@@ -137,14 +146,14 @@ def interface(state, each):
     }
 
 
-def pim_neighbour(state, row):
+def pim_neighbour(state: trees.Known, row: printed.Neighbour) -> dict[str, Any]:
     said = state.hellos.get((row.iface, row.address))
     told = {name: getattr(said, name, None) for name in ("priority", "generation", "propagation", "override")}
     is_dr = trees.dr_of(state, row.iface) == row.address
     return {**place(state, row.iface), "address": row.address, "until": end(row.end), "is_dr": is_dr, **told}
 
 
-def igmp_group(state, row):
+def igmp_group(state: trees.Known, row: printed.GroupRecord) -> dict[str, Any]:
     sources = [
         {"source": each.source, "until": end(each.end), "is_excluded": each.end is None}
         for each in state.of(printed.SourceRecord, iface=row.iface, group=row.group)
@@ -157,7 +166,7 @@ def igmp_group(state, row):
     }
 
 
-def wanted_of(row, sources):
+def wanted_of(row: printed.GroupRecord, sources: list[dict[str, Any]]) -> list[str]:
     """The sources that a record asks for: every one, or those named."""
     return [ANY] if row.mode == "exclude" else [each["source"] for each in sources]
 
@@ -165,7 +174,7 @@ def wanted_of(row, sources):
 # ---- show ip pim rp-info
 
 
-def rp_range(state, prefix, rp):
+def rp_range(state: trees.Known, prefix: IPv4Network, rp: str) -> dict[str, Any]:
     ranges = [(each, (each, address)) for each, address in state.rps]
     groups = {group for group, _ in keys(state) if trees.rp_of(state, group) is not None}
     here = [group for group in groups if trees.longest(ranges, ip_address(group)) == (prefix, rp)]
@@ -177,7 +186,7 @@ def rp_range(state, prefix, rp):
 # ---- all
 
 
-def router(state):
+def router(state: trees.Known) -> dict[str, Any]:
     here = keys(state)
     return {
         "router": state.router.name, "moment": state.moment,

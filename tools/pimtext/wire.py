@@ -1,9 +1,16 @@
 """What was lost between routers in a run: of each packet that one sent, which others on its link, or at its
 destination, it never came to though their interface was up."""
+from __future__ import annotations
+
 from collections import defaultdict
+from collections.abc import Collection
 from dataclasses import dataclass, field
+from typing import TYPE_CHECKING
 
 from pimtext import packets, story
+
+if TYPE_CHECKING:
+    from pimtext.scenario import Scenario
 
 HELLO, JOIN, DATA, REGISTER, OTHER = "Hello", "Join/Prune", "data", "Register", "other"
 KINDS = {packets.HELLO: HELLO, packets.JOIN_PRUNE: JOIN}
@@ -21,20 +28,20 @@ class Way:
     sent: dict = field(default_factory=lambda: defaultdict(list))
     lost: dict = field(default_factory=lambda: defaultdict(list))
 
-    def all_lost(self):
+    def all_lost(self) -> list[str]:
         """The kinds of which nothing came."""
         return [kind for kind, sent in self.sent.items() if len(self.lost[kind]) == len(sent)]
 
-    def is_dead(self):
+    def is_dead(self) -> bool:
         return bool(self.sent) and len(self.all_lost()) == len(self.sent)
 
-    def words(self, kinds=None):
+    def words(self, kinds: Collection[str] | None = None) -> str:
         """How many were lost, of these kinds or of all."""
         chosen = [kind for kind in PLURALS if self.lost[kind] and (kinds is None or kind in kinds)]
         return ", ".join(f"{len(self.lost[kind])} of {len(self.sent[kind])} {PLURALS[kind]}" for kind in chosen)
 
 
-def kind_of(sent):
+def kind_of(sent: story.Sent) -> str:
     if sent.kind == "copy":
         return DATA
     if sent.is_unicast():
@@ -45,7 +52,7 @@ def kind_of(sent):
 class Wire:
     """All that was sent in a run: `came` has the steps that brought each packet, by its number."""
 
-    def __init__(self, played, steps):
+    def __init__(self, played: Scenario, steps: list[story.Step]) -> None:
         self.played, self.steps, self.ways = played, steps, {}
         self.came, self.up = defaultdict(list), set()
         for step in steps:
@@ -56,7 +63,7 @@ class Wire:
         for step in steps:
             self.follow(step)
 
-    def follow(self, step):
+    def follow(self, step: story.Step) -> None:
         if step.did["do"] == "up" and step.verdict == "done":
             self.up.add((step.router, step.iface))
         if step.did["do"] == "down":
@@ -66,7 +73,7 @@ class Wire:
             if sent.move <= self.last:
                 self.count(sent)
 
-    def count(self, sent):
+    def count(self, sent: story.Sent) -> None:
         kind, came = kind_of(sent), {(step.router, step.iface) for step in self.came[sent.number]}
         for router, iface in story.receivers(self.played, sent):
             if iface is not None and (router, iface) not in self.up:
@@ -77,21 +84,21 @@ class Wire:
             if (router, iface) not in came:
                 way.lost[kind].append(sent)
 
-    def way(self, sender, receiver, link):
+    def way(self, sender: str, receiver: str, link: str | None) -> Way:
         return self.ways.get((sender, receiver, link)) or Way(sender, receiver, link)
 
     # ---- Joins
 
-    def joins(self, router, link):
+    def joins(self, router: str, link: str) -> list[tuple[story.Sent, packets.JoinPrune]]:
         """The Joins and Prunes that a router sent on a link, with what they say."""
         found = [sent for step in self.steps for sent in step.sent if (sent.router, sent.where) == (router, link)]
         return [(sent, sent.packet().body) for sent in found if kind_of(sent) == JOIN]
 
-    def answer(self, sent, router):
+    def answer(self, sent: story.Sent, router: str) -> story.Step | None:
         """The first step at which a packet came to a router, None where it never did."""
         return next((step for step in self.came[sent.number] if step.router == router), None)
 
 
-def names_group(body, group, is_join):
+def names_group(body: packets.JoinPrune, group: str, is_join: bool) -> bool:
     """Whether a Join/Prune joins, or prunes, anything of a group."""
     return any(each.group == group and (each.joins if is_join else each.prunes) for each in body.groups)

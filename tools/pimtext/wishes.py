@@ -1,10 +1,17 @@
 """What hosts asked for in a run, and when: by all reports that they gave, also by those that routers refused, and by
 IGMPv2."""
+from __future__ import annotations
+
 from collections import defaultdict
 from dataclasses import dataclass
+from typing import TYPE_CHECKING
 
 from pimtext import packets
 from pimtext.spoken import ALLOW, BLOCK, IS_EX, IS_IN, TO_EX
+
+if TYPE_CHECKING:
+    from pimtext.scenario import Scenario
+    from pimtext.story import Step
 
 # IGMPv1's and IGMPv2's messages of hosts: reports, and the one that leaves.
 OLD_REPORTS, OLD_LEAVE = (0x12, 0x16), 0x17
@@ -16,14 +23,14 @@ class Wish:
     is_exclude: bool
     sources: frozenset
 
-    def has(self, source):
+    def has(self, source: str) -> bool:
         return (source in self.sources) != self.is_exclude
 
 
 NOTHING, EVERYTHING = Wish(False, frozenset()), Wish(True, frozenset())
 
 
-def after(wish, record):
+def after(wish: Wish, record: packets.Record) -> Wish:
     """A host's wish after a record of it."""
     kind, told = record.kind, frozenset(record.sources)
     if kind in (IS_EX, TO_EX):
@@ -42,19 +49,19 @@ class Heard:
     """A host's report as a router took or refused it: pairs of a group and what the host wants of it after the
     report."""
     at: int
-    step: object
+    step: Step
     host: str
     link: str
     wishes: tuple
     is_old: bool = False
 
 
-def igmp_of(data):
+def igmp_of(data: bytes) -> bytes | None:
     """The IGMP message in a packet, None in any other."""
     return data[4 * (data[0] & 15):] if len(data) >= 20 and data[9] == packets.IGMP else None
 
 
-def old_wish(message):
+def old_wish(message: bytes) -> tuple[str, Wish] | None:
     """The group of an IGMPv1 or IGMPv2 message, and what its host wants of it; None of any other."""
     if len(message) != 8 or message[0] not in (*OLD_REPORTS, OLD_LEAVE):
         return None
@@ -64,14 +71,14 @@ def old_wish(message):
 class Hosts:
     """What each host wanted: `told` has by host and group the wish from each step on, `links` a host's link."""
 
-    def __init__(self, played, steps):
+    def __init__(self, played: Scenario, steps: list[Step]) -> None:
         self.played, self.steps = played, steps
         self.told, self.links, self.heard = defaultdict(list), {}, []
         for at, step in enumerate(steps):
             if step.did is not None and step.did["do"] == "frame":
                 self.hear(at, step)
 
-    def hear(self, at, step):
+    def hear(self, at: int, step: Step) -> None:
         data = step.taken()
         message = igmp_of(data)
         interfaces = self.played.router(step.router).interfaces
@@ -87,24 +94,24 @@ class Hosts:
         for group, wish in changed:
             self.told[host, group].append((at, wish))
 
-    def wish(self, host, group, at):
+    def wish(self, host: str, group: str, at: int) -> Wish:
         """What a host wanted of a group before step `at`."""
         return next((wish for before, wish in reversed(self.told.get((host, group), [])) if before < at), NOTHING)
 
-    def groups(self, host):
+    def groups(self, host: str) -> list[str]:
         return list(dict.fromkeys(group for whose, group in self.told if whose == host))
 
-    def named(self, host, group):
+    def named(self, host: str, group: str) -> list[str]:
         """The sources that a host asked for by name."""
         wishes = [wish for _, wish in self.told.get((host, group), []) if not wish.is_exclude]
         return list(dict.fromkeys(source for wish in wishes for source in sorted(wish.sources)))
 
-    def joined(self, host, group, source):
+    def joined(self, host: str, group: str, source: str) -> int | None:
         """The step with which a host first asked for a source, None where it never did."""
         return next((at for at, wish in self.told.get((host, group), []) if wish.has(source)), None)
 
 
-def records_of(data):
+def records_of(data: bytes) -> tuple[packets.Record, ...]:
     """The records of a report that can be read."""
     try:
         body = packets.read(data).body

@@ -1,6 +1,15 @@
 """What packets, answers and moves are, in words for people; one line each."""
+from __future__ import annotations
+
+from collections.abc import Iterable
+from typing import TYPE_CHECKING, Any
+
 from pimtext import packets, printed
 from pimtext.packets import RECORD_KINDS, Refused
+
+if TYPE_CHECKING:
+    from pimtext.scenario import Router, Scenario
+    from pimtext.story import Sent, Step
 
 REFUSALS = {
     1: "Short", 2: "BadVersion", 3: "BadChecksum", 4: "BadLength", 5: "BadAddress", 6: "NotMulticast", 7: "OldVersion",
@@ -15,29 +24,29 @@ PROTOCOLS = {1: "ICMP", 2: "IGMP", 6: "TCP", 17: "UDP", 103: "PIM"}
 NO_GROUP = "0.0.0.0"
 
 
-def seconds(moment):
+def seconds(moment: float | None) -> str:
     """A moment or an end, of ms, in seconds."""
     if moment is None:
         return "-"
     return "never" if moment == printed.NEVER else f"{moment // 1000}.{moment % 1000:03} s"
 
 
-def listed(items):
+def listed(items: Iterable[str]) -> str:
     return "{" + ", ".join(items) + "}"
 
 
-def ranged(address, mask):
+def ranged(address: str, mask: int) -> str:
     return address if mask == 32 else f"{address}/{mask}"
 
 
-def tree(group, source, kind=""):
+def tree(group: str, source: str, kind: str = "") -> str:
     return f"({source}, {group}{', rpt' if kind == 'rpt' else ''})"
 
 
 # ---- packets
 
 
-def hello(body):
+def hello(body: packets.Hello) -> str:
     said = {
         "holdtime": "for {} s", "priority": "DR priority {}", "generation": "generation {}",
         "propagation": "propagation delay {} ms", "override": "override interval {} ms",
@@ -46,18 +55,18 @@ def hello(body):
     return "Hello " + (", ".join(told) or "without options") + (": a farewell" if body.holdtime == 0 else "")
 
 
-def register(body):
+def register(body: packets.Register) -> str:
     inner = body.inner
     if body.is_null:
         return f"Null-Register of {tree(inner.destination, inner.source)}"
     return f"Register of [{inner.source} > {inner.destination}: {data(inner)}]"
 
 
-def register_stop(body):
+def register_stop(body: packets.RegisterStop) -> str:
     return f"Register-Stop of {tree(body.group, body.source)}"
 
 
-def entry(group, source):
+def entry(group: packets.GroupEntries, source: packets.Entry) -> str:
     """A source of a Join/Prune as the tree that it means. With both bits the source is the RP."""
     group = ranged(group.group, group.mask)
     if source.wildcard:
@@ -66,7 +75,7 @@ def entry(group, source):
     return tree(group, ranged(source.source, source.mask), "rpt" if source.rpt else "")
 
 
-def join_prune(body):
+def join_prune(body: packets.JoinPrune) -> str:
     said = []
     for group in body.groups:
         for verb, sources in (("join", group.joins), ("prune", group.prunes)):
@@ -74,14 +83,14 @@ def join_prune(body):
     return f"Join/Prune to {body.upstream} for {body.holdtime} s: " + ("; ".join(said) or "nothing")
 
 
-def assert_words(body):
+def assert_words(body: packets.Assert) -> str:
     whom = tree(ranged(body.group, body.mask), "*" if body.source == NO_GROUP else body.source)
     if body.is_infinite():
         return f"AssertCancel of {whom}"
     return f"Assert of {whom}, {'by the RP, ' if body.rpt else ''}preference {body.preference}, metric {body.metric}"
 
 
-def query(body):
+def query(body: packets.Query) -> str:
     whom = "of all groups" if body.group == NO_GROUP else f"of {body.group}"
     if body.sources:
         whom += f", sources {listed(body.sources)}"
@@ -89,15 +98,15 @@ def query(body):
     return f"query {whom}: " + ", ".join(said + ["suppressed"] * body.suppress)
 
 
-def record(body):
+def record(body: packets.Record) -> str:
     return f"{RECORD_KINDS.get(body.kind, f'type {body.kind}')} {body.group} {listed(body.sources)}"
 
 
-def report(body):
+def report(body: packets.Report) -> str:
     return "report: " + ("; ".join(map(record, body.records)) or "no record")
 
 
-def data(packet):
+def data(packet: packets.Packet) -> str:
     """A data packet, without its addresses."""
     body, protocol = packet.body, PROTOCOLS.get(packet.protocol, f"protocol {packet.protocol}")
     port = "" if body.destination_port is None else f" to port {body.destination_port}"
@@ -111,7 +120,7 @@ WRITERS = {
 }
 
 
-def packet(read):
+def packet(read: packets.Packet) -> str:
     """A packet on one line: its addresses, its kind, and what it says."""
     head = f"{read.source} > {read.destination}: "
     if isinstance(read.body, packets.Data):
@@ -121,7 +130,7 @@ def packet(read):
     return head + f"{PROTOCOLS[read.protocol]} " + WRITERS[type(read.body)](read.body)
 
 
-def bytes_given(content, limit=packets.MOST_IN_A_FRAME):
+def bytes_given(content: bytes, limit: int = packets.MOST_IN_A_FRAME) -> str:
     """The same of bytes that somebody gives a router, which may be anything."""
     try:
         return packet(packets.read(content, limit))
@@ -132,20 +141,20 @@ def bytes_given(content, limit=packets.MOST_IN_A_FRAME):
 # ---- answers and moves
 
 
-def answer(verdict, cause):
+def answer(verdict: str, cause: str | None) -> str:
     if verdict == "refused":
         return f"refused {cause} ({REFUSALS.get(int(cause), 'unknown')})"
     return verdict if cause is None else f"{verdict} ({cause})"
 
 
-def place(router, iface):
+def place(router: Router | None, iface: int) -> str:
     """An interface by its number and link."""
     if router is None or not 0 <= iface < len(router.interfaces):
         return str(iface)
     return f"{iface} {router.interfaces[iface].link}"
 
 
-def move(did, router, brought=None):
+def move(did: dict[str, Any], router: Router | None, brought: Sent | None = None) -> str:
     """What a move does at its router."""
     match did["do"]:
         case "up" | "down":
@@ -166,11 +175,11 @@ def move(did, router, brought=None):
     return did["do"]
 
 
-def of(brought):
+def of(brought: Sent | None) -> str:
     return "" if brought is None else f" of {brought.router}, {short(brought)}"
 
 
-def short(sent):
+def short(sent: Sent) -> str:
     """The kind of a packet that a router sent, in a word or two."""
     body = sent.packet().body
     names = {packets.JoinPrune: "Join/Prune", packets.RegisterStop: "Register-Stop", packets.Data: "data"}
@@ -181,7 +190,7 @@ def short(sent):
     return names.get(type(body), type(body).__name__)
 
 
-def step(told, scenario):
+def step(told: Step, scenario: Scenario | None) -> str:
     """What a step was: the move, or which packet a settle delivered."""
     if told.did is None:
         return ""

@@ -1,11 +1,18 @@
 """A triangle: the first packet comes by the RP, later ones straight from the source's router, unless that is switched
 off.
 """
+from __future__ import annotations
+
+from typing import TYPE_CHECKING
+
 from lab import Network
 from pimtext.packets import Register, RegisterStop
 
+if TYPE_CHECKING:
+    from lab import Host
 
-def triangle(spt):
+
+def triangle(spt: str) -> tuple[Network, Host, Host]:
     net = Network()
     net.router("last", spt=spt)
     net.link("first", "rp")

@@ -1,11 +1,20 @@
 """Hosts: what they want by IGMPv3, what they send, and what they received."""
+from __future__ import annotations
+
+from collections.abc import Iterable
 from dataclasses import dataclass, field
+from typing import TYPE_CHECKING, Any
 
 from lab.lines import calling
 from lab.mistakes import Mistake, group_given, ms_given, number_given, payload_given, source_given
 from lab.playing import Action
 from pimtext import packets
 from pimtext.wishes import NOTHING, Wish
+
+if TYPE_CHECKING:
+    from lab.network import Network, Served
+    from lab.topology import Link
+    from pimtext.streams import Stream
 
 # How often a host tells a change on a link that loses packets, and the ms between (RFC 3376, 8.1 and 8.11).
 ROBUSTNESS, UNSOLICITED_INTERVAL = 2, 1000
@@ -24,7 +33,7 @@ class Received:
     path: tuple
 
 
-def change(old, new):
+def change(old: Wish, new: Wish) -> list[tuple[int, frozenset[str]]]:
     """The record kinds and sources that tell a change of a wish (RFC 3376, 5.1)."""
     if old.is_exclude != new.is_exclude:
         return [(TO_EX if new.is_exclude else TO_IN, new.sources)]
@@ -33,7 +42,7 @@ def change(old, new):
     return [(kind, sources) for kind, sources in pairs if sources]
 
 
-def answer(wish, query):
+def answer(wish: Wish, query: packets.Query) -> tuple[int, frozenset[str]] | None:
     """The record kind and sources that answer a query, or None (RFC 3376, 5.2)."""
     asked = frozenset(query.sources)
     if not asked:
@@ -42,7 +51,7 @@ def answer(wish, query):
     return (IS_IN, wanted) if wanted else None
 
 
-def record(kind, group, sources):
+def record(kind: int, group: str, sources: Iterable[str]) -> packets.Record:
     return packets.Record(kind, group, tuple(sorted(sources, key=packets.octets)))
 
 
@@ -50,15 +59,15 @@ def record(kind, group, sources):
 class Host:
     """`igmp` is the version that it speaks, 3 or 2; `answers` whether it answers queries."""
     name: str
-    link: object
+    link: Link
     address: str
-    net: object = field(repr=False)
+    net: Network = field(repr=False)
     wishes: dict = field(default_factory=dict, repr=False)
     received: list = field(default_factory=list, repr=False)
     igmp: int = 3
     answers: bool = True
 
-    def join(self, group, source=None):
+    def join(self, group: str, source: Host | str | None = None) -> None:
         """Wants a group, of every source or of one, a host or an address, from the present on."""
         old, source = self.wish(group_given(group)), source and source_given(source)
         if source is not None and self.igmp == 2:
@@ -68,7 +77,7 @@ class Host:
         else:
             self.turn(group, Wish(old.is_exclude, old.sources - {source} if old.is_exclude else old.sources | {source}))
 
-    def leave(self, group, source=None):
+    def leave(self, group: str, source: Host | str | None = None) -> None:
         """Wants it no more, or not of this source."""
         old, source = self.wish(group_given(group)), source and source_given(source)
         if source is None:
@@ -76,13 +85,13 @@ class Host:
         else:
             self.turn(group, Wish(old.is_exclude, old.sources | {source} if old.is_exclude else old.sources - {source}))
 
-    def wish(self, group):
+    def wish(self, group: str) -> Wish:
         return self.wishes.get(group, NOTHING)
 
-    def wants(self, group, source):
+    def wants(self, group: str, source: str) -> bool:
         return self.wish(group).has(source)
 
-    def turn(self, group, new):
+    def turn(self, group: str, new: Wish) -> None:
         """Another wish: it is told to the routers."""
         records = [record(kind, group, sources) for kind, sources in change(self.wish(group), new)]
         self.wishes[group] = new
@@ -92,54 +101,54 @@ class Host:
             for again in range(ROBUSTNESS if self.link.loss else 1):
                 self.net.schedule(Speech(self, self.report(records)), self.net.now + again * UNSOLICITED_INTERVAL)
 
-    def report(self, records):
+    def report(self, records: list[packets.Record]) -> bytes:
         """A report of some records; by IGMPv2 of the first alone, which either wants its group or doesn't."""
         if self.igmp == 3:
             return packets.write_report(self.address, records)
         return packets.write_old_report(self.address, records[0].group, records[0].kind in (TO_IN, IS_IN))
 
-    def hear(self, query):
+    def hear(self, query: packets.Query) -> None:
         """Answers a query; the answer is what it wants by then."""
         if self.wishes and self.answers:
             self.net.schedule(Reply(self, query), self.net.present + self.net.chance.randint(0, 100 * query.response))
 
-    def records(self, query):
+    def records(self, query: packets.Query) -> list[packets.Record]:
         """What it says to a query at the present."""
         asked = [group for group in self.wishes if query.group in ("0.0.0.0", group)]
         groups = sorted(asked, key=packets.octets)
         answers = [(group, answer(self.wishes[group], query)) for group in groups]
         return [record(told[0], group, told[1]) for group, told in answers if told]
 
-    def served(self, group, source):
+    def served(self, group: str, source: Host | str) -> Served:
         """Whether it is served of a source, a host or an address, at the present; as a text, hop by hop how, or why
         not."""
         return self.net.served(self, group, source)
 
-    def watch(self, group, source=None):
+    def watch(self, group: str, source: Host | str | None = None) -> list[Stream]:
         """What came of a group so far, of each source that sent to it or of one: a `Stream` each, with `sent`, `came`,
         `twice`, `longest_gap` and `first_after` in seconds, and `missing()`."""
         return self.net.watch(self, group, source)
 
-    def send(self, group, payload=b"", ttl=16, after=0.0):
+    def send(self, group: str, payload: bytes = b"", ttl: int = 16, after: float = 0.0) -> None:
         """Sends a packet of data to a group, at the present or so many seconds later."""
         ttl = number_given(ttl, "TTL", 0, 255, is_whole=True)
         data = packets.write_data(self.address, group_given(group), payload_given(payload), ttl)
         self.net.schedule(Speech(self, data), self.net.now + ms_given(after, "number of seconds"))
 
-    def stream(self, group, every=1.0, times=10):
+    def stream(self, group: str, every: float = 1.0, times: int = 10) -> None:
         """Sends packets one after the other from the present on; the first says `1`, the next `2`, and so on."""
         number_given(every, "number of seconds")
         for number in range(number_given(times, "number of packets", is_whole=True)):
             self.send(group, str(number + 1).encode(), after=number * every)
 
-    def take(self, moment, packet, path):
+    def take(self, moment: int, packet: packets.Packet, path: tuple[str, ...]) -> None:
         """A packet of data that came."""
         if self.wants(packet.destination, packet.source):
             self.received.append(
                 Received(moment, packet.destination, packet.source, packet.body.payload, packet.ttl, path))
             self.received.sort(key=lambda each: each.moment)
 
-    def payloads(self, group=None):
+    def payloads(self, group: str | None = None) -> list[bytes]:
         """What the packets said that came, of all groups or of one, in their order."""
         return [each.payload for each in self.received if group in (None, each.group)]
 
@@ -148,23 +157,23 @@ class Speech(Action):
     """A host's packet comes to all routers on its link, but for those to which it is lost; so do its data to other
     hosts."""
 
-    def __init__(self, host, data):
+    def __init__(self, host: Host, data: bytes) -> None:
         super().__init__()
         self.host, self.data = host, data
         host.net.spoken.setdefault(data.hex(), calling())
         chance = host.net.chance
         self.ports = [(port, chance.getrandbits(32)) for port in host.link.ports if chance.random() >= host.link.loss]
 
-    def moves(self):
+    def moves(self) -> list[dict[str, Any]]:
         return self.given(self.data)
 
-    def given(self, data):
+    def given(self, data: bytes) -> list[dict[str, Any]]:
         return [
             {"do": "frame", "router": port.router.name, "iface": port.number, "hex": data.hex(), "draw": draw}
             for port, draw in self.ports if port.is_up()
         ]
 
-    def done(self, moment):
+    def done(self, moment: int) -> None:
         if self.data[9] != packets.IGMP:
             packet = packets.read(self.data)
             for other in self.host.link.hosts:
@@ -179,14 +188,14 @@ class Speech(Action):
 class Reply(Speech):
     """A host's answer to a query."""
 
-    def __init__(self, host, query):
+    def __init__(self, host: Host, query: packets.Query) -> None:
         super().__init__(host, b"")
         self.query = query
 
-    def moves(self):
+    def moves(self) -> list[dict[str, Any]]:
         records = self.host.records(self.query)
         parts = [records] if self.host.igmp == 3 else [[each] for each in records]
         return [move for part in parts if part for move in self.given(self.host.report(part))]
 
-    def done(self, moment):
+    def done(self, moment: int) -> None:
         pass

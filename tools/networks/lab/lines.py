@@ -1,7 +1,12 @@
 """Which line of a user's file made a router or a host, or had a host speak."""
+from __future__ import annotations
+
 import sys
 from pathlib import Path
-from typing import NamedTuple
+from typing import TYPE_CHECKING, NamedTuple
+
+if TYPE_CHECKING:
+    from lab.network import Network
 
 HERE = Path(__file__).resolve().parent
 
@@ -10,11 +15,11 @@ class Line(NamedTuple):
     file: str
     number: int
 
-    def __str__(self):
+    def __str__(self) -> str:
         return f"{self.file}:{self.number}"
 
 
-def calling():
+def calling() -> Line:
     """The line from which the package was called."""
     frame = sys._getframe(1)
     while frame.f_back is not None and is_inside(frame.f_code.co_filename):
@@ -22,7 +27,7 @@ def calling():
     return Line(Path(frame.f_code.co_filename).name, frame.f_lineno)
 
 
-def is_inside(name):
+def is_inside(name: str) -> bool:
     """Whether code is the package's own, or was made for one of its data classes."""
     return name.startswith("<") or Path(name).parent == HERE
 
@@ -30,20 +35,20 @@ def is_inside(name):
 class Lines:
     """Where the moves, routers and interfaces of a network come from, for the notes on its run."""
 
-    def __init__(self, net):
+    def __init__(self, net: Network) -> None:
         self.net = net
 
-    def move(self, number):
+    def move(self, number: int) -> Line:
         did = self.net.player.moves[number - 1] if number <= len(self.net.player.moves) else {}
         spoken = self.net.spoken.get(did.get("hex"))
         return spoken or self.router(did["router"]) if "router" in did else self.net.made
 
-    def router(self, name):
+    def router(self, name: str) -> Line:
         return self.net.routers[name].made
 
-    def interface(self, name, number):
+    def interface(self, name: str, number: int) -> Line:
         return self.net.routers[name].made
 
     @staticmethod
-    def words(line):
+    def words(line: Line) -> str:
         return str(line)

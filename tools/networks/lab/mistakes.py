@@ -1,10 +1,19 @@
 """What somebody who builds a network gets wrong, in sentences."""
+from __future__ import annotations
+
 import math
+from collections.abc import Iterable, Sequence
 from difflib import get_close_matches
 from ipaddress import AddressValueError, IPv4Network, NetmaskValueError
+from typing import TYPE_CHECKING, NoReturn, TypeVar
 
 from pimtext import packets, printed
 from pimtext.addresses import address_in, is_group, is_host
+
+if TYPE_CHECKING:
+    from lab.hosts import Host
+
+    N = TypeVar("N", int, float)
 
 TABLES = list(printed.ROWS.values())
 LINK_LOCAL = IPv4Network("224.0.0.0/24")
@@ -26,32 +35,32 @@ class Mistake(ValueError):
 class Named(dict):
     """Routers, links or hosts by their names; `kind` is what one of them is called."""
 
-    def __init__(self, kind):
+    def __init__(self, kind: str) -> None:
         super().__init__()
         self.kind = kind
 
-    def __missing__(self, name):
+    def __missing__(self, name: str) -> NoReturn:
         raise Mistake(f"there is no {self.kind} {name}{near(name, list(self))}")
 
 
-def near(word, known):
+def near(word: object, known: Sequence[str]) -> str:
     """What a word was probably to be, in words."""
     found = get_close_matches(str(word), known, 1, 0.6)
     return f"; is {found[0]} meant?" if found else f": there is {', '.join(known) or 'none'}"
 
 
-def shown(value):
+def shown(value: object) -> str:
     """A value as a sentence names it."""
     named = getattr(value, "name", None)
     return f"the {type(value).__name__.lower()} {named}" if isinstance(named, str) else repr(value)
 
 
-def is_known_key(key, known, whose):
+def is_known_key(key: str, known: Sequence[str], whose: str) -> None:
     if key not in known:
         raise Mistake(f"{key} is no setting of {whose}{near(key, known)}")
 
 
-def group_given(group):
+def group_given(group: str) -> str:
     """A group's address, or a sentence."""
     address = address_in(group) if isinstance(group, str) else None
     if address is None or not is_group(address):
@@ -62,7 +71,7 @@ def group_given(group):
     return group
 
 
-def source_given(source):
+def source_given(source: Host | str) -> str:
     """The address of a source, which may be told by its host, or a sentence."""
     text = getattr(source, "address", source)
     address = address_in(text) if isinstance(text, str) else None
@@ -71,7 +80,7 @@ def source_given(source):
     return text
 
 
-def host_given(address):
+def host_given(address: str) -> str:
     """An address that a host or a router may have, or a sentence."""
     number = address_in(address) if isinstance(address, str) else None
     if number is None or not is_host(number):
@@ -79,18 +88,18 @@ def host_given(address):
     return address
 
 
-def length_given(length):
+def length_given(length: int) -> int:
     return number_given(length, "length of a subnet", 1, 31, is_whole=True)
 
 
-def subnet_given(subnet):
+def subnet_given(subnet: str) -> IPv4Network:
     try:
         return IPv4Network(subnet)
     except (AddressValueError, NetmaskValueError, ValueError, TypeError) as wrong:
         raise Mistake(f"the subnet {subnet!r} is none: {wrong}; wanted is one as \"10.0.1.0/24\"") from None
 
 
-def number_given(value, what, least=0, most=math.inf, is_whole=False):
+def number_given(value: N, what: str, least: float = 0, most: float = math.inf, is_whole: bool = False) -> N:
     """A number that lies between two others, or a sentence."""
     kind, wanted = (int, "a whole number") if is_whole else ((int, float), "a number")
     if not isinstance(value, kind) or isinstance(value, bool) or not least <= value <= most:
@@ -99,17 +108,17 @@ def number_given(value, what, least=0, most=math.inf, is_whole=False):
     return value
 
 
-def share_given(value, what):
+def share_given(value: float, what: str) -> float:
     """A part of all packets, or a sentence."""
     return number_given(value, f"share of the packets that {what}", 0, 1)
 
 
-def ms_given(seconds, what, least=0):
+def ms_given(seconds: float, what: str, least: float = 0) -> int:
     """Seconds as ms, or a sentence."""
     return round(1000 * number_given(seconds, what, least))
 
 
-def delay_given(delay):
+def delay_given(delay: tuple[float, float]) -> tuple[int, int]:
     """The least and the most ms of two numbers of seconds, or a sentence."""
     if not isinstance(delay, (tuple, list)) or len(delay) != 2:
         raise Mistake(f"{shown(delay)} is no delay: it is the least and the most seconds, as (0.01, 0.05)")
@@ -120,7 +129,7 @@ def delay_given(delay):
     return least, most
 
 
-def payload_given(payload):
+def payload_given(payload: bytes) -> bytes:
     """The bytes of a packet of data, or a sentence."""
     if not isinstance(payload, (bytes, bytearray)):
         raise Mistake(f"{shown(payload)} is no payload: it is bytes, as b\"one\"")
@@ -129,14 +138,14 @@ def payload_given(payload):
     return bytes(payload)
 
 
-def address_given(subnet, place, who):
+def address_given(subnet: IPv4Network, place: int, who: str) -> str:
     """The address of a router or host by its place in the subnet of its link, or a sentence."""
     if place >= subnet.num_addresses - 1:
         raise Mistake(f"the subnet {subnet} is too small: {who} would have its address {place}")
     return str(subnet[place])
 
 
-def one_of(kind, known, what):
+def one_of(kind: type, known: Sequence[type], what: str) -> None:
     """A sentence where a class is none of these; a name of one in its place is told so."""
     if kind not in known:
         name = getattr(kind, "__name__", kind)
@@ -146,7 +155,7 @@ def one_of(kind, known, what):
         raise Mistake(f"{name if isinstance(kind, type) else repr(kind)} is no {what}{near(name, names)}")
 
 
-def table_given(kind, values):
+def table_given(kind: type, values: Iterable[str]) -> None:
     """A table of a router and the columns that are asked of it, or a sentence."""
     one_of(kind, TABLES, "table of a router")
     for column in values:
@@ -154,7 +163,7 @@ def table_given(kind, values):
             raise Mistake(f"{kind.__name__} has no column {column}{near(column, kind._fields)}")
 
 
-def kind_given(kind):
+def kind_given(kind: type | None) -> None:
     """A kind of packet, None for all, or a sentence."""
     if kind is not None:
         one_of(kind, KINDS, "kind of packet")

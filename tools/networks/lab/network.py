@@ -1,9 +1,13 @@
 """A network: its routers, links and hosts, the packets between them, and time."""
+from __future__ import annotations
+
 import random
 import weakref
+from collections.abc import Callable, Container, Sequence
 from dataclasses import dataclass
 from itertools import count, zip_longest
 from pathlib import Path
+from typing import TYPE_CHECKING, Any
 
 from lab.hosts import Host
 from lab.lines import Lines, calling
@@ -22,6 +26,13 @@ from pimtext.faults import ROUTER_KEYS, faults_of
 from pimtext.printed import ANY
 from pimtext.scenario import scenario_of, text_of
 
+if TYPE_CHECKING:
+    from lab.playing import Batch
+    from lab.tree import Tree
+    from pimtext.packets import Packet
+    from pimtext.story import Sent, Step, Tables
+    from pimtext.streams import Stream
+
 # All networks of this run.
 MADE = []
 # The keys of a router that a network leaves to whoever makes it.
@@ -36,10 +47,10 @@ class Served:
     lines: list
     is_served: bool
 
-    def __bool__(self):
+    def __bool__(self) -> bool:
         return self.is_served
 
-    def __str__(self):
+    def __str__(self) -> str:
         return "\n".join(self.lines)
 
 
@@ -49,7 +60,14 @@ class Network:
     seconds between two moments at which time passes for all routers: what a router sends in between leaves at the next
     of them."""
 
-    def __init__(self, seed=0, loss=0.0, delay=(0.0, 0.0), reorder=0.0, step=1.0):
+    def __init__(
+        self,
+        seed: int = 0,
+        loss: float = 0.0,
+        delay: tuple[float, float] = (0.0, 0.0),
+        reorder: float = 0.0,
+        step: float = 1.0,
+    ) -> None:
         self.chance = random.Random(seed)
         self.loss, self.step, self.order = share_given(loss, "are lost"), ms_given(step, "step", 0.001), count()
         self.routers, self.links, self.hosts, self.ranges, self.fixed = (
@@ -70,7 +88,7 @@ class Network:
 
     # ---- what it is made of
 
-    def router(self, name, **options):
+    def router(self, name: str, **options: Any) -> Router:
         """A router; options are keys of the scenario file, as `spt="never"`."""
         self.is_new(name, self.routers)
         for key in options:
@@ -80,7 +98,15 @@ class Network:
         self.routers[name] = Router(name, options, self)
         return self.routers[name]
 
-    def link(self, *routers, name=None, subnet=None, addresses=(), cost=10, loss=None):
+    def link(
+        self,
+        *routers: Router | str,
+        name: str | None = None,
+        subnet: str | None = None,
+        addresses: Sequence[str | None] = (),
+        cost: int = 10,
+        loss: float | None = None,
+    ) -> Link:
         """A link of routers, or of one for its hosts. They are told by name too, and are made where they are new.
         `addresses` are theirs, in their order; where it ends, the network gives them."""
         routers = [self.find(router) for router in routers]
@@ -99,17 +125,19 @@ class Network:
         self.links[name] = link
         return link
 
-    def line(self, *routers):
+    def line(self, *routers: Router | str) -> list[Link]:
         """A link from each router to the next."""
         if len(routers) < 2:
             raise Mistake("a line has two routers or more, and a ring too")
         return [self.link(*pair) for pair in zip(routers, routers[1:])]
 
-    def ring(self, *routers):
+    def ring(self, *routers: Router | str) -> list[Link]:
         """The same, and from the last to the first."""
         return self.line(*routers, *routers[:1] * (len(routers) > 1))
 
-    def host(self, name, at, address=None, igmp=3, answers=True):
+    def host(
+        self, name: str, at: Router | Link | str, address: str | None = None, igmp: int = 3, answers: bool = True
+    ) -> Host:
         """A host on a link, or at a router: then it has a link of its own there, which loses nothing. `address` is
         another one than the network would give it, `igmp` the version that it speaks, 3 or 2, and `answers` whether it
         answers queries."""
@@ -124,7 +152,7 @@ class Network:
         self.hosts[name] = host
         return host
 
-    def rp(self, router, groups="224.0.0.0/4", address=None):
+    def rp(self, router: Router | str, groups: str = "224.0.0.0/4", address: str | None = None) -> None:
         """The RP of a range of groups. Where no address of it is given, it is that of a link of its own, which never
         fails."""
         router = self.known_router(router)
@@ -137,10 +165,10 @@ class Network:
         if self.player:
             self.each("rps", lambda router: self.rps())
 
-    def rps(self):
+    def rps(self) -> list[str]:
         return [f"{prefix} {address}" for prefix, address in self.ranges]
 
-    def loopback(self, router):
+    def loopback(self, router: Router) -> str:
         """The address of a router on a link that is its alone."""
         name = f"{router.name}-lo"
         if name not in self.links:
@@ -148,7 +176,7 @@ class Network:
             self.link(router, name=name, subnet=f"10.255.{number & 255}.{number >> 8 << 2}/30", loss=0.0)
         return router.port(self.links[name]).address
 
-    def find(self, router):
+    def find(self, router: Router | str) -> Router:
         """A router by its name, which is made where there is none."""
         if isinstance(router, Router):
             return router
@@ -156,13 +184,13 @@ class Network:
             raise Mistake(f"{shown(router)} is no router, nor the name of one")
         return self.routers.get(router) or self.router(router)
 
-    def known_router(self, router, or_what=""):
+    def known_router(self, router: Router | str, or_what: str = "") -> Router:
         """A router that is there."""
         if isinstance(router, str) and router not in self.routers:
             raise Mistake(f"there is no router{or_what} {router}{near(router, list(self.routers))}")
         return self.find(router)
 
-    def is_new(self, name, among):
+    def is_new(self, name: str, among: Container[str]) -> None:
         if not isinstance(name, str):
             raise Mistake(f"{shown(name)} is no name: it is a text")
         if self.player:
@@ -170,11 +198,11 @@ class Network:
         if name in among:
             raise Mistake(f"there is a {name!r} already")
 
-    def owner(self, address):
+    def owner(self, address: str) -> Router:
         """The router that has an address."""
         return next(router for router in self.routers.values() for port in router.ports if port.address == address)
 
-    def table(self, router):
+    def table(self, router: Router) -> dict[str, Any]:
         """A router's table in the scenario file."""
         ports = [port.table() for port in router.ports]
         return {
@@ -187,14 +215,14 @@ class Network:
 
     # ---- what changes
 
-    def change_link(self, link, is_up):
+    def change_link(self, link: Link, is_up: bool) -> None:
         ports = [port for port in link.ports if port.router.is_up and port.is_working]
         self.change(link, is_up, ports)
 
-    def change_router(self, router, is_up):
+    def change_router(self, router: Router, is_up: bool) -> None:
         self.change(router, is_up, [port for port in router.ports if port.link.is_up and port.is_working])
 
-    def change(self, thing, is_up, ports):
+    def change(self, thing: Link | Router, is_up: bool, ports: list[Port]) -> None:
         """A link or a router comes or goes: with it its ports, and routes change."""
         if self.player is None:
             raise Mistake("links and routers go down after the first run")
@@ -204,7 +232,7 @@ class Network:
             self.schedule(Action([self.turned(port) for port in ports]), self.now)
             self.each("routes", self.routes_of)
 
-    def change_port(self, port, is_up):
+    def change_port(self, port: Port, is_up: bool) -> None:
         """One interface comes or goes."""
         if self.player is None:
             port.is_working, self.settles = is_up, self.settles and is_up
@@ -215,19 +243,19 @@ class Network:
                 self.schedule(Action([self.turned(port)]), self.now)
                 self.each("routes", self.routes_of)
 
-    def turned(self, port):
+    def turned(self, port: Port) -> dict[str, Any]:
         do = "up" if port.is_up() else "down"
         return {"do": do, "router": port.router.name, "iface": port.number, "draw": self.draw()}
 
-    def news(self, do, router, texts):
+    def news(self, do: str, router: Router, texts: list[str]) -> dict[str, Any]:
         return {"do": do, "router": router.name, "list": texts, "draw": self.draw()}
 
-    def each(self, do, listing):
+    def each(self, do: str, listing: Callable[[Router], list[str]]) -> None:
         """New routes or ranges for all routers that are up."""
         here = [router for router in self.routers.values() if router.is_up]
         self.schedule(Action([self.news(do, router, listing(router)) for router in here]), self.now)
 
-    def routes(self, router, *texts, alone=False):
+    def routes(self, router: Router | str, *texts: str, alone: bool = False) -> None:
         """Routes that go before those by shortest path, as `PREFIX NEXTHOP IFACE PREFERENCE METRIC`. With `alone` the
         router has no other ones: those stay, whatever fails."""
         router = self.known_router(router)
@@ -236,7 +264,7 @@ class Network:
         if self.player:
             self.schedule(Action([self.news("routes", router, self.routes_of(router))]), self.now)
 
-    def routes_of(self, router):
+    def routes_of(self, router: Router) -> list[str]:
         fixed = self.fixed.get(router, ())
         if router in self.alone:
             return list(fixed)
@@ -245,14 +273,14 @@ class Network:
 
     # ---- time
 
-    def draw(self):
+    def draw(self) -> int:
         return self.chance.getrandbits(32)
 
-    def schedule(self, action, moment):
+    def schedule(self, action: Action, moment: int) -> None:
         """What is to happen at a moment by the hosts or by whoever runs the network."""
         self.traffic.schedule(action, moment, (HOSTS, next(self.order)))
 
-    def start(self):
+    def start(self) -> None:
         """All interfaces come up at moment 0."""
         tables = [self.table(router) for router in self.routers.values()]
         judge, number = faults_of(text_of(tables, []))
@@ -263,7 +291,7 @@ class Network:
         moves = [self.turned(port) for router in self.routers.values() for port in router.ports if port.is_up()]
         self.traffic.schedule(Action(moves), 0, (START,))
 
-    def run(self, seconds):
+    def run(self, seconds: float) -> Network:
         """Time passes, with all that happens in it."""
         if self.player is None:
             self.start()
@@ -273,7 +301,7 @@ class Network:
         self.now = self.present = end
         return self
 
-    def run_on(self, end):
+    def run_on(self, end: int) -> None:
         """Plays what is planned up to the end, and keeps it as far as it is what really comes."""
         settle = self.draw() if self.settles else None
         planned = self.player.plan(self.traffic.copy(), self.stepped, self.step, end, settle)
@@ -287,7 +315,7 @@ class Network:
             kept += 1
         self.player.grow(kept == len(planned))
 
-    def keep(self, batch):
+    def keep(self, batch: Batch) -> None:
         """A batch happened."""
         self.present = batch.moment
         self.stepped = batch.moment if batch.is_step else self.stepped
@@ -299,7 +327,7 @@ class Network:
         for sent in self.player.keep(batch):
             self.leave(sent)
 
-    def follow(self, step, moment):
+    def follow(self, step: Step, moment: int) -> None:
         """What a router did: which way its packets came, and whether it took what came."""
         came = () if step.brought is None else self.paths[step.brought.number]
         self.paths.update((sent.number, (*came, step.router)) for sent in step.sent)
@@ -307,7 +335,7 @@ class Network:
         if step.verdict != "done":
             self.odd.append((moment, step))
 
-    def leave(self, sent):
+    def leave(self, sent: Sent) -> None:
         """A router sent a packet: hosts hear it at once, routers by a settle or by deliveries of their own."""
         self.sent.append(sent)
         if not sent.is_unicast():
@@ -317,7 +345,7 @@ class Network:
         else:
             self.traffic.leave(sent, self.present)
 
-    def tell_hosts(self, link, sent, packet):
+    def tell_hosts(self, link: Link, sent: Sent, packet: Packet) -> None:
         for host in link.hosts:
             if self.chance.random() < link.loss:
                 self.unheard.add((host.address, sent.number))
@@ -329,26 +357,26 @@ class Network:
 
     # ---- what came of it
 
-    def tables(self):
+    def tables(self) -> dict[str, Tables]:
         """What each router knows at the present, by names."""
         return self.running().tables
 
-    def running(self):
+    def running(self) -> Player:
         """What plays it, once it has run."""
         if self.player is None:
             raise Mistake("nothing has run yet")
         return self.player
 
-    def tree(self, group, source=ANY):
+    def tree(self, group: str, source: Host | str = ANY) -> Tree:
         """The tree of a group and all sources, or of one, a host or an address, as it stands at the present."""
         return tree_of(self.known(), group_given(group), source if source == ANY else source_given(source))
 
-    def known(self):
+    def known(self) -> dict[str, trees.Known]:
         """The same with what follows of the run: interfaces that are up, routes, RP ranges, Hellos."""
         tables = self.tables()
         return trees.known(self.player.played, self.player.told, tables)
 
-    def served(self, host, group, source):
+    def served(self, host: Host, group: str, source: Host | str) -> Served:
         """Whether a host is served of a source, a host or an address, at the present; as a text, hop by hop how, or why
         not."""
         diagnosis, address = self.diagnosis(), source_given(source)
@@ -360,14 +388,14 @@ class Network:
         causes = [f"  cause: {cause.line}: {cause.text}" for cause in diagnosis.of(verdict.stream)]
         return Served([*verdict.lines, *causes], verdict.is_served)
 
-    def watch(self, host, group, source=None):
+    def watch(self, host: Host, group: str, source: Host | str | None = None) -> list[Stream]:
         """What came to a host of a group, of each source or of one: streams with their numbers."""
         self.running()
         watch = self.diagnosis().run.watch
         found = watch.asked(host.address, group_given(group), source and source_given(source))
         return [stream for _, streams in found for stream in streams]
 
-    def diagnosis(self):
+    def diagnosis(self) -> Diagnosis:
         """The run up to the present with what went wrong in it; it is made once for each present."""
         key = len(self.running().moves), self.now
         if self.diagnosed is None or self.diagnosed[0] != key:
@@ -377,17 +405,17 @@ class Network:
             self.diagnosed = key, Diagnosis(faults_of(text)[0], played, lines, Lines(self), frozenset(self.unheard))
         return self.diagnosed[1]
 
-    def notes(self):
+    def notes(self) -> list[str]:
         """What a reader would wonder about in the run, as `tools/why --run` has it, with the lines of the file that
         made it."""
         return self.diagnosis().lines()
 
-    def packets(self, kind=None):
+    def packets(self, kind: type | None = None) -> list[Sent]:
         """What routers sent, in order, all or of one kind: a class of pimtext.packets, as Register."""
         kind_given(kind)
         return [sent for sent in self.sent if kind is None or isinstance(sent.packet().body, kind)]
 
-    def troubles(self):
+    def troubles(self) -> list[str]:
         """What routers refused or ignored, in words."""
         played = self.running().played
         return [
@@ -396,7 +424,7 @@ class Network:
             for moment, step in self.odd
         ]
 
-    def scenario(self):
+    def scenario(self) -> str:
         """The text of the scenario that was played, for `pimlab` and the other tools."""
         player = self.running()
         last = [
@@ -404,7 +432,7 @@ class Network:
         ]
         return text_of(player.routers, player.moves + last)
 
-    def save(self, path):
+    def save(self, path: str | Path) -> None:
         """Writes it to a file."""
         text = self.scenario()
         try:
@@ -413,6 +441,6 @@ class Network:
             raise Mistake(f"{path} can't be written: {error.strerror}") from None
 
 
-def made():
+def made() -> list[Network]:
     """The networks that this run has made and that are still in use."""
     return [net for net in (known() for known in MADE) if net is not None]

@@ -6,9 +6,16 @@ delivered, the moves up to then are kept and the rest is planned anew. Of the ke
 dropped: time that only passed. What is kept is neither written nor read again. The program plays it again at each call,
 since it judges a scenario whole before it plays any of it. But it is called once for a plan and not for each step of
 time: a ring of 20 routers for 75 s takes 8 calls, and 60 ms of the program in all. """
+from __future__ import annotations
+
+from collections.abc import Iterable, Iterator
 from dataclasses import dataclass, field, replace
+from typing import TYPE_CHECKING, Any
 
 from pimtext import scenario, story
+
+if TYPE_CHECKING:
+    from lab.traffic import Traffic
 
 # How many moves are planned at once: more after a plan that could be kept whole.
 FEWEST, MOST = 100, 4000
@@ -17,13 +24,13 @@ FEWEST, MOST = 100, 4000
 class Action:
     """Something that happens at a moment: moves, which are asked for when they are planned."""
 
-    def __init__(self, moves=()):
+    def __init__(self, moves: Iterable[dict[str, Any]] = ()) -> None:
         self.made = list(moves)
 
-    def moves(self):
+    def moves(self) -> list[dict[str, Any]]:
         return self.made
 
-    def done(self, moment):
+    def done(self, moment: int) -> None:
         """It happened, and will not be planned anew."""
 
 
@@ -34,7 +41,7 @@ class Due:
     order: tuple
     action: Action
 
-    def key(self):
+    def key(self) -> tuple[int, tuple[Any, ...]]:
         return self.moment, self.order
 
 
@@ -49,12 +56,12 @@ class Batch:
     steps: list = field(default_factory=list)
     before: int = 0
 
-    def is_as(self, other):
+    def is_as(self, other: Batch) -> bool:
         """Whether another one has the same moment, and the same happens in it."""
         return (self.moment, self.is_step) == (other.moment, other.is_step) and \
             [due.key() for due in self.dues] == [due.key() for due in other.dues]
 
-    def make(self, clocks, draws, settle):
+    def make(self, clocks: dict[str, int], draws: dict[str, int], settle: int | None) -> None:
         """Its moves: each router comes to the moment before it does anything else."""
         wanted = [move for due in self.dues for move in due.action.moves()]
         concerned = clocks if self.is_step or settle is not None else {move["router"] for move in wanted}
@@ -65,7 +72,7 @@ class Batch:
         if settle is not None:
             self.moves.append({"do": "settle", "draw": settle})
 
-    def busy(self):
+    def busy(self) -> Iterator[int]:
         """The places of the moves that did anything: time that passed did where its router sent, or took something
         after it."""
         routers = {step.router for step in self.steps if step.sent or step.did["do"] != "advance"}
@@ -92,12 +99,12 @@ class Player:
     teller: story.Teller | None = None
     size: int = FEWEST
 
-    def __post_init__(self):
+    def __post_init__(self) -> None:
         self.clocks = {table["name"]: 0 for table in self.routers}
         self.played = scenario.scenario_of({"router": self.routers})
         self.teller = story.Teller(self.played)
 
-    def plan(self, traffic, stepped, step, end, settle):
+    def plan(self, traffic: Traffic, stepped: int, step: int, end: int, settle: int | None) -> list[Batch]:
         """As many of the coming batches as are played at once, with their moves, by a traffic of guesses."""
         clocks, planned, before = dict(self.clocks), [], len(self.moves)
         while before < len(self.moves) + self.size and (batch := traffic.coming(stepped, step, end)):
@@ -112,7 +119,7 @@ class Player:
             before += len(batch.moves)
         return planned
 
-    def play(self, planned):
+    def play(self, planned: list[Batch]) -> None:
         """Plays what is kept and then these, which get their steps."""
         coming = [(batch, move) for batch in planned for move in batch.moves]
         texts = self.texts + [scenario.line_of(move) for _, move in coming]
@@ -123,7 +130,7 @@ class Player:
             coming[step.move - len(self.moves) - 1][0].steps.append(step)
         self.told = self.steps + steps
 
-    def keep(self, batch):
+    def keep(self, batch: Batch) -> list[story.Sent]:
         """Keeps the moves of a batch that did anything. Answers its packets, which have the numbers of the kept
         moves."""
         numbers, late = {}, []
@@ -140,13 +147,13 @@ class Player:
         self.teller.follow(steps, len(self.moves))
         return [sent for step in steps for sent in step.sent]
 
-    def add(self, move, moment):
+    def add(self, move: dict[str, Any], moment: int) -> None:
         self.moves.append(move)
         self.texts.append(scenario.line_of(move))
         if move["do"] == "advance":
             self.clocks[move["router"]] = moment
 
-    def caught_up(self, move, moment):
+    def caught_up(self, move: dict[str, Any], moment: int) -> list[story.Step]:
         """Time that passed for a router in an earlier batch, and did nothing there, is kept where the router does
         something now."""
         name = move.get("router")
@@ -156,11 +163,11 @@ class Player:
         self.add(late, moment)
         return [story.Step(len(self.moves), name, "done", None, moment, late)]
 
-    def grow(self, is_whole):
+    def grow(self, is_whole: bool) -> None:
         """The next plan is larger after one that was kept whole."""
         self.size = min(2 * self.size, MOST) if is_whole else FEWEST
 
 
-def numbered(packets, numbers):
+def numbered(packets: Iterable[story.Sent], numbers: dict[int, int]) -> list[story.Sent]:
     """Packets with the numbers that their moves have by now."""
     return [replace(sent, move=numbers[sent.move]) for sent in packets]

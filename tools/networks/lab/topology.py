@@ -1,12 +1,23 @@
 """Routers and links, and the routes between them by shortest path."""
+from __future__ import annotations
+
 import heapq
+from collections.abc import Iterator
 from dataclasses import dataclass, field
 from ipaddress import IPv4Network
 from itertools import count
+from typing import TYPE_CHECKING, Any, TypeVar
 
 from lab.lines import Line, calling
 from lab.mistakes import Mistake, host_given, is_known_key, kind_given, length_given, share_given, table_given
 from pimtext.printed import Neighbour
+
+if TYPE_CHECKING:
+    from lab.network import Network
+    from pimtext.packets import Packet
+    from pimtext.story import Sent
+
+    R = TypeVar("R")
 
 # Routes have OSPF's preference.
 PREFERENCE = 110
@@ -19,32 +30,32 @@ class Router:
     """`options` are keys of the scenario file's router, as `spt` or `limit`."""
     name: str
     options: dict
-    net: object = field(repr=False)
+    net: Network = field(repr=False)
     ports: list = field(default_factory=list, repr=False)
     is_up: bool = True
     made: Line = field(default_factory=calling, repr=False)
 
-    def stop(self):
+    def stop(self) -> None:
         """It falls silent at the present: all its interfaces go down, and other routers' routes go round it."""
         self.net.change_router(self, False)
 
-    def start(self):
+    def start(self) -> None:
         """It comes again, with new generation IDs."""
         self.net.change_router(self, True)
 
-    def port(self, link):
+    def port(self, link: Link) -> Port:
         """Its first interface on a link."""
         found = next((port for port in self.ports if port.link is link), None)
         if found is None:
             raise Mistake(f"{self.name} is not on the link {link.name}")
         return found
 
-    def rows(self, kind, **values):
+    def rows(self, kind: type[R], **values: object) -> list[R]:
         """The rows of a table, as of the end of the last `run`, that have these values."""
         table_given(kind, values)
         return self.net.tables()[self.name].of(kind, **values)
 
-    def neighbours(self):
+    def neighbours(self) -> set[str]:
         """The names of the routers that it has as PIM neighbours."""
         return {self.net.owner(row.address).name for row in self.rows(Neighbour)}
 
@@ -60,17 +71,17 @@ class Port:
     is_working: bool = True
     length: int | None = None
 
-    def is_up(self):
+    def is_up(self) -> bool:
         return self.router.is_up and self.link.is_up and self.is_working
 
-    def down(self):
+    def down(self) -> None:
         """It fails at the present, alone; before the first `run`, it never comes up."""
         self.link.net.change_port(self, False)
 
-    def up(self):
+    def up(self) -> None:
         self.link.net.change_port(self, True)
 
-    def table(self):
+    def table(self) -> dict[str, Any]:
         length = self.length or self.link.subnet.prefixlen
         return {"link": self.link.name, "address": f"{self.address}/{length}", **self.options}
 
@@ -84,7 +95,7 @@ class Loss:
     sender: str | None
     receiver: str | None
 
-    def is_of(self, packet, sender, receiver):
+    def is_of(self, packet: Packet, sender: str, receiver: str) -> bool:
         of_kind = self.kind is None or isinstance(packet.body, self.kind)
         return of_kind and self.sender in (None, sender) and self.receiver in (None, receiver)
 
@@ -97,13 +108,19 @@ class Link:
     subnet: IPv4Network
     cost: int
     loss: float
-    net: object = field(repr=False)
+    net: Network = field(repr=False)
     ports: list = field(default_factory=list, repr=False)
     hosts: list = field(default_factory=list, repr=False)
     is_up: bool = True
     losses: list = field(default_factory=list, repr=False)
 
-    def lose(self, share, kind=None, sender=None, receiver=None):
+    def lose(
+        self,
+        share: float,
+        kind: type | None = None,
+        sender: Router | str | None = None,
+        receiver: Router | str | None = None,
+    ) -> None:
         """From the present on it loses this share of the packets between routers: of one kind, a class of
         pimtext.packets, as `Hello`, `JoinPrune` or `Data`, and from one router or to one, by their names. Another call
         of the same kind and way replaces it."""
@@ -118,7 +135,7 @@ class Link:
         self.losses += [loss] if share else []
         self.net.settles = self.net.settles and not share
 
-    def share_lost(self, packet, sender, receiver):
+    def share_lost(self, packet: Packet, sender: str, receiver: str) -> float:
         """The share of packets like this one that are lost from a router to another."""
         kept = 1 - self.loss
         for loss in self.losses:
@@ -126,14 +143,14 @@ class Link:
                 kept *= 1 - loss.share
         return 1 - kept
 
-    def down(self):
+    def down(self) -> None:
         """It fails at the present: its routers' interfaces go down, and the routes go round it."""
         self.net.change_link(self, False)
 
-    def up(self):
+    def up(self) -> None:
         self.net.change_link(self, True)
 
-    def configure(self, router, **options):
+    def configure(self, router: Router | str, **options: Any) -> None:
         """Sets keys of a router's interface on this link, as `priority`, before the first `run`; `address` is another
         address than the network would give it, as one that is there already, and `length` another length of its subnet:
         a wrong mask."""
@@ -146,11 +163,11 @@ class Link:
             port.length = length_given(options.pop("length"))
         port.options.update(options)
 
-    def port(self, router):
+    def port(self, router: Router | str) -> Port:
         """The interface of a router on it, which can go `down()` and `up()` alone."""
         return self.net.known_router(router).port(self)
 
-    def packets(self, kind=None):
+    def packets(self, kind: type | None = None) -> list[Sent]:
         """What routers sent on it, all or of one kind: a class of pimtext.packets."""
         return [sent for sent in self.net.packets(kind) if sent.where == self.name and not sent.is_unicast()]
 
@@ -164,7 +181,7 @@ class Way:
     port: Port | None = None
 
 
-def ways(origin):
+def ways(origin: Router) -> dict[Router, Way]:
     """The shortest way to each router that can be reached; of equal ones the one found first, by ports in their
     order."""
     found, order = {}, count()
@@ -179,7 +196,7 @@ def ways(origin):
     return found
 
 
-def onwards(router, way):
+def onwards(router: Router, way: Way) -> Iterator[tuple[Router, Way]]:
     """The routers next to one, with the ways to them."""
     for port in router.ports:
         for other in port.link.ports:
@@ -188,7 +205,7 @@ def onwards(router, way):
                 yield other.router, Way(way.distance + port.link.cost, (*way.links, port.link), hop, first)
 
 
-def routes(origin):
+def routes(origin: Router) -> list[str]:
     """A router's routes as the scenario file has them: to each link that isn't its own. None leads to an address of
     itself."""
     best = {}

@@ -3,13 +3,22 @@
 Whether a packet is lost, how long it takes and whether it is overtaken follows from a seed, its number and its
 receiver. So a plan can guess the packets that routers will send, and what becomes of them: data go on as those before
 them did. A wrong guess costs a play; it never decides anything. """
+from __future__ import annotations
+
 import math
 import random
+from collections.abc import Sequence
 from dataclasses import dataclass, field
+from typing import TYPE_CHECKING, Any
 
 from lab.playing import Action, Batch, Due
 from lab.topology import ways
 from pimtext import packets, story
+
+if TYPE_CHECKING:
+    from lab.network import Network
+    from lab.topology import Link, Router
+    from pimtext.scenario import Scenario
 
 # What is due at one moment goes in this order.
 START, HOSTS, DELIVERIES, OVERTAKEN = range(4)
@@ -22,15 +31,15 @@ class Chances:
     delay: tuple
     reorder: float
 
-    def of(self, *words):
+    def of(self, *words: object) -> random.Random:
         return random.Random(f"{self.seed} {' '.join(map(str, words))}")
 
 
-def is_data(data):
+def is_data(data: bytes) -> bool:
     return data[9] not in (packets.PIM, packets.IGMP)
 
 
-def delivery(number, router, iface, draw):
+def delivery(number: int, router: Router, iface: int | None, draw: int) -> dict[str, Any]:
     """The move that brings a packet to a router, as a unicast where there is no interface."""
     if iface is None:
         return {"do": "carry", "router": router.name, "frame": number, "draw": draw}
@@ -42,8 +51,8 @@ class Traffic:
     """`read` is the scenario without its moves. `latest` is when the last packet of each way comes, which the next ones
     don't overtake, `content` what each packet was by its number; `habits` is on which links each router sent the last
     data that came on an interface from a source to a group."""
-    net: object
-    read: object
+    net: Network
+    read: Scenario | None
     chances: Chances
     dues: dict = field(default_factory=dict)
     latest: dict = field(default_factory=dict)
@@ -51,7 +60,7 @@ class Traffic:
     habits: dict = field(default_factory=dict)
     last: int = 0
 
-    def copy(self):
+    def copy(self) -> Traffic:
         """Another one for guesses."""
         return Traffic(self.net, self.read, self.chances, dict(self.dues), dict(self.latest), dict(self.content),
             self.habits,
@@ -59,10 +68,10 @@ class Traffic:
 
     # ---- what is due
 
-    def schedule(self, action, moment, order):
+    def schedule(self, action: Action, moment: int, order: tuple[Any, ...]) -> None:
         self.dues[moment, order] = Due(moment, order, action)
 
-    def coming(self, stepped, step, end):
+    def coming(self, stepped: int, step: int, end: int) -> Batch | None:
         """The next batch up to the end, None where there is none; the last step of time is the end."""
         tick = min(stepped + step, end) if stepped < end else math.inf
         moment = min([tick, *(moment for moment, _ in self.dues)])
@@ -71,23 +80,23 @@ class Traffic:
         here = [self.dues[key] for key in sorted(key for key in self.dues if key[0] == moment)]
         return Batch(moment, here, moment == tick)
 
-    def drop(self, batch):
+    def drop(self, batch: Batch) -> None:
         for due in batch.dues:
             del self.dues[due.key()]
 
     # ---- packets on their way
 
-    def note(self, sent):
+    def note(self, sent: story.Sent) -> None:
         """A router sent a packet."""
         self.content[sent.number], self.last = sent.data, sent.number
 
-    def leave(self, sent, moment):
+    def leave(self, sent: story.Sent, moment: int) -> None:
         """A router sent a packet: it is to be delivered, unless it is lost."""
         self.note(sent)
         for name, iface in story.receivers(self.read, sent):
             self.bring(sent, self.net.routers[name], iface, moment)
 
-    def bring(self, sent, router, iface, moment):
+    def bring(self, sent: story.Sent, router: Router, iface: int | None, moment: int) -> None:
         chance = self.chances.of(sent.number, router.name, iface)
         links = self.links_to(sent, router)
         arrives = self.share(sent, links, router) if links is not None and router.is_up else 0
@@ -103,14 +112,14 @@ class Traffic:
         self.schedule(Action([move]), moment, (order, sent.number, router.name, -1 if iface is None else iface))
 
     @staticmethod
-    def share(sent, links, router):
+    def share(sent: story.Sent, links: Sequence[Link], router: Router) -> float:
         """The share of packets like this one that come to a router over links."""
         packet = sent.packet()
         if sent.is_unicast():
             return math.prod(1 - link.loss for link in links)
         return math.prod(1 - link.share_lost(packet, sent.router, router.name) for link in links)
 
-    def links_to(self, sent, router):
+    def links_to(self, sent: story.Sent, router: Router) -> tuple[Link, ...] | None:
         """The links on which a packet comes to a router, None where it can't."""
         if sent.is_unicast():
             way = ways(self.net.routers[sent.router]).get(router)
@@ -120,13 +129,13 @@ class Traffic:
 
     # ---- guesses
 
-    def learn(self, step):
+    def learn(self, step: story.Step) -> None:
         """How a router sent data on."""
         data = step.brought.data if step.brought else bytes.fromhex(step.did.get("hex", ""))
         if len(data) >= 20 and is_data(data) and all(sent.kind == "copy" for sent in step.sent):
             self.habits[step.router, step.iface, data[12:20]] = [sent.where for sent in step.sent]
 
-    def guess(self, move, moment):
+    def guess(self, move: dict[str, Any], moment: int) -> None:
         """What a router will send where it takes data: what it sent the last time."""
         data = self.content.get(move["frame"]) if move["do"] == "deliver" else bytes.fromhex(move.get("hex", ""))
         if data and is_data(data):

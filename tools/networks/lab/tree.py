@@ -1,9 +1,15 @@
 """A tree as the routers have it."""
+from __future__ import annotations
+
 from dataclasses import dataclass
+from typing import TYPE_CHECKING
 
 from pimtext import trees
 from pimtext.printed import ANY
 from pimtext.words import tree as tree_name
+
+if TYPE_CHECKING:
+    from lab.hosts import Host
 
 
 @dataclass(frozen=True)
@@ -16,18 +22,18 @@ class Tree:
     incoming: dict
     outgoing: dict
 
-    def __bool__(self):
+    def __bool__(self) -> bool:
         return bool(self.incoming)
 
-    def routers(self):
+    def routers(self) -> set[str]:
         """The names of the routers that have joined it."""
         return set(self.incoming)
 
-    def links(self):
+    def links(self) -> set[str]:
         """The names of the links on which its packets are sent."""
         return set().union(*self.outgoing.values())
 
-    def path(self, host):
+    def path(self, host: Host) -> list[str]:
         """The names of the routers from the root to a host; empty where the tree doesn't reach it."""
         found, link = [], host.link.name
         while router := next((name for name, links in self.outgoing.items() if link in links and name not in found),
@@ -36,7 +42,7 @@ class Tree:
             link = self.incoming[router]
         return found
 
-    def __str__(self):
+    def __str__(self) -> str:
         rows = [
             f"  {name}: from {self.incoming[name] or 'itself'} to {', '.join(sorted(self.outgoing[name])) or 'none'}"
             for name in self.incoming
@@ -44,7 +50,7 @@ class Tree:
         return "\n".join([tree_name(self.group, self.source), *(rows or ["  nobody has joined it"])])
 
 
-def tree_of(known, group, source=ANY):
+def tree_of(known: dict[str, trees.Known], group: str, source: str = ANY) -> Tree:
     """The tree by what the routers know."""
     incoming, outgoing = {}, {}
     for name, state in known.items():
