@@ -8,7 +8,7 @@ use Rattle.pim_types.specs.declared.outcome.Stop.{Stop}
 use Rattle.pim_types.specs.declared.outcome.Verdict.{Verdict}
 use Rattle.pim_model.specs.declared.accepted.Accepted.{Accepted}
 use Rattle.pim_model.specs.Cause.{done_as, if_done}
-use Rattle.pim_model.specs.Full.{is_full, source_is_full}
+use Rattle.pim_model.specs.Full.{is_full}
 use Rattle.pim_model.specs.Judging.{Judged, judged}
 use Rattle.pim_model.specs.Sets.{assert_source, assert_star, is_loser, prunes, spt_bit}
 use Rattle.pim_model.specs.State.{State, is_own_among}
@@ -22,7 +22,7 @@ use Rattle.pim_ready.proofs.Steps.{step_is_settled}
 use Rattle.pim_promises.specs.Copies.{happens}
 use Rattle.pim_reach.proofs.Configured.{change_configured}
 use Rattle.pim_stream.proofs.JoinTimes.{none_takes_effect, row_lasts}
-use Rattle.pim_stream.specs.Passing.{ComesIn, EventKeepsPassing, GoesOut, IsJoinedThere, IsOn, IsOnShared, IsSourceJoinedThere, IsWanted, NoneEndsPassing, Receiver, RunKeepsPassing, Tree, serves_it, any_ends_passing, ends_passing, has_expired, has_moved, is_asked, is_lost, is_on_source, leaves_tree, membership_ends, takes_effect, takes_from, takes_link}
+use Rattle.pim_stream.specs.Passing.{ComesIn, EventKeepsPassing, GoesOut, IsJoinedThere, IsOn, IsOnShared, IsSourceJoinedThere, IsWanted, NoneEndsPassing, Receiver, RunKeepsPassing, Tree, serves_it, any_ends_passing, ends_passing, has_expired, has_moved, is_asked, is_lost, is_on_source, lacks_room, leaves_tree, membership_ends, takes_effect, takes_from, takes_link}
 use Rattle.pim_stream.proofs.Changes.{IsNoAssert, IsNotDown, IsQuietFor, chosen_spt, data_ground, other_data_off, same_ground, still_off, still_unlost, still_up}
 use Rattle.pim_stream.proofs.Fires.{Goes, time_goes}
 use Rattle.pim_stream.proofs.MemberTimes.{time_asks}
@@ -376,7 +376,7 @@ unfolding ends_passing
 event_keeps_passing tree by s e g src up down f off =
     let h : Four (takes_link (step s e).state g src up down (done_as (happens s e)))
     (leaves_tree tree (step s e).state g src up (done_as (happens s e)))
-    (takes_from by s (step s e).state g src down (done_as (happens s e))) (source_is_full (step s e).state g src) =
+    (takes_from by s (step s e).state g src down (done_as (happens s e))) (lacks_room tree (step s e).state g src) =
     none_of_four _ _ _ _ off in
     let held : Holds tree by g src up down (step s e).state =
     event_holds tree by g src up down s (record { comes_in = f.comes_in; goes_out = f.goes_out }) f.settled e

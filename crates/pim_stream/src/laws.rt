@@ -5,7 +5,7 @@ ghost use Rattle.pim_stream.specs.Begun.{BegunStreamIsServed, EachOfBegunStreamI
 ghost use Rattle.pim_stream.specs.Bits.{JoinKeepsSptBit};
 ghost use Rattle.pim_stream.specs.Climbing.{FramesStay, JoinBeginsStream, JoinClimbsOver};
 ghost use Rattle.pim_stream.specs.InTime.{EventKeepsPassingUntil, JoinsInTimeKeepPassing};
-ghost use Rattle.pim_stream.specs.Passing.{EventKeepsPassing, PassingServes, RunKeepsPassing};
+ghost use Rattle.pim_stream.specs.Passing.{EventKeepsPassing, PassingServes, RunKeepsPassing, SourceTreeHasRoom};
 ghost use Rattle.pim_stream.specs.Roots.{EachOfStreamIsServed, EachRegisterIsBrought, EventKeepsSending, RunKeepsSending};
 ghost use Rattle.pim_stream.specs.Streams.{MemberBeginsStream, StreamIsServed};
 
@@ -32,6 +32,11 @@ pub fn member_begins_stream()
 /// An event ends a stream at a router only where the test `ends_passing` says so.
 pub fn event_keeps_passing()
     ensures { EventKeepsPassing }
+{}
+
+/// On the source's tree a packet of the source needs no room: the fact of the source is there.
+pub fn source_tree_has_room()
+    ensures { SourceTreeHasRoom }
 {}
 
 /// A list of events, none of which ends the stream, leaves the router passing it.
