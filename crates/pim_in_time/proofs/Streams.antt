@@ -55,7 +55,7 @@ module _ (tree : Tree) (s : State) (e : Event) (g src up down end : ℕ) (holds 
   unfolding ends_otherwise ends_in_time
   passes_on passes off =
       let done : Option Accepted = done_as (happens s e) in
-      let h : Four (takes_link t g src up down done) (leaves_tree tree t g src up done) (prunes_source s t g src down done)
+      let h : Four (takes_link t g src up down done) (leaves_tree tree Receiver.Router t g src up done) (prunes_source s t g src down done)
       (lacks_room tree t g src) =
       none_of_four _ _ _ _ off in
       (event_keeps_passing_until tree s e g src up down end (record { passes = passes; holds = holds })

@@ -24,7 +24,7 @@ unfoldable pub ends_otherwise : Tree → State → Event → ℕ → ℕ → ℕ
 ends_otherwise tree s e g src up down =
     let t : State = (step s e).state in
     let done : Option Accepted = done_as (happens s e) in
-    takes_link t g src up down done || leaves_tree tree t g src up done || prunes_source s t g src down done
+    takes_link t g src up down done || leaves_tree tree Receiver.Router t g src up done || prunes_source s t g src down done
     || lacks_room tree t g src
 
 -- of the events that come to the upper router none does

@@ -124,7 +124,7 @@ unfolding ends_in_time ends_passing has_row
 event_keeps_passing_until tree s e g src up down end f off =
     let t : State = (step s e).state in
     let done : Option Accepted = done_as (happens s e) in
-    let h : Four (takes_link t g src up down done) (leaves_tree tree t g src up done) (is_late s t g src down end done)
+    let h : Four (takes_link t g src up down done) (leaves_tree tree Receiver.Router t g src up done) (is_late s t g src down end done)
     (lacks_room tree t g src) =
     none_of_four _ _ _ _ off in
     let held : HoldsStar t down g (Some end) =

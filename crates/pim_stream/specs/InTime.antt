@@ -45,7 +45,7 @@ unfoldable pub ends_in_time : Tree → State → Event → ℕ → ℕ → ℕ �
 ends_in_time tree s e g src up down end =
     let t : State = (step s e).state in
     let done : Option Accepted = done_as (happens s e) in
-    takes_link t g src up down done || leaves_tree tree t g src up done || is_late s t g src down end done
+    takes_link t g src up down done || leaves_tree tree Receiver.Router t g src up done || is_late s t g src down end done
     || lacks_room tree t g src
 
 -- the router passes the stream to another one, whose Join holds until an end at least, and nobody is pruning the group

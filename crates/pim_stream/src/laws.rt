@@ -2,7 +2,7 @@
 //! a function with nothing to do.
 
 ghost use Rattle.pim_stream.specs.Begun.{BegunStreamIsServed, EachOfBegunStreamIsServed, HostBeginsStream, JoinBeginsSending};
-ghost use Rattle.pim_stream.specs.Bits.{JoinKeepsSptBit};
+ghost use Rattle.pim_stream.specs.Bits.{ChangeKeepsSptBit, FiringKeepsSptBit, JoinKeepsSptBit};
 ghost use Rattle.pim_stream.specs.Climbing.{FramesStay, JoinBeginsStream, JoinClimbsOver};
 ghost use Rattle.pim_stream.specs.InTime.{EventKeepsPassingUntil, JoinsInTimeKeepPassing};
 ghost use Rattle.pim_stream.specs.Passing.{EventKeepsPassing, PassingServes, RunKeepsPassing, SourceTreeHasRoom};
@@ -107,4 +107,14 @@ pub fn joins_in_time_keep_passing()
 /// What follows of a change clears no SPTbit while a router joins the source on an interface where no assert is lost.
 pub fn join_keeps_spt_bit()
     ensures { JoinKeepsSptBit }
+{}
+
+/// No event's own change clears an SPTbit.
+pub fn change_keeps_spt_bit()
+    ensures { ChangeKeepsSptBit }
+{}
+
+/// No end of a timer clears an SPTbit by itself.
+pub fn firing_keeps_spt_bit()
+    ensures { FiringKeepsSptBit }
 {}
