@@ -7,6 +7,7 @@ ghost use Rattle.pim_stream.specs.Climbing.{FramesStay, JoinBeginsStream, JoinCl
 ghost use Rattle.pim_stream.specs.InTime.{EventKeepsPassingUntil, JoinsInTimeKeepPassing};
 ghost use Rattle.pim_stream.specs.Passing.{EventKeepsPassing, PassingServes, RunKeepsPassing, SourceTreeHasRoom};
 ghost use Rattle.pim_stream.specs.Roots.{EachOfStreamIsServed, EachRegisterIsBrought, EventKeepsSending, RunKeepsSending};
+ghost use Rattle.pim_stream.specs.Sources.{ConnectedIsBrought};
 ghost use Rattle.pim_stream.specs.Streams.{MemberBeginsStream, StreamIsServed};
 
 /// A frame that was sent stays deliverable, whatever is done in the network.
@@ -117,4 +118,9 @@ pub fn change_keeps_spt_bit()
 /// No end of a timer clears an SPTbit by itself.
 pub fn firing_keeps_spt_bit()
     ensures { FiringKeepsSptBit }
+{}
+
+/// Each packet of a source on a link of its own is brought to a router that sends the stream, such as the RP.
+pub fn connected_is_brought()
+    ensures { ConnectedIsBrought }
 {}
