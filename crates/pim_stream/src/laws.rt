@@ -7,7 +7,7 @@ ghost use Rattle.pim_stream.specs.Climbing.{FramesStay, JoinBeginsStream, JoinCl
 ghost use Rattle.pim_stream.specs.InTime.{EventKeepsPassingUntil, JoinsInTimeKeepPassing};
 ghost use Rattle.pim_stream.specs.Passing.{EventKeepsPassing, PassingServes, RunKeepsPassing, SourceTreeHasRoom};
 ghost use Rattle.pim_stream.specs.Roots.{EachOfStreamIsServed, EachRegisterIsBrought, EventKeepsSending, RunKeepsSending};
-ghost use Rattle.pim_stream.specs.Sources.{ConnectedIsBrought};
+ghost use Rattle.pim_stream.specs.Sources.{ConnectedIsBrought, DrRegisters};
 ghost use Rattle.pim_stream.specs.Streams.{MemberBeginsStream, StreamIsServed};
 
 /// A frame that was sent stays deliverable, whatever is done in the network.
@@ -123,4 +123,9 @@ pub fn firing_keeps_spt_bit()
 /// Each packet of a source on a link of its own is brought to a router that sends the stream, such as the RP.
 pub fn connected_is_brought()
     ensures { ConnectedIsBrought }
+{}
+
+/// The DR of a source's link sends each of its packets in a Register to the RP.
+pub fn dr_registers()
+    ensures { DrRegisters }
 {}
