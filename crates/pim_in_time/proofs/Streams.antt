@@ -6,7 +6,6 @@ use Rattle.pim_types.specs.declared.event.Event.{Event}
 use Rattle.pim_model.specs.declared.accepted.Accepted.{Accepted}
 use Rattle.pim_model.specs.Cause.{done_as}
 use Rattle.pim_model.specs.Downstream.{is_named, pruned_keys}
-use Rattle.pim_model.specs.Full.{source_is_full}
 use Rattle.pim_model.specs.Network.{Move, Network, Station, event_of, moved, station_at}
 use Rattle.pim_model.specs.Sets.{prunes}
 use Rattle.pim_model.specs.State.{State}
@@ -15,7 +14,7 @@ use Rattle.pim_promises.specs.Copies.{happens}
 use Rattle.pim_served.specs.Joins.{HoldsStar}
 use Rattle.pim_served.specs.Ways.{IsGroup}
 use Rattle.pim_stream.specs.InTime.{ends_in_time, is_late}
-use Rattle.pim_stream.specs.Passing.{Passes, Receiver, Tree, leaves_tree, takes_effect, takes_link}
+use Rattle.pim_stream.specs.Passing.{Passes, Receiver, Tree, lacks_room, leaves_tree, takes_effect, takes_link}
 use Rattle.pim_stream.proofs.InTime.{event_keeps_passing_until}
 use Rattle.pim_stream.proofs.Tests.{Four, none_of_four}
 use Rattle.pim_in_time.specs.Joins.{Always, AreInTime, AreThere, IsInTime, Pair, Wants, prunes_group}
@@ -56,8 +55,8 @@ module _ (tree : Tree) (s : State) (e : Event) (g src up down end : ℕ) (holds 
   unfolding ends_otherwise ends_in_time
   passes_on passes off =
       let done : Option Accepted = done_as (happens s e) in
-      let h : Four (takes_link t g src up down done) (leaves_tree tree t g src up done) (prunes_source s t g src down done)
-      (source_is_full t g src) =
+      let h : Four (takes_link t g src up down done) (leaves_tree tree Receiver.Router t g src up done) (prunes_source s t g src down done)
+      (lacks_room tree t g src) =
       none_of_four _ _ _ _ off in
       (event_keeps_passing_until tree s e g src up down end (record { passes = passes; holds = holds })
       (rw (h.first, h.second, isnt_late done refl unpruned h.third, h.fourth) refl)).passes

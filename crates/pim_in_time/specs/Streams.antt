@@ -4,14 +4,13 @@ use Rattle.pim_types.specs.Keys.{rpt_key}
 use Rattle.pim_types.specs.declared.event.Event.{Event}
 use Rattle.pim_model.specs.declared.accepted.Accepted.{Accepted}
 use Rattle.pim_model.specs.Cause.{done_as}
-use Rattle.pim_model.specs.Full.{source_is_full}
 use Rattle.pim_model.specs.Network.{Move, Network, Station, event_of, moved, station_at}
 use Rattle.pim_model.specs.Sets.{prunes}
 use Rattle.pim_model.specs.State.{State}
 use Rattle.pim_model.specs.Step.{step}
 use Rattle.pim_promises.specs.Copies.{happens}
 use Rattle.pim_served.specs.Ways.{IsGroup}
-use Rattle.pim_stream.specs.Passing.{Passes, Receiver, Tree, leaves_tree, takes_effect, takes_link}
+use Rattle.pim_stream.specs.Passing.{Passes, Receiver, Tree, lacks_room, leaves_tree, takes_effect, takes_link}
 use Rattle.pim_in_time.specs.Joins.{Always, ComeInTime, Pair, Wants, most_late}
 
 -- a Prune of the source off the group's tree takes effect on the interface; s is the state before the event, t the one after
@@ -25,8 +24,8 @@ unfoldable pub ends_otherwise : Tree → State → Event → ℕ → ℕ → ℕ
 ends_otherwise tree s e g src up down =
     let t : State = (step s e).state in
     let done : Option Accepted = done_as (happens s e) in
-    takes_link t g src up down done || leaves_tree tree t g src up done || prunes_source s t g src down done
-    || source_is_full t g src
+    takes_link t g src up down done || leaves_tree tree Receiver.Router t g src up done || prunes_source s t g src down done
+    || lacks_room tree t g src
 
 -- of the events that come to the upper router none does
 abbrev pub NoneEndsOtherwise : Tree → (g src up : ℕ) → Pair → Network → List Move → Type 0

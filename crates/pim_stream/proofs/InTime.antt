@@ -11,7 +11,6 @@ use Rattle.pim_wire.specs.Values.{JoinPrune}
 use Rattle.pim_model.specs.declared.accepted.Accepted.{Accepted}
 use Rattle.pim_model.specs.Cause.{done_as}
 use Rattle.pim_model.specs.Downstream.{holdtime_end, holdtime_end_from, holdtime_forever, is_named, pruned_keys}
-use Rattle.pim_model.specs.Full.{source_is_full}
 use Rattle.pim_model.specs.Sets.{prunes}
 use Rattle.pim_model.specs.State.{State}
 use Rattle.pim_model.specs.Step.{ran, state_after, step}
@@ -22,7 +21,7 @@ use Rattle.pim_served.specs.Lasts.{takes_back}
 use Rattle.pim_served.proofs.Keeps.{event_keeps_star}
 use Rattle.pim_served.proofs.Taken.{star_join_is_taken}
 use Rattle.pim_stream.specs.InTime.{EventKeepsPassingUntil, JoinsInTimeKeepPassing, ends_in_time, is_late, joined_until, joins_group, next_end}
-use Rattle.pim_stream.specs.Passing.{Receiver, ends_by, ends_passing, has_expired, leaves_tree, takes_effect, takes_from, takes_link}
+use Rattle.pim_stream.specs.Passing.{Receiver, ends_by, ends_passing, has_expired, lacks_room, leaves_tree, takes_effect, takes_from, takes_link}
 use Rattle.pim_stream.proofs.Passing.{event_keeps_passing}
 use Rattle.pim_stream.proofs.Tests.{Four, is_false, neither, none_of_four}
 
@@ -125,8 +124,8 @@ unfolding ends_in_time ends_passing has_row
 event_keeps_passing_until tree s e g src up down end f off =
     let t : State = (step s e).state in
     let done : Option Accepted = done_as (happens s e) in
-    let h : Four (takes_link t g src up down done) (leaves_tree tree t g src up done) (is_late s t g src down end done)
-    (source_is_full t g src) =
+    let h : Four (takes_link t g src up down done) (leaves_tree tree Receiver.Router t g src up done) (is_late s t g src down end done)
+    (lacks_room tree t g src) =
     none_of_four _ _ _ _ off in
     let held : HoldsStar t down g (Some end) =
     event_keeps_star s e down g end (f.passes).settled f.holds (isnt_back s g src up down end f.holds t done h.first h.third) in

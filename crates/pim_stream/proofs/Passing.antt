@@ -1,20 +1,21 @@
 -- A stream goes on to pass at one router.
-use Rattle.std.proofs.Common.{◌≡◌, ◌∙◌, ℕ, ◌<◌, ◌==◌, ◌&&◌, Bool, true, false, not, List, [], ◌∷◌, length, Option, Some, Result, Ok, Err, refl, sym, ap, subst, arith}
+use Rattle.std.proofs.Common.{◌≡◌, ◌∙◌, ℕ, ◌<◌, ◌==◌, ◌&&◌, Bool, true, false, not, List, [], ◌∷◌, length, Option, Some, is_some, Result, Ok, Err, refl, sym, ap, subst, arith}
 use Rattle.pim_ip.specs.declared.refusal.Refusal.{Refusal}
 use Rattle.pim_types.specs.Keys.{group_in, rpt_key, same_key, source_in, source_key, star_key}
 use Rattle.pim_types.specs.declared.config.InterfaceConfig.{InterfaceConfig}
+use Rattle.pim_types.specs.declared.config.RpRange.{RpRange}
 use Rattle.pim_types.specs.declared.event.Event.{Event}
 use Rattle.pim_types.specs.declared.outcome.Stop.{Stop}
 use Rattle.pim_types.specs.declared.outcome.Verdict.{Verdict}
 use Rattle.pim_model.specs.declared.accepted.Accepted.{Accepted}
 use Rattle.pim_model.specs.Cause.{done_as, if_done}
-use Rattle.pim_model.specs.Full.{is_full, source_is_full}
+use Rattle.pim_model.specs.Full.{is_full}
 use Rattle.pim_model.specs.Judging.{Judged, judged}
 use Rattle.pim_model.specs.Sets.{assert_source, assert_star, is_loser, prunes, spt_bit}
 use Rattle.pim_model.specs.State.{State, is_own_among}
-use Rattle.pim_model.specs.Step.{advanced, change, concluded, done, ran, state_after, step, taken, taken_unless_full}
-use Rattle.pim_model.specs.Tables.{row_at}
-use Rattle.pim_model.specs.Unicast.{is_rpf_interface, is_rpf_interface_rp}
+use Rattle.pim_model.specs.Step.{advanced, change, concluded, done, ran, rps_replaced, state_after, step, taken, taken_unless_full}
+use Rattle.pim_model.specs.Tables.{has_row, row_at}
+use Rattle.pim_model.specs.Unicast.{is_rpf_interface, is_rpf_interface_rp, route, rpf_interface}
 use Rattle.pim_laws.proofs.UnchangedLaws.{full_or_taken, taken_done}
 use Rattle.pim_ready.specs.Ready.{IsSettled}
 use Rattle.pim_ready.proofs.SettledStates.{settled_is_lawful}
@@ -22,14 +23,17 @@ use Rattle.pim_ready.proofs.Steps.{step_is_settled}
 use Rattle.pim_promises.specs.Copies.{happens}
 use Rattle.pim_reach.proofs.Configured.{change_configured}
 use Rattle.pim_stream.proofs.JoinTimes.{none_takes_effect, row_lasts}
-use Rattle.pim_stream.specs.Passing.{ComesIn, EventKeepsPassing, GoesOut, IsJoinedThere, IsOn, IsOnShared, IsSourceJoinedThere, IsWanted, NoneEndsPassing, Receiver, RunKeepsPassing, Tree, serves_it, any_ends_passing, ends_passing, has_expired, has_moved, is_asked, is_lost, is_on_source, leaves_tree, membership_ends, takes_effect, takes_from, takes_link}
+use Rattle.pim_stream.specs.Passing.{ComesIn, EventKeepsPassing, GoesOut, IsJoinedThere, IsOn, IsOnShared, IsSourceJoinedThere, IsWanted, NoneEndsPassing, Receiver, RunKeepsPassing, Tree, serves_it, any_ends_passing, ends_passing, has_expired, has_moved, is_asked, is_lost, is_on_source, lacks_room, leaves_source, leaves_tree, membership_ends, takes_effect, takes_from, takes_link}
 use Rattle.pim_stream.proofs.Changes.{IsNoAssert, IsNotDown, IsQuietFor, chosen_spt, data_ground, other_data_off, same_ground, still_off, still_unlost, still_up}
+use Rattle.pim_stream.proofs.Bits.{join_keeps_spt_bit}
+use Rattle.pim_stream.proofs.ChangedBits.{change_keeps_spt_bit}
+use Rattle.pim_stream.proofs.TimedBits.{time_keeps_spt_bit}
 use Rattle.pim_stream.proofs.Fires.{Goes, time_goes}
 use Rattle.pim_stream.proofs.MemberTimes.{time_asks}
 use Rattle.pim_stream.proofs.MemberReports.{report_asks}
 use Rattle.pim_asked.proofs.Same.{settled_same as settled_rows}
 use Rattle.pim_stream.proofs.Members.{IsNoReport, settled_asks, still_asks}
-use Rattle.std.specs.Cmp.{first_so}
+use Rattle.std.specs.Cmp.{first_so, second_so}
 use Rattle.std.specs.Cmp.Derive.{both_true}
 use Rattle.pim_stream.proofs.Rejoins.{prunes_by, rejoined, source_rejoined}
 use Rattle.pim_stream.proofs.Serving.{renewed_too}
@@ -42,6 +46,12 @@ use Rattle.std.proofs.lemmas.Grind.{common_steps}
 use Rattle.pim_stream.proofs.Settles.{NoWorse, settling_no_worse}
 use Rattle.pim_stream.proofs.Ways.{SameGround, ground_itself, same_interface, same_interface_rp}
 use Rattle.pim_stream.proofs.Tests.{Four, Two, is_true, less_set, neither, none_of_four}
+
+-- other RP ranges leave the way to a source
+ranges_way : (s : State) (w : ℕ) (ranges : List RpRange) (address i : ℕ) → is_rpf_interface s address i ≡ true
+    → is_rpf_interface (change s w (Accepted.Rps ranges)).state address i ≡ true
+unfolding change rps_replaced rpf_interface route
+ranges_way s w ranges address i e = e
 
 module _ (tree : Tree) (by : Receiver) (g src up down : ℕ) where
   -- what is asked of the state but that it is settled, and has room
@@ -119,7 +129,7 @@ module _ (tree : Tree) (by : Receiver) (g src up down : ℕ) where
           ∙ (ap (λ b. b && not (is_rpf_interface s src up)) (chosen_spt g src up (renewed s g src up))
           ∙ renewed_too s g src up on.on_tree on.source_too))
 
-      data_tree : leaves_tree Tree.Shared (t w a) g src up (Some a) ≡ false → IsOnShared (t w a) g src up
+      data_tree : leaves_tree Tree.Shared by (t w a) g src up (Some a) ≡ false → IsOnShared (t w a) g src up
       data_tree off = go (p.destination == g) refl (p.source == src) refl (j.number == up) refl off
         where
           apart_by : same_key (source_key 0 g src) (source_key 0 p.destination p.source) ≡ true
@@ -150,7 +160,7 @@ module _ (tree : Tree) (by : Receiver) (g src up down : ℕ) where
           go true e true k false u x = unmoved w a x
 
     tree_after : IsOnShared s g src up → (w : ℕ) (a : Accepted)
-        → leaves_tree Tree.Shared (t w a) g src up (Some a) ≡ false → IsOnShared (t w a) g src up
+        → leaves_tree Tree.Shared by (t w a) g src up (Some a) ≡ false → IsOnShared (t w a) g src up
     tree_after on w (Accepted.Advance moment) off = quiet_tree w (Accepted.Advance moment) on tt
     tree_after on w (Accepted.Hello j from h) off = quiet_tree w (Accepted.Hello j from h) on tt
     tree_after on w (Accepted.JoinPruneToMe j m) off = quiet_tree w (Accepted.JoinPruneToMe j m) on tt
@@ -165,11 +175,6 @@ module _ (tree : Tree) (by : Receiver) (g src up down : ℕ) where
     tree_after on w (Accepted.Rps ranges) off = unmoved w (Accepted.Rps ranges) off
     tree_after on w (Accepted.Assert j from m) off = unmoved w (Accepted.Assert j from m) off
     tree_after on w (Accepted.Data j p) off = data_tree on w j p off
-
-    on_after : (tr : Tree) → IsOn tr s g src up → (w : ℕ) (a : Accepted) → leaves_tree tr (t w a) g src up (Some a) ≡ false
-        → IsOn tr (t w a) g src up
-    on_after Tree.Shared on w a off = tree_after on w a off
-    on_after Tree.Source on w a off = is_true (is_on_source (t w a) g src up) off
 
     isnt_down : (x : State) (a : Accepted) → takes_link x g src up down (Some a) ≡ false → IsNotDown up a
     isnt_down x (Accepted.Down j) off = (neither (j.number == down) (j.number == up) off).second
@@ -256,7 +261,56 @@ module _ (tree : Tree) (by : Receiver) (g src up down : ℕ) where
           found = ap (λ d. row_at d (source_key down g src)) (follows w a).downstream ∙ h.found;
         }
 
-    done_holds : (w : ℕ) (a : Accepted) → leaves_tree tree (t w a) g src up (Some a) ≡ false → takes_link (t w a) g src up down (Some a) ≡ false
+    -- ---- the tree, if it is the source's
+
+    bit_after : IsSourceJoinedThere s g src down → spt_bit s g src ≡ true → (w : ℕ) (a : Accepted) → IsNoAssert a
+        → IsNotDown down a → takes_from Receiver.SourceRouter s (t w a) g src down (Some a) ≡ false → spt_bit (t w a) g src ≡ true
+    unfolding done has_row
+    bit_after j set w a other up off =
+        join_keeps_spt_bit s ((change s w a).state, (change s w a).messages) w g src down
+        (record {
+          configured =
+              subst (λ (cs : List InterfaceConfig). down < length cs) (change_configured s w a).configured (f.goes_out).configured;
+          joined = ap is_some (source_rejoined s g src down j w (t w a) a (follows w a).downstream up off).found;
+          unlost = still_unlost (source_key down g src) s w a other (f.goes_out).source;
+        })
+        (change_keeps_spt_bit s w a g src set)
+
+    way_by : (w : ℕ) (a : Accepted) → is_rpf_interface (c w a) src up ≡ true → is_rpf_interface (t w a) src up ≡ true
+    way_by w a e = same_interface (c w a) (t w a) (follows w a).ground src up ∙ e
+
+    source_after : IsSourceJoinedThere s g src down → is_on_source s g src up ≡ true → (w : ℕ) (a : Accepted)
+        → takes_link (t w a) g src up down (Some a) ≡ false → leaves_source Receiver.SourceRouter (t w a) g src up (Some a) ≡ false
+        → takes_from Receiver.SourceRouter s (t w a) g src down (Some a) ≡ false → is_on_source (t w a) g src up ≡ true
+    source_after j on w (Accepted.Up i) off left other =
+        both_true (is_true _ left) (bit_after j (second_so _ _ on) w (Accepted.Up i) tt tt other)
+    source_after j on w (Accepted.Down i) off left other =
+        both_true (is_true _ left)
+        (bit_after j (second_so _ _ on) w (Accepted.Down i) tt (neither (i.number == down) (i.number == up) off).first other)
+    source_after j on w (Accepted.Routes routes) off left other =
+        both_true (is_true _ left) (bit_after j (second_so _ _ on) w (Accepted.Routes routes) tt tt other)
+    source_after j on w (Accepted.Assert i from m) off left other =
+        is_true (is_on_source (t w (Accepted.Assert i from m)) g src up) left
+    source_after j on w (Accepted.Rps ranges) off left other =
+        both_true (way_by w (Accepted.Rps ranges) (ranges_way s w ranges src up (first_so _ _ on)))
+        (bit_after j (second_so _ _ on) w (Accepted.Rps ranges) tt tt other)
+    source_after j on w (Accepted.Data i p) off left other =
+        both_true
+        (way_by w (Accepted.Data i p) (same_interface s (c w (Accepted.Data i p)) (data_ground s w i p) src up ∙ first_so _ _ on))
+        (bit_after j (second_so _ _ on) w (Accepted.Data i p) tt tt other)
+    source_after j on w a off left other =
+        both_true (way_by w a (same_interface s (c w a) (same_ground s w a tt) src up ∙ first_so _ _ on))
+        (bit_after j (second_so _ _ on) w a tt tt other)
+
+    on_after : (tr : Tree) (b : Receiver) → IsOn tr s g src up → IsWanted b s g src down → (w : ℕ) (a : Accepted)
+        → takes_link (t w a) g src up down (Some a) ≡ false → leaves_tree tr b (t w a) g src up (Some a) ≡ false
+        → takes_from b s (t w a) g src down (Some a) ≡ false → IsOn tr (t w a) g src up
+    on_after Tree.Shared b on j w a off left other = tree_after on w a left
+    on_after Tree.Source Receiver.SourceRouter on j w a off left other = source_after j on w a off left other
+    on_after Tree.Source Receiver.Router on j w a off left other = is_true (is_on_source (t w a) g src up) left
+    on_after Tree.Source Receiver.Host on j w a off left other = is_true (is_on_source (t w a) g src up) left
+
+    done_holds : (w : ℕ) (a : Accepted) → leaves_tree tree by (t w a) g src up (Some a) ≡ false → takes_link (t w a) g src up down (Some a) ≡ false
         → takes_from by s (t w a) g src down (Some a) ≡ false → Holds (t w a)
     done_holds w a left off other =
         let unlost : Unlost (t w a) = unlost_after w a off in
@@ -266,7 +320,7 @@ module _ (tree : Tree) (by : Receiver) (g src up down : ℕ) where
             configured = subst (λ (cs : List InterfaceConfig). up < length cs) (sym configured) (f.comes_in).configured;
             is_up = ((follows w a).ground).up up ∙ still_up s w up a (isnt_down (t w a) a off) (f.comes_in).is_up;
             foreign = ap (λ cs. is_own_among cs src) configured ∙ (f.comes_in).foreign;
-            on = on_after tree (f.comes_in).on w a left;
+            on = on_after tree by (f.comes_in).on (f.goes_out).wanted w a off left other;
           };
           goes_out = record {
             configured = subst (λ (cs : List InterfaceConfig). down < length cs) (sym configured) (f.goes_out).configured;
@@ -309,9 +363,10 @@ module _ (tree : Tree) (by : Receiver) (g src up down : ℕ) where
         found = row_lasts w m s (source_key down g src) j.row (settled_is_lawful s rest) j.found other;
       }
 
-      time_on : (tr : Tree) → IsOn tr s g src up → leaves_tree tr later g src up (Some (Accepted.Advance m)) ≡ false
-          → IsOn tr later g src up
-      time_on Tree.Shared on left =
+      time_on : (tr : Tree) (b : Receiver) → IsOn tr s g src up → IsWanted b s g src down
+          → leaves_tree tr b later g src up (Some (Accepted.Advance m)) ≡ false
+          → takes_from b s later g src down (Some (Accepted.Advance m)) ≡ false → IsOn tr later g src up
+      time_on Tree.Shared b on j left other =
           let h : Goes g src down s later = goes in
           record {
             on_tree = same_interface_rp s later h.ground g up ∙ on.on_tree;
@@ -319,9 +374,14 @@ module _ (tree : Tree) (by : Receiver) (g src up down : ℕ) where
                 ap (λ b. spt_bit later g src && not b) (same_interface s later h.ground src up)
                 ∙ less_set (spt_bit s g src) (spt_bit later g src) (is_rpf_interface s src up) on.source_too h.spt;
           }
-      time_on Tree.Source on left = is_true (is_on_source later g src up) left
+      time_on Tree.Source Receiver.SourceRouter on j left other =
+          both_true (same_interface s later (goes).ground src up ∙ first_so _ _ on)
+          (time_keeps_spt_bit w m s g src down j.row (settled_is_lawful s rest) (f.goes_out).configured (f.goes_out).group
+          (f.goes_out).source j.found other (second_so _ _ on))
+      time_on Tree.Source Receiver.Router on j left other = is_true (is_on_source later g src up) left
+      time_on Tree.Source Receiver.Host on j left other = is_true (is_on_source later g src up) left
 
-      time_holds : leaves_tree tree later g src up (Some (Accepted.Advance m)) ≡ false → takes_from by s later g src down (Some (Accepted.Advance m)) ≡ false → Holds later
+      time_holds : leaves_tree tree by later g src up (Some (Accepted.Advance m)) ≡ false → takes_from by s later g src down (Some (Accepted.Advance m)) ≡ false → Holds later
       time_holds left other =
           let h : Goes g src down s later = goes in
           record {
@@ -329,7 +389,7 @@ module _ (tree : Tree) (by : Receiver) (g src up down : ℕ) where
               configured = subst (λ (cs : List InterfaceConfig). up < length cs) (sym (h.ground).configured) (f.comes_in).configured;
               is_up = (h.ground).up up ∙ (f.comes_in).is_up;
               foreign = ap (λ cs. is_own_among cs src) (h.ground).configured ∙ (f.comes_in).foreign;
-              on = time_on tree (f.comes_in).on left;
+              on = time_on tree by (f.comes_in).on (f.goes_out).wanted left other;
             };
             goes_out = record {
               configured = subst (λ (cs : List InterfaceConfig). down < length cs) (sym (h.ground).configured) (f.goes_out).configured;
@@ -344,7 +404,7 @@ module _ (tree : Tree) (by : Receiver) (g src up down : ℕ) where
     module _ (rest : IsSettled s) where
       abbrev Off : State → Option Accepted → Type 0
       Off x o =
-          (takes_link x g src up down o ≡ false) × (leaves_tree tree x g src up o ≡ false)
+          (takes_link x g src up down o ≡ false) × (leaves_tree tree by x g src up o ≡ false)
           × (takes_from by s x g src down o ≡ false)
 
       taken_holds : (w : ℕ) (a : Accepted) → Off (taken s w a).state (Some a) → Holds (taken s w a).state
@@ -375,8 +435,8 @@ pub event_keeps_passing : EventKeepsPassing
 unfolding ends_passing
 event_keeps_passing tree by s e g src up down f off =
     let h : Four (takes_link (step s e).state g src up down (done_as (happens s e)))
-    (leaves_tree tree (step s e).state g src up (done_as (happens s e)))
-    (takes_from by s (step s e).state g src down (done_as (happens s e))) (source_is_full (step s e).state g src) =
+    (leaves_tree tree by (step s e).state g src up (done_as (happens s e)))
+    (takes_from by s (step s e).state g src down (done_as (happens s e))) (lacks_room tree (step s e).state g src) =
     none_of_four _ _ _ _ off in
     let held : Holds tree by g src up down (step s e).state =
     event_holds tree by g src up down s (record { comes_in = f.comes_in; goes_out = f.goes_out }) f.settled e

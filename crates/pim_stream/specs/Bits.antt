@@ -1,10 +1,14 @@
--- SPTbit(S,G) isn't cleared while a router on a link joins the source.
+-- SPTbit(S,G) isn't cleared while a router on a link joins the source, nor by a change itself.
 use Rattle.std.specs.Prelude.{List, false, true, ℕ, ◌<◌, ◌≡◌}
 use Rattle.pim_types.specs.Keys.{source_key}
-use Rattle.pim_model.specs.Firing.{settled}
+use Rattle.pim_types.specs.declared.fact.Key.{Key}
+use Rattle.pim_types.specs.declared.timer.TimerKind.{TimerKind}
+use Rattle.pim_model.specs.declared.accepted.Accepted.{Accepted}
+use Rattle.pim_model.specs.Firing.{fired, settled}
 use Rattle.pim_model.specs.Messages.{Message}
 use Rattle.pim_model.specs.Sets.{assert_source, is_loser, spt_bit}
 use Rattle.pim_model.specs.State.{State, iface_count}
+use Rattle.pim_model.specs.Step.{change}
 use Rattle.pim_model.specs.Tables.{has_row}
 
 -- a router joined (S,G) on an interface, and no assert of it is lost there
@@ -18,3 +22,13 @@ pub record HasJoined (s : State) (g src i : ℕ) : Type 0 where
 abbrev pub JoinKeepsSptBit : Type 0
 JoinKeepsSptBit = (o : State) (change : State × List Message) (w g src i : ℕ) → HasJoined change.0 g src i
     → spt_bit change.0 g src ≡ true → spt_bit (settled o change w).0 g src ≡ true
+
+-- no event's own change clears an SPTbit, whether the source is joined or not
+abbrev pub ChangeKeepsSptBit : Type 0
+ChangeKeepsSptBit = (s : State) (w : ℕ) (a : Accepted) (g src : ℕ) → spt_bit s g src ≡ true
+    → spt_bit (change s w a).state g src ≡ true
+
+-- nor does the end of a timer
+abbrev pub FiringKeepsSptBit : Type 0
+FiringKeepsSptBit = (s : State) (kind : TimerKind) (k : Key) (g src : ℕ) → spt_bit s g src ≡ true
+    → spt_bit (fired s kind k).0 g src ≡ true

@@ -5,13 +5,12 @@ use Rattle.pim_types.specs.declared.event.Event.{Event}
 use Rattle.pim_model.specs.declared.accepted.Accepted.{Accepted}
 use Rattle.pim_model.specs.Cause.{done_as}
 use Rattle.pim_model.specs.Downstream.{holdtime_forever, is_named, joined_keys, pruned_keys}
-use Rattle.pim_model.specs.Full.{source_is_full}
 use Rattle.pim_model.specs.Sets.{prunes}
 use Rattle.pim_model.specs.State.{State}
 use Rattle.pim_model.specs.Step.{state_after, step}
 use Rattle.pim_promises.specs.Copies.{happens}
 use Rattle.pim_served.specs.Joins.{HoldsStar}
-use Rattle.pim_stream.specs.Passing.{Passes, Receiver, Tree, leaves_tree, takes_effect, takes_link}
+use Rattle.pim_stream.specs.Passing.{Passes, Receiver, Tree, lacks_room, leaves_tree, takes_effect, takes_link}
 
 -- a message to the router joins the group on the link, for a holdtime that ends, and doesn't also prune it there; s is the
 -- state that it finds
@@ -46,8 +45,8 @@ unfoldable pub ends_in_time : Tree → State → Event → ℕ → ℕ → ℕ �
 ends_in_time tree s e g src up down end =
     let t : State = (step s e).state in
     let done : Option Accepted = done_as (happens s e) in
-    takes_link t g src up down done || leaves_tree tree t g src up done || is_late s t g src down end done
-    || source_is_full t g src
+    takes_link t g src up down done || leaves_tree tree Receiver.Router t g src up done || is_late s t g src down end done
+    || lacks_room tree t g src
 
 -- the router passes the stream to another one, whose Join holds until an end at least, and nobody is pruning the group
 pub record PassesUntil (tree : Tree) (s : State) (g src up down end : ℕ) : Type 0 where

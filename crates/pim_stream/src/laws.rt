@@ -2,11 +2,12 @@
 //! a function with nothing to do.
 
 ghost use Rattle.pim_stream.specs.Begun.{BegunStreamIsServed, EachOfBegunStreamIsServed, HostBeginsStream, JoinBeginsSending};
-ghost use Rattle.pim_stream.specs.Bits.{JoinKeepsSptBit};
+ghost use Rattle.pim_stream.specs.Bits.{ChangeKeepsSptBit, FiringKeepsSptBit, JoinKeepsSptBit};
 ghost use Rattle.pim_stream.specs.Climbing.{FramesStay, JoinBeginsStream, JoinClimbsOver};
 ghost use Rattle.pim_stream.specs.InTime.{EventKeepsPassingUntil, JoinsInTimeKeepPassing};
-ghost use Rattle.pim_stream.specs.Passing.{EventKeepsPassing, PassingServes, RunKeepsPassing};
+ghost use Rattle.pim_stream.specs.Passing.{EventKeepsPassing, PassingServes, RunKeepsPassing, SourceTreeHasRoom};
 ghost use Rattle.pim_stream.specs.Roots.{EachOfStreamIsServed, EachRegisterIsBrought, EventKeepsSending, RunKeepsSending};
+ghost use Rattle.pim_stream.specs.Sources.{ConnectedIsBrought, DrRegisters};
 ghost use Rattle.pim_stream.specs.Streams.{MemberBeginsStream, StreamIsServed};
 
 /// A frame that was sent stays deliverable, whatever is done in the network.
@@ -32,6 +33,11 @@ pub fn member_begins_stream()
 /// An event ends a stream at a router only where the test `ends_passing` says so.
 pub fn event_keeps_passing()
     ensures { EventKeepsPassing }
+{}
+
+/// On the source's tree a packet of the source needs no room: the fact of the source is there.
+pub fn source_tree_has_room()
+    ensures { SourceTreeHasRoom }
 {}
 
 /// A list of events, none of which ends the stream, leaves the router passing it.
@@ -102,4 +108,24 @@ pub fn joins_in_time_keep_passing()
 /// What follows of a change clears no SPTbit while a router joins the source on an interface where no assert is lost.
 pub fn join_keeps_spt_bit()
     ensures { JoinKeepsSptBit }
+{}
+
+/// No event's own change clears an SPTbit.
+pub fn change_keeps_spt_bit()
+    ensures { ChangeKeepsSptBit }
+{}
+
+/// No end of a timer clears an SPTbit by itself.
+pub fn firing_keeps_spt_bit()
+    ensures { FiringKeepsSptBit }
+{}
+
+/// Each packet of a source on a link of its own is brought to a router that sends the stream, such as the RP.
+pub fn connected_is_brought()
+    ensures { ConnectedIsBrought }
+{}
+
+/// The DR of a source's link sends each of its packets in a Register to the RP.
+pub fn dr_registers()
+    ensures { DrRegisters }
 {}
