@@ -104,8 +104,8 @@ FEWER_BYTES = 99
 
 def carried(net: Network, group: str, sending: str, source: str, receiving: str, receiver_address: str) -> str:
     """A stream of 20,000 packets a second, all of which are to arrive by the kernel."""
-    # Sent somewhat faster, so that it is as many by the clock of the sender.
-    count, rate, least = 100_000, 21_000, 20_000
+    # Sent faster, so that a sender that is kept waiting for up to a second has still sent as many a second.
+    count, rate, least = 100_000, 25_000, 20_000
     # It keeps the group, and so the entry that the first packets of another size made; none of these is counted below.
     keeper = net.receive(receiving, group, receiver_address, 1000, 600, FEWER_BYTES)
     time.sleep(2)
