@@ -9,7 +9,7 @@ pub fn joins_come_in_time()
     ensures { JoinsComeInTime }
 {}
 
-/// So along a way no router's Join expires while the first wants the group.
+/// Along a way no router's Join expires while the first wants the group.
 pub fn way_stays_joined()
     ensures { WayStaysJoined }
 {}
