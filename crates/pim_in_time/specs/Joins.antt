@@ -1,5 +1,5 @@
--- Joins come in time: where what a router sends to its next hop is delivered soon, and neither goes down, the Join there
--- never expires while the router wants the group.
+-- Joins come in time: where what a router sends to its next hop is delivered soon, and neither goes down, the Join
+-- there never expires while the router wants the group.
 use Rattle.std.specs.Prelude.{Bool, List, Option, Some, [], false, length, map, slice_get, true, ℕ, ◌&&◌, ◌*◌, ◌+◌, ◌<◌, ◌==◌, ◌∷◌, ◌≡◌, ◌≤◌, ◌⊎◌}
 use Rattle.pim_types.specs.Keys.{star_key}
 use Rattle.pim_types.specs.declared.event.Event.{Event}
@@ -103,7 +103,8 @@ frame_of g rp c pruned = record {
   bytes = join_packet c.from (c.hop).address.bits g (entry EntryKind.Star rp) (prunes_of pruned);
 }
 
--- the move delivers the frame of a number to the upper one, no sooner than it was sent, and there is room for what it says
+-- the move delivers the frame of a number to the upper one, no sooner than it was sent, and there is room for what it
+-- says
 pub record IsTaken (g rp : ℕ) (started : ℕ → ℕ) (c : Pair) (pruned : List ℕ) (number sent : ℕ) (n : Network) (m : Move) : Type 0 where
   pub draw : ℕ
   pub is : m ≡ Deliver c.upper c.down number draw
