@@ -1,2 +1,4 @@
 pub mod Joins
 pub mod Climbing
+pub mod Turning
+pub mod Ways

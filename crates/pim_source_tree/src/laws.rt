@@ -2,8 +2,19 @@
 //! nothing to do.
 
 ghost use Rattle.pim_source_tree.specs.Climbing.{SourceJoinClimbsOver};
+ghost use Rattle.pim_source_tree.specs.Turning.{PacketSetsSptBit, SourceTreeBegins};
 
 /// A Join(S,G) climbs the way to its source with any moves of the network between its deliveries.
 pub fn source_join_climbs_over()
     ensures { SourceJoinClimbsOver }
+{}
+
+/// The first packet on the way to its source sets SPTbit where a router joined the source, and is served.
+pub fn packet_sets_spt_bit()
+    ensures { PacketSetsSptBit }
+{}
+
+/// It does so at each router of a way that was joined.
+pub fn source_tree_begins()
+    ensures { SourceTreeBegins }
 {}
