@@ -2,3 +2,4 @@ pub mod Joins
 pub mod Climbing
 pub mod Turning
 pub mod Ways
+pub mod Registered

@@ -1,2 +1,3 @@
 pub mod Climbing
 pub mod Turning
+pub mod Registered

@@ -2,6 +2,7 @@
 //! nothing to do.
 
 ghost use Rattle.pim_source_tree.specs.Climbing.{SourceJoinClimbsOver};
+ghost use Rattle.pim_source_tree.specs.Registered.{RegisterIsRead, RegisteredIsServed};
 ghost use Rattle.pim_source_tree.specs.Turning.{PacketSetsSptBit, SourceTreeBegins};
 
 /// A Join(S,G) climbs the way to its source with any moves of the network between its deliveries.
@@ -17,4 +18,14 @@ pub fn packet_sets_spt_bit()
 /// It does so at each router of a way that was joined.
 pub fn source_tree_begins()
     ensures { SourceTreeBegins }
+{}
+
+/// The bytes of a Register are read as a Register round that packet.
+pub fn register_is_read()
+    ensures { RegisterIsRead }
+{}
+
+/// Each packet that its DR takes comes to the receivers of the RP's tree, by the delivery of the Register.
+pub fn registered_is_served()
+    ensures { RegisteredIsServed }
 {}
