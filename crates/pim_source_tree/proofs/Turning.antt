@@ -34,7 +34,7 @@ use Rattle.pim_promises.proofs.Made.{step_taken}
 use Rattle.pim_promises.proofs.Served.{source_is_served}
 use Rattle.pim_ready.proofs.Steps.{step_is_settled}
 use Rattle.pim_served.proofs.Leaves.{taken_is_done}
-use Rattle.pim_served.proofs.Taken.{not_empty}
+use Rattle.pim_served.proofs.Taken.{listed_source, wanted_source}
 use Rattle.pim_stream.specs.Passing.{GoesOut, Passes, Receiver, Tree}
 use Rattle.pim_stream.proofs.Bits.{join_keeps_spt_bit}
 use Rattle.pim_stream.proofs.Changes.{chosen_spt, data_ground, same_rows, still_unlost}
@@ -102,20 +102,7 @@ module _ (s : State) (g src up : ℕ) where
       ∙ may_with (met s g src up).sources (met s g src up).registers
       (ap (λ (t : State). spt_bit t g src) (sym met_with) ∙ (met_alike s g src up).spt)
 
--- ---- a source that is joined where no assert of it is lost is wanted
-
-on_list : (u : State) (g src i : ℕ) → has_row u.downstream (source_key i g src) ≡ true
-    → is_loser (assert_source u g src i) ≡ false → immediate_olist u g src i ≡ true
-unfolding immediate_olist joins lost_assert
-on_list u g src i there unlost = rw (there, unlost) (last (not (is_rpf_interface u src i)) (is_beaten u g src i))
-  where
-    last : (b c : Bool) → not (b && false && c) ≡ true
-    last true c = refl
-    last false c = refl
-
-is_wanted : (u : State) (g src i : ℕ) → i < iface_count u → immediate_olist u g src i ≡ true → join_desired u g src ≡ true
-unfolding join_desired is_immediate_empty
-is_wanted u g src i within e = rw (not_empty u (immediate_olist u g src) i within e) refl
+-- ---- what sets SPTbit leaves the way
 
 bit_is_set : (t : State) (g src : ℕ) → spt_bit (with_spt_bit t g src) g src ≡ true
 unfolding spt_bit with_spt_bit
@@ -139,9 +126,9 @@ module _ (s : State) (g src up down : ℕ) (f : CanTurn s g src up down) where
 
   wanted : join_desired (met s g src up) g src ≡ true
   wanted =
-      is_wanted (met s g src up) g src down
+      wanted_source (met s g src up) g src down
       (subst (λ (cs : List InterfaceConfig). down < length cs) (sym (alike).configured) (f.goes_out).configured)
-      (on_list (met s g src up) g src down there
+      (listed_source (met s g src up) g src down there
       (ap (λ x. is_loser (row_at x (source_key down g src))) (alike).asserts ∙ (f.goes_out).source))
 
   way_met : is_rpf_interface (met s g src up) src up ≡ true

@@ -21,7 +21,7 @@ use Rattle.pim_model.specs.Unicast.{is_rpf_interface}
 use Rattle.pim_laws.proofs.RowLaws.{row_change_away}
 use Rattle.pim_laws.proofs.TurnLaws.{kept_to_the_end}
 use Rattle.pim_ready.proofs.Unsettled.{Untold, cleared_in_the_end}
-use Rattle.pim_served.proofs.Taken.{apart_keys, not_empty}
+use Rattle.pim_served.proofs.Taken.{apart_keys, listed_source, wanted_source}
 use Rattle.pim_stream.specs.Bits.{JoinKeepsSptBit}
 use Rattle.pim_stream.proofs.Rows.{dropped_good}
 use Rattle.pim_stream.proofs.Settles.{bit_of}
@@ -66,20 +66,6 @@ unwanted o u k e = go (first_by is_assert_first (filter (assert_must_go o u) u.a
     go None f = bit_is_unwanted u k f
     go (Some d) f = absurd (no_assert k (Some d) f)
 
--- a source that is joined where no assert of it is lost is wanted
-on_list : (u : State) (g src i : ℕ) → has_row u.downstream (source_key i g src) ≡ true
-    → is_loser (assert_source u g src i) ≡ false → immediate_olist u g src i ≡ true
-unfolding immediate_olist joins lost_assert
-on_list u g src i there unlost = rw (there, unlost) (last (not (is_rpf_interface u src i)) (is_beaten u g src i))
-  where
-    last : (b c : Bool) → not (b && false && c) ≡ true
-    last true c = refl
-    last false c = refl
-
-is_wanted : (u : State) (g src i : ℕ) → i < iface_count u → immediate_olist u g src i ≡ true → join_desired u g src ≡ true
-unfolding join_desired is_immediate_empty
-is_wanted u g src i within e = rw (not_empty u (immediate_olist u g src) i within e) refl
-
 module _ (g src i : ℕ) (cs : List InterfaceConfig) (rows : Table DownstreamRow) (within : i < length cs)
     (there : has_row rows (source_key i g src) ≡ true) where
   record Kept (u : State) : Type 0 where
@@ -90,8 +76,8 @@ module _ (g src i : ℕ) (cs : List InterfaceConfig) (rows : Table DownstreamRow
 
   wanted : (u : State) → Kept u → join_desired u g src ≡ true
   wanted u f =
-      is_wanted u g src i (subst (λ (xs : List InterfaceConfig). i < length xs) (sym f.configured) within)
-      (on_list u g src i (ap (λ (t : Table DownstreamRow). has_row t (source_key i g src)) f.downstream ∙ there) f.unlost)
+      wanted_source u g src i (subst (λ (xs : List InterfaceConfig). i < length xs) (sym f.configured) within)
+      (listed_source u g src i (ap (λ (t : Table DownstreamRow). has_row t (source_key i g src)) f.downstream ∙ there) f.unlost)
 
   one_cleared : (o u : State) (x : Cleared) → Kept u → to_clear o u ≡ Some x → Kept (cleared u x).0
   unfolding cleared assert_forgotten without_spt_bit
