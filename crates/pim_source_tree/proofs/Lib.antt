@@ -3,3 +3,4 @@ pub mod Climbing
 pub mod Turning
 pub mod Ways
 pub mod Registered
+pub mod LastHop

@@ -69,7 +69,7 @@ module _ (s : State) (g src up : ℕ) where
   when_with true t e = kept_with t e
   when_with false t e = e
 
-  met_with : IsWith (met s g src up)
+  pub met_with : IsWith (met s g src up)
   unfolding source_joined
   met_with = when_with _ (source_here s g src up) here_with
 
@@ -114,6 +114,23 @@ same_way t g src up e = e
 
 -- ---- the packet
 
+module _ (s : State) (g src up : ℕ) (way : is_rpf_interface s src up ≡ true) (may : may_turn s g src up ≡ true)
+    (wanted : join_desired (met s g src up) g src ≡ true) where
+  way_met : is_rpf_interface (met s g src up) src up ≡ true
+  way_met = (met_alike s g src up).source ∙ way
+
+  reached : is_spt_reached (met s g src up) g src up ≡ true
+  unfolding is_spt_reached may_turn
+  reached = both_true (both_true way_met wanted) (may_met s g src up ∙ may)
+
+  pub on_source_then : (is_rpf_interface (renewed s g src up) src up && spt_bit (renewed s g src up) g src) ≡ true
+  unfolding renewed spt_updated
+  on_source_then = rw reached (both_true (same_way (met s g src up) g src up way_met) (bit_is_set (met s g src up) g src))
+
+  pub renewed_is : renewed s g src up ≡ with_spt_bit (met s g src up) g src
+  unfolding renewed spt_updated
+  renewed_is = rw reached refl
+
 module _ (s : State) (g src up down : ℕ) (f : CanTurn s g src up down) where
   abbrev alike : IsAlike s g src up (met s g src up)
   alike = met_alike s g src up
@@ -131,16 +148,8 @@ module _ (s : State) (g src up down : ℕ) (f : CanTurn s g src up down) where
       (listed_source (met s g src up) g src down there
       (ap (λ x. is_loser (row_at x (source_key down g src))) (alike).asserts ∙ (f.goes_out).source))
 
-  way_met : is_rpf_interface (met s g src up) src up ≡ true
-  way_met = (alike).source ∙ f.way
-
-  reached : is_spt_reached (met s g src up) g src up ≡ true
-  unfolding is_spt_reached may_turn
-  reached = both_true (both_true way_met wanted) (may_met s g src up ∙ f.may)
-
   pub on_source : (is_rpf_interface (renewed s g src up) src up && spt_bit (renewed s g src up) g src) ≡ true
-  unfolding renewed spt_updated
-  on_source = rw reached (both_true (same_way (met s g src up) g src up way_met) (bit_is_set (met s g src up) g src))
+  on_source = on_source_then s g src up f.way f.may wanted
 
 -- ---- after the event
 

@@ -1,3 +1,4 @@
 pub mod Climbing
 pub mod Turning
 pub mod Registered
+pub mod LastHop

@@ -2,6 +2,7 @@
 //! nothing to do.
 
 ghost use Rattle.pim_source_tree.specs.Climbing.{SourceJoinClimbsOver};
+ghost use Rattle.pim_source_tree.specs.LastHop.{LastHopSetsSptBit};
 ghost use Rattle.pim_source_tree.specs.Registered.{RegisterIsRead, RegisteredIsServed};
 ghost use Rattle.pim_source_tree.specs.Turning.{PacketSetsSptBit, SourceTreeBegins};
 
@@ -28,4 +29,9 @@ pub fn register_is_read()
 /// Each packet that its DR takes comes to the receivers of the RP's tree, by the delivery of the Register.
 pub fn registered_is_served()
     ensures { RegisteredIsServed }
+{}
+
+/// The last hop does so too, where it serves a host or a router that joined the group.
+pub fn last_hop_sets_spt_bit()
+    ensures { LastHopSetsSptBit }
 {}

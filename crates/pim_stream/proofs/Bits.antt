@@ -56,7 +56,7 @@ no_assert : (k : Key) (p : Option (Key × AssertRow)) → option_map (λ (e : Ke
 no_assert k None f = cc
 no_assert k (Some d) f = cc
 
-unwanted : (o u : State) (k : Key) → to_clear o u ≡ Some (ClearSptBit k) → join_desired u (group_in k) (source_in k) ≡ false
+pub unwanted : (o u : State) (k : Key) → to_clear o u ≡ Some (ClearSptBit k) → join_desired u (group_in k) (source_in k) ≡ false
 unfolding to_clear assert_to_clear
 unwanted o u k e = go (first_by is_assert_first (filter (assert_must_go o u) u.asserts)) e
   where
