@@ -78,12 +78,15 @@ unfolding served inherited_olist inherited_olist_rpt joins joins_star lost_asser
     pim_exclude serves_star
 is_listed Receiver.Router u g src j e group source =
     let a : has_row u.downstream (star_key j g) ≡ true = first_so _ _ e in
-    let b : prunes u g src j ≡ false = is_false (prunes u g src j) (second_so _ _ e) in grind (arith, a, b, group, source)
+    let b : prunes u g src j ≡ false = is_false (prunes u g src j) (second_so (has_row u.downstream (star_key j g)) (not (prunes u g src j)) e) in grind (arith, a, b, group, source)
 is_listed Receiver.Host u g src j e group source =
-    let a : is_exclude u g j ≡ true = first_so _ _ (first_so _ _ e) in
+    let both : (is_exclude u g j && not (local_receiver_exclude u g src j)) ≡ true =
+    first_so (is_exclude u g j && not (local_receiver_exclude u g src j)) (is_dr u j) e in
+    let a : is_exclude u g j ≡ true = first_so (is_exclude u g j) (not (local_receiver_exclude u g src j)) both in
     let b : local_receiver_exclude u g src j ≡ false =
-    is_false (local_receiver_exclude u g src j) (second_so _ _ (first_so _ _ e)) in
-    let d : is_dr u j ≡ true = second_so _ _ e in grind (arith, a, b, d, group, source)
+    is_false (local_receiver_exclude u g src j) (second_so (is_exclude u g j) (not (local_receiver_exclude u g src j)) both) in
+    let d : is_dr u j ≡ true =
+    second_so (is_exclude u g j && not (local_receiver_exclude u g src j)) (is_dr u j) e in grind (arith, a, b, d, group, source)
 is_listed Receiver.SourceRouter u g src j e group source = grind (arith, e, group, source)
 
 is_desired : (u : State) (g src j : ℕ) → j < iface_count u → inherited_olist u g src j ≡ true → is_kept_alive u g src ≡ true

@@ -4,3 +4,4 @@ pub mod Turning
 pub mod Ways
 pub mod Registered
 pub mod LastHop
+pub mod Room

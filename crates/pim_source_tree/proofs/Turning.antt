@@ -50,10 +50,10 @@ module _ (s : State) (g src up : ℕ) where
   abbrev with_rows : Table SourceRow → Table RegisterRow → State
   with_rows x y = record s { sources = x; registers = y }
 
-  abbrev IsWith : State → Type 0
+  abbrev pub IsWith : State → Type 0
   IsWith t = t ≡ record s { sources = t.sources; registers = t.registers }
 
-  kept_with : (t : State) → IsWith t → IsWith (with_keepalive t g src)
+  pub kept_with : (t : State) → IsWith t → IsWith (with_keepalive t g src)
   unfolding with_keepalive
   kept_with t e = ap (λ (u : State). record u { sources = (with_keepalive t g src).sources }) e
 
@@ -65,7 +65,7 @@ module _ (s : State) (g src up : ℕ) where
   unfolding source_here
   here_with = by_cond IsWith _ _ s (settled_with (with_keepalive s g src) (source_key 0 g src) (kept_with s refl)) refl
 
-  when_with : (b : Bool) (t : State) → IsWith t → IsWith (when b (λ u. with_keepalive u g src) t)
+  pub when_with : (b : Bool) (t : State) → IsWith t → IsWith (when b (λ u. with_keepalive u g src) t)
   when_with true t e = kept_with t e
   when_with false t e = e
 

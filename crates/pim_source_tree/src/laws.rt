@@ -4,6 +4,7 @@
 ghost use Rattle.pim_source_tree.specs.Climbing.{SourceJoinClimbsOver};
 ghost use Rattle.pim_source_tree.specs.LastHop.{LastHopSetsSptBit};
 ghost use Rattle.pim_source_tree.specs.Registered.{RegisterIsRead, RegisteredIsServed};
+ghost use Rattle.pim_source_tree.specs.Room.{OwnPacketKeepsRoom};
 ghost use Rattle.pim_source_tree.specs.Turning.{PacketSetsSptBit, SourceTreeBegins};
 
 /// A Join(S,G) climbs the way to its source with any moves of the network between its deliveries.
@@ -34,4 +35,9 @@ pub fn registered_is_served()
 /// The last hop does so too, where it serves a host or a router that joined the group.
 pub fn last_hop_sets_spt_bit()
     ensures { LastHopSetsSptBit }
+{}
+
+/// A packet of a source on the shared tree makes its fact, or leaves room for it.
+pub fn own_packet_keeps_room()
+    ensures { OwnPacketKeepsRoom }
 {}
