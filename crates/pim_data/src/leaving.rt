@@ -83,7 +83,7 @@ pub fn copies(
         return Ok(room.list());
     }
     let count = world.interfaces().count();
-    // It tells how many there are.
+    // For the proof: how many interfaces the list has.
     let list = list.without_tunnel();
     copies_on(room, list.len(), members(list, count), packet)
 }

@@ -80,7 +80,7 @@ fn some_other_better(world: &World, by_priority: bool, own: &InterfaceConfig, ke
 fn is_dr_without(world: &World, key: Key) -> bool
     ensures { result ≡ is_dr_with world.now key None }
 {
-    // It tells that the keys of neighbours rise.
+    // For the proof: the keys of neighbours rise.
     let _ = world.neighbours().len();
     let own = own(world, key.iface);
     let by_priority = !some_other_unranked(world, key);
@@ -112,7 +112,7 @@ fn some_are_better(
 fn is_dr_beside(world: &World, key: Key, row: NeighbourRow) -> bool
     ensures { result ≡ is_dr_with world.now key (Some row) }
 {
-    // It tells that the keys of neighbours rise.
+    // For the proof: the keys of neighbours rise.
     let _ = world.neighbours().len();
     let own = own(world, key.iface);
     let by_priority = all_are_ranked(world, key, row);

@@ -140,7 +140,7 @@ impl StarSight {
         ensures group { result.group ≡ group }
         ensures at_least { raised meter.old (star_nodes world.now group) ≤ meter.new }
     {
-        // It tells that preferences have 31 bits.
+        // For the proof: preferences have 31 bits.
         world.recall_short_preferences();
         let rp = world.rp(group, meter);
         let rp_path = world.rp_route(group, rp, meter);
@@ -173,7 +173,7 @@ impl SourceSight {
         ensures source { result.source ≡ source }
         ensures at_least { raised meter.old (source_nodes world.now star.group source) ≤ meter.new }
     {
-        // It tells that preferences have 31 bits.
+        // For the proof: preferences have 31 bits.
         world.recall_short_preferences();
         let name = SourceGroup {
             source,

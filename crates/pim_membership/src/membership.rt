@@ -575,13 +575,13 @@ impl Membership {
         ensures at_least { OnOk result (raised meter.old
             (nodes_to_sources (keys_in self.now.source_records) group) ≤ meter.new) }
     {
-        // It tells that no other fact is of a source.
+        // For the proof: no other fact is of a source.
         self.recall_keyed();
         let mut found = BTreeMap::new(alloc);
         self.source_records
             .gather_sources(group, &mut found, meter)?;
         self.sendings.gather_sources(group, &mut found)?;
-        // It tells that the sources rise.
+        // For the proof: the sources rise.
         let _ = found.len();
         Ok(found)
     }
@@ -605,7 +605,7 @@ impl Membership {
             (nodes_visited (keys_in self.now.source_records) name.group (Some name.source)) ≤ meter.new }
         ensures at_most { meter.new ≤ meter.old + 66 }
     {
-        // It tells that no other fact is of a source.
+        // For the proof: no other fact is of a source.
         self.recall_keyed();
         self.source_records.has_source(name, meter) || self.sendings.has_source(name)
     }

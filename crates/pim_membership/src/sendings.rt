@@ -76,7 +76,7 @@ impl Sendings {
     pub(crate) fn has_source(&self, name: SourceGroup) -> bool
         ensures { result ≡ list_any (names_source name.group.bits name.source.bits) (keys_in self.now) }
     {
-        // It tells that the keys rise.
+        // For the proof: the keys rise.
         self.recall_rising();
         for number in 0..above_interfaces(self.rows.iter()) {
             let iface = IfaceId {
@@ -101,7 +101,7 @@ impl Sendings {
     ) -> Result<(), AllocError>
         ensures { OnOk result (Gathers found.old.entries found.new.entries group.bits self.now) }
     {
-        // It tells that the keys rise.
+        // For the proof: the keys rise.
         self.recall_rising();
         for number in 0..above_interfaces(self.rows.iter()) {
             let iface = IfaceId {

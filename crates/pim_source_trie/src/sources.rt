@@ -390,7 +390,7 @@ fn alter_among<V: Drop, A: Alter<V>>(
     ensures there { result ≡ is_some (source_at source.bits (trie_values trie.old)) }
     ensures visited { meter.new ≡ raised meter.old (nodes_among (trie_values trie.old) source.bits) }
 {
-    // It tells that the prefixes rise.
+    // For the proof: the prefixes rise.
     let _ = trie.len();
     let prefix = host(source);
     let Some(found) = trie.get_mut_counted(prefix, meter) else {

@@ -136,7 +136,7 @@ fn write_armed(
     ensures rise { IsStrictlySortedBy key_cmp (keys_in (timers_in entries.old)) }
     ensures beside { AreTimersBeside ends.new entries.new key }
 {
-    // It tells that the keys rise.
+    // For the proof: the keys rise.
     let _ = entries.is_empty();
     arm_timer(ends, key, before, marks.join_timer)?;
     let written = write(alloc, entries, key.group, key.source, marks);
@@ -177,7 +177,7 @@ impl Index {
         ensures ascending { IsStrictlySortedBy key_cmp (keys_in self.now) }
         ensures all { AreEntries self.now }
     {
-        // It tells that the keys rise.
+        // For the proof: the keys rise.
         let _ = self.entries.is_empty();
         self.entries.walk(group, meter)
     }
@@ -194,7 +194,7 @@ impl Index {
         ensures ascending { IsStrictlySortedBy key_cmp (keys_in self.now) }
         ensures entries { AreEntries self.now }
     {
-        // It tells that the keys rise.
+        // For the proof: the keys rise.
         let _ = self.entries.is_empty();
         match self.entries.get(group, source, meter) {
             Some(entry) => entry.marks(),
@@ -227,7 +227,7 @@ impl Index {
         ensures timers { timers_in self.new ≡ timers_in self.old }
         ensures err { OnErr result (self.new ≡ self.old) }
     {
-        // It tells that the keys rise.
+        // For the proof: the keys rise.
         let _ = self.entries.is_empty();
         let written = write(self.alloc, &mut self.entries, key.group, key.source, marks);
         // The keys still rise.
@@ -245,7 +245,7 @@ impl Index {
         ensures timers { timers_in self.new ≡ timers_in self.old }
         ensures visited { AreLookedUp self.old key meter.old meter.new }
     {
-        // It tells that the keys rise.
+        // For the proof: the keys rise.
         let _ = self.entries.is_empty();
         let marking = Marking {
             mark,
@@ -291,7 +291,7 @@ impl Index {
         ensures rises { meter.old ≤ meter.new }
     {
         let (first, second) = R::told(key);
-        // It tells that the keys rise.
+        // For the proof: the keys rise.
         let _ = self.entries.is_empty();
         let unmarking = Unmarking {
             first,
@@ -315,7 +315,7 @@ impl Index {
         ensures { result ≡ option_map due_of (first_by is_ending_first
             (row_endings ⟦<JoinTimerRow as Ends>⟧.kinds ⟦<JoinTimerRow as Ends>⟧.ends (timers_in self.now))) }
     {
-        // It tells that the keys rise.
+        // For the proof: the keys rise.
         let _ = self.entries.is_empty();
         self.ends.first()
     }

@@ -179,7 +179,7 @@ impl<'a> Holding<JoinTimerRow> for Lent<'a> {
     }
 
     fn recall_rise(&self) {
-        // It tells that the keys rise.
+        // For the proof: the keys rise.
         let _ = self.entries.is_empty();
     }
 
@@ -188,7 +188,7 @@ impl<'a> Holding<JoinTimerRow> for Lent<'a> {
     }
 
     fn at(&self, key: Key) -> Option<JoinTimerRow> {
-        // It tells that the keys rise.
+        // For the proof: the keys rise.
         let _ = self.entries.is_empty();
         if !is_placed(key) {
             return None;

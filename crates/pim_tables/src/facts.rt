@@ -117,7 +117,7 @@ impl<R> Facts<R> {
             (keys_in self.now)) }
     {
         self.recall_rising();
-        // It tells that the groups rise.
+        // For the proof: the groups rise.
         let _ = groups.len();
         for group in groups {
             self.push_rpt_keys_at(iface, *group, keys)?;
@@ -202,7 +202,7 @@ impl<R: Copy> Facts<R> {
     pub fn count_on(&self, iface: IfaceId) -> usize
         ensures { result ≡ length (rows_on iface.number self.now) }
     {
-        // It tells that the count fits.
+        // For the proof: the count fits.
         let _ = self.len();
         let mut count = 0;
         for _row in self.rows_on(iface) {

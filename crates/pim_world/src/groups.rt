@@ -72,7 +72,7 @@ fn gather_stored(store: &Store, found: &mut BTreeMap<Addr, (), Global>) -> Resul
     ensures { OnOk result (numbers_of found.new.entries
         ≡ gathered (map group_in (stored_keys store.now)) (numbers_of found.old.entries)) }
 {
-    // It tells that the groups of the set rise.
+    // For the proof: the groups of the set rise.
     let _ = found.len();
     for group in store.groups() {
         found.insert(group, ())?;
