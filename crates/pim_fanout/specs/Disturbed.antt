@@ -5,7 +5,7 @@ use Rattle.pim_types.specs.Keys.{source_key}
 use Rattle.pim_locality.specs.Locality.{touching}
 use Rattle.pim_world.specs.declared.touched.Touched.{Touched}
 
--- of two changes together
+-- What two changes touch together.
 unfoldable pub joined : Touched → Touched → Touched
 joined Touched.All t = Touched.All
 joined (Touched.Keys before) Touched.All = Touched.All
