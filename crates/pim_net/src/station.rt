@@ -123,7 +123,7 @@ impl Station {
     }
 }
 
-// The same bytes.
+// A copy of the bytes.
 fn copied(alloc: Global, bytes: &Series<u8>) -> Result<Series<u8>, AllocError>
     ensures { IfOk result (λ same. same ≡ bytes.now) }
 {

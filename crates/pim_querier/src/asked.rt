@@ -138,7 +138,8 @@ fn query_asked_sources(
     }
 }
 
-/// Queries what a record of a report asks for: of the group's sources first, and then the group. The meter stays.
+/// Queries what a record of a report asks for: of the group's sources first, and then the group. The meter is
+/// unchanged.
 pub fn query_asked(
     world: &mut World,
     turn: &mut Turn,

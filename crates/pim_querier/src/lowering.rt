@@ -60,7 +60,7 @@ fn lower_each(
 }
 
 /// Lowers the timers of these sources of the group on the interface to an end, in ms, where they run and end later. The
-/// records of other sources aren't looked at. The meter stays.
+/// records of other sources aren't looked at. The meter is unchanged.
 pub fn lower_sources(
     world: &mut World,
     meter: &mut Meter,
